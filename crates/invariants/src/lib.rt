@@ -1,35 +1,47 @@
-//! Invariants between event types, and small types for lists and texts.
+//! Temporal invariants between event types: what they are, which of them a log is asked for, and how a machine reads a word for one.
+//!
+//! The invariants are those of Beschastnikh, Brun, Schneider, Sloan and Ernst (ESEC/FSE 2011).
+//! A trace is read as a word of type numbers: 0 is INITIAL, 1 is TERMINAL, and a log with T types has the numbers 2 to T + 1 for them.
+//! `Seq` and `Text` are the lists and the texts of public data. No call here takes memory.
 #![tactic(auto)]
 
-ghost use Rattle.std.specs.Prelude.{◌≡◌, ◌+◌, ◌*◌, ◌≤◌};
+ghost use Rattle.std.specs.Prelude.{◌≡◌, ◌+◌, ◌*◌, ◌≤◌, length};
+ghost use Rattle.invariants.specs.Candidates.{candidates};
 
 mod seq;
 
 pub use seq::{Seq, Text};
 
-/// How one type stands to another in every trace.
+/// How a type `a` and a type `b` stand to one another in a word. Earlier and later are strict: a place is not before itself.
 #[derive(Clone, Copy, Debug, PartialEq, Eq)]
 pub enum Kind {
+    /// AlwaysFollowedBy: each `a` has a later `b`.
     AF,
+    /// NeverFollowedBy: no `a` has a later `b`.
     NF,
+    /// AlwaysPrecedes: each `b` has an earlier `a`.
     AP,
 }
 
-/// An invariant of this kind between the types with these numbers.
+/// An invariant of a kind between two types, which may be the same type.
 #[derive(Clone, Copy, Debug, PartialEq, Eq)]
 pub struct Invariant {
+    /// What is said of the two types.
     pub kind: Kind,
+    /// The number of the first type.
     pub a: u16,
+    /// The number of the second type.
     pub b: u16,
 }
 
-/// The number of the first type; 0 is INITIAL and 1 is TERMINAL.
+/// The number of the first type, after INITIAL and TERMINAL.
 const FIRST_TYPE: u32 = 2;
 
-/// How many candidates a log with this many types has.
+/// How many candidates a log with this many types has, at most 128: one for each type, and three for each two types in order, of which both may be the same.
 pub fn candidate_count(types: u32) -> u32
     requires { types ≤ 128 }
-    ensures { result ≡ types + 3 * (types * types) }
+    ensures count { result ≡ types + 3 * (types * types) }
+    ensures listed { result ≡ length (candidates types) }
 {
     types + 3 * (types * types)
 }
@@ -37,9 +49,12 @@ pub fn candidate_count(types: u32) -> u32
 mod law;
 mod monitor;
 mod numbered;
+#[cfg(test)]
+mod tests;
 
 pub use law::{
-    candidates_differ, ends_say_nothing, holds_by_places, monitor_agrees, monitors_tell,
+    candidates_differ, candidates_tell, ends_say_nothing, holds_by_places, mined_keeps_order,
+    mined_tells, monitor_agrees, monitors_tell,
 };
 pub use monitor::Monitor;
 pub use numbered::{candidate, index_of};

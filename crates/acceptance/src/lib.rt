@@ -1,0 +1,5 @@
+//! Tests of whole runs over inputs and sinks in memory.
+#![tactic(auto)]
+
+#[cfg(test)]
+mod tests;

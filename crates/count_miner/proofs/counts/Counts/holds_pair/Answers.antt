@@ -1,0 +1,67 @@
+use Rattle.std.proofs.Common.{◌≡◌, ◌<◌, ◌+◌, ◌-◌, ◌*◌, ℕ, List, map, nat_eq, eqb, reverse, arith, ap, ◌∙◌}
+use Rattle.std.proofs.lemmas.List.Folds.{sum_by-zero}
+use Rattle.std.specs.List.{sum_by}
+use Rattle.invariants.specs.Holds.{always_followed, never_followed, always_preceded}
+use Rattle.invariants.specs.declared.Kind.TheVariants.{AF, NF, AP}
+use Rattle.traces.specs.Words.{Trace, word_of}
+use Rattle.count_miner.specs.Counts.{type_count, followed_count}
+use Rattle.count_miner.proofs.Sums.{sums-agree, followed-le, preceded-le, followed-holds, never-holds, preceded-holds, all-traces, told, any-default}
+use Rattle.count_miner.proofs.Rows.{row-place}
+use Rattle.count_miner.proofs.counts.Counts.holds_pair.Goals as goal
+
+pub returns-in-AF : goal.returns-in-AF
+returns-in-AF c = λ traces counted.
+    let types = c.args.self.now.types in
+    let a = c.args.inv.a - 2 in
+    let b = c.args.inv.b - 2 in
+    let words : List (List ℕ) = map (λ (trace : Trace). trace.events) traces in
+    let in_a : a < types = omega (arith, c.requires.pair.a_low, c.requires.pair.a_high) in
+    let in_b : b < types = omega (arith, c.requires.pair.b_low, c.requires.pair.b_high) in
+    let first : a + 2 ≡ c.args.inv.a = omega (arith, c.requires.pair.a_low) in
+    let second : b + 2 ≡ c.args.inv.b = omega (arith, c.requires.pair.b_low) in
+    let f : List ℕ → ℕ = followed_count (a + 2) (b + 2) in
+    let g : List ℕ → ℕ = type_count (a + 2) in
+    let left : c.index.result.now ≡ sum_by f words = c.index.ensures ∙ (any-default c.args.self.now.followed.items (a * types + b) c.index.result.now (omega (arith, row-place types a b in_a in_b, c.requires.shape.followed)) ∙ counted.followed a b in_a in_b) in
+    let right : c.index-in-AF.result.now ≡ sum_by g words = c.index-in-AF.ensures ∙ (any-default c.args.self.now.occurring.items a c.index-in-AF.result.now (omega (arith, in_a, c.requires.shape.occurring)) ∙ counted.occurring a in_a) in
+    ap (λ n. nat_eq n c.index-in-AF.result.now) left
+    ∙ (ap (nat_eq (sum_by f words)) right
+    ∙ (sums-agree f g (λ w. followed-le (a + 2) (b + 2) w) words
+    ∙ (all-traces (λ w. eqb (f w) (g w)) (always_followed (a + 2) (b + 2)) (λ w. followed-holds (a + 2) (b + 2) w (omega arith) (omega arith)) traces
+    ∙ told AF c.args.inv a b c.in-AF.is first second (map word_of traces))))
+
+pub returns-in-NF : goal.returns-in-NF
+returns-in-NF c = λ traces counted.
+    let types = c.args.self.now.types in
+    let a = c.args.inv.a - 2 in
+    let b = c.args.inv.b - 2 in
+    let words : List (List ℕ) = map (λ (trace : Trace). trace.events) traces in
+    let in_a : a < types = omega (arith, c.requires.pair.a_low, c.requires.pair.a_high) in
+    let in_b : b < types = omega (arith, c.requires.pair.b_low, c.requires.pair.b_high) in
+    let first : a + 2 ≡ c.args.inv.a = omega (arith, c.requires.pair.a_low) in
+    let second : b + 2 ≡ c.args.inv.b = omega (arith, c.requires.pair.b_low) in
+    let f : List ℕ → ℕ = followed_count (a + 2) (b + 2) in
+    let left : c.index-in-NF.result.now ≡ sum_by f words = c.index-in-NF.ensures ∙ (any-default c.args.self.now.followed.items (a * types + b) c.index-in-NF.result.now (omega (arith, row-place types a b in_a in_b, c.requires.shape.followed)) ∙ counted.followed a b in_a in_b) in
+    ap (λ n. nat_eq n 0) left
+    ∙ (sum_by-zero f words
+    ∙ (all-traces (λ w. eqb (f w) 0) (never_followed (a + 2) (b + 2)) (λ w. never-holds (a + 2) (b + 2) w (omega arith) (omega arith)) traces
+    ∙ told NF c.args.inv a b c.in-NF.is first second (map word_of traces)))
+
+pub returns-in-AP : goal.returns-in-AP
+returns-in-AP c = λ traces counted.
+    let types = c.args.self.now.types in
+    let a = c.args.inv.a - 2 in
+    let b = c.args.inv.b - 2 in
+    let words : List (List ℕ) = map (λ (trace : Trace). trace.events) traces in
+    let in_a : a < types = omega (arith, c.requires.pair.a_low, c.requires.pair.a_high) in
+    let in_b : b < types = omega (arith, c.requires.pair.b_low, c.requires.pair.b_high) in
+    let first : a + 2 ≡ c.args.inv.a = omega (arith, c.requires.pair.a_low) in
+    let second : b + 2 ≡ c.args.inv.b = omega (arith, c.requires.pair.b_low) in
+    let f : List ℕ → ℕ = λ w. followed_count (b + 2) (a + 2) (reverse w) in
+    let g : List ℕ → ℕ = type_count (b + 2) in
+    let left : c.index-in-AP.result.now ≡ sum_by f words = c.index-in-AP.ensures ∙ (any-default c.args.self.now.preceded.items (b * types + a) c.index-in-AP.result.now (omega (arith, row-place types b a in_b in_a, c.requires.shape.preceded)) ∙ counted.preceded b a in_b in_a) in
+    let right : c.index-in-AP-2.result.now ≡ sum_by g words = c.index-in-AP-2.ensures ∙ (any-default c.args.self.now.occurring.items b c.index-in-AP-2.result.now (omega (arith, in_b, c.requires.shape.occurring)) ∙ counted.occurring b in_b) in
+    ap (λ n. nat_eq n c.index-in-AP-2.result.now) left
+    ∙ (ap (nat_eq (sum_by f words)) right
+    ∙ (sums-agree f g (λ w. preceded-le (a + 2) (b + 2) w) words
+    ∙ (all-traces (λ w. eqb (f w) (g w)) (always_preceded (a + 2) (b + 2)) (λ w. preceded-holds (a + 2) (b + 2) w (omega arith) (omega arith)) traces
+    ∙ told AP c.args.inv a b c.in-AP.is first second (map word_of traces))))

@@ -1,0 +1,127 @@
+//! The types that were seen in a part of a trace.
+ghost use Rattle.std.specs.Prelude.{ℕ, ◌≡◌, ◌≤◌, ◌<◌, ◌+◌, ◌^◌, ◌==◌, length, slice_index, count_by, if◌then◌else◌};
+ghost use Rattle.count_miner.specs.Seen.{IsSeen, AddsFlags};
+
+/// The most types of a log.
+const MOST_TYPES: usize = 128;
+
+/// The most places of a list.
+const MOST_PLACES: usize = 16;
+
+/// The types that were seen. A short trace sees few of them, so that work over a list of their
+/// places is less than work over all flags.
+#[derive(Drop)]
+pub struct Seen {
+    /// 1 at the place of each type that was seen, else 0.
+    flags: [u32; MOST_TYPES],
+    /// The places of the flags that are 1, each once, as far as `listed`.
+    places: [u16; MOST_PLACES],
+    /// How many places are listed.
+    listed: usize,
+    /// How many are listed at most; where so many are, the list may lack some.
+    most: usize,
+}
+
+/// Sets the flag of each type to 0.
+fn clear(flags: &mut [u32], types: usize)
+    requires { types ≤ length flags.old }
+    ensures { (k : ℕ) → k < types → slice_index flags.new k ≡ 0 }
+{
+    for i in 0..types {
+        flags[i] = 0;
+    }
+}
+
+/// Sets the flags at the places to 0.
+fn clear_places(flags: &mut [u32], places: &[u16])
+    requires { (i : ℕ) → i < length places.now → slice_index places.now i < length flags.old }
+    ensures { (k : ℕ) → slice_index flags.new k ≡ (if count_by (λ p. p == k) places.now == 0 then slice_index flags.old k else 0) }
+{
+    for place in places {
+        flags[*place as usize] = 0;
+    }
+}
+
+/// Adds to each count the flag beside it.
+fn add_flags(counts: &mut [u32], flags: &[u32])
+    requires within { length counts.old ≤ length flags.now }
+    requires room { (k : ℕ) → k < length counts.old → slice_index counts.old k + slice_index flags.now k < 2 ^ 32 }
+    ensures { AddsFlags counts.old flags.now counts.new }
+{
+    for i in 0..counts.len() {
+        counts[i] += flags[i];
+    }
+}
+
+/// Adds 1 to the count at each of the places.
+fn add_places(counts: &mut [u32], places: &[u16])
+    requires within { (i : ℕ) → i < length places.now → slice_index places.now i < length counts.old }
+    requires room { (k : ℕ) → k < length counts.old → slice_index counts.old k + count_by (λ p. p == k) places.now < 2 ^ 32 }
+    ensures { (k : ℕ) → k < length counts.old → slice_index counts.new k ≡ slice_index counts.old k + count_by (λ p. p == k) places.now }
+{
+    for place in places {
+        counts[*place as usize] += 1;
+    }
+}
+
+impl Seen {
+    /// No type.
+    pub fn new(types: usize) -> Seen
+        requires { types ≤ 128 }
+        ensures { IsSeen result types }
+    {
+        Seen {
+            flags: [0; MOST_TYPES],
+            places: [0; MOST_PLACES],
+            listed: 0,
+            // A place costs about as much as eight flags, which are added many at once.
+            most: types.div_ceil(8),
+        }
+    }
+
+    /// Forgets each type.
+    pub fn forget(&mut self, types: usize)
+        requires { IsSeen self.old types }
+        ensures shape { IsSeen self.new types }
+        ensures cleared { (k : ℕ) → k < types → slice_index (self.new).flags k ≡ 0 }
+    {
+        if self.listed < self.most {
+            clear_places(&mut self.flags, &self.places[..self.listed]);
+            self.listed = 0;
+            return;
+        }
+        clear(&mut self.flags, types);
+        self.listed = 0;
+    }
+
+    /// Adds to each count, one for each type, the flag of its type.
+    pub fn add_to(&self, counts: &mut [u32])
+        requires shape { IsSeen self.now (length counts.old) }
+        requires room { (k : ℕ) → k < length counts.old → slice_index counts.old k + slice_index (self.now).flags k < 2 ^ 32 }
+        ensures { AddsFlags counts.old (self.now).flags counts.new }
+    {
+        if self.listed < self.most {
+            add_places(counts, &self.places[..self.listed]);
+            return;
+        }
+        add_flags(counts, &self.flags);
+    }
+
+    /// Sees the type at a place.
+    pub fn note(&mut self, types: usize, place: usize)
+        requires shape { IsSeen self.old types }
+        requires within { place < types }
+        ensures shape { IsSeen self.new types }
+        ensures seen { (b : ℕ) → b < types → slice_index (self.new).flags b ≡ (if place == b then 1 else slice_index (self.old).flags b) }
+    {
+        if self.flags[place] != 0 {
+            return;
+        }
+        self.flags[place] = 1;
+        if self.listed >= self.most {
+            return;
+        }
+        self.places[self.listed] = place as u16;
+        self.listed += 1;
+    }
+}

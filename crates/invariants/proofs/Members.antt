@@ -1,0 +1,110 @@
+-- The elements of the lists of candidates and of mined invariants.
+use Rattle.std.proofs.Common.{◌≡◌, ◌↔◌, ℕ, suc, ◌<◌, Bool, true, false, cond, List, [], ◌∷◌, filter, All, Contains, slice_get, Some, None, IsNone, refl, ap, ◌∙◌, subst, arith, ⊎_elim}
+use Rattle.std.proofs.lemmas.Option.{none-some, slice_get-get_or, slice_get_within, get_or_from_slice_get}
+use Rattle.std.proofs.lemmas.List.Elements.{All-contains, All-contains_itself, All-filter, All-head, All-tail, All-nil, All-cons, All-weaker, filter_passes}
+use Rattle.std.proofs.lemmas.Bool.{and_parts}
+use Rattle.invariants.specs.declared.Kind.{Kind}
+use Rattle.invariants.specs.declared.Kind.TheVariants.{AF, NF, AP}
+use Rattle.invariants.specs.declared.Invariant.{Invariant}
+use Rattle.invariants.specs.Candidates.{candidates, kind_at, IsFirst, IsPair, CandidatesTell}
+use Rattle.invariants.specs.Holds.{Holds, holds}
+use Rattle.invariants.specs.Mined.{holds_of_all, MinedTells}
+use Rattle.invariants.proofs.ByPlaces.{holds-Holds}
+use Rattle.invariants.proofs.CandidatePlaces.{candidates-differ, candidate-shape, first-at, pair-at}
+
+-- an element and its place
+pub Contains-from_place : {X : Type 0} (xs : List X) (k : ℕ) (x : X) → slice_get xs k ≡ Some x → Contains xs x
+Contains-from_place xs k x at = (k, slice_get_within xs k x at, get_or_from_slice_get xs k x x at)
+
+pub place-from_Contains : {X : Type 0} (xs : List X) (x : X) (h : Contains xs x) → slice_get xs h.0 ≡ Some x
+place-from_Contains xs x h = slice_get-get_or xs h.0 x h.1 ∙ ap Some h.2
+
+-- the place of a candidate is its only one
+pub found : (count index : ℕ) (inv : Invariant) → slice_get (candidates count) index ≡ Some inv
+    → (k : ℕ) → (Some index ≡ Some k) ↔ (slice_get (candidates count) k ≡ Some inv)
+found count index inv at k = (
+  λ e. let same : index ≡ k = cc in subst (λ n. slice_get (candidates count) n ≡ Some inv) same at,
+  λ other. ap Some (candidates-differ count index k inv at other),
+)
+
+pub absent : (count : ℕ) (inv : Invariant) → ((k : ℕ) → slice_get (candidates count) k ≡ Some inv → ⊥)
+    → (k : ℕ) → (None ≡ Some k) ↔ (slice_get (candidates count) k ≡ Some inv)
+absent count inv none k = (λ e. absurd (none-some k e), λ at. absurd (none k at))
+
+pub found-none : (count index : ℕ) (inv : Invariant) → slice_get (candidates count) index ≡ Some inv → IsNone (Some index) ↔ (¬ Contains (candidates count) inv)
+found-none count index inv at = (λ e. cc, λ no. absurd (no (Contains-from_place (candidates count) index inv at)))
+
+pub absent-none : (count : ℕ) (inv : Invariant) → ((k : ℕ) → slice_get (candidates count) k ≡ Some inv → ⊥) → IsNone {T = ℕ} None ↔ (¬ Contains (candidates count) inv)
+absent-none count inv none = (λ _ h. none h.0 (place-from_Contains (candidates count) inv h), λ _. refl)
+
+-- the place of a kind
+place_of : Kind → ℕ
+place_of AF = 0
+place_of NF = 1
+place_of AP = 2
+
+kind_at-place_of : (kind : Kind) → kind_at (place_of kind) ≡ kind
+unfolding place_of
+kind_at-place_of AF = refl
+kind_at-place_of NF = refl
+kind_at-place_of AP = refl
+
+place_of-lt : (kind : Kind) → place_of kind < 3
+unfolding place_of
+place_of-lt AF = omega arith
+place_of-lt NF = omega arith
+place_of-lt AP = omega arith
+
+pub candidates_tell : CandidatesTell
+candidates_tell count inv = (
+  λ h. candidate-shape count h.0 inv (place-from_Contains (candidates count) inv h),
+  λ h. ⊎_elim
+      (λ (first : IsFirst count inv). Contains-from_place (candidates count) _ inv (first-at count inv inv.b refl first.kind first.a first.b_low first.b_high))
+      (λ (pair : IsPair count inv). Contains-from_place (candidates count) _ inv
+      (pair-at count inv inv.a inv.b (place_of inv.kind) refl refl (kind_at-place_of inv.kind) (place_of-lt inv.kind) pair.a_low pair.a_high pair.b_low pair.b_high)) h,
+)
+
+-- the elements of a filtered list
+Contains-cons : {X : Type 0} (y : X) (xs : List X) (x : X) → Contains xs x → Contains (y ∷ xs) x
+Contains-cons y xs x h = (suc h.0, omega (arith, h.1), h.2)
+
+Contains-first : {X : Type 0} (y : X) (xs : List X) → Contains (y ∷ xs) y
+Contains-first y xs = (0, omega arith, refl)
+
+Contains-cond : {X : Type 0} (b : Bool) (y : X) (xs : List X) (x : X) → Contains xs x → Contains (cond b (y ∷ xs) xs) x
+Contains-cond true y xs x h = Contains-cons y xs x h
+Contains-cond false y xs x h = h
+
+Contains-kept : {X : Type 0} (b : Bool) (y : X) (xs : List X) → b ≡ true → Contains (cond b (y ∷ xs) xs) y
+Contains-kept true y xs e = Contains-first y xs
+Contains-kept false y xs e = cc
+
+All-kept : {X : Type 0} (p : X → Bool) (xs : List X) → All (λ x. p x ≡ true → Contains (filter p xs) x) xs
+All-kept p [] = All-nil (λ x. p x ≡ true → Contains [] x)
+All-kept p (y ∷ xs) =
+    All-cons (λ x. p x ≡ true → Contains (filter p (y ∷ xs)) x) y xs
+    (λ e. Contains-kept (p y) y (filter p xs) e)
+    (All-weaker (λ x. p x ≡ true → Contains (filter p xs) x) (λ x. p x ≡ true → Contains (filter p (y ∷ xs)) x) (λ x h e. Contains-cond (p y) y (filter p xs) x (h e)) xs (All-kept p xs))
+
+pub Contains-filter : {X : Type 0} (p : X → Bool) (xs : List X) (x : X) → Contains (filter p xs) x ↔ (Contains xs x × (p x ≡ true))
+Contains-filter p xs x = (
+  λ h. (All-contains (Contains xs) (filter p xs) x (All-filter p (Contains xs) xs (All-contains_itself xs)) h, All-contains (λ y. p y ≡ true) (filter p xs) x (filter_passes p xs) h),
+  λ h. All-contains (λ y. p y ≡ true → Contains (filter p xs) y) xs x (All-kept p xs) h.0 h.1,
+)
+
+-- a test of each word, and what it means
+of_every : (words : List (List ℕ)) (inv : Invariant) → (holds_of_all words inv ≡ true) ↔ All (λ word. Holds inv word) words
+of_every [] inv = (λ _. All-nil (λ word. Holds inv word), λ _. refl)
+of_every (word ∷ words) inv = (
+  λ h. All-cons (λ w. Holds inv w) word words ((holds-Holds inv word).0 (and_parts (holds inv word) (holds_of_all words inv) h).0) ((of_every words inv).0 (and_parts (holds inv word) (holds_of_all words inv) h).1),
+  λ h.
+      let first : holds inv word ≡ true = (holds-Holds inv word).1 (All-head (λ w. Holds inv w) word words h) in
+      let rest : holds_of_all words inv ≡ true = (of_every words inv).1 (All-tail (λ w. Holds inv w) word words h) in
+      rw (first, rest),
+)
+
+pub mined_tells : MinedTells
+mined_tells count words inv =
+    let parts = Contains-filter (holds_of_all words) (candidates count) inv in
+    let test = of_every words inv in
+    (λ h. record { candidate = (parts.0 h).0; of_every = test.0 (parts.0 h).1 }, λ h. parts.1 (h.candidate, test.1 h.of_every))

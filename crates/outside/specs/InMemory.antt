@@ -1,0 +1,92 @@
+-- Inputs and a sink in memory: what contracts see of them, and what each call gives exactly.
+use Rattle.std.specs.Prelude.{ℕ, ◌≡◌, ◌⊎◌, ◌-◌, ◌<◌, min, List, [], ◌++◌, length, take, drop, true, Option, Some, None, Result, Ok, Err, get_or}
+use Rattle.outside.specs.declared.OpenError.{OpenError}
+use Rattle.outside.specs.declared.OpenError.TheVariants.{Missing, Failed}
+use Rattle.outside.specs.Counts.{raised, next_call, FailsNext}
+use Rattle.outside.specs.Inputs.{InputState, Files, bytes_of}
+use Rattle.outside.specs.Sinks.{SinkState}
+
+-- what contracts see of inputs in memory
+pub record StoredInputs : Type 0 where
+  -- the files, in their order
+  pub files : Files
+  -- the bytes that the open input still has, none where nothing is open
+  pub rest : List ℕ
+  -- how many bytes a read gives at most
+  pub piece : ℕ
+  -- the numbers of the calls that fail
+  pub failing : List ℕ
+  -- how many calls of open and read were made
+  pub calls : ℕ
+  -- how many calls of open were answered by Ok
+  pub opens : ℕ
+  -- how many of them failed
+  pub faults : ℕ
+
+-- what the file at a place has from a byte on
+abbrev pub rest_of : Files → Option ℕ → ℕ → List ℕ
+rest_of files None at = []
+rest_of files (Some place) at = drop at (get_or files place ([], [])).1
+
+-- inputs in memory tell all, and may fail each name
+abbrev pub input_state : StoredInputs → InputState
+input_state s = record { files = Some s.files; rest = Some s.rest; opens = s.opens; faults = s.faults; may_fail = λ _. true; mark = true }
+
+-- one more call, which leaves this rest and this count of faults
+abbrev pub after_input : StoredInputs → List ℕ → ℕ → StoredInputs
+after_input old rest faults = record old { rest = rest; calls = next_call old.calls; faults = faults }
+
+-- what `open(name)` answers, and all that it leaves
+abbrev pub OpensStored : {T : Type 0} → StoredInputs → List ℕ → Result T OpenError → StoredInputs → Type 0
+OpensStored old name (Ok x) new = ¬ FailsNext old.failing old.calls × (bytes_of old.files name ≡ Some new.rest) × (new ≡ record (after_input old new.rest old.faults) { opens = next_call old.opens })
+OpensStored old name (Err Missing) new = ¬ FailsNext old.failing old.calls × (bytes_of old.files name ≡ None) × (new ≡ after_input old [] old.faults)
+OpensStored old name (Err Failed) new = FailsNext old.failing old.calls × (new ≡ after_input old [] (raised old.faults))
+
+-- how many bytes a read into this much room gives
+abbrev pub read_count : StoredInputs → ℕ → ℕ
+read_count s room = min room (min s.piece (length s.rest))
+
+-- what `read(buf)` answers, and all that it leaves
+abbrev pub ReadsStored : {E : Type 0} → StoredInputs → List ℕ → Result ℕ E → List ℕ → StoredInputs → Type 0
+ReadsStored old before (Ok n) buf new = ¬ FailsNext old.failing old.calls × (n ≡ read_count old (length before)) × (buf ≡ take n old.rest ++ drop n before) × (new ≡ after_input old (drop n old.rest) old.faults)
+ReadsStored old before (Err e) buf new = FailsNext old.failing old.calls × (buf ≡ before) × (new ≡ after_input old old.rest (raised old.faults))
+
+-- what contracts see of a sink in memory
+pub record StoredSink : Type 0 where
+  -- the bytes written
+  pub bytes : List ℕ
+  -- how many bytes it takes in all
+  pub room : ℕ
+  -- how many bytes a write takes at most
+  pub piece : ℕ
+  -- the numbers of the calls that fail
+  pub failing : List ℕ
+  -- how many writes were tried
+  pub calls : ℕ
+  -- how many of them failed
+  pub faults : ℕ
+
+-- a sink in memory tells all
+abbrev pub sink_state : StoredSink → SinkState
+sink_state s = record { written = Some s.bytes; faults = s.faults }
+
+-- how many bytes still fit
+abbrev pub room_left : StoredSink → ℕ
+room_left s = s.room - length s.bytes
+
+-- one more call, which leaves these bytes and this count of faults
+abbrev pub after_write : StoredSink → List ℕ → ℕ → StoredSink
+after_write old bytes faults = record old { bytes = bytes; calls = next_call old.calls; faults = faults }
+
+-- the next write of this piece fails
+abbrev pub RefusesNext : StoredSink → List ℕ → Type 0
+RefusesNext s piece = FailsNext s.failing s.calls ⊎ ((room_left s ≡ 0) × (0 < length piece))
+
+-- how many bytes a write of this many takes
+abbrev pub write_count : StoredSink → ℕ → ℕ
+write_count s given = min given (min s.piece (room_left s))
+
+-- what `write(piece)` answers, and all that it leaves
+abbrev pub WritesStored : {E : Type 0} → StoredSink → List ℕ → Result ℕ E → StoredSink → Type 0
+WritesStored old piece (Ok n) new = ¬ RefusesNext old piece × (n ≡ write_count old (length piece)) × (new ≡ after_write old (old.bytes ++ take n piece) old.faults)
+WritesStored old piece (Err e) new = RefusesNext old piece × (new ≡ after_write old old.bytes (raised old.faults))

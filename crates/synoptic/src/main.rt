@@ -1,0 +1,34 @@
+//! The program: it makes the real inputs and sinks, does what the words ask, and ends with the status.
+#![tactic(auto)]
+
+use outside::{RealInputs, RealSink};
+use std::alloc::Global;
+use std::env;
+use std::io::ErrorKind;
+use std::process::ExitCode;
+use std::rt::Env;
+use synoptic_cli::{Status, run, tell};
+
+/// The words after the program's name. A word that is not UTF-8 is a faulty command line.
+fn words<R: Env + AllocGlobal>(rt: &R) -> Result<Vec<String>, Status> {
+    let args = match env::args(rt) {
+        Ok(args) => args,
+        Err(error) if error.kind() == ErrorKind::OutOfMemory => return Err(Status::Memory),
+        Err(_) => return Err(Status::Usage),
+    };
+    args.skip(1).collect(rt.alloc()).map_err(|_| Status::Memory)
+}
+
+fn main(rt: HostRuntime) -> ExitCode {
+    let mut inputs = RealInputs::new(rt.reader());
+    let mut out = RealSink::standard_output(rt.stdout());
+    let mut err = RealSink::standard_error(rt.stderr());
+    let status = match words(&rt) {
+        Ok(words) => run(rt.alloc(), &words, &mut inputs, &mut out, &mut err),
+        Err(status) => {
+            tell(status, &mut err);
+            status
+        }
+    };
+    ExitCode::from(status.code())
+}

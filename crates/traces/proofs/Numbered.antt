@@ -1,0 +1,46 @@
+-- The events of traces have the numbers of types.
+use Rattle.std.proofs.Common.{◌≡◌, ℕ, zero, suc, ◌<◌, ◌≤◌, List, [], ◌∷◌, ◌++◌, length, get_or, refl, sym, subst, ⊎_elim, arith}
+use Rattle.std.proofs.lemmas.Bool.{cases_Bool, cond-true, cond-false}
+use Rattle.std.specs.List.{All, AllByRecursion}
+use Rattle.traces.specs.Gathered.{trace_views}
+use Rattle.traces.specs.declared.gathered.Gathered.{Gathered}
+use Rattle.traces.specs.Kept.{IsTypeNumber, AreNumbered}
+use Rattle.traces.specs.Words.{Trace, same_key, with_event}
+use Rattle.traces.specs.declared.key.Key.{Key}
+
+numbers-more : (n m : ℕ) (numbers : List ℕ) → n ≤ m → AllByRecursion (IsTypeNumber n) numbers → AllByRecursion (IsTypeNumber m) numbers
+numbers-more n m [] more all = tt
+numbers-more n m (x ∷ numbers) more all = ((all.0.0, omega (arith, all.0.1)), numbers-more n m numbers more all.1)
+
+numbers-push : (n x : ℕ) (numbers : List ℕ) → IsTypeNumber n x → AllByRecursion (IsTypeNumber n) numbers → AllByRecursion (IsTypeNumber n) (numbers ++ x ∷ [])
+numbers-push n x [] is all = (is, tt)
+numbers-push n x (y ∷ numbers) is all = (all.0, numbers-push n x numbers is all.1)
+
+numbered-more : (n m : ℕ) (traces : List Trace) → n ≤ m → AreNumbered n traces → AreNumbered m traces
+numbered-more n m [] more all = tt
+numbered-more n m (trace ∷ traces) more all = (numbers-more n m trace.events more all.0, numbered-more n m traces more all.1)
+
+-- after one event more
+pub numbered-with_event : (n m x : ℕ) (traces : List Trace) (key : Key) → n ≤ m → IsTypeNumber m x → AreNumbered n traces → AreNumbered m (with_event traces key x)
+numbered-with_event n m x [] key more is all = ((is, tt), tt)
+numbered-with_event n m x (trace ∷ traces) key more is all = ⊎_elim
+    (λ same. subst (AreNumbered m) (sym (cond-true (same_key key trace.key) (record { key = trace.key; events = trace.events ++ x ∷ [] } ∷ traces) (trace ∷ with_event traces key x) same))
+    (numbers-push m x trace.events is (numbers-more n m trace.events more all.0), numbered-more n m traces more all.1))
+    (λ differ. subst (AreNumbered m) (sym (cond-false (same_key key trace.key) (record { key = trace.key; events = trace.events ++ x ∷ [] } ∷ traces) (trace ∷ with_event traces key x) differ))
+    (numbers-more n m trace.events more all.0, numbered-with_event n m x traces key more is all.1))
+    (cases_Bool (same_key key trace.key))
+
+each : {X : Type 0} (P : X → Type 0) (xs : List X) → AllByRecursion P xs → All P xs
+each P [] all k d inside = absurd (omega arith)
+each P (x ∷ xs) all zero d inside = all.0
+each P (x ∷ xs) all (suc k) d inside = each P xs all.1 k d (omega arith)
+
+-- of the trace at a place
+pub numbers-at : (n : ℕ) (traces : List Gathered) (t : ℕ) (g : Gathered) → AreNumbered n (trace_views traces) → t < length traces → g ≡ get_or traces t g → All (IsTypeNumber n) g.events.items
+numbers-at n [] t g all inside at = absurd (omega arith)
+numbers-at n (trace ∷ traces) zero g all inside at = subst (λ (x : Gathered). All (IsTypeNumber n) x.events.items) (sym at) (each (IsTypeNumber n) trace.events.items all.0)
+numbers-at n (trace ∷ traces) (suc t) g all inside at = numbers-at n traces t g all.1 (omega arith) at
+
+pub length-trace_views : (traces : List Gathered) → length (trace_views traces) ≡ length traces
+length-trace_views [] = refl
+length-trace_views (trace ∷ traces) = omega (arith, length-trace_views traces)

@@ -1,0 +1,103 @@
+use crate::{AddError, Builder, TraceSet, plain_fields};
+use std::process::Abort;
+use std::test::Fail;
+
+/// Adds an event whose texts are within the limits.
+fn add(
+    rt: &impl Abort,
+    builder: &mut Builder,
+    key: (u32, u32, &str),
+    typ: &str,
+) -> Result<(), AddError> {
+    assert!(rt; key.2.len() <= 1024 && !typ.is_empty() && typ.len() <= 256);
+    builder.add(key.0, key.1, key.2, typ, 0)
+}
+
+/// Compares a trace with a key and type numbers.
+fn assert_trace(rt: &impl Abort, set: &TraceSet, t: u32, key: (u32, u32, &str), numbers: &[u16]) {
+    assert!(rt; t < set.trace_count());
+    let found = set.key(t);
+    assert_eq!(rt; found.file, key.0, "at {t}");
+    assert_eq!(rt; found.section, key.1, "at {t}");
+    assert_eq!(rt; found.text.as_str(), key.2, "at {t}");
+    assert_eq!(rt; set.events(t), numbers, "at {t}");
+}
+
+/// The keys of the first two traces have one hash.
+#[test]
+fn gathers_events_in_the_order_first_met(rt: HostRuntime) -> Result<(), Fail> {
+    let first = (0, 0, "a");
+    let second = (0, 2, "c");
+    let third = (1, 0, "a");
+    let mut builder = Builder::new(rt.alloc());
+    for (key, typ) in [
+        (first, "x"),
+        (second, "y"),
+        (first, "y"),
+        (second, "x"),
+        (third, "x"),
+        (second, "z"),
+        (first, "x"),
+    ] {
+        add(&rt, &mut builder, key, typ)?;
+    }
+    let set = builder.finish()?;
+    let mut types = set.types().as_slice().iter();
+    for name in ["x", "y", "z"] {
+        let found = types.next().ok_or("too few types")?;
+        assert_eq!(rt; found.as_str(), name);
+    }
+    assert!(rt; types.next().is_none());
+    assert_eq!(rt; set.trace_count(), 3);
+    assert_eq!(rt; set.event_count(), 7);
+    assert_trace(&rt, &set, 0, first, &[2, 3, 2]);
+    assert_trace(&rt, &set, 1, second, &[3, 2, 4]);
+    assert_trace(&rt, &set, 2, third, &[2]);
+    Ok(())
+}
+
+#[test]
+fn refuses_at_the_limits(rt: HostRuntime) -> Result<(), Fail> {
+    let key = (0, 0, "t");
+    let mut builder = Builder::new(rt.alloc());
+    for n in 0..128u32 {
+        let name = format!(in rt.alloc(); "e{n}")?;
+        add(&rt, &mut builder, key, name.as_str())?;
+    }
+    assert_eq!(rt;
+        add(&rt, &mut builder, key, "e128"),
+        Err(AddError::TypeLimit)
+    );
+    for _ in 128..1_000_000u32 {
+        add(&rt, &mut builder, key, "e1")?;
+    }
+    assert_eq!(rt;
+        add(&rt, &mut builder, key, "e1"),
+        Err(AddError::EventLimit)
+    );
+    assert_eq!(rt;
+        add(&rt, &mut builder, key, "e128"),
+        Err(AddError::TypeLimit)
+    );
+    let set = builder.finish()?;
+    assert_eq!(rt; set.types().len(), 128);
+    assert_eq!(rt; set.trace_count(), 1);
+    assert_eq!(rt; set.event_count(), 1_000_000);
+    Ok(())
+}
+
+#[test]
+fn cuts_lines_at_their_first_space(rt: HostRuntime) {
+    for (line, fields) in [
+        ("1 a", Some(("1", "a"))),
+        (" a", Some(("", "a"))),
+        ("1 a b", Some(("1", "a b"))),
+        ("1  a", Some(("1", " a"))),
+        ("", None),
+        ("1a", None),
+        ("1 ", None),
+        (" ", None),
+    ] {
+        assert_eq!(rt; plain_fields(line), fields, "at {line}");
+    }
+}
