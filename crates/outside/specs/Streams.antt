@@ -1,35 +1,67 @@
--- The process's own streams: what contracts see of standard input, and which of its calls count a fault.
-use Rattle.std.specs.Prelude.{ℕ, ◌≡◌, ◌≢◌, Bool, true, false, IsTrue, List, [], Option, Some, None, Result, Ok, Err, if◌then◌else◌}
+-- The process's own streams and the system's files: what contracts see of them, and which calls count a fault.
+use Rattle.std.specs.Prelude.{ℕ, ◌≡◌, ◌≢◌, ⊤, true, List, [], Option, Some, None, Result, Ok, Err}
 use Rattle.outside.specs.declared.OpenError.{OpenError}
 use Rattle.outside.specs.declared.OpenError.TheVariants.{Missing, Failed}
+use Rattle.outside.specs.declared.real.Source.{Source}
+use Rattle.outside.specs.declared.real.Source.TheVariants.{Nothing, Standard, File}
 use Rattle.outside.specs.Counts.{raised, next_call}
 use Rattle.outside.specs.Inputs.{InputState}
 
--- what contracts see of standard input
+-- what contracts see of standard input and files
 pub record StreamState : Type 0 where
-  -- whether it is open
-  pub is_open : Bool
-  -- how many times it was opened
+  -- what is open, a file with the bytes that it will give, where its type tells them
+  pub source : Source (Option (List ℕ))
+  -- how many inputs were opened
   pub opens : ℕ
-  -- the bytes that the stream will give, where its type tells them
+  -- the bytes that standard input will give, where its type tells them
   pub remaining : Option (List ℕ)
   -- how many faults were counted
   pub faults : ℕ
 
--- No file is told, and nothing is left to read where nothing is open. Each name may fail, and each read.
+-- what is open, with what a file has left
+abbrev pub source_of : {F : Type 0} → (F → Option (List ℕ)) → Source F → Source (Option (List ℕ))
+source_of remaining Nothing = Nothing
+source_of remaining Standard = Standard
+source_of remaining (File f) = File (remaining f)
+
+-- what the open input still has, where that is told, and nothing where nothing is open
+abbrev pub rest_in : Source (Option (List ℕ)) → Option (List ℕ) → Option (List ℕ)
+rest_in Nothing remaining = Some []
+rest_in Standard remaining = remaining
+rest_in (File rest) remaining = rest
+
+-- no file is told, and each name may fail, and each read
 abbrev pub stream_state : StreamState → InputState
-stream_state s = record { files = None; rest = if s.is_open then s.remaining else Some []; opens = s.opens; faults = s.faults; may_fail = λ _. true; mark = true }
+stream_state s = record { files = None; rest = rest_in s.source s.remaining; opens = s.opens; faults = s.faults; may_fail = λ _. true; mark = true }
+
+-- what a name opens: the empty name standard input, and each other a file
+abbrev pub IsSourceOf : List ℕ → Source (Option (List ℕ)) → Type 0
+IsSourceOf name Nothing = ⊥
+IsSourceOf name Standard = name ≡ []
+IsSourceOf name (File rest) = name ≢ []
 
 -- what `open(name)` answers, and all that it leaves: the empty name opens
-abbrev pub OpensStandard : {T : Type 0} → StreamState → List ℕ → Result T OpenError → StreamState → Type 0
-OpensStandard old name (Ok x) new = (name ≡ []) × (new ≡ record old { is_open = true; opens = next_call old.opens })
-OpensStandard old name (Err Missing) new = ⊥
-OpensStandard old name (Err Failed) new = (name ≢ []) × (new ≡ record old { is_open = false; faults = raised old.faults })
+abbrev pub OpensStream : {T : Type 0} → StreamState → List ℕ → Result T OpenError → StreamState → Type 0
+OpensStream old name (Ok x) new = IsSourceOf name new.source × (new ≡ record old { source = new.source; opens = next_call old.opens })
+OpensStream old name (Err Missing) new = ⊥
+OpensStream old name (Err Failed) new = (name ≢ []) × (new ≡ record old { source = Nothing; faults = raised old.faults })
 
--- what `read` leaves beside the stream: it fails only where the input is open, and else leaves the stream alone
-abbrev pub ReadsStandard : {E : Type 0} → StreamState → Result ℕ E → StreamState → Type 0
-ReadsStandard old (Ok n) new = (new ≡ record old { remaining = new.remaining }) × (old.is_open ≡ false → new ≡ old)
-ReadsStandard old (Err e) new = IsTrue old.is_open × (new ≡ record old { remaining = new.remaining; faults = raised old.faults })
+-- a file is open
+abbrev pub IsFile : Source (Option (List ℕ)) → Type 0
+IsFile Nothing = ⊥
+IsFile Standard = ⊥
+IsFile (File rest) = ⊤
+
+-- what a read moves: nothing but what is open
+abbrev pub MovesOpen : Source (Option (List ℕ)) → StreamState → StreamState → Type 0
+MovesOpen Nothing old new = new ≡ old
+MovesOpen Standard old new = new ≡ record old { remaining = new.remaining }
+MovesOpen (File rest) old new = IsFile new.source × (new ≡ record old { source = new.source })
+
+-- what `read` leaves beside the bytes: a failure is one fault, and comes only where something is open
+abbrev pub ReadsStream : {E : Type 0} → StreamState → Result ℕ E → StreamState → Type 0
+ReadsStream old (Ok n) new = MovesOpen old.source old new
+ReadsStream old (Err e) new = (old.source ≢ Nothing) × MovesOpen old.source (record old { faults = raised old.faults }) new
 
 -- a failed write is one fault
 abbrev pub CountsFault : {E : Type 0} → ℕ → Result ℕ E → ℕ → Type 0

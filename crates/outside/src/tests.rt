@@ -1,16 +1,21 @@
 ghost use Rattle.std.specs.Prelude.{◌≤◌};
 
-use crate::{Failed, Inputs, MemInputs, MemSink, OpenError, Sink, write_whole};
+use crate::{
+    Failed, InputError, Inputs, MemInputs, MemSink, OpenError, RealInputs, Sink, read_input,
+    write_whole,
+};
 use std::alloc::Global;
+use std::fs;
 use std::test::Fail;
 
-/// Standard input and a file of rules, of which a read gives at most a piece.
+/// Standard input, a file of rules and an empty one, of which a read gives at most a piece.
 fn inputs_of(alloc: Global, piece: usize, failing: &[u64]) -> Result<MemInputs, Fail>
     requires { 1 ≤ piece }
 {
     let mut files = Vec::new(alloc);
     files.push((String::new(alloc), b"1 a\n1 b\n".to_vec(alloc)?))?;
     files.push(("shop.rules".to_string(alloc)?, b"word".to_vec(alloc)?))?;
+    files.push(("empty".to_string(alloc)?, Vec::new(alloc)))?;
     Ok(MemInputs::new(files, piece, failing.to_vec(alloc)?))
 }
 
@@ -58,6 +63,72 @@ fn calls_fail_by_their_number(rt: HostRuntime) -> Result<(), Fail> {
         assert_eq!(rt; inputs.open("lost"), third, "at {failing}");
         assert_eq!(rt; inputs.read(&mut buf), Ok(0), "at {failing}");
     }
+    Ok(())
+}
+
+#[test]
+fn inputs_are_read_up_to_a_limit(rt: HostRuntime) -> Result<(), Fail> {
+    let alloc = rt.alloc();
+    let cases = [
+        (1usize, 0u64, "", 9u32, Ok("1 a\n1 b\n")),
+        (7, 0, "", 9, Ok("1 a\n1 b\n")),
+        (7, 0, "", 8, Ok("1 a\n1 b\n")),
+        (7, 0, "", 7, Ok("1 a\n1 b\n")),
+        (1, 0, "", 6, Ok("1 a\n1 b")),
+        (7, 0, "", 0, Ok("1")),
+        (7, 0, "shop.rules", 9, Ok("word")),
+        (7, 0, "empty", 9, Ok("")),
+        (7, 0, "lost", 9, Err(InputError::Missing)),
+        (7, 1, "shop.rules", 9, Err(InputError::Fault)),
+        (7, 3, "shop.rules", 9, Err(InputError::Fault)),
+        (7, 4, "shop.rules", 9, Ok("word")),
+    ];
+    for (piece, failing, name, limit, want) in cases {
+        assert!(rt; piece > 0);
+        let mut inputs = inputs_of(alloc, piece, &[failing])?;
+        let want = match want {
+            Ok(text) => Ok(text.as_bytes().to_vec(alloc)?),
+            Err(error) => Err(error),
+        };
+        let read = read_input(alloc, &mut inputs, name, limit as usize);
+        assert_eq!(rt; read, want, "at {name}, {limit}, {failing}");
+    }
+    Ok(())
+}
+
+#[test]
+fn real_files_are_read(rt: HostRuntime) -> Result<(), Fail> {
+    let alloc = rt.alloc();
+    let name = "outside_test.bytes";
+    let mut content = Vec::new(alloc);
+    for i in 0..200_000u32 {
+        content.push((i % 251) as u8)?;
+    }
+    fs::write(&rt, name, content.as_slice())?;
+    let mut inputs = RealInputs::new(&rt, &b"1 a\n"[..]);
+    assert_eq!(rt; inputs.open(name), Ok(()));
+    let mut read = Vec::new(alloc);
+    let mut buf = [0u8; 7_000];
+    for _ in 0..29 {
+        let Ok(count) = inputs.read(&mut buf) else {
+            return Err(Fail::from(Failed));
+        };
+        read.extend_from_slice(&buf[..count])?;
+    }
+    assert!(rt; read == content);
+    assert_eq!(rt; inputs.read(&mut buf), Ok(0));
+    assert!(rt; read_input(alloc, &mut inputs, name, 200_000) == Ok(content));
+    fs::remove_file(&rt, name)?;
+    assert_eq!(rt; inputs.open(name), Err(OpenError::Failed));
+    assert_eq!(rt; inputs.read(&mut buf), Ok(0));
+    assert_eq!(rt;
+        read_input(alloc, &mut inputs, ".", 9),
+        Err(InputError::Fault)
+    );
+    assert_eq!(rt;
+        read_input(alloc, &mut inputs, "", 9),
+        Ok(b"1 a\n".to_vec(alloc)?)
+    );
     Ok(())
 }
 

@@ -1,6 +1,7 @@
 //! The program: it makes the real inputs and sinks, does what the words ask, and ends with the status.
 #![tactic(auto)]
 
+use line_rules::RegexPatterns;
 use outside::{RealInputs, RealSink};
 use std::alloc::Global;
 use std::env;
@@ -20,13 +21,21 @@ fn words<R: Env + AllocGlobal>(rt: &R) -> Result<Vec<String>, Status> {
 }
 
 fn main(rt: HostRuntime) -> ExitCode {
-    let mut inputs = RealInputs::new(rt.reader());
+    let mut inputs = RealInputs::new(&rt, rt.reader());
+    let mut patterns = RegexPatterns::new(rt.alloc());
     let mut out = RealSink::standard_output(rt.stdout());
     let mut err = RealSink::standard_error(rt.stderr());
     let status = match words(&rt) {
-        Ok(words) => run(rt.alloc(), &words, &mut inputs, &mut out, &mut err),
+        Ok(words) => run(
+            rt.alloc(),
+            &words,
+            &mut inputs,
+            &mut patterns,
+            &mut out,
+            &mut err,
+        ),
         Err(status) => {
-            tell(status, &mut err);
+            tell(&[], status, &mut err);
             status
         }
     };

@@ -1,14 +1,15 @@
 //! The command line of the program, as a library: what the words ask, from the bytes of the inputs to the bytes of the output.
 //!
-//! `run` is the top call. It reads, mines and writes, and answers a `Status`.
+//! `run` is the top call. It reads, mines and writes, and answers a `Status`. `tell` writes the line of a status where errors go.
 #![tactic(auto)]
 
 mod command;
-mod log;
-mod pieces;
+mod message;
 mod reading;
 mod report;
 mod status;
+mod task;
 
 pub use command::run;
-pub use status::{Source, Status, tell};
+pub use message::tell;
+pub use status::{LimitKind, LogFault, Source, Status};

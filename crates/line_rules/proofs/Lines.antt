@@ -1,0 +1,187 @@
+-- From line to line of an expressions file, and from its lines to its rules.
+use Rattle.std.proofs.Common.{◌≡◌, ◌<◌, ◌≤◌, ◌+◌, ◌⊎◌, inl, inr, ℕ, suc, ◌||◌, true, false, List, [], ◌∷◌, ◌++◌, length, Result, Ok, Err, refl, ap, ap₂, sym, ◌∙◌, subst, arith, ⊎_elim, append_assoc, append-nil, cond}
+use Rattle.std.specs.Prelude.{IsTrue, Bool}
+use Rattle.std.proofs.lemmas.Bool.{le-ltb}
+use Rattle.std.specs.List.{list_any}
+use Rattle.traces.specs.Lines.{pieces, line_of}
+use Rattle.line_rules.specs.Patterns.{PatternsState, Stays, Rose, NestsTooDeep}
+use Rattle.line_rules.specs.Rules as spec
+use Rattle.line_rules.specs.Rules.{Alike, AreAlike}
+use Rattle.line_rules.specs.Files.{is_skipped, is_event, numbered, rule_lines, rule_at, with_rule, rules_from, with_event, rules_of, AreRead, IsRefused}
+use Rattle.line_rules.specs.Steps.{IsRuleOf, Builds, IsLineRefused, AddsLine, AreRulesOf, BuildsAt, AreLinesRefused}
+use Rattle.line_rules.specs.declared.line_rules.RuleError.{RuleError}
+use Rattle.line_rules.specs.declared.line_rules.RuleError.TheVariants as refused
+
+-- the rules are those of the lines up to number `number`, after which `rest` is left
+pub record ReadTo (bytes : List ℕ) (number : ℕ) (rest : List ℕ) (rules : List spec.Rule) : Type 0 where
+  pub before : List (ℕ × List ℕ)
+  pub plain : List spec.Rule
+  pub lines : rule_lines bytes ≡ before ++ numbered (number + 1) (pieces rest)
+  pub read : rules_from [] before ≡ Ok plain
+  pub alike : AreAlike rules plain
+
+pub begin : (bytes : List ℕ) → ReadTo bytes 0 bytes []
+begin bytes = record { before = []; plain = []; lines = refl; read = refl; alike = tt }
+
+-- the rest of the lines goes on from the rules of the first
+from-rest : (start : List spec.Rule) (xs ys : List (ℕ × List ℕ)) (plain : List spec.Rule) → rules_from start xs ≡ Ok plain → rules_from start (xs ++ ys) ≡ rules_from plain ys
+from-rest start [] ys plain read =
+    let same : start ≡ plain = cc in
+    ap (λ rs. rules_from rs ys) same
+from-rest start (x ∷ xs) ys plain read = by-rule (λ rule. from-rest (start ++ rule ∷ []) xs ys plain) (rule_at (length start) x) read
+  where
+    by-rule : ((rule : spec.Rule) → rules_from (start ++ rule ∷ []) xs ≡ Ok plain → rules_from (start ++ rule ∷ []) (xs ++ ys) ≡ rules_from plain ys)
+        → (r : Result spec.Rule RuleError) → with_rule r (λ rule. rules_from (start ++ rule ∷ []) xs) ≡ Ok plain
+        → with_rule r (λ rule. rules_from (start ++ rule ∷ []) (xs ++ ys)) ≡ rules_from plain ys
+    by-rule goes (Ok rule) read = goes rule read
+    by-rule goes (Err e) read = absurd cc
+
+alike-length : (rs ss : List spec.Rule) → AreAlike rs ss → length rs ≡ length ss
+alike-length [] [] alike = refl
+alike-length [] (s ∷ ss) alike = absurd alike
+alike-length (r ∷ rs) [] alike = absurd alike
+alike-length (r ∷ rs) (s ∷ ss) alike = ap suc (alike-length rs ss alike.1)
+
+alike-append : (rs ss : List spec.Rule) (r s : spec.Rule) → AreAlike rs ss → Alike r s → AreAlike (rs ++ r ∷ []) (ss ++ s ∷ [])
+alike-append [] [] r s alike one = (one, tt)
+alike-append [] (t ∷ ss) r s alike one = absurd alike
+alike-append (q ∷ rs) [] r s alike one = absurd alike
+alike-append (q ∷ rs) (t ∷ ss) r s alike one = (alike.0, alike-append rs ss r s alike.1 one)
+
+alike-event : (rs ss : List spec.Rule) → AreAlike rs ss → list_any (λ rule. is_event rule.form) rs ≡ list_any (λ rule. is_event rule.form) ss
+alike-event [] [] alike = refl
+alike-event [] (s ∷ ss) alike = absurd alike
+alike-event (r ∷ rs) [] alike = absurd alike
+alike-event (r ∷ rs) (s ∷ ss) alike = ap₂ ◌||◌ (ap is_event alike.0.form) (alike-event rs ss alike.1)
+
+-- the next piece is skipped
+skip-next : (number : ℕ) (rest piece after : List ℕ) → pieces rest ≡ piece ∷ pieces after → is_skipped (line_of piece) ≡ true → numbered number (pieces rest) ≡ numbered (number + 1) (pieces after)
+skip-next number rest piece after next skipped = ap (numbered number) next ∙ rw skipped refl
+
+-- the next piece is a line that is to be a rule
+take-next : (number : ℕ) (rest piece after : List ℕ) → pieces rest ≡ piece ∷ pieces after → is_skipped (line_of piece) ≡ false
+    → numbered number (pieces rest) ≡ (number, line_of piece) ∷ numbered (number + 1) (pieces after)
+take-next number rest piece after next counts = ap (numbered number) next ∙ rw counts refl
+
+added : (bytes : List ℕ) (number : ℕ) (rest piece after : List ℕ) (rs new : List spec.Rule) (r : spec.Rule) → ReadTo bytes number rest rs → pieces rest ≡ piece ∷ pieces after
+    → is_skipped (line_of piece) ≡ false → new ≡ rs ++ r ∷ [] → IsRuleOf (length rs) (number + 1) (line_of piece) r → ReadTo bytes (number + 1) after new
+added bytes number rest piece after rs new r so next counts is one =
+    let line : ℕ × List ℕ = (number + 1, line_of piece) in
+    let at : rule_at (length so.plain) line ≡ Ok one.plain = rw (← alike-length rs so.plain so.alike) one.read in
+    record {
+      before = so.before ++ line ∷ [];
+      plain = so.plain ++ one.plain ∷ [];
+      lines = so.lines ∙ (ap (λ ys. so.before ++ ys) (take-next (number + 1) rest piece after next counts) ∙ sym (append_assoc so.before (line ∷ []) (numbered (number + 1 + 1) (pieces after))));
+      read = from-rest [] so.before (line ∷ []) so.plain so.read ∙ ap (λ r. with_rule r (λ rule. Ok (so.plain ++ rule ∷ []))) at;
+      alike = subst (λ (ts : List spec.Rule). AreAlike ts (so.plain ++ one.plain ∷ [])) (sym is) (alike-append rs so.plain r one.plain so.alike one.alike);
+    }
+
+-- a line that is skipped or adds its rule
+pub step : (bytes : List ℕ) (number : ℕ) (rest piece after : List ℕ) (rs new : List spec.Rule) → ReadTo bytes number rest rs → pieces rest ≡ piece ∷ pieces after
+    → AddsLine (number + 1) (line_of piece) rs new → ReadTo bytes (number + 1) after new
+step bytes number rest piece after rs new so next (inl skips) =
+    record {
+      before = so.before;
+      plain = so.plain;
+      lines = so.lines ∙ ap (λ ys. so.before ++ ys) (skip-next (number + 1) rest piece after next skips.0);
+      read = so.read;
+      alike = subst (λ (ts : List spec.Rule). AreAlike ts so.plain) (sym skips.1) so.alike;
+    }
+step bytes number rest piece after rs new so next (inr adds) = added bytes number rest piece after rs new adds.1.0 so next adds.0 adds.1.1 adds.1.2
+
+-- no line is left
+pub end : (bytes : List ℕ) (number : ℕ) (rest : List ℕ) (rs : List spec.Rule) → ReadTo bytes number rest rs → length rest ≡ 0 → AreRulesOf bytes rs
+end bytes number [] rs so none = record { plain = so.plain; read = ap (rules_from []) (so.lines ∙ append-nil so.before) ∙ so.read; alike = so.alike }
+end bytes number (b ∷ rest) rs so none = absurd (omega (arith, none))
+
+-- the line's own refusal is the first of the lines
+plain-refused : (bytes : List ℕ) (number : ℕ) (rest piece after : List ℕ) (rs : List spec.Rule) (e : RuleError) → ReadTo bytes number rest rs → pieces rest ≡ piece ∷ pieces after
+    → is_skipped (line_of piece) ≡ false → rule_at (length rs) (number + 1, line_of piece) ≡ Err e → rules_from [] (rule_lines bytes) ≡ Err e
+plain-refused bytes number rest piece after rs e so next counts refusal =
+    let line : ℕ × List ℕ = (number + 1, line_of piece) in
+    let more : List (ℕ × List ℕ) = numbered (number + 1 + 1) (pieces after) in
+    let at : rule_at (length so.plain) line ≡ Err e = rw (← alike-length rs so.plain so.alike) refusal in
+    ap (rules_from []) (so.lines ∙ ap (λ ys. so.before ++ ys) (take-next (number + 1) rest piece after next counts))
+    ∙ (from-rest [] so.before (line ∷ more) so.plain so.read ∙ ap (λ r. with_rule r (λ rule. rules_from (so.plain ++ rule ∷ []) more)) at)
+
+-- the line's pattern is one that is built
+built-at : (bytes : List ℕ) (number : ℕ) (rest piece after : List ℕ) (rs : List spec.Rule) (Holds : List ℕ → Type 0) → length bytes ≤ 65536 → ReadTo bytes number rest rs
+    → pieces rest ≡ piece ∷ pieces after → is_skipped (line_of piece) ≡ false → Builds (length rs) (line_of piece) Holds → BuildsAt bytes (number + 1) Holds
+built-at bytes number rest piece after rs Holds short so next counts builds =
+    let few : length so.plain < 32 = rw (← alike-length rs so.plain so.alike) builds.few in
+    record {
+      pattern = builds.pattern;
+      built = record {
+        short = short;
+        before = so.before;
+        line = line_of piece;
+        after = numbered (number + 1 + 1) (pieces after);
+        lines = so.lines ∙ ap (λ ys. so.before ++ ys) (take-next (number + 1) rest piece after next counts);
+        rules = so.plain;
+        read = so.read;
+        few = few;
+        form = builds.form;
+        spelled = builds.spelled;
+      };
+      holds = builds.holds;
+    }
+
+pub stays-on : (old mid new : PatternsState) → Stays old mid → Stays mid new → Stays old new
+stays-on old mid new one more = record { may_refuse = more.may_refuse ∙ one.may_refuse; refusals = omega arith }
+
+rose-before : (old mid new : ℕ) → old ≤ mid → Rose mid new → Rose old new
+rose-before old mid new grows rose = omega arith
+
+-- a line that is refused
+pub refuse : (bytes : List ℕ) (number : ℕ) (rest piece after : List ℕ) (rs : List spec.Rule) (old mid new : PatternsState) (e : RuleError) → length bytes ≤ 65536 → ReadTo bytes number rest rs
+    → pieces rest ≡ piece ∷ pieces after → is_skipped (line_of piece) ≡ false → Stays old mid → IsLineRefused mid new (length rs) (number + 1) (line_of piece) e → AreLinesRefused bytes old new e
+refuse bytes number rest piece after rs old mid new refused.Memory short so next counts stays h = tt
+refuse bytes number rest piece after rs old mid new (refused.Syntax at) short so next counts stays h =
+    subst (λ (n : ℕ). (rules_from [] (rule_lines bytes) ≡ Err (refused.Syntax n)) ⊎ BuildsAt bytes n NestsTooDeep) (sym h.0)
+    (⊎_elim (λ plain. inl (plain-refused bytes number rest piece after rs (refused.Syntax (number + 1)) so next counts plain))
+    (λ builds. inr (built-at bytes number rest piece after rs NestsTooDeep short so next counts builds)) h.1)
+refuse bytes number rest piece after rs old mid new (refused.TooLarge at) short so next counts stays h =
+    let may : List ℕ → Type 0 = λ pattern. IsTrue (old.may_refuse pattern) in
+    let built : BuildsAt bytes (number + 1) may = built-at bytes number rest piece after rs may short so next counts
+    (subst (λ (f : List ℕ → Bool). Builds (length rs) (line_of piece) (λ pattern. IsTrue (f pattern))) stays.may_refuse h.2) in
+    (rose-before old.refusals mid.refusals new.refusals stays.refusals h.1, subst (λ (n : ℕ). BuildsAt bytes n may) (sym h.0) built)
+refuse bytes number rest piece after rs old mid new refused.TooLong short so next counts stays h = absurd h
+refuse bytes number rest piece after rs old mid new (refused.BadLine at) short so next counts stays h = plain-refused bytes number rest piece after rs (refused.BadLine at) so next counts h
+refuse bytes number rest piece after rs old mid new (refused.TooMany at) short so next counts stays h = plain-refused bytes number rest piece after rs (refused.TooMany at) so next counts h
+refuse bytes number rest piece after rs old mid new (refused.NoType at) short so next counts stays h = plain-refused bytes number rest piece after rs (refused.NoType at) so next counts h
+refuse bytes number rest piece after rs old mid new (refused.MixedTime at) short so next counts stays h = plain-refused bytes number rest piece after rs (refused.MixedTime at) so next counts h
+refuse bytes number rest piece after rs old mid new refused.NoEvent short so next counts stays h = absurd h
+
+-- a file that is short enough is read by its lines
+short-file : (bytes : List ℕ) → length bytes ≤ 65536 → rules_of bytes ≡ with_event (rules_from [] (rule_lines bytes))
+short-file bytes short = rw (le-ltb 65536 (length bytes) short) refl
+
+lines-refused : (bytes : List ℕ) (e : RuleError) → length bytes ≤ 65536 → rules_from [] (rule_lines bytes) ≡ Err e → rules_of bytes ≡ Err e
+lines-refused bytes e short read = short-file bytes short ∙ ap with_event read
+
+-- the refusal of its lines is that of the file
+pub file-refused : (bytes : List ℕ) (old new : PatternsState) (e : RuleError) → length bytes ≤ 65536 → AreLinesRefused bytes old new e → IsRefused bytes old new e
+file-refused bytes old new refused.Memory short h = tt
+file-refused bytes old new (refused.Syntax at) short h =
+    ⊎_elim (λ plain. inl (lines-refused bytes (refused.Syntax at) short plain)) (λ builds. inr (builds.pattern, builds.built, builds.holds)) h
+file-refused bytes old new (refused.TooLarge at) short h = (h.0, (h.1.pattern, h.1.built, h.1.holds))
+file-refused bytes old new refused.TooLong short h = absurd h
+file-refused bytes old new (refused.BadLine at) short h = lines-refused bytes (refused.BadLine at) short h
+file-refused bytes old new (refused.TooMany at) short h = lines-refused bytes (refused.TooMany at) short h
+file-refused bytes old new (refused.NoType at) short h = lines-refused bytes (refused.NoType at) short h
+file-refused bytes old new (refused.MixedTime at) short h = lines-refused bytes (refused.MixedTime at) short h
+file-refused bytes old new refused.NoEvent short h = absurd h
+
+events-of : (bytes : List ℕ) (rs : List spec.Rule) (b : Bool) → length bytes ≤ 65536 → (of : AreRulesOf bytes rs) → list_any (λ rule. is_event rule.form) rs ≡ b
+    → rules_of bytes ≡ (cond b (Ok of.plain) (Err refused.NoEvent))
+events-of bytes rs b short of any =
+    let same : list_any (λ rule. is_event rule.form) of.plain ≡ b = sym (alike-event rs of.plain of.alike) ∙ any in
+    short-file bytes short ∙ (ap with_event of.read ∙ rw same refl)
+
+-- the rules of the lines, one of which is an event rule, are those of the file
+pub file-read : (bytes : List ℕ) (rs : List spec.Rule) → length bytes ≤ 65536 → AreRulesOf bytes rs → list_any (λ rule. is_event rule.form) rs ≡ true → AreRead bytes rs
+file-read bytes rs short of any = (of.plain, events-of bytes rs true short of any, of.alike)
+
+-- and without one there are none
+pub no-event : (bytes : List ℕ) (rs : List spec.Rule) → length bytes ≤ 65536 → AreRulesOf bytes rs → list_any (λ rule. is_event rule.form) rs ≡ false → rules_of bytes ≡ Err refused.NoEvent
+no-event bytes rs short of any = events-of bytes rs false short of any

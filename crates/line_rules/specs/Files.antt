@@ -1,0 +1,128 @@
+-- The expressions file: which lines are rules, and which file is refused.
+use Rattle.std.specs.Prelude.{◌≡◌, ◌≤◌, ◌<◌, ◌⊎◌, ℕ, ◌+◌, ◌==◌, ◌&&◌, ◌||◌, Bool, true, false, IsTrue, List, [], ◌∷◌, ◌++◌, length, take, drop, codes, nat_lt, nat_le, slice_index, Option, Some, None, is_none, is_some, Result, Ok, Err, if◌then◌else◌, option_map}
+use Rattle.std.specs.List.{list_any, before_first, after_first}
+use Rattle.std.specs.Str.{bytes_eq, is_utf8}
+use Rattle.traces.specs.Lines.{pieces, line_of}
+use Rattle.line_rules.specs.Patterns.{PatternsState, Rose, NestsTooDeep}
+use Rattle.line_rules.specs.Rules.{Form, Skip, Separator, Event, EventOf, Rule, rule_of, group_named, AreAlike}
+use Rattle.line_rules.specs.declared.line_rules.RuleError.{RuleError}
+use Rattle.line_rules.specs.declared.line_rules.RuleError.TheVariants as refused
+
+abbrev pub is_space : ℕ → Bool
+is_space b = b == 32
+
+-- `event=NAME`, where NAME has 1 to 256 bytes
+abbrev pub named_form : List ℕ → Option Form
+named_form word = if bytes_eq (take 6 word) (codes "event=") && nat_lt 6 (length word) && nat_le (length word) 262 then Some (EventOf (drop 6 word)) else None
+
+-- the form of a rule that begins with this word
+abbrev pub form_of_word : List ℕ → Option Form
+form_of_word word =
+    if bytes_eq word (codes "skip") then Some Skip
+    else if bytes_eq word (codes "separator") then Some Separator
+    else if bytes_eq word (codes "event") then Some Event
+    else named_form word
+
+-- the form and the pattern of a line that has one of the four forms: a word, one space, and a pattern that is not empty
+abbrev pub spelled_by : List ℕ → Option (Form × List ℕ)
+spelled_by line =
+    if is_utf8 line && nat_lt 0 (length (after_first is_space line)) then option_map (λ form. (form, after_first is_space line)) (form_of_word (before_first is_space line))
+    else None
+
+-- a line without bytes, or one that begins with `#`
+abbrev pub is_skipped : List ℕ → Bool
+is_skipped line = length line == 0 || slice_index line 0 == 35
+
+-- the lines of the pieces that are not skipped, with their numbers, where the first piece has the number `number`
+abbrev pub numbered : ℕ → List (List ℕ) → List (ℕ × List ℕ)
+numbered number [] = []
+numbered number (piece ∷ pieces) = if is_skipped (line_of piece) then numbered (number + 1) pieces else (number, line_of piece) ∷ numbered (number + 1) pieces
+
+-- the lines of an expressions file that are to be rules, with their numbers
+abbrev pub rule_lines : List ℕ → List (ℕ × List ℕ)
+rule_lines bytes = numbered 1 (pieces bytes)
+
+abbrev pub is_event : Form → Bool
+is_event Skip = false
+is_event Separator = false
+is_event Event = true
+is_event (EventOf name) = true
+
+-- a rule `event PATTERN`
+abbrev pub takes_type : Form → Bool
+takes_type Skip = false
+takes_type Separator = false
+takes_type Event = true
+takes_type (EventOf name) = false
+
+-- an `event PATTERN` without a group TYPE
+abbrev pub lacks_type : Rule → Bool
+lacks_type rule = takes_type rule.form && is_none (group_named rule.names (codes "TYPE"))
+
+-- an event rule with a group TIME
+abbrev pub has_time : Rule → Bool
+has_time rule = is_event rule.form && is_some (group_named rule.names (codes "TIME"))
+
+-- the rule that the grammar reads for a line, or the refusal
+abbrev pub rule_read : ℕ → Option Rule → Result Rule RuleError
+rule_read number None = Err (refused.Syntax number)
+rule_read number (Some rule) = if lacks_type rule then Err (refused.NoType number) else if has_time rule then Err (refused.MixedTime number) else Ok rule
+
+-- the rule of a line that is spelled so, after so many rules, or its first refusal
+abbrev pub rule_spelled : ℕ → ℕ → Option (Form × List ℕ) → Result Rule RuleError
+rule_spelled before number None = Err (refused.BadLine number)
+rule_spelled before number (Some spelled) = if nat_le 32 before then Err (refused.TooMany number) else rule_read number (rule_of spelled.0 spelled.1)
+
+-- the rule of a line with its number, after so many rules, or its first refusal
+abbrev pub rule_at : ℕ → ℕ × List ℕ → Result Rule RuleError
+rule_at before line = rule_spelled before line.0 (spelled_by line.1)
+
+-- what comes after a rule, or its refusal
+abbrev pub with_rule : Result Rule RuleError → (Rule → Result (List Rule) RuleError) → Result (List Rule) RuleError
+with_rule (Ok rule) next = next rule
+with_rule (Err e) next = Err e
+
+-- the rules of some lines after those that stand, or the first refusal
+abbrev pub rules_from : List Rule → List (ℕ × List ℕ) → Result (List Rule) RuleError
+rules_from rules [] = Ok rules
+rules_from rules (line ∷ lines) = with_rule (rule_at (length rules) line) (λ rule. rules_from (rules ++ rule ∷ []) lines)
+
+-- the rules, where one of them is an event rule
+abbrev pub with_event : Result (List Rule) RuleError → Result (List Rule) RuleError
+with_event (Ok rules) = if list_any (λ rule. is_event rule.form) rules then Ok rules else Err refused.NoEvent
+with_event (Err e) = Err e
+
+-- the rules of an expressions file as the grammar reads them, or the plain refusal
+abbrev pub rules_of : List ℕ → Result (List Rule) RuleError
+rules_of bytes = if nat_lt 65536 (length bytes) then Err refused.TooLong else with_event (rules_from [] (rule_lines bytes))
+
+-- The pattern of the line with this number is built: the file is short enough, each line before this one is a rule, and this one spells one, at most the 32nd.
+pub record IsBuilt (bytes : List ℕ) (number : ℕ) (pattern : List ℕ) : Type 0 where
+  pub short : length bytes ≤ 65536
+  pub before : List (ℕ × List ℕ)
+  pub line : List ℕ
+  pub after : List (ℕ × List ℕ)
+  pub lines : rule_lines bytes ≡ before ++ (number, line) ∷ after
+  pub rules : List Rule
+  pub read : rules_from [] before ≡ Ok rules
+  pub few : length rules < 32
+  pub form : Form
+  pub spelled : spelled_by line ≡ Some (form, pattern)
+
+-- the rules are those of the file, up to what a search tells apart
+abbrev pub AreRead : List ℕ → List Rule → Type 0
+AreRead bytes rules = (plain : List Rule) × (rules_of bytes ≡ Ok plain) × AreAlike rules plain
+
+-- why an expressions file is refused so
+abbrev pub IsRefused : List ℕ → PatternsState → PatternsState → RuleError → Type 0
+IsRefused bytes old new refused.Memory = Unit {0}
+IsRefused bytes old new (refused.Syntax number) =
+    (rules_of bytes ≡ Err (refused.Syntax number)) ⊎ ((pattern : List ℕ) × IsBuilt bytes number pattern × NestsTooDeep pattern)
+IsRefused bytes old new (refused.TooLarge number) =
+    Rose old.refusals new.refusals × ((pattern : List ℕ) × IsBuilt bytes number pattern × IsTrue (old.may_refuse pattern))
+IsRefused bytes old new refused.TooLong = rules_of bytes ≡ Err refused.TooLong
+IsRefused bytes old new (refused.BadLine number) = rules_of bytes ≡ Err (refused.BadLine number)
+IsRefused bytes old new (refused.TooMany number) = rules_of bytes ≡ Err (refused.TooMany number)
+IsRefused bytes old new (refused.NoType number) = rules_of bytes ≡ Err (refused.NoType number)
+IsRefused bytes old new (refused.MixedTime number) = rules_of bytes ≡ Err (refused.MixedTime number)
+IsRefused bytes old new refused.NoEvent = rules_of bytes ≡ Err refused.NoEvent

@@ -1,0 +1,6 @@
+pub mod Patterns
+pub mod Listed
+pub mod Rules
+pub mod Files
+pub mod Steps
+pub mod Views

@@ -1,0 +1,64 @@
+-- What each step of reading an expressions file leaves: one line, then all lines.
+use Rattle.std.specs.Prelude.{ℕ, ◌≡◌, ◌<◌, ◌⊎◌, IsTrue, IsFalse, List, [], ◌∷◌, ◌++◌, length, Some, Ok, Err}
+use Rattle.line_rules.specs.Patterns.{PatternsState, Rose, NestsTooDeep}
+use Rattle.line_rules.specs.Rules.{Form, Rule, Alike, AreAlike}
+use Rattle.line_rules.specs.Files.{spelled_by, is_skipped, rule_at, rules_from, rule_lines, IsBuilt}
+use Rattle.line_rules.specs.declared.line_rules.RuleError.{RuleError}
+use Rattle.line_rules.specs.declared.line_rules.RuleError.TheVariants as refused
+
+-- the rule is that of a line with its number after so many rules, up to what a search tells apart
+pub record IsRuleOf (before number : ℕ) (line : List ℕ) (rule : Rule) : Type 0 where
+  pub plain : Rule
+  pub read : rule_at before (number, line) ≡ Ok plain
+  pub alike : Alike rule plain
+
+-- after so many rules a line's pattern is built, and this holds of the pattern
+pub record Builds (before : ℕ) (line : List ℕ) (Holds : List ℕ → Type 0) : Type 0 where
+  pub few : before < 32
+  pub form : Form
+  pub pattern : List ℕ
+  pub spelled : spelled_by line ≡ Some (form, pattern)
+  pub holds : Holds pattern
+
+-- why a line with its number is refused so after so many rules
+abbrev pub IsLineRefused : PatternsState → PatternsState → ℕ → ℕ → List ℕ → RuleError → Type 0
+IsLineRefused old new before number line refused.Memory = Unit {0}
+IsLineRefused old new before number line (refused.Syntax at) =
+    (at ≡ number) × ((rule_at before (number, line) ≡ Err (refused.Syntax number)) ⊎ Builds before line NestsTooDeep)
+IsLineRefused old new before number line (refused.TooLarge at) =
+    (at ≡ number) × Rose old.refusals new.refusals × Builds before line (λ pattern. IsTrue (old.may_refuse pattern))
+IsLineRefused old new before number line refused.TooLong = ⊥
+IsLineRefused old new before number line (refused.BadLine at) = rule_at before (number, line) ≡ Err (refused.BadLine at)
+IsLineRefused old new before number line (refused.TooMany at) = rule_at before (number, line) ≡ Err (refused.TooMany at)
+IsLineRefused old new before number line (refused.NoType at) = rule_at before (number, line) ≡ Err (refused.NoType at)
+IsLineRefused old new before number line (refused.MixedTime at) = rule_at before (number, line) ≡ Err (refused.MixedTime at)
+IsLineRefused old new before number line refused.NoEvent = ⊥
+
+-- a line with its number leaves the rules if it is skipped, and adds its rule if not
+abbrev pub AddsLine : ℕ → List ℕ → List Rule → List Rule → Type 0
+AddsLine number line rules new =
+    (IsTrue (is_skipped line) × (new ≡ rules)) ⊎ (IsFalse (is_skipped line) × ((rule : Rule) × (new ≡ rules ++ rule ∷ []) × IsRuleOf (length rules) number line rule))
+
+-- the rules are those of all lines, up to what a search tells apart
+pub record AreRulesOf (bytes : List ℕ) (rules : List Rule) : Type 0 where
+  pub plain : List Rule
+  pub read : rules_from [] (rule_lines bytes) ≡ Ok plain
+  pub alike : AreAlike rules plain
+
+-- the pattern of the line with this number is built, and this holds of the pattern
+pub record BuildsAt (bytes : List ℕ) (number : ℕ) (Holds : List ℕ → Type 0) : Type 0 where
+  pub pattern : List ℕ
+  pub built : IsBuilt bytes number pattern
+  pub holds : Holds pattern
+
+-- why one of the lines is refused so
+abbrev pub AreLinesRefused : List ℕ → PatternsState → PatternsState → RuleError → Type 0
+AreLinesRefused bytes old new refused.Memory = Unit {0}
+AreLinesRefused bytes old new (refused.Syntax at) = (rules_from [] (rule_lines bytes) ≡ Err (refused.Syntax at)) ⊎ BuildsAt bytes at NestsTooDeep
+AreLinesRefused bytes old new (refused.TooLarge at) = Rose old.refusals new.refusals × BuildsAt bytes at (λ pattern. IsTrue (old.may_refuse pattern))
+AreLinesRefused bytes old new refused.TooLong = ⊥
+AreLinesRefused bytes old new (refused.BadLine at) = rules_from [] (rule_lines bytes) ≡ Err (refused.BadLine at)
+AreLinesRefused bytes old new (refused.TooMany at) = rules_from [] (rule_lines bytes) ≡ Err (refused.TooMany at)
+AreLinesRefused bytes old new (refused.NoType at) = rules_from [] (rule_lines bytes) ≡ Err (refused.NoType at)
+AreLinesRefused bytes old new (refused.MixedTime at) = rules_from [] (rule_lines bytes) ≡ Err (refused.MixedTime at)
+AreLinesRefused bytes old new refused.NoEvent = ⊥

@@ -1,0 +1,38 @@
+//! What a line of a log is.
+
+/// The type text of an event: that of the rule with this number, or a part of the line.
+#[derive(Clone, Copy, Debug, PartialEq, Eq)]
+pub enum Named {
+    /// The name of the rule with this number, counted from 0.
+    Fixed(u32),
+    /// What stands from the first byte place up to the second.
+    Part(usize, usize),
+}
+
+/// What a line is.
+#[derive(Clone, Copy, Debug, PartialEq, Eq)]
+pub enum Decision {
+    /// An event of the trace whose text stands from `trace_from` up to `trace_to`; the time is in billionths,
+    /// and 0 for now, since rules have no times yet.
+    Event {
+        name: Named,
+        trace_from: usize,
+        trace_to: usize,
+        time: u128,
+    },
+    /// Nothing.
+    Skip,
+    /// The end of a section.
+    Separator,
+    /// No rule decides the line.
+    Undecided,
+}
+
+/// Why a line was not decided.
+#[derive(Clone, Copy, Debug, PartialEq, Eq)]
+pub enum DecideError {
+    /// The deciding rule has a time, which the line lacks. It never comes for now.
+    BadTime,
+    /// Memory was wanted.
+    Memory,
+}

@@ -1,0 +1,82 @@
+//! The rules of all lines.
+ghost use Rattle.std.specs.Prelude.{◌≡◌, ◌≤◌, IfOk, IfErr, IsFalse, OnErr, OnOk, length, map, vec_len};
+ghost use Rattle.std.specs.List.{list_any};
+ghost use Rattle.line_rules.specs.Patterns.{Stays};
+ghost use Rattle.line_rules.specs.Files.{is_event, is_skipped};
+ghost use Rattle.line_rules.specs.Steps.{AddsLine, IsLineRefused, AreRulesOf, AreLinesRefused};
+ghost use Rattle.line_rules.specs.Views.{rule_view};
+
+use crate::build::rule_of_line;
+use crate::line_rules::RuleError;
+use crate::patterns::Patterns;
+use crate::rule::Rule;
+use crate::spelling::is_comment;
+use std::alloc::Global;
+use traces::{next_piece, without_return};
+
+/// Adds the rule of the line with this number, if the line is not skipped.
+fn add_line<P: Patterns>(
+    alloc: Global,
+    number: u32,
+    line: &[u8],
+    rules: &mut Vec<Rule>,
+    patterns: &mut P,
+) -> Result<(), RuleError>
+    requires { vec_len rules.old ≤ 32 }
+    ensures stays { Stays (P.state patterns.old) (P.state patterns.new) }
+    ensures few { vec_len rules.new ≤ 32 }
+    ensures ok { OnOk result (AddsLine number line.now (map rule_view rules.old.items) (map rule_view rules.new.items)) }
+    ensures not_skipped { OnErr result (IsFalse (is_skipped line.now)) }
+    ensures err { IfErr result (IsLineRefused (P.state patterns.old) (P.state patterns.new) (vec_len rules.old) number line.now) }
+{
+    if is_comment(line) {
+        return Ok(());
+    }
+    let rule = match rule_of_line(alloc, rules.len(), number, line, patterns) {
+        Ok(rule) => rule,
+        Err(fault) => return Err(fault),
+    };
+    let Ok(()) = rules.push(rule) else {
+        return Err(RuleError::Memory);
+    };
+    Ok(())
+}
+
+/// The rules of all lines, in their order.
+pub(crate) fn read_rules<P: Patterns>(
+    alloc: Global,
+    bytes: &[u8],
+    patterns: &mut P,
+) -> Result<Vec<Rule>, RuleError>
+    requires { length bytes.now ≤ 65536 }
+    ensures stays { Stays (P.state patterns.old) (P.state patterns.new) }
+    ensures few { IfOk result (λ rules. vec_len rules ≤ 32) }
+    ensures ok { IfOk result (λ rules. AreRulesOf bytes.now (map rule_view rules.items)) }
+    ensures err { IfErr result (AreLinesRefused bytes.now (P.state patterns.old) (P.state patterns.new)) }
+{
+    let mut rules = Vec::new(alloc);
+    let mut rest = bytes;
+    let mut number = 0;
+    while !rest.is_empty() {
+        let (piece, after) = next_piece(rest);
+        number += 1;
+        match add_line(alloc, number, without_return(piece), &mut rules, patterns) {
+            Ok(()) => {}
+            Err(fault) => return Err(fault),
+        }
+        rest = after;
+    }
+    Ok(rules)
+}
+
+/// Whether one of the rules is an event rule.
+pub(crate) fn has_event(rules: &[Rule]) -> bool
+    ensures { result ≡ list_any (λ rule. is_event rule.form) (map rule_view rules.now) }
+{
+    for rule in rules {
+        if rule.form.is_event() {
+            return true;
+        }
+    }
+    false
+}

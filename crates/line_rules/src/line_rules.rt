@@ -1,0 +1,124 @@
+//! The rules of an expressions file.
+ghost use Rattle.std.specs.Prelude.{◌≡◌, ◌≢◌, ◌<◌, ◌≤◌, length, Some, IsSome, IfOk, IfErr, Err, vec_len};
+ghost use Rattle.line_rules.specs.Patterns.{Stays};
+ghost use Rattle.line_rules.specs.Rules.{decision_of, fixed_name, HasParts};
+ghost use Rattle.line_rules.specs.Files.{AreRead, IsRefused};
+
+use crate::decision::{DecideError, Decision};
+use crate::file::{has_event, read_rules};
+use crate::matchers::{Matchers, RuleMatcher};
+use crate::patterns::Patterns;
+use crate::rule::Rule;
+use std::alloc::{AllocError, Global};
+use thiserror::Error;
+
+/// Why an expressions file is refused. The numbers are those of lines, counted from 1.
+#[derive(Clone, Copy, Debug, PartialEq, Eq, Error)]
+pub enum RuleError {
+    /// The file has more than 65,536 bytes.
+    #[error("the file of expressions has more than 65536 bytes")]
+    TooLong,
+    /// The line is not UTF-8, or has none of the four forms.
+    #[error("line {0} is no rule: a rule is `skip`, `separator`, `event` or `event=NAME`, a space and a pattern")]
+    BadLine(u32),
+    /// The line is the 33rd rule.
+    #[error("line {0} is the 33rd rule, and 32 are allowed")]
+    TooMany(u32),
+    /// The line's pattern is none, or nests too deep.
+    #[error("the pattern in line {0} can't be read")]
+    Syntax(u32),
+    /// The line's pattern was refused as too large.
+    #[error("the pattern in line {0} is too large")]
+    TooLarge(u32),
+    /// The line is `event PATTERN`, and its pattern has no group named TYPE.
+    #[error("the pattern in line {0} has no group named TYPE")]
+    NoType(u32),
+    /// The line is an event rule whose pattern has a group named TIME.
+    #[error("the pattern in line {0} has a group named TIME, and no rule has times")]
+    MixedTime(u32),
+    /// No rule is an event rule.
+    #[error("no rule is an event rule")]
+    NoEvent,
+    /// Memory was wanted.
+    #[error("out of memory")]
+    Memory,
+}
+
+/// At most 32 rules, in the order of their file.
+#[derive(Drop)]
+pub struct LineRules {
+    alloc: Global,
+    pub(crate) rules: Vec<Rule>,
+    ghost few: { vec_len rules ≤ 32 },
+}
+
+impl LineRules {
+    ghost use Rattle.line_rules.specs.Views.{rules_in, matched_rules};
+
+    /// The rules of an expressions file.
+    ///
+    /// A file of more than 65,536 bytes is `TooLong`. Then each line that is not skipped is tested in turn by
+    /// `BadLine`, `TooMany`, the build of its pattern, `NoType` and `MixedTime`, and a file without an event rule
+    /// is `NoEvent`. `TooLarge` comes only where the count of `patterns` rose, and `Memory` may come at any time.
+    pub fn read<P: Patterns>(
+        alloc: Global,
+        bytes: &[u8],
+        patterns: &mut P,
+    ) -> Result<LineRules, RuleError>
+        ensures stays { Stays (P.state patterns.old) (P.state patterns.new) }
+        ensures ok { IfOk result (λ rules. AreRead bytes.now (rules_in rules)) }
+        ensures err { IfErr result (IsRefused bytes.now (P.state patterns.old) (P.state patterns.new)) }
+    {
+        if bytes.len() > 65_536 {
+            return Err(RuleError::TooLong);
+        }
+        let rules = match read_rules(alloc, bytes, patterns) {
+            Ok(rules) => rules,
+            Err(fault) => return Err(fault),
+        };
+        if !has_event(&rules) {
+            return Err(RuleError::NoEvent);
+        }
+        Ok(LineRules { alloc, rules })
+    }
+
+    /// What the line is, by the first rule that decides it.
+    ///
+    /// Places in the decision are byte places in the line, on character bounds, and a trace that has no group
+    /// stands from 0 up to 0. What searches is made within the call, and `Memory` comes only for it: the rules
+    /// may be used again. For many lines see [`LineRules::matchers`].
+    pub fn decide(&self, line: &str) -> Result<Decision, DecideError>
+        ensures value { IfOk result (λ decision. decision ≡ decision_of (rules_in self.now) line.now) }
+        ensures parts { IfOk result (HasParts (rules_in self.now) line.now) }
+        ensures no_bad_time { result ≢ Err DecideError.BadTime }
+    {
+        match self.matchers() {
+            Ok(mut matchers) => Ok(matchers.decide(line)),
+            Err(_) => Err(DecideError::Memory),
+        }
+    }
+
+    /// What searches for the rules, for many lines.
+    pub fn matchers(&self) -> Result<Matchers<'_>, AllocError>
+        ensures { IfOk result (λ m. matched_rules m ≡ rules_in self.now) }
+    {
+        let mut matchers = Vec::new(self.alloc);
+        for rule in &self.rules {
+            matchers.push(RuleMatcher::new(self.alloc, rule)?)?;
+        }
+        Ok(Matchers { rules: matchers })
+    }
+
+    /// The type, of 1 to 256 bytes, that the rule with this number gives its events. Rules are numbered from 0.
+    pub fn fixed(&self, rule: u32) -> &str
+        requires { IsSome (fixed_name (rules_in self.now) rule) }
+        ensures name { fixed_name (rules_in self.now) rule ≡ Some result.now }
+        ensures stands { 0 < length result.now }
+        ensures short { length result.now ≤ 256 }
+    {
+        match self.rules[rule as usize].type_name() {
+            Some(name) => name,
+            None => unreachable!(),
+        }
+    }
+}

@@ -1,0 +1,62 @@
+//! Patterns of which listed builds are refused.
+ghost use Rattle.std.specs.Prelude.{◌≡◌};
+ghost use Rattle.line_rules.specs.Patterns.{Stays, BuildGives};
+ghost use Rattle.line_rules.specs.Listed.{listed_state, ListedGives};
+
+use crate::patterns::{BuildFault, Patterns};
+use crate::regex_patterns::RegexPatterns;
+use regex::Regex;
+use std::marker::Model;
+
+/// Patterns as `regex` builds them, but the builds whose numbers are listed are refused as too large.
+///
+/// Contracts see the count of texts that were refused as too large, the numbers of the builds that are
+/// refused, and how many builds were asked for.
+#[derive(Drop)]
+pub struct ListedPatterns {
+    inner: RegexPatterns,
+    failing: Vec<u64>,
+    builds: u64,
+}
+
+impl Model for ListedPatterns {
+    ghost use Rattle.line_rules.specs.Listed.{ListedState};
+
+    ghost Value = { ListedState };
+
+    ghost view = { λ p. record { refusals = p.inner; failing = p.failing.items; builds = p.builds } };
+}
+
+impl ListedPatterns {
+    /// Patterns of which no build was asked for yet.
+    ///
+    /// Builds are counted from 1, and the number stands still at `u64::MAX`. A build whose number is in
+    /// `failing` is refused, and every other is answered as `inner` answers it.
+    pub fn new(inner: RegexPatterns, failing: Vec<u64>) -> ListedPatterns
+        ensures { result ≡ record { refusals = inner; failing = failing.items; builds = 0 } }
+    {
+        ListedPatterns {
+            inner,
+            failing,
+            builds: 0,
+        }
+    }
+}
+
+impl Patterns for ListedPatterns {
+    ghost state = { listed_state };
+
+    fn build(&mut self, text: &str) -> Result<Regex, BuildFault>
+        ensures stays { Stays (listed_state self.old) (listed_state self.new) }
+        ensures gives { BuildGives (listed_state self.old) text.now result (listed_state self.new) }
+
+        // The answer and all that is left, by the number of the build and the text.
+        ensures exact { ListedGives self.old text.now result self.new }
+    {
+        self.builds = self.builds.saturating_add(1);
+        if self.failing.contains(&self.builds) {
+            return Err(self.inner.refuse());
+        }
+        self.inner.build(text)
+    }
+}

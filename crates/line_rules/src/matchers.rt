@@ -1,0 +1,65 @@
+//! What searches lines for the rules.
+ghost use Rattle.std.specs.Prelude.{◌≡◌, ◌≤◌, List, Some, IfOk, IfSome, vec_len, slice_get};
+ghost use Rattle.regex.specs.Strings.{regex_pattern, matcher_pattern};
+ghost use Rattle.line_rules.specs.Rules as spec;
+ghost use Rattle.line_rules.specs.Rules.{decision_of, decided_by, HasParts};
+
+use crate::decision::Decision;
+use crate::rule::{Rule, spans_in};
+use regex::Matcher;
+use std::alloc::{AllocError, Global};
+
+/// A rule and what searches for its pattern.
+#[derive(Drop)]
+pub struct RuleMatcher<'r> {
+    pub(crate) rule: &'r Rule,
+    pub(crate) matcher: Matcher<'r>,
+    ghost same: { ∥ matcher_pattern matcher ≡ regex_pattern rule.now.regex ∥₁ },
+}
+
+impl<'r> RuleMatcher<'r> {
+    ghost use Rattle.line_rules.specs.Views.{rule_view};
+
+    /// What searches for the rule's pattern.
+    pub(crate) fn new(alloc: Global, rule: &'r Rule) -> Result<RuleMatcher<'r>, AllocError>
+        ensures { IfOk result (λ m. m.rule.now ≡ rule.now) }
+    {
+        let matcher = rule.regex.matcher(alloc)?;
+        Ok(RuleMatcher { rule, matcher })
+    }
+
+    /// What the rule, which has this number, decides of the line, if it does.
+    pub(crate) fn decide(&mut self, number: u32, line: &str) -> Option<Decision>
+        ensures value { result ≡ decided_by number (rule_view self.old.rule.now) line.now }
+        ensures parts { (rules : List spec.Rule) → slice_get rules number ≡ Some (rule_view self.old.rule.now) → IfSome result (HasParts rules line.now) }
+        ensures same { self.new.rule ≡ self.old.rule }
+    {
+        let (typ, trace) = spans_in(self.rule, &mut self.matcher, line)?;
+        self.rule.form.decided_at(number, typ, trace)
+    }
+}
+
+/// The rules of a file with what searches for them, for many lines.
+#[derive(Drop)]
+pub struct Matchers<'r> {
+    pub(crate) rules: Vec<RuleMatcher<'r>>,
+    ghost few: { vec_len rules ≤ 32 },
+}
+
+impl<'r> Matchers<'r> {
+    ghost use Rattle.line_rules.specs.Views.{matched_rules};
+
+    /// What the line is, by the first rule that decides it. It wants no memory.
+    pub fn decide(&mut self, line: &str) -> Decision
+        ensures value { result ≡ decision_of (matched_rules self.old) line.now }
+        ensures parts { HasParts (matched_rules self.old) line.now result }
+        ensures same { matched_rules self.new ≡ matched_rules self.old }
+    {
+        for place in 0..self.rules.len() {
+            if let Some(decision) = self.rules[place].decide(place as u32, line) {
+                return decision;
+            }
+        }
+        Decision::Undecided
+    }
+}

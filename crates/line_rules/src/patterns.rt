@@ -1,0 +1,31 @@
+//! What builds the patterns of rules.
+
+ghost use Rattle.line_rules.specs.Patterns.{PatternsState, Stays, BuildGives};
+
+use regex::Regex;
+
+/// Why a pattern was not built.
+#[derive(Clone, Copy, Debug, PartialEq, Eq)]
+pub enum BuildFault {
+    /// The grammar reads no pattern from the text, or reads one that nests too deep.
+    Syntax,
+    /// The pattern is larger than what is built.
+    TooLarge,
+    /// Memory was wanted.
+    Memory,
+}
+
+/// Builds patterns, and counts those that it refused as too large.
+///
+/// No text is promised to be built.
+pub trait Patterns {
+    ghost state: { Self → PatternsState };
+
+    /// The pattern that the grammar of `regex` reads from the text.
+    ///
+    /// `Syntax` comes only where the grammar reads none or the pattern nests too deep, and `TooLarge` only
+    /// where the count of refusals rose and this text may be refused.
+    fn build(&mut self, text: &str) -> Result<Regex, BuildFault>
+        ensures stays { Stays (state self.old) (state self.new) }
+        ensures gives { BuildGives (state self.old) text.now result (state self.new) };
+}

@@ -1,0 +1,65 @@
+//! Patterns as `regex` builds them.
+ghost use Rattle.std.specs.Prelude.{◌≡◌, ◌≤◌};
+ghost use Rattle.line_rules.specs.Patterns.{Stays, BuildGives};
+ghost use Rattle.line_rules.specs.Listed.{regex_state, RegexGives, raised};
+
+use crate::patterns::{BuildFault, Patterns};
+use regex::{Error, Regex};
+use std::alloc::Global;
+use std::marker::Model;
+
+/// Patterns as `regex` builds them. They may refuse any text as too large.
+///
+/// Contracts see the count of texts that were refused so.
+#[derive(Drop)]
+pub struct RegexPatterns {
+    alloc: Global,
+    refusals: u64,
+}
+
+impl Model for RegexPatterns {
+    ghost use Rattle.std.specs.Prelude.{ℕ};
+
+    ghost Value = { ℕ };
+
+    ghost view = { λ p. p.refusals };
+}
+
+impl RegexPatterns {
+    /// Patterns of which none was refused yet.
+    pub fn new(alloc: Global) -> RegexPatterns
+        ensures { result ≡ 0 }
+    {
+        RegexPatterns { alloc, refusals: 0 }
+    }
+
+    /// Counts a text that is refused as too large. The count stands still at `u64::MAX`.
+    pub(crate) fn refuse(&mut self) -> BuildFault
+        ensures fault { result ≡ BuildFault.TooLarge }
+        ensures count { self.new ≡ raised self.old }
+        ensures grows { self.old ≤ self.new }
+    {
+        self.refusals = self.refusals.saturating_add(1);
+        BuildFault::TooLarge
+    }
+}
+
+impl Patterns for RegexPatterns {
+    ghost state = { regex_state };
+
+    fn build(&mut self, text: &str) -> Result<Regex, BuildFault>
+        ensures stays { Stays (regex_state self.old) (regex_state self.new) }
+        ensures gives { BuildGives (regex_state self.old) text.now result (regex_state self.new) }
+
+        // The count rises exactly at a pattern that is refused as too large.
+        ensures exact { RegexGives self.old text.now result self.new }
+    {
+        match Regex::new(self.alloc, text) {
+            Ok(regex) => Ok(regex),
+            Err(Error::Syntax(_)) => Err(BuildFault::Syntax),
+            Err(Error::OutOfMemory) => Err(BuildFault::Memory),
+            Err(Error::CompiledTooBig) => Err(self.refuse()),
+            Err(Error::Internal) => Err(self.refuse()),
+        }
+    }
+}

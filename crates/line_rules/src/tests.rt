@@ -1,0 +1,212 @@
+use crate::{Decision, LineRules, ListedPatterns, Named, RegexPatterns, RuleError};
+use std::alloc::{AllocError, Global};
+use std::test::Fail;
+
+/// Why the file is refused over `regex`, if it is.
+fn refusal(alloc: Global, file: &[u8]) -> Option<RuleError> {
+    match LineRules::read(alloc, file, &mut RegexPatterns::new(alloc)) {
+        Ok(_) => None,
+        Err(fault) => Some(fault),
+    }
+}
+
+/// The text that stands so many times between the two ends.
+fn around(
+    alloc: Global,
+    start: &str,
+    text: &str,
+    count: usize,
+    end: &str,
+) -> Result<String, AllocError> {
+    let mut file = start.to_string(alloc)?;
+    for _ in 0..count {
+        file.push_str(text)?;
+    }
+    file.push_str(end)?;
+    Ok(file)
+}
+
+/// A rule whose pattern nests so deep.
+fn nested(alloc: Global, depth: usize) -> Result<String, AllocError> {
+    let closed = around(alloc, "a", ")", depth, "")?;
+    around(alloc, "event=a ", "(", depth, &closed)
+}
+
+#[test]
+fn files_are_refused_by_their_first_fault(rt: HostRuntime) -> Result<(), Fail> {
+    let cases = [
+        ("event (?<TYPE>[a-z]+)", None),
+        ("event (?P<TYPE>[a-z]+)\r\n", None),
+        ("# types\n\n\r\nevent=log in\r\nseparator ^--$", None),
+        ("skip (?<TIME>b)\nevent=a b", None),
+        ("skip x\nevent (", Some(RuleError::Syntax(2))),
+        ("event (\nx", Some(RuleError::Syntax(1))),
+        ("event ^a", Some(RuleError::NoType(1))),
+        ("event (?<TIME>b)", Some(RuleError::NoType(1))),
+        ("event=a (?<TIME>b)", Some(RuleError::MixedTime(1))),
+        ("skip x", Some(RuleError::NoEvent)),
+        ("", Some(RuleError::NoEvent)),
+        ("#\n\nEvent=a b", Some(RuleError::BadLine(3))),
+        ("event=a b\nskip ", Some(RuleError::BadLine(2))),
+        ("event= b", Some(RuleError::BadLine(1))),
+        (" skip b", Some(RuleError::BadLine(1))),
+    ];
+    for (file, want) in cases {
+        assert_eq!(rt; refusal(rt.alloc(), file.as_bytes()), want, "at {file}");
+    }
+    assert_eq!(rt;
+        refusal(rt.alloc(), b"#\nskip \xff"),
+        Some(RuleError::BadLine(2))
+    );
+    Ok(())
+}
+
+#[test]
+fn lines_are_decided_by_the_first_rule(rt: HostRuntime) -> Result<(), Fail> {
+    let event = |name, trace_from, trace_to| Decision::Event {
+        name,
+        trace_from,
+        trace_to,
+        time: 0,
+    };
+    let cases = [
+        (
+            "event (?<TYPE>[a-z]+)",
+            "7 open",
+            event(Named::Part(2, 6), 0, 0),
+        ),
+        (
+            "event ^(?<TRACE>[0-9]+) (?<TYPE>.+)$",
+            "12 read it",
+            event(Named::Part(3, 10), 0, 2),
+        ),
+        (
+            "event (?<TYPE>x*)\nevent=other a b",
+            "a b",
+            event(Named::Fixed(1), 0, 0),
+        ),
+        (
+            "event=one x\nevent=two x",
+            "x",
+            event(Named::Fixed(0), 0, 0),
+        ),
+        ("event=a (?<TRACE>b)?c", "c", event(Named::Fixed(0), 0, 0)),
+        ("separator ^--$\nevent=a a", "--", Decision::Separator),
+        ("skip ^--$\nevent=a a", "--", Decision::Skip),
+        ("separator ^--$\nevent=a a", "---", Decision::Undecided),
+    ];
+    for (file, line, want) in cases {
+        let mut patterns = RegexPatterns::new(rt.alloc());
+        let Ok(rules) = LineRules::read(rt.alloc(), file.as_bytes(), &mut patterns) else {
+            return Err(Fail::from("refused"));
+        };
+        assert_eq!(rt; rules.decide(line), Ok(want), "at {file}");
+        let mut matchers = rules.matchers()?;
+        assert_eq!(rt; matchers.decide(line), want, "at {file}");
+        assert_eq!(rt; matchers.decide(line), want, "again at {file}");
+    }
+    Ok(())
+}
+
+#[test]
+fn listed_builds_are_refused(rt: HostRuntime) -> Result<(), Fail> {
+    let cases = [
+        ("event (?<TYPE>a)", 1u64, Some(RuleError::TooLarge(1))),
+        (
+            "#\nskip b\n\nevent (?<TYPE>a)",
+            2,
+            Some(RuleError::TooLarge(4)),
+        ),
+        ("event (?<TYPE>a)", 2, None),
+        ("event ^a\nskip b", 2, Some(RuleError::NoType(1))),
+    ];
+    for (file, failing, want) in cases {
+        let inner = RegexPatterns::new(rt.alloc());
+        let mut patterns = ListedPatterns::new(inner, vec![in rt.alloc(); failing]?);
+        let answer = match LineRules::read(rt.alloc(), file.as_bytes(), &mut patterns) {
+            Ok(_) => None,
+            Err(fault) => Some(fault),
+        };
+        assert_eq!(rt; answer, want, "at {file}");
+    }
+    Ok(())
+}
+
+#[test]
+fn limits_are_kept(rt: HostRuntime) -> Result<(), Fail> {
+    let alloc = rt.alloc();
+    let cases = [
+        (around(alloc, "event=a a", "\nskip b", 31, "")?, None),
+        (
+            around(alloc, "event=a a", "\nskip b", 32, "\nx")?,
+            Some(RuleError::TooMany(33)),
+        ),
+        (around(alloc, "event=a a\n#", "b", 65_525, "")?, None),
+        (
+            around(alloc, "event=a a\n#", "b", 65_526, "")?,
+            Some(RuleError::TooLong),
+        ),
+        (
+            around(alloc, "event=", "n", 257, " a")?,
+            Some(RuleError::BadLine(1)),
+        ),
+    ];
+    for (file, want) in &cases {
+        assert_eq!(rt; refusal(alloc, file.as_bytes()), *want, "at {file}");
+    }
+    let file = around(alloc, "event=", "n", 256, " a")?;
+    let mut patterns = RegexPatterns::new(alloc);
+    let Ok(rules) = LineRules::read(alloc, file.as_bytes(), &mut patterns) else {
+        return Err(Fail::from("refused"));
+    };
+    match rules.decide("a") {
+        Ok(
+            Decision::Event {
+                name: Named::Fixed(rule),
+                ..
+            },
+        ) => assert_eq!(rt; rules.fixed(rule).len(), 256),
+        _ => return Err(Fail::from("no type of the rule's own")),
+    }
+    Ok(())
+}
+
+/// Files that are meant to harm: each is refused or read within seconds.
+#[test]
+fn hostile_files_are_answered(rt: HostRuntime) -> Result<(), Fail> {
+    let alloc = rt.alloc();
+    for byte in 0..=255u8 {
+        let want = match byte {
+            b'\n' | b'\r' | b'#' => RuleError::NoEvent,
+            _ => RuleError::BadLine(1),
+        };
+        assert_eq!(rt; refusal(alloc, &[byte]), Some(want), "at {byte}");
+    }
+    let cases = [
+        (nested(alloc, 300)?, RuleError::Syntax(1)),
+        (nested(alloc, 5_000)?, RuleError::Syntax(1)),
+        (
+            "event=a ((a{1000}){1000}){1000}".to_string(alloc)?,
+            RuleError::TooLarge(1),
+        ),
+    ];
+    for (file, want) in &cases {
+        assert_eq!(rt; refusal(alloc, file.as_bytes()), Some(*want), "at {file}");
+    }
+    let long = around(alloc, "event=a ", "a", 65_000, "")?;
+    let answer = refusal(alloc, long.as_bytes());
+    assert!(rt; answer.is_none() || answer == Some(RuleError::TooLarge(1)));
+    Ok(())
+}
+
+/// A pattern over which a search that goes back would not end soon.
+#[test]
+fn nested_stars_are_decided(rt: HostRuntime) -> Result<(), Fail> {
+    let mut patterns = RegexPatterns::new(rt.alloc());
+    let Ok(rules) = LineRules::read(rt.alloc(), b"event=a (a*)*b", &mut patterns) else {
+        return Err(Fail::from("refused"));
+    };
+    let line = around(rt.alloc(), "", "a", 10_000, "")?;
+    assert_eq!(rt; rules.decide(&line), Ok(Decision::Undecided));
+    Ok(())
+}

@@ -1,0 +1,7 @@
+pub mod Bytes
+pub mod AlikeLogs
+pub mod Timeless
+pub mod Pieces
+pub mod Files
+pub mod UpTo
+pub mod Causes

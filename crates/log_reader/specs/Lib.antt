@@ -1,0 +1,5 @@
+pub mod Reading
+pub mod Inputs
+pub mod Views
+pub mod SoFar
+pub mod Files

@@ -1,0 +1,99 @@
+-- A log that is read line by line: its events so far, and what one line more makes of them.
+use Rattle.std.specs.Prelude.{ℕ, ◌≡◌, ◌≤◌, ◌⊎◌, Bool, List, ◌++◌, length, nat_lt, Option, Some, None, if◌then◌else◌}
+use Rattle.traces.specs.Words.{Event as KeyedEvent, Log, log_of, event_count_of, HaveNoTimes}
+use Rattle.line_rules.specs.Views.{rules_in, matched_rules}
+use Rattle.log_reader.specs.Reading as spec
+use Rattle.log_reader.specs.Reading.{Setting, Decided, decided_piece, event_refusal, line_events, section_after, piece_events, section_at_end, key_file, pieces_refusal}
+use Rattle.log_reader.specs.declared.decider.Decider.{Decider}
+use Rattle.log_reader.specs.declared.decider.Decider.TheVariants.{Plain, Rules}
+use Rattle.log_reader.specs.declared.refusal.At.{At}
+use Rattle.log_reader.specs.declared.refusal.ReadError.{ReadError}
+use Rattle.log_reader.specs.declared.refusal.ReadError.TheVariants as refused
+use Rattle.log_reader.specs.declared.so_far.LogSoFar.{LogSoFar}
+use Rattle.log_reader.specs.declared.reader.LogReader.{LogReader}
+
+-- what a decider decides by
+abbrev pub decider_view : Decider → spec.Form
+decider_view Plain = spec.Plain
+decider_view (Rules kept) = spec.Rules (rules_in kept.rules.now)
+
+-- its matchers search for its rules
+abbrev pub HasMatchers : Decider → Type 0
+HasMatchers Plain = Unit {0}
+HasMatchers (Rules kept) = matched_rules kept.matchers ≡ rules_in kept.rules.now
+
+-- within the limits on types and events
+pub record IsWithin (log : Log) : Type 0 where
+  pub types : length log.types ≤ 128
+  pub events : event_count_of log.traces ≤ 1000000
+
+-- the log is that of these events, which have no times
+pub record IsLogOf (log : Log) (events : List KeyedEvent) : Type 0 where
+  pub is : log ≡ log_of events
+  pub no_times : HaveNoTimes events
+
+-- the refusal of a line after the events of a log
+abbrev pub refusal_in : Bool → At → Log → Decided → Option ReadError
+refusal_in ignore at log (spec.Event typ trace time) = event_refusal at log.types (event_count_of log.traces) typ trace
+refusal_in ignore at log spec.Skip = None
+refusal_in ignore at log spec.Separator = None
+refusal_in ignore at log spec.Undecided = if ignore then None else Some (refused.Undecided at)
+
+-- the refusal is this one, or memory was wanted
+abbrev pub IsRefusal : Option ReadError → ReadError → Type 0
+IsRefusal refusal e = (e ≡ refused.Memory) ⊎ (refusal ≡ Some e)
+
+-- from the log of some events, the log of these and of the line's
+abbrev pub AddsLine : ℕ → ℕ → Decided → Log → Log → Type 0
+AddsLine file section d old new = (events : List KeyedEvent) → IsLogOf old events → IsLogOf new (events ++ line_events file section d)
+
+-- a line that is decided so is not refused, and its event and its section are taken in
+pub record TakesLine (at : At) (d : Decided) (old new : LogSoFar) : Type 0 where
+  pub refusal : refusal_in old.ignore at old.builder d ≡ None
+  pub log : AddsLine (if old.join then 0 else at.file) old.section d old.builder new.builder
+  pub section : new.section ≡ section_after old.section d
+  pub ignore : new.ignore ≡ old.ignore
+  pub join : new.join ≡ old.join
+  pub within : IsWithin new.builder
+
+-- how a reader reads
+abbrev pub setting_of : LogReader → Setting
+setting_of reader = record { form = decider_view reader.decider; ignore = reader.log.ignore; join = reader.log.join }
+
+-- a reader between two lines
+pub record IsReady (reader : LogReader) : Type 0 where
+  pub matchers : HasMatchers reader.decider
+  pub within : IsWithin reader.log.builder
+
+-- the refusal of a piece after the events of a log
+abbrev pub piece_refusal_in : Setting → At → Log → List ℕ → Option ReadError
+piece_refusal_in s at log piece =
+    if nat_lt 65536 (length piece) then Some (refused.LineTooLong at) else refusal_in s.ignore at log (decided_piece s.form piece)
+
+-- a line that is decided so is taken in, and the reader reads on as before
+pub record ReadsText (at : At) (d : Decided) (old new : LogReader) : Type 0 where
+  pub takes : TakesLine at d old.log new.log
+  pub form : decider_view new.decider ≡ decider_view old.decider
+  pub matchers : HasMatchers new.decider
+
+-- the piece is not refused, and its line is taken in
+pub record ReadsPiece (at : At) (piece : List ℕ) (old new : LogReader) : Type 0 where
+  pub refusal : piece_refusal_in (setting_of old) at old.log.builder piece ≡ None
+  pub reads : ReadsText at (decided_piece (decider_view old.decider) piece) old new
+
+-- the pieces of a file that follows these events are not refused, and their events are taken in
+pub record PiecesAreRead (s : Setting) (number : ℕ) (cut : Bool) (section : ℕ) (ps : List (List ℕ)) (events : List KeyedEvent) (new : Log) : Type 0 where
+  pub refusal : pieces_refusal s number cut section events 1 ps ≡ None
+  pub log : IsLogOf new (events ++ piece_events s.form (key_file s number) section ps)
+
+-- the pieces of a file are not refused, and their lines are taken in
+pub record ReadsPieces (number : ℕ) (cut : Bool) (ps : List (List ℕ)) (old new : LogReader) : Type 0 where
+  pub ready : IsReady new
+  pub setting : setting_of new ≡ setting_of old
+  pub section : new.log.section ≡ section_at_end (setting_of old).form old.log.section ps
+  pub log : (events : List KeyedEvent) → IsLogOf old.log.builder events → PiecesAreRead (setting_of old) number cut old.log.section ps events new.log.builder
+
+-- the first refusal of the pieces of a file is this one, or memory was wanted
+abbrev pub IsPiecesRefusal : ℕ → Bool → List (List ℕ) → LogReader → ReadError → Type 0
+IsPiecesRefusal number cut ps old e =
+    (events : List KeyedEvent) → IsLogOf old.log.builder events → IsRefusal (pieces_refusal (setting_of old) number cut old.log.section events 1 ps) e

@@ -1,0 +1,118 @@
+//! The log of the lines so far.
+ghost use Rattle.std.specs.Prelude.{◌≡◌, ◌<◌, ◌-◌, ◌^◌, length, OnOk, IfErr};
+ghost use Rattle.traces.specs.Lines.{plain_fields_of};
+ghost use Rattle.line_rules.specs.Rules.{decision_of};
+ghost use Rattle.line_rules.specs.Views.{rules_in, matched_rules};
+ghost use Rattle.log_reader.specs.Reading as spec;
+ghost use Rattle.log_reader.specs.Reading.{by_fields, by_rules};
+ghost use Rattle.log_reader.specs.SoFar.{refusal_in, IsRefusal, IsWithin, TakesLine};
+
+use crate::decider::{KeptRules, type_text_of};
+use crate::refusal::{At, ReadError};
+use line_rules::Decision;
+use traces::{AddError, Builder, plain_fields};
+
+/// The most bytes of a type text.
+const MAX_TYPE: usize = 256;
+
+/// The most bytes of a trace text.
+const MAX_TRACE: usize = 1024;
+
+/// The log of the lines so far.
+#[derive(Drop)]
+pub struct LogSoFar {
+    /// Their events.
+    pub builder: Builder,
+    /// How many separators stand before the next line: in its file, or with `join` in all.
+    pub section: u32,
+    /// Whether lines that nothing decides are skipped.
+    pub ignore: bool,
+    /// Whether all files are one in the keys of events.
+    pub join: bool,
+}
+
+impl LogSoFar {
+    /// Adds the event of a line.
+    fn add(&mut self, at: At, trace_text: &str, type_text: &str) -> Result<(), ReadError>
+        requires within { IsWithin self.old.builder }
+        requires stands { 0 < length type_text.now }
+        ensures ok { OnOk result (TakesLine at (spec.Event type_text.now trace_text.now 0) self.old self.new) }
+        ensures err { IfErr result (IsRefusal (refusal_in self.old.ignore at self.old.builder (spec.Event type_text.now trace_text.now 0))) }
+    {
+        if type_text.len() > MAX_TYPE {
+            return Err(ReadError::TypeTooLong(at));
+        }
+        if trace_text.len() > MAX_TRACE {
+            return Err(ReadError::TraceTooLong(at));
+        }
+        let file = if self.join { 0 } else { at.file };
+        match self
+            .builder
+            .add(file, self.section, trace_text, type_text, 0)
+        {
+            Ok(()) => Ok(()),
+            Err(AddError::TypeLimit) => Err(ReadError::TypeLimit(at)),
+            Err(AddError::EventLimit) => Err(ReadError::EventLimit(at)),
+            Err(AddError::Memory) => Err(ReadError::Memory),
+        }
+    }
+
+    /// Passes over a line that nothing decides, where such lines are skipped.
+    fn pass(&self, at: At) -> Result<(), ReadError>
+        requires within { IsWithin self.now.builder }
+        ensures ok { OnOk result (TakesLine at spec.Undecided self.now self.now) }
+        ensures err { IfErr result (IsRefusal (refusal_in self.now.ignore at self.now.builder spec.Undecided)) }
+    {
+        if self.ignore {
+            Ok(())
+        } else {
+            Err(ReadError::Undecided(at))
+        }
+    }
+
+    /// Takes in a line in the plain form.
+    pub fn take_plain(&mut self, at: At, text: &str) -> Result<(), ReadError>
+        requires within { IsWithin self.old.builder }
+        ensures ok { OnOk result (TakesLine at (by_fields (plain_fields_of text.now)) self.old self.new) }
+        ensures err { IfErr result (IsRefusal (refusal_in self.old.ignore at self.old.builder (by_fields (plain_fields_of text.now)))) }
+    {
+        match plain_fields(text) {
+            Some((trace_text, type_text)) => self.add(at, trace_text, type_text),
+            None => self.pass(at),
+        }
+    }
+
+    /// Takes in a line by rules.
+    pub fn take_by_rules(
+        &mut self,
+        kept: &mut KeptRules<'_>,
+        at: At,
+        text: &str,
+    ) -> Result<(), ReadError>
+        requires within { IsWithin self.old.builder }
+        requires matchers { matched_rules kept.old.matchers ≡ rules_in kept.old.rules.now }
+        requires room { self.old.section < 2 ^ 32 - 1 }
+        ensures ok { OnOk result (TakesLine at (by_rules (rules_in kept.old.rules.now) text.now (decision_of (rules_in kept.old.rules.now) text.now)) self.old self.new) }
+        ensures err { IfErr result (IsRefusal (refusal_in self.old.ignore at self.old.builder (by_rules (rules_in kept.old.rules.now) text.now (decision_of (rules_in kept.old.rules.now) text.now)))) }
+        ensures matchers { matched_rules kept.new.matchers ≡ matched_rules kept.old.matchers }
+        ensures rules { rules_in kept.new.rules.now ≡ rules_in kept.old.rules.now }
+    {
+        match kept.matchers.decide(text) {
+            Decision::Event {
+                name,
+                trace_from,
+                trace_to,
+                time: _,
+            } => {
+                let type_text = type_text_of(kept.rules, text, name);
+                self.add(at, &text[trace_from..trace_to], type_text)
+            }
+            Decision::Skip => Ok(()),
+            Decision::Separator => {
+                self.section += 1;
+                Ok(())
+            }
+            Decision::Undecided => self.pass(at),
+        }
+    }
+}

@@ -1,0 +1,122 @@
+ghost use Rattle.std.specs.Prelude.{◌≤◌, ◌<◌, ◌^◌, length, IfOk};
+
+use crate::{At, Form, ReadError, read_log};
+use outside::MemInputs;
+use std::alloc::Global;
+use std::process::Abort;
+use std::test::Fail;
+use traces::TraceSet;
+
+/// Two files and standard input, of which a read gives at most a piece.
+fn inputs_of(
+    alloc: Global,
+    first: &str,
+    second: &str,
+    piece: usize,
+    failing: &[u64],
+) -> Result<MemInputs, Fail>
+    requires { 1 ≤ piece }
+{
+    let mut files = Vec::new(alloc);
+    files.push((
+        "first.log".to_string(alloc)?,
+        first.as_bytes().to_vec(alloc)?,
+    ))?;
+    files.push((
+        "second.log".to_string(alloc)?,
+        second.as_bytes().to_vec(alloc)?,
+    ))?;
+    files.push((String::new(alloc), b"7 a\n7\n".to_vec(alloc)?))?;
+    Ok(MemInputs::new(files, piece, failing.to_vec(alloc)?))
+}
+
+/// The names of the two files, of which the second may be another.
+fn names_of(alloc: Global, second: &str) -> Result<Vec<String>, Fail>
+    ensures { IfOk result (λ names. length names.items < 2 ^ 32) }
+{
+    let mut names = Vec::new(alloc);
+    names.push("first.log".to_string(alloc)?)?;
+    names.push(second.to_string(alloc)?)?;
+    Ok(names)
+}
+
+/// The refusal of a log in the plain form.
+fn refusal(answer: Result<TraceSet, ReadError>) -> Option<ReadError> {
+    match answer {
+        Ok(_) => None,
+        Err(error) => Some(error),
+    }
+}
+
+/// Compares the traces with their files, texts and type numbers.
+fn assert_traces(rt: &impl Abort, set: &TraceSet, traces: &[(u32, &str, &[u16])]) {
+    assert_eq!(rt; set.trace_count() as usize, traces.len());
+    for (t, trace) in traces.iter().enumerate() {
+        assert!(rt; t < set.trace_count() as usize);
+        let key = set.key(t as u32);
+        assert_eq!(rt; key.file, trace.0, "at {t}");
+        assert_eq!(rt; key.section, 0, "at {t}");
+        assert_eq!(rt; key.text.as_str(), trace.1, "at {t}");
+        assert_eq!(rt; set.events(t as u32), trace.2, "at {t}");
+    }
+}
+
+#[test]
+fn two_files_are_apart_or_joined(rt: HostRuntime) -> Result<(), Fail> {
+    let alloc = rt.alloc();
+    let names = names_of(alloc, "second.log")?;
+    let apart: &[(u32, &str, &[u16])] = &[
+        (0, "1", &[2, 4]),
+        (0, "2", &[3]),
+        (1, "1", &[3]),
+        (1, "", &[2]),
+    ];
+    let joined: &[(u32, &str, &[u16])] = &[(0, "1", &[2, 4, 3]), (0, "2", &[3]), (0, "", &[2])];
+    for (piece, join, traces) in [(1usize, false, apart), (7, false, apart), (7, true, joined)] {
+        assert!(rt; piece > 0);
+        let first = "1 a\n2 b\n1 c d";
+        let second = "1 b\r\n\n\r\n a\n";
+        let mut inputs = inputs_of(alloc, first, second, piece, &[])?;
+        match read_log(alloc, &mut inputs, &names, Form::Plain, false, join) {
+            Ok(set) => assert_traces(&rt, &set, traces),
+            Err(error) => return Err(Fail::from(error)),
+        }
+    }
+    Ok(())
+}
+
+#[test]
+fn refusals_have_their_lines(rt: HostRuntime) -> Result<(), Fail> {
+    let alloc = rt.alloc();
+    let at = |file, line| Some(ReadError::Undecided(At { file, line }));
+    let cases = [
+        ("1 a\n1\n", "2\n", "second.log", false, at(0, 2)),
+        ("\n\r\n1", "2\n", "second.log", false, at(0, 3)),
+        ("1 a\n", "2 a\n2 ", "second.log", false, at(1, 2)),
+        ("1 a\n", "2 a\n2 ", "second.log", true, None),
+        ("1 a\n", "", "lost.log", true, Some(ReadError::ReadFault(1))),
+        ("1\n", "", "lost.log", false, at(0, 1)),
+    ];
+    for (first, second, name, ignore, answer) in cases {
+        let names = names_of(alloc, name)?;
+        let mut inputs = inputs_of(alloc, first, second, 7, &[])?;
+        let found = refusal(read_log(alloc, &mut inputs, &names, Form::Plain, ignore, false));
+        assert_eq!(rt; found, answer, "at {first:?}");
+    }
+    let mut inputs = inputs_of(alloc, "", "", 1, &[])?;
+    let found = refusal(read_log(alloc, &mut inputs, &[], Form::Plain, false, false));
+    assert_eq!(rt; found, at(0, 2));
+    Ok(())
+}
+
+#[test]
+fn a_failing_read_names_its_input(rt: HostRuntime) -> Result<(), Fail> {
+    let alloc = rt.alloc();
+    let names = names_of(alloc, "second.log")?;
+    for (failing, number) in [(1, 0), (3, 0), (4, 1), (5, 1), (6, 1)] {
+        let mut inputs = inputs_of(alloc, "1 a\n", "1 b\n", 7, &[failing])?;
+        let found = refusal(read_log(alloc, &mut inputs, &names, Form::Plain, false, true));
+        assert_eq!(rt; found, Some(ReadError::ReadFault(number)), "at {failing}");
+    }
+    Ok(())
+}

@@ -1,0 +1,79 @@
+//! Reads a whole input, up to a limit.
+
+ghost use Rattle.std.specs.Prelude.{◌≡◌, ◌≢◌, ◌≤◌, ◌<◌, ◌+◌, ◌^◌, IfOk, OnOk, Err, IsTrue, length};
+ghost use Rattle.std.specs.Io.KnownBytes.{Consumes, IsAtEnd};
+ghost use Rattle.outside.specs.Counts.{Rose};
+ghost use Rattle.outside.specs.Inputs.{Stays, Lacks};
+ghost use Rattle.outside.specs.Reading.{ReadsInput};
+
+use crate::{Inputs, OpenError};
+use std::alloc::Global;
+
+/// Why an input was not read.
+#[derive(Clone, Copy, Debug, PartialEq, Eq)]
+pub enum InputError {
+    /// The inputs have none of this name.
+    Missing,
+    /// It could not be opened or read.
+    Fault,
+    /// Memory was wanted.
+    Memory,
+}
+
+/// Reads the open input to its end, or to one byte past the limit.
+fn read_rest<I: Inputs>(alloc: Global, inputs: &mut I, limit: usize) -> Result<Vec<u8>, InputError>
+    requires { limit < 2 ^ 32 }
+    ensures stays { Stays (I.state inputs.old) (I.state inputs.new) }
+    ensures opens { (I.state inputs.new).opens ≡ (I.state inputs.old).opens }
+    ensures no_fault { OnOk result ((I.state inputs.new).faults ≡ (I.state inputs.old).faults) }
+    ensures read { IfOk result (λ bytes. Consumes (I.state inputs.old).rest (I.state inputs.new).rest bytes.items) }
+    ensures short { IfOk result (λ bytes. length bytes.items ≤ limit + 1) }
+    ensures at_end { IfOk result (λ bytes. length bytes.items ≤ limit → IsAtEnd (I.state inputs.new).rest) }
+    ensures fault { result ≡ Err InputError.Fault → Rose (I.state inputs.old).faults (I.state inputs.new).faults × IsTrue (I.state inputs.old).mark }
+    ensures missing { result ≢ Err InputError.Missing }
+{
+    let mut bytes = Vec::new(alloc);
+    let mut buf = [0u8; 65_536];
+    while bytes.len() <= limit {
+        let room = buf.len().min(limit + 1 - bytes.len());
+        let count = match inputs.read(&mut buf[..room]) {
+            Ok(count) => count,
+            Err(_) => return Err(InputError::Fault),
+        };
+        if count == 0 {
+            return Ok(bytes);
+        }
+        if bytes.extend_from_slice(&buf[..count]).is_err() {
+            return Err(InputError::Memory);
+        }
+    }
+    Ok(bytes)
+}
+
+/// Reads the named input to its end, or to one byte past the limit, which is below 2^32 bytes.
+///
+/// At Ok it was opened once, no fault was counted, and the bytes are those of the input, or its first
+/// `limit + 1`. `Fault` comes only where the inputs counted one and may fail this name, and `Missing`
+/// only where they tell their files and this name is not among them. After an error no clause says
+/// what is open.
+pub fn read_input<I: Inputs>(
+    alloc: Global,
+    inputs: &mut I,
+    name: &str,
+    limit: usize,
+) -> Result<Vec<u8>, InputError>
+    requires { limit < 2 ^ 32 }
+    ensures stays { Stays (I.state inputs.old) (I.state inputs.new) }
+    ensures ok { IfOk result (λ bytes. ReadsInput (I.state inputs.old) (I.state inputs.new) name.now limit bytes.items) }
+    ensures fault { result ≡ Err InputError.Fault → Rose (I.state inputs.old).faults (I.state inputs.new).faults × IsTrue ((I.state inputs.old).may_fail name.now) }
+    ensures missing { result ≡ Err InputError.Missing → Lacks (I.state inputs.old).files name.now }
+{
+    match inputs.open(name) {
+        Ok(()) => match read_rest(alloc, inputs, limit) {
+            Ok(bytes) => Ok(bytes),
+            Err(error) => Err(error),
+        },
+        Err(OpenError::Missing) => Err(InputError::Missing),
+        Err(OpenError::Failed) => Err(InputError::Fault),
+    }
+}

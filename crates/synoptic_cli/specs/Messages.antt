@@ -1,0 +1,79 @@
+-- What is written where errors go, and the status of the process.
+use Rattle.std.specs.Prelude.{ℕ, ◌==◌, ◌⊎◌, List, [], ◌++◌, length, codes, decimal, Option, Some, None, if◌then◌else◌}
+use Rattle.std.specs.Io.KnownBytes.{Appends}
+use Rattle.outside.specs.Counts.{Rose}
+use Rattle.outside.specs.Sinks.{SinkState, AppendsFront}
+use Rattle.line_rules.specs.declared.line_rules.RuleError.{RuleError}
+use Rattle.line_rules.specs.declared.line_rules.RuleError.TheVariants as rule_error
+use Rattle.log_reader.specs.declared.refusal.At.{At}
+use Rattle.synoptic_cli.specs.declared.status.Status.{Status}
+use Rattle.synoptic_cli.specs.declared.status.Status.TheVariants.{Done, Usage, Expressions, Log, Limit, ReadFault, WriteFault, Memory}
+use Rattle.synoptic_cli.specs.declared.status.LogFault.{LogFault}
+use Rattle.synoptic_cli.specs.declared.status.LogFault.TheVariants as faults
+use Rattle.synoptic_cli.specs.declared.status.LimitKind.{LimitKind}
+use Rattle.synoptic_cli.specs.declared.status.LimitKind.TheVariants as limits
+use Rattle.synoptic_cli.specs.declared.status.Source.{Source}
+use Rattle.synoptic_cli.specs.declared.status.Source.TheVariants as sources
+use Rattle.synoptic_cli.specs.Task.{Task, task_of, source_name}
+
+-- the name of an input as it is shown: as it was given, and standard input by these two words
+abbrev pub shown : Option (List ℕ) → List ℕ
+shown None = []
+shown (Some name) = if length name == 0 then codes "standard input" else name
+
+-- the name of an input of the task that the words ask for
+abbrev pub shown_source : Option Task → Source → List ℕ
+shown_source None source = []
+shown_source (Some task) source = shown (source_name task source)
+
+abbrev pub rule_message : RuleError → List ℕ
+rule_message rule_error.TooLong = codes ": too long\n"
+rule_message (rule_error.BadLine number) = codes " line " ++ decimal number ++ codes ": bad line\n"
+rule_message (rule_error.TooMany number) = codes " line " ++ decimal number ++ codes ": too many rules\n"
+rule_message (rule_error.Syntax number) = codes " line " ++ decimal number ++ codes ": bad pattern\n"
+rule_message (rule_error.TooLarge number) = codes " line " ++ decimal number ++ codes ": pattern too large\n"
+rule_message (rule_error.NoType number) = codes " line " ++ decimal number ++ codes ": no TYPE group\n"
+rule_message (rule_error.MixedTime number) = codes " line " ++ decimal number ++ codes ": mixed TIME\n"
+rule_message rule_error.NoEvent = codes ": no event rule\n"
+rule_message rule_error.Memory = codes ": out of memory\n"
+
+-- the line of a log, and what is wrong with it
+abbrev pub line_message : Option Task → At → List ℕ → List ℕ
+line_message task at what = codes "synoptic: " ++ shown_source task (sources.Log at.file) ++ codes ":" ++ decimal at.line ++ codes ": " ++ what ++ codes "\n"
+
+abbrev pub log_message : Option Task → LogFault → List ℕ
+log_message task (faults.LineTooLong at) = line_message task at (codes "line too long")
+log_message task (faults.Undecided at) = line_message task at (codes "no rule decides")
+log_message task (faults.TypeTooLong at) = line_message task at (codes "type too long")
+log_message task (faults.TraceTooLong at) = line_message task at (codes "trace too long")
+
+abbrev pub limit_message : LimitKind → List ℕ
+limit_message limits.Types = codes "synoptic: limit: types 128\n"
+limit_message limits.Events = codes "synoptic: limit: events 1000000\n"
+limit_message limits.Input = codes "synoptic: limit: input 268435456\n"
+
+-- what is written where errors go, for a status and the words of the command line
+abbrev pub message_of : List (List ℕ) → Status → List ℕ
+message_of words Done = []
+message_of words Usage = codes "usage: synoptic infer|check|replay|invariants|graph|paths|bench [-e FILE] [-p] [-m FILE] [-i] [-j] [-n N] [--] [FILE]...\n"
+message_of words (Expressions e) = codes "synoptic: expressions" ++ rule_message e
+message_of words (Log fault) = log_message (task_of words) fault
+message_of words (Limit kind) = limit_message kind
+message_of words (ReadFault source) = codes "synoptic: cannot read " ++ shown_source (task_of words) source ++ codes "\n"
+message_of words WriteFault = codes "synoptic: cannot write\n"
+message_of words Memory = codes "synoptic: out of memory\n"
+
+-- the whole text was appended, or a front of it and the count rose
+abbrev pub Tells : List ℕ → SinkState → SinkState → Type 0
+Tells text before after = Appends before.written after.written text ⊎ (AppendsFront before text after × Rose before.faults after.faults)
+
+-- the status of the process
+abbrev pub code_of : Status → ℕ
+code_of Done = 0
+code_of Usage = 2
+code_of (Expressions e) = 3
+code_of (Log fault) = 4
+code_of (Limit kind) = 5
+code_of (ReadFault source) = 6
+code_of WriteFault = 7
+code_of Memory = 8

@@ -1,0 +1,144 @@
+//! What is written where errors go.
+ghost use Rattle.std.specs.Prelude.{◌≡◌, ◌++◌, codes, decimal, map};
+ghost use Rattle.std.specs.List.{flat_map};
+ghost use Rattle.std.specs.String.{string_bytes};
+ghost use Rattle.outside.specs.Sinks.{WholeGives};
+ghost use Rattle.synoptic_cli.specs.Task.{task_of};
+ghost use Rattle.synoptic_cli.specs.Messages.{shown_source, rule_message, line_message, log_message, limit_message, message_of, Tells};
+
+use crate::status::{LimitKind, LogFault, Source, Status};
+use crate::task::{Task, task_of};
+use itoa::Buffer;
+use line_rules::RuleError;
+use log_reader::At;
+use outside::{Failed, Sink, write_whole};
+
+const USAGE: &[u8] =
+    b"usage: synoptic infer|check|replay|invariants|graph|paths|bench [-e FILE] [-p] [-m FILE] [-i] [-j] [-n N] [--] [FILE]...\n";
+
+/// Writes the texts, one after another, and takes no memory.
+fn write_texts<E: Sink>(texts: &[&str], err: &mut E) -> Result<(), Failed>
+    ensures { WholeGives (E.state err.old) (flat_map (λ text. text.now) texts.now) result (E.state err.new) }
+{
+    for text in texts {
+        write_whole(err, text.as_bytes())?;
+    }
+    Ok(())
+}
+
+/// The name of an input as it is shown: as it was given, and standard input by these two words.
+fn shown(words: &[String], source: Source) -> &str
+    ensures { result.now ≡ shown_source (task_of (map string_bytes words.now)) source }
+{
+    let Some(task) = task_of(words) else {
+        return "";
+    };
+    match (source, task) {
+        (Source::Log(0), _) => "standard input",
+        (Source::Expressions, Task::Rules(name)) => name,
+        _ => "",
+    }
+}
+
+/// Writes what is wrong with a line of the file of rules.
+fn write_rule_line<E: Sink>(line: u32, what: &str, err: &mut E) -> Result<(), Failed>
+    ensures { WholeGives (E.state err.old) (codes "synoptic: expressions line " ++ decimal line ++ what.now) result (E.state err.new) }
+{
+    let mut digits = Buffer::new();
+    write_texts(
+        &["synoptic: expressions line ", digits.format(line), what],
+        err,
+    )
+}
+
+/// Writes what is wrong with the file of rules.
+fn write_rule_error<E: Sink>(error: RuleError, err: &mut E) -> Result<(), Failed>
+    ensures { WholeGives (E.state err.old) (codes "synoptic: expressions" ++ rule_message error) result (E.state err.new) }
+{
+    match error {
+        RuleError::TooLong => write_whole(err, b"synoptic: expressions: too long\n"),
+        RuleError::BadLine(line) => write_rule_line(line, ": bad line\n", err),
+        RuleError::TooMany(line) => write_rule_line(line, ": too many rules\n", err),
+        RuleError::Syntax(line) => write_rule_line(line, ": bad pattern\n", err),
+        RuleError::TooLarge(line) => write_rule_line(line, ": pattern too large\n", err),
+        RuleError::NoType(line) => write_rule_line(line, ": no TYPE group\n", err),
+        RuleError::MixedTime(line) => write_rule_line(line, ": mixed TIME\n", err),
+        RuleError::NoEvent => write_whole(err, b"synoptic: expressions: no event rule\n"),
+        RuleError::Memory => write_whole(err, b"synoptic: expressions: out of memory\n"),
+    }
+}
+
+/// Writes what is wrong with a line of a log.
+fn write_log_line<E: Sink>(words: &[String], at: At, what: &str, err: &mut E) -> Result<(), Failed>
+    ensures { WholeGives (E.state err.old) (line_message (task_of (map string_bytes words.now)) at what.now) result (E.state err.new) }
+{
+    let name = shown(words, Source::Log(at.file));
+    let mut digits = Buffer::new();
+    write_texts(
+        &[
+            "synoptic: ",
+            name,
+            ":",
+            digits.format(at.line),
+            ": ",
+            what,
+            "\n",
+        ],
+        err,
+    )
+}
+
+/// Writes why a line of a log is refused.
+fn write_log_fault<E: Sink>(words: &[String], fault: LogFault, err: &mut E) -> Result<(), Failed>
+    ensures { WholeGives (E.state err.old) (log_message (task_of (map string_bytes words.now)) fault) result (E.state err.new) }
+{
+    match fault {
+        LogFault::LineTooLong(at) => write_log_line(words, at, "line too long", err),
+        LogFault::Undecided(at) => write_log_line(words, at, "no rule decides", err),
+        LogFault::TypeTooLong(at) => write_log_line(words, at, "type too long", err),
+        LogFault::TraceTooLong(at) => write_log_line(words, at, "trace too long", err),
+    }
+}
+
+/// Writes which quantity passes its limit.
+fn write_limit<E: Sink>(kind: LimitKind, err: &mut E) -> Result<(), Failed>
+    ensures { WholeGives (E.state err.old) (limit_message kind) result (E.state err.new) }
+{
+    match kind {
+        LimitKind::Types => write_whole(err, b"synoptic: limit: types 128\n"),
+        LimitKind::Events => write_whole(err, b"synoptic: limit: events 1000000\n"),
+        LimitKind::Input => write_whole(err, b"synoptic: limit: input 268435456\n"),
+    }
+}
+
+/// Writes which input could not be read.
+fn write_read_fault<E: Sink>(words: &[String], source: Source, err: &mut E) -> Result<(), Failed>
+    ensures { WholeGives (E.state err.old) (codes "synoptic: cannot read " ++ shown_source (task_of (map string_bytes words.now)) source ++ codes "\n") result (E.state err.new) }
+{
+    write_texts(&["synoptic: cannot read ", shown(words, source), "\n"], err)
+}
+
+/// Writes the status's message.
+fn write_message<E: Sink>(words: &[String], status: Status, err: &mut E) -> Result<(), Failed>
+    ensures { WholeGives (E.state err.old) (message_of (map string_bytes words.now) status) result (E.state err.new) }
+{
+    match status {
+        Status::Done => Ok(()),
+        Status::Usage => write_whole(err, USAGE),
+        Status::Expressions(error) => write_rule_error(error, err),
+        Status::Log(fault) => write_log_fault(words, fault, err),
+        Status::Limit(kind) => write_limit(kind, err),
+        Status::ReadFault(source) => write_read_fault(words, source, err),
+        Status::WriteFault => write_whole(err, b"synoptic: cannot write\n"),
+        Status::Memory => write_whole(err, b"synoptic: out of memory\n"),
+    }
+}
+
+/// Writes the status's message where errors go, for a run over these words. It takes no memory.
+///
+/// Where the sink fails, a front of the message was written, and the sink counted the fault.
+pub fn tell<E: Sink>(words: &[String], status: Status, err: &mut E)
+    ensures { Tells (message_of (map string_bytes words.now) status) (E.state err.old) (E.state err.new) }
+{
+    let _ = write_message(words, status, err);
+}
