@@ -52,9 +52,9 @@ fn rules_that_are_refused(rt: HostRuntime) -> Result<(), Fail> {
         (b"skip \xff\n", RuleError::BadLine(1), " line 1: bad line"),
         (b" skip x\n", RuleError::BadLine(1), " line 1: bad line"),
         (
-            b"event=a (?<TIME>x)\n",
-            RuleError::MixedTime(1),
-            " line 1: mixed TIME",
+            b"event=a (?<TIME>x)\nskip y\nevent=b y\n",
+            RuleError::MixedTime(3),
+            " line 3: mixed TIME",
         ),
     ];
     for (rules, error, what) in cases {

@@ -103,16 +103,20 @@ fn reports_by_rules(rt: HostRuntime) -> Result<(), Fail> {
 
 #[test]
 fn other_words_are_refused(rt: HostRuntime) -> Result<(), Fail> {
-    let usages: [&[&str]; 10] = [
+    let usages: [&[&str]; 14] = [
         &[],
         &["guess", "-p"],
+        &["infer", "-p"],
         &["invariants"],
-        &["-p", "invariants"],
         &["invariants", "-p", ""],
         &["invariants", "-e"],
         &["invariants", "-e", ""],
         &["invariants", "-e", "x.rules", "-p"],
-        &["invariants", "-p", "x.rules"],
+        &["invariants", "-p", "-m", "x"],
+        &["invariants", "-p", "-n", "3"],
+        &["invariants", "-p", "-x"],
+        &["graph", "-p"],
+        &["bench"],
         &["--help"],
     ];
     for words in usages {

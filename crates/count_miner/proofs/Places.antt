@@ -1,5 +1,5 @@
 -- The list of the places of flags.
-use Rattle.std.proofs.Common.{◌≡◌, ◌≢◌, ℕ, zero, suc, ◌+◌, ◌<◌, ◌≤◌, Bool, true, false, List, length, get_or, set, take, cond, eqb, sym, ap, ◌∙◌, ⊎_elim, arith}
+use Rattle.std.proofs.Common.{◌≡◌, ◌≢◌, ℕ, ◌+◌, ◌<◌, ◌≤◌, Bool, true, false, List, length, get_or, set, take, cond, eqb, sym, ap, ◌∙◌, ⊎_elim, arith}
 use Rattle.std.proofs.lemmas.Bool.{cases_eq, ne_eqb}
 use Rattle.std.proofs.lemmas.Bool.Decides.{Decides-eqb}
 use Rattle.std.proofs.lemmas.List.{get_or-set_same, get_or-set_other}
@@ -46,11 +46,6 @@ clear-more flags old places i k inside within so_far =
     set-at flags p 0 k within
     ∙ (ap (cond (eqb p k) 0) so_far
     ∙ (keeps (eqb p k) (times k (take i places)) (get_or old k 0) ∙ ap (λ n. cond (eqb n 0) (get_or old k 0) 0) (sym (times-more k places i inside))))
-
--- a flag that is cleared where it is listed, and is 0 where it is not
-pub all-cleared : (n old new : ℕ) → new ≡ cond (eqb n 0) old 0 → old ≡ n → new ≡ 0
-all-cleared zero old new is same = is ∙ same
-all-cleared (suc n) old new is same = is ∙ ap (λ t. cond t old 0) (ne_eqb (suc n) 0 (λ e. absurd (omega arith)))
 
 -- no flag is set, and no place is listed
 pub none-seen : (seen : Seen) (types : ℕ) → length seen.flags ≡ 128 → length seen.places ≡ 16 → types ≤ 128 → seen.most ≤ 16 → seen.listed ≡ 0 → ((k : ℕ) → k < types → get_or seen.flags k 0 ≡ 0) → IsSeen seen types

@@ -1,3 +1,4 @@
+pub mod Times
 pub mod Names
 pub mod Groups
 pub mod Decided

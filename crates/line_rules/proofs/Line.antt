@@ -1,36 +1,62 @@
 -- The rule of a line, from its spelling and what was built.
-use Rattle.std.proofs.Common.{◌≡◌, ◌<◌, ◌&&◌, ℕ, false, List, Option, Some, None, codes, is_none, is_some, refl, ap, ap₂, sym, ◌∙◌, nat_le, Ok}
+use Rattle.std.proofs.Common.{◌≡◌, ◌<◌, ◌&&◌, ℕ, true, false, List, Option, Some, None, codes, is_none, is_some, refl, ap, ap₂, sym, ◌∙◌, nat_le, Ok, Err, length}
 use Rattle.std.specs.Prelude.{IsSomeAnd}
+use Rattle.std.specs.Option.{option_map_or}
 use Rattle.std.proofs.lemmas.Bool.{lt-leb}
 use Rattle.line_rules.specs.Rules as spec
 use Rattle.line_rules.specs.Rules.{rule_of, group_named, Alike}
-use Rattle.line_rules.specs.Files.{spelled_by, rule_at, rule_spelled, rule_read, lacks_type, has_time, takes_type, is_event}
+use Rattle.line_rules.specs.Files.{spelled_by, rule_at, rule_spelled, rule_read, lacks_type, takes_type, is_event, first_time, mixes_time, differ}
 use Rattle.line_rules.specs.Steps.{IsRuleOf}
+use Rattle.line_rules.specs.declared.line_rules.RuleError.TheVariants as refused
 
 same-lacks : (r s : spec.Rule) → Alike r s → lacks_type r ≡ lacks_type s
 same-lacks r s alike = ap₂ (λ form names. takes_type form && is_none (group_named names (codes "TYPE"))) alike.form alike.names
 
-same-time : (r s : spec.Rule) → Alike r s → has_time r ≡ has_time s
-same-time r s alike = ap₂ (λ form names. is_event form && is_some (group_named names (codes "TIME"))) alike.form alike.names
+same-mixes : (rules : List spec.Rule) (r s : spec.Rule) → Alike r s → mixes_time rules r ≡ mixes_time rules s
+same-mixes rules r s alike = ap₂ (λ form names. is_event form && option_map_or (λ timed. differ timed (is_some (group_named names (codes "TIME")))) (first_time rules) false) alike.form alike.names
 
-read-plain : (number : ℕ) (plain : spec.Rule) → lacks_type plain ≡ false → has_time plain ≡ false → rule_read number (Some plain) ≡ Ok plain
-read-plain number plain typed untimed = rw (typed, untimed) refl
+read-plain : (rules : List spec.Rule) (number : ℕ) (plain : spec.Rule) → lacks_type plain ≡ false → mixes_time rules plain ≡ false → rule_read rules number (Some plain) ≡ Ok plain
+read-plain rules number plain typed unmixed = rw (typed, unmixed) refl
 
-pub spelled-few : (before number : ℕ) (line : List ℕ) (form : spec.Form) (pattern : List ℕ) → Some (form, pattern) ≡ spelled_by line → before < 32
-    → rule_at before (number, line) ≡ rule_read number (rule_of form pattern)
-spelled-few before number line form pattern spelled few =
-    let below : nat_le 32 before ≡ false = lt-leb 32 before few in
-    ap (rule_spelled before number) (sym spelled) ∙ rw below refl
+pub spelled-few : (rules : List spec.Rule) (number : ℕ) (line : List ℕ) (form : spec.Form) (pattern : List ℕ) → Some (form, pattern) ≡ spelled_by line → length rules < 32
+    → rule_at rules (number, line) ≡ rule_read rules number (rule_of form pattern)
+spelled-few rules number line form pattern spelled few =
+    let below : nat_le 32 (length rules) ≡ false = lt-leb 32 (length rules) few in
+    ap (rule_spelled rules number) (sym spelled) ∙ rw below refl
 
 -- what is built is the rule of the line
-pub line-rule : (before number : ℕ) (line : List ℕ) (form : spec.Form) (pattern : List ℕ) (r : spec.Rule) → Some (form, pattern) ≡ spelled_by line → before < 32
-    → IsSomeAnd (rule_of form pattern) (Alike r) → lacks_type r ≡ false → has_time r ≡ false → IsRuleOf before number line r
-line-rule before number line form pattern r spelled few built typed untimed = by-rule (rule_of form pattern) refl built
+pub line-rule : (rules : List spec.Rule) (number : ℕ) (line : List ℕ) (form : spec.Form) (pattern : List ℕ) (r : spec.Rule) → Some (form, pattern) ≡ spelled_by line → length rules < 32
+    → IsSomeAnd (rule_of form pattern) (Alike r) → lacks_type r ≡ false → mixes_time rules r ≡ false → IsRuleOf rules number line r
+line-rule rules number line form pattern r spelled few built typed unmixed = by-rule (rule_of form pattern) refl built
   where
-    by-rule : (o : Option spec.Rule) → rule_of form pattern ≡ o → IsSomeAnd o (Alike r) → IsRuleOf before number line r
+    by-rule : (o : Option spec.Rule) → rule_of form pattern ≡ o → IsSomeAnd o (Alike r) → IsRuleOf rules number line r
     by-rule None at h = absurd h
     by-rule (Some plain) at alike = record {
       plain = plain;
-      read = spelled-few before number line form pattern spelled few ∙ (ap (rule_read number) at ∙ read-plain number plain (sym (same-lacks r plain alike) ∙ typed) (sym (same-time r plain alike) ∙ untimed));
+      read = spelled-few rules number line form pattern spelled few
+          ∙ (ap (rule_read rules number) at ∙ read-plain rules number plain (sym (same-lacks r plain alike) ∙ typed) (sym (same-mixes rules r plain alike) ∙ unmixed));
       alike = alike;
     }
+
+-- what is built is refused where it lacks a group TYPE that it needs
+pub line-lacks : (rules : List spec.Rule) (number : ℕ) (line : List ℕ) (form : spec.Form) (pattern : List ℕ) (r : spec.Rule) → Some (form, pattern) ≡ spelled_by line → length rules < 32
+    → IsSomeAnd (rule_of form pattern) (Alike r) → lacks_type r ≡ true → rule_at rules (number, line) ≡ Err (refused.NoType number)
+line-lacks rules number line form pattern r spelled few built lacks = spelled-few rules number line form pattern spelled few ∙ by-rule (rule_of form pattern) built
+  where
+    by-rule : (o : Option spec.Rule) → IsSomeAnd o (Alike r) → rule_read rules number o ≡ Err (refused.NoType number)
+    by-rule None h = absurd h
+    by-rule (Some plain) alike =
+        let lacks' : lacks_type plain ≡ true = sym (same-lacks r plain alike) ∙ lacks in
+        rw lacks' refl
+
+-- and where it mixes rules with a time and rules without
+pub line-mixes : (rules : List spec.Rule) (number : ℕ) (line : List ℕ) (form : spec.Form) (pattern : List ℕ) (r : spec.Rule) → Some (form, pattern) ≡ spelled_by line → length rules < 32
+    → IsSomeAnd (rule_of form pattern) (Alike r) → lacks_type r ≡ false → mixes_time rules r ≡ true → rule_at rules (number, line) ≡ Err (refused.MixedTime number)
+line-mixes rules number line form pattern r spelled few built typed mixes = spelled-few rules number line form pattern spelled few ∙ by-rule (rule_of form pattern) built
+  where
+    by-rule : (o : Option spec.Rule) → IsSomeAnd o (Alike r) → rule_read rules number o ≡ Err (refused.MixedTime number)
+    by-rule None h = absurd h
+    by-rule (Some plain) alike =
+        let typed' : lacks_type plain ≡ false = sym (same-lacks r plain alike) ∙ typed in
+        let mixes' : mixes_time rules plain ≡ true = sym (same-mixes rules r plain alike) ∙ mixes in
+        rw (typed', mixes') refl

@@ -1,13 +1,14 @@
 -- From line to line of an expressions file, and from its lines to its rules.
 use Rattle.std.proofs.Common.{◌≡◌, ◌<◌, ◌≤◌, ◌+◌, ◌⊎◌, inl, inr, ℕ, suc, ◌||◌, true, false, List, [], ◌∷◌, ◌++◌, length, Result, Ok, Err, refl, ap, ap₂, sym, ◌∙◌, subst, arith, ⊎_elim, append_assoc, append-nil, cond}
-use Rattle.std.specs.Prelude.{IsTrue, Bool}
+use Rattle.std.specs.Prelude.{IsTrue, Bool, Option, Some, None, is_some, codes, nat_le, ◌&&◌, if◌then◌else◌}
+use Rattle.std.specs.Option.{option_map_or}
 use Rattle.std.proofs.lemmas.Bool.{le-ltb}
 use Rattle.std.specs.List.{list_any}
 use Rattle.traces.specs.Lines.{pieces, line_of}
 use Rattle.line_rules.specs.Patterns.{PatternsState, Stays, Rose, NestsTooDeep}
 use Rattle.line_rules.specs.Rules as spec
-use Rattle.line_rules.specs.Rules.{Alike, AreAlike}
-use Rattle.line_rules.specs.Files.{is_skipped, is_event, numbered, rule_lines, rule_at, with_rule, rules_from, with_event, rules_of, AreRead, IsRefused}
+use Rattle.line_rules.specs.Rules.{Alike, AreAlike, group_named, rule_of}
+use Rattle.line_rules.specs.Files.{is_skipped, is_event, numbered, rule_lines, rule_at, with_rule, rules_from, with_event, rules_of, AreRead, IsRefused, first_time, has_time, lacks_type, differ, rule_read, rule_spelled, spelled_by, KeepsAt}
 use Rattle.line_rules.specs.Steps.{IsRuleOf, Builds, IsLineRefused, AddsLine, AreRulesOf, BuildsAt, AreLinesRefused}
 use Rattle.line_rules.specs.declared.line_rules.RuleError.{RuleError}
 use Rattle.line_rules.specs.declared.line_rules.RuleError.TheVariants as refused
@@ -28,7 +29,7 @@ from-rest : (start : List spec.Rule) (xs ys : List (ℕ × List ℕ)) (plain : L
 from-rest start [] ys plain read =
     let same : start ≡ plain = cc in
     ap (λ rs. rules_from rs ys) same
-from-rest start (x ∷ xs) ys plain read = by-rule (λ rule. from-rest (start ++ rule ∷ []) xs ys plain) (rule_at (length start) x) read
+from-rest start (x ∷ xs) ys plain read = by-rule (λ rule. from-rest (start ++ rule ∷ []) xs ys plain) (rule_at start x) read
   where
     by-rule : ((rule : spec.Rule) → rules_from (start ++ rule ∷ []) xs ≡ Ok plain → rules_from (start ++ rule ∷ []) (xs ++ ys) ≡ rules_from plain ys)
         → (r : Result spec.Rule RuleError) → with_rule r (λ rule. rules_from (start ++ rule ∷ []) xs) ≡ Ok plain
@@ -48,6 +49,29 @@ alike-append [] (t ∷ ss) r s alike one = absurd alike
 alike-append (q ∷ rs) [] r s alike one = absurd alike
 alike-append (q ∷ rs) (t ∷ ss) r s alike one = (alike.0, alike-append rs ss r s alike.1 one)
 
+alike-first : (rs ss : List spec.Rule) → AreAlike rs ss → first_time rs ≡ first_time ss
+alike-first [] [] alike = refl
+alike-first [] (s ∷ ss) alike = absurd alike
+alike-first (r ∷ rs) [] alike = absurd alike
+alike-first (r ∷ rs) (s ∷ ss) alike =
+    ap₂ (λ (form : spec.Form) (t : Option Bool). if is_event form then Some (has_time r) else t) alike.0.form (alike-first rs ss alike.1)
+    ∙ ap (λ (names : List (Option (List ℕ))). if is_event s.form then Some (is_some (group_named names (codes "TIME"))) else first_time ss) alike.0.names
+
+-- a rule that is read is refused alike after rules that are alike
+read-after : (rs ss : List spec.Rule) (number : ℕ) (o : Option spec.Rule) → first_time rs ≡ first_time ss → rule_read rs number o ≡ rule_read ss number o
+read-after rs ss number None first = refl
+read-after rs ss number (Some rule) first =
+    ap (λ (t : Option Bool). if lacks_type rule then Err (refused.NoType number)
+    else if is_event rule.form && option_map_or (λ timed. differ timed (has_time rule)) t false then Err (refused.MixedTime number) else Ok rule) first
+
+spelled-after : (rs ss : List spec.Rule) (number : ℕ) (o : Option (spec.Form × List ℕ)) → length rs ≡ length ss → first_time rs ≡ first_time ss → rule_spelled rs number o ≡ rule_spelled ss number o
+spelled-after rs ss number None few first = refl
+spelled-after rs ss number (Some spelled) few first =
+    ap₂ (λ (n : ℕ) (r : Result spec.Rule RuleError). if nat_le 32 n then Err (refused.TooMany number) else r) few (read-after rs ss number (rule_of spelled.0 spelled.1) first)
+
+alike-at : (rs ss : List spec.Rule) (line : ℕ × List ℕ) → AreAlike rs ss → rule_at rs line ≡ rule_at ss line
+alike-at rs ss line alike = spelled-after rs ss line.0 (spelled_by line.1) (alike-length rs ss alike) (alike-first rs ss alike)
+
 alike-event : (rs ss : List spec.Rule) → AreAlike rs ss → list_any (λ rule. is_event rule.form) rs ≡ list_any (λ rule. is_event rule.form) ss
 alike-event [] [] alike = refl
 alike-event [] (s ∷ ss) alike = absurd alike
@@ -64,10 +88,10 @@ take-next : (number : ℕ) (rest piece after : List ℕ) → pieces rest ≡ pie
 take-next number rest piece after next counts = ap (numbered number) next ∙ rw counts refl
 
 added : (bytes : List ℕ) (number : ℕ) (rest piece after : List ℕ) (rs new : List spec.Rule) (r : spec.Rule) → ReadTo bytes number rest rs → pieces rest ≡ piece ∷ pieces after
-    → is_skipped (line_of piece) ≡ false → new ≡ rs ++ r ∷ [] → IsRuleOf (length rs) (number + 1) (line_of piece) r → ReadTo bytes (number + 1) after new
+    → is_skipped (line_of piece) ≡ false → new ≡ rs ++ r ∷ [] → IsRuleOf rs (number + 1) (line_of piece) r → ReadTo bytes (number + 1) after new
 added bytes number rest piece after rs new r so next counts is one =
     let line : ℕ × List ℕ = (number + 1, line_of piece) in
-    let at : rule_at (length so.plain) line ≡ Ok one.plain = rw (← alike-length rs so.plain so.alike) one.read in
+    let at : rule_at so.plain line ≡ Ok one.plain = sym (alike-at rs so.plain line so.alike) ∙ one.read in
     record {
       before = so.before ++ line ∷ [];
       plain = so.plain ++ one.plain ∷ [];
@@ -96,17 +120,17 @@ end bytes number (b ∷ rest) rs so none = absurd (omega (arith, none))
 
 -- the line's own refusal is the first of the lines
 plain-refused : (bytes : List ℕ) (number : ℕ) (rest piece after : List ℕ) (rs : List spec.Rule) (e : RuleError) → ReadTo bytes number rest rs → pieces rest ≡ piece ∷ pieces after
-    → is_skipped (line_of piece) ≡ false → rule_at (length rs) (number + 1, line_of piece) ≡ Err e → rules_from [] (rule_lines bytes) ≡ Err e
+    → is_skipped (line_of piece) ≡ false → rule_at rs (number + 1, line_of piece) ≡ Err e → rules_from [] (rule_lines bytes) ≡ Err e
 plain-refused bytes number rest piece after rs e so next counts refusal =
     let line : ℕ × List ℕ = (number + 1, line_of piece) in
     let more : List (ℕ × List ℕ) = numbered (number + 1 + 1) (pieces after) in
-    let at : rule_at (length so.plain) line ≡ Err e = rw (← alike-length rs so.plain so.alike) refusal in
+    let at : rule_at so.plain line ≡ Err e = sym (alike-at rs so.plain line so.alike) ∙ refusal in
     ap (rules_from []) (so.lines ∙ ap (λ ys. so.before ++ ys) (take-next (number + 1) rest piece after next counts))
     ∙ (from-rest [] so.before (line ∷ more) so.plain so.read ∙ ap (λ r. with_rule r (λ rule. rules_from (so.plain ++ rule ∷ []) more)) at)
 
 -- the line's pattern is one that is built
 built-at : (bytes : List ℕ) (number : ℕ) (rest piece after : List ℕ) (rs : List spec.Rule) (Holds : List ℕ → Type 0) → length bytes ≤ 65536 → ReadTo bytes number rest rs
-    → pieces rest ≡ piece ∷ pieces after → is_skipped (line_of piece) ≡ false → Builds (length rs) (line_of piece) Holds → BuildsAt bytes (number + 1) Holds
+    → pieces rest ≡ piece ∷ pieces after → is_skipped (line_of piece) ≡ false → Builds rs (line_of piece) Holds → BuildsAt bytes (number + 1) Holds
 built-at bytes number rest piece after rs Holds short so next counts builds =
     let few : length so.plain < 32 = rw (← alike-length rs so.plain so.alike) builds.few in
     record {
@@ -134,7 +158,7 @@ rose-before old mid new grows rose = omega arith
 
 -- a line that is refused
 pub refuse : (bytes : List ℕ) (number : ℕ) (rest piece after : List ℕ) (rs : List spec.Rule) (old mid new : PatternsState) (e : RuleError) → length bytes ≤ 65536 → ReadTo bytes number rest rs
-    → pieces rest ≡ piece ∷ pieces after → is_skipped (line_of piece) ≡ false → Stays old mid → IsLineRefused mid new (length rs) (number + 1) (line_of piece) e → AreLinesRefused bytes old new e
+    → pieces rest ≡ piece ∷ pieces after → is_skipped (line_of piece) ≡ false → Stays old mid → IsLineRefused mid new rs (number + 1) (line_of piece) e → AreLinesRefused bytes old new e
 refuse bytes number rest piece after rs old mid new refused.Memory short so next counts stays h = tt
 refuse bytes number rest piece after rs old mid new (refused.Syntax at) short so next counts stays h =
     subst (λ (n : ℕ). (rules_from [] (rule_lines bytes) ≡ Err (refused.Syntax n)) ⊎ BuildsAt bytes n NestsTooDeep) (sym h.0)
@@ -143,7 +167,7 @@ refuse bytes number rest piece after rs old mid new (refused.Syntax at) short so
 refuse bytes number rest piece after rs old mid new (refused.TooLarge at) short so next counts stays h =
     let may : List ℕ → Type 0 = λ pattern. IsTrue (old.may_refuse pattern) in
     let built : BuildsAt bytes (number + 1) may = built-at bytes number rest piece after rs may short so next counts
-    (subst (λ (f : List ℕ → Bool). Builds (length rs) (line_of piece) (λ pattern. IsTrue (f pattern))) stays.may_refuse h.2) in
+    (subst (λ (f : List ℕ → Bool). Builds rs (line_of piece) (λ pattern. IsTrue (f pattern))) stays.may_refuse h.2) in
     (rose-before old.refusals mid.refusals new.refusals stays.refusals h.1, subst (λ (n : ℕ). BuildsAt bytes n may) (sym h.0) built)
 refuse bytes number rest piece after rs old mid new refused.TooLong short so next counts stays h = absurd h
 refuse bytes number rest piece after rs old mid new (refused.BadLine at) short so next counts stays h = plain-refused bytes number rest piece after rs (refused.BadLine at) so next counts h
@@ -185,3 +209,15 @@ file-read bytes rs short of any = (of.plain, events-of bytes rs true short of an
 -- and without one there are none
 pub no-event : (bytes : List ℕ) (rs : List spec.Rule) → length bytes ≤ 65536 → AreRulesOf bytes rs → list_any (λ rule. is_event rule.form) rs ≡ false → rules_of bytes ≡ Err refused.NoEvent
 no-event bytes rs short of any = events-of bytes rs false short of any
+
+-- a refusal that keeps the count of refusals keeps an equal one
+pub count-on : (old mid new : PatternsState) (e : RuleError) → mid.refusals ≡ old.refusals → KeepsAt mid e new → KeepsAt old e new
+count-on old mid new (refused.TooLarge number) same kept = tt
+count-on old mid new refused.Memory same kept = kept ∙ same
+count-on old mid new (refused.Syntax number) same kept = kept ∙ same
+count-on old mid new refused.TooLong same kept = kept ∙ same
+count-on old mid new (refused.BadLine number) same kept = kept ∙ same
+count-on old mid new (refused.TooMany number) same kept = kept ∙ same
+count-on old mid new (refused.NoType number) same kept = kept ∙ same
+count-on old mid new (refused.MixedTime number) same kept = kept ∙ same
+count-on old mid new refused.NoEvent same kept = kept ∙ same

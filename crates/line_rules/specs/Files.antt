@@ -1,5 +1,6 @@
 -- The expressions file: which lines are rules, and which file is refused.
-use Rattle.std.specs.Prelude.{◌≡◌, ◌≤◌, ◌<◌, ◌⊎◌, ℕ, ◌+◌, ◌==◌, ◌&&◌, ◌||◌, Bool, true, false, IsTrue, List, [], ◌∷◌, ◌++◌, length, take, drop, codes, nat_lt, nat_le, slice_index, Option, Some, None, is_none, is_some, Result, Ok, Err, if◌then◌else◌, option_map}
+use Rattle.std.specs.Prelude.{◌≡◌, ◌≤◌, ◌<◌, ◌⊎◌, ℕ, ◌+◌, ◌==◌, ◌&&◌, ◌||◌, Bool, true, false, IsTrue, List, [], ◌∷◌, ◌++◌, length, take, drop, codes, nat_lt, nat_le, slice_index, Option, Some, None, is_none, is_some, Result, Ok, Err, not, if◌then◌else◌, option_map}
+use Rattle.std.specs.Option.{option_map_or}
 use Rattle.std.specs.List.{list_any, before_first, after_first}
 use Rattle.std.specs.Str.{bytes_eq, is_utf8}
 use Rattle.traces.specs.Lines.{pieces, line_of}
@@ -59,23 +60,37 @@ takes_type (EventOf name) = false
 abbrev pub lacks_type : Rule → Bool
 lacks_type rule = takes_type rule.form && is_none (group_named rule.names (codes "TYPE"))
 
--- an event rule with a group TIME
+-- the pattern has a group TIME
 abbrev pub has_time : Rule → Bool
-has_time rule = is_event rule.form && is_some (group_named rule.names (codes "TIME"))
+has_time rule = is_some (group_named rule.names (codes "TIME"))
 
--- the rule that the grammar reads for a line, or the refusal
-abbrev pub rule_read : ℕ → Option Rule → Result Rule RuleError
-rule_read number None = Err (refused.Syntax number)
-rule_read number (Some rule) = if lacks_type rule then Err (refused.NoType number) else if has_time rule then Err (refused.MixedTime number) else Ok rule
+-- whether the first event rule has a group TIME, where there is an event rule
+abbrev pub first_time : List Rule → Option Bool
+first_time [] = None
+first_time (rule ∷ rules) = if is_event rule.form then Some (has_time rule) else first_time rules
 
--- the rule of a line that is spelled so, after so many rules, or its first refusal
-abbrev pub rule_spelled : ℕ → ℕ → Option (Form × List ℕ) → Result Rule RuleError
-rule_spelled before number None = Err (refused.BadLine number)
-rule_spelled before number (Some spelled) = if nat_le 32 before then Err (refused.TooMany number) else rule_read number (rule_of spelled.0 spelled.1)
+-- one is true and the other false
+abbrev pub differ : Bool → Bool → Bool
+differ true b = not b
+differ false b = b
 
--- the rule of a line with its number, after so many rules, or its first refusal
-abbrev pub rule_at : ℕ → ℕ × List ℕ → Result Rule RuleError
-rule_at before line = rule_spelled before line.0 (spelled_by line.1)
+-- an event rule that has a group TIME where the first event rule has none, or the other way round
+abbrev pub mixes_time : List Rule → Rule → Bool
+mixes_time rules rule = is_event rule.form && option_map_or (λ timed. differ timed (has_time rule)) (first_time rules) false
+
+-- the rule that the grammar reads for a line, after these rules, or the refusal
+abbrev pub rule_read : List Rule → ℕ → Option Rule → Result Rule RuleError
+rule_read rules number None = Err (refused.Syntax number)
+rule_read rules number (Some rule) = if lacks_type rule then Err (refused.NoType number) else if mixes_time rules rule then Err (refused.MixedTime number) else Ok rule
+
+-- the rule of a line that is spelled so, after these rules, or its first refusal
+abbrev pub rule_spelled : List Rule → ℕ → Option (Form × List ℕ) → Result Rule RuleError
+rule_spelled rules number None = Err (refused.BadLine number)
+rule_spelled rules number (Some spelled) = if nat_le 32 (length rules) then Err (refused.TooMany number) else rule_read rules number (rule_of spelled.0 spelled.1)
+
+-- the rule of a line with its number, after these rules, or its first refusal
+abbrev pub rule_at : List Rule → ℕ × List ℕ → Result Rule RuleError
+rule_at rules line = rule_spelled rules line.0 (spelled_by line.1)
 
 -- what comes after a rule, or its refusal
 abbrev pub with_rule : Result Rule RuleError → (Rule → Result (List Rule) RuleError) → Result (List Rule) RuleError
@@ -85,7 +100,7 @@ with_rule (Err e) next = Err e
 -- the rules of some lines after those that stand, or the first refusal
 abbrev pub rules_from : List Rule → List (ℕ × List ℕ) → Result (List Rule) RuleError
 rules_from rules [] = Ok rules
-rules_from rules (line ∷ lines) = with_rule (rule_at (length rules) line) (λ rule. rules_from (rules ++ rule ∷ []) lines)
+rules_from rules (line ∷ lines) = with_rule (rule_at rules line) (λ rule. rules_from (rules ++ rule ∷ []) lines)
 
 -- the rules, where one of them is an event rule
 abbrev pub with_event : Result (List Rule) RuleError → Result (List Rule) RuleError
@@ -126,3 +141,20 @@ IsRefused bytes old new (refused.TooMany number) = rules_of bytes ≡ Err (refus
 IsRefused bytes old new (refused.NoType number) = rules_of bytes ≡ Err (refused.NoType number)
 IsRefused bytes old new (refused.MixedTime number) = rules_of bytes ≡ Err (refused.MixedTime number)
 IsRefused bytes old new refused.NoEvent = rules_of bytes ≡ Err refused.NoEvent
+
+-- a refusal leaves the count of refusals, but for that of a pattern as too large
+abbrev pub KeepsAt : PatternsState → RuleError → PatternsState → Type 0
+KeepsAt old (refused.TooLarge number) new = Unit {0}
+KeepsAt old refused.Memory new = new.refusals ≡ old.refusals
+KeepsAt old (refused.Syntax number) new = new.refusals ≡ old.refusals
+KeepsAt old refused.TooLong new = new.refusals ≡ old.refusals
+KeepsAt old (refused.BadLine number) new = new.refusals ≡ old.refusals
+KeepsAt old (refused.TooMany number) new = new.refusals ≡ old.refusals
+KeepsAt old (refused.NoType number) new = new.refusals ≡ old.refusals
+KeepsAt old (refused.MixedTime number) new = new.refusals ≡ old.refusals
+KeepsAt old refused.NoEvent new = new.refusals ≡ old.refusals
+
+-- the count of refusals stands as it was, unless a pattern is refused as too large
+abbrev pub KeepsRefusals : {T : Type 0} → PatternsState → Result T RuleError → PatternsState → Type 0
+KeepsRefusals old (Ok x) new = new.refusals ≡ old.refusals
+KeepsRefusals old (Err e) new = KeepsAt old e new

@@ -46,3 +46,10 @@ BuildGives old text (Ok regex) new = IsReadAs text (regex_pattern regex) (regex_
 BuildGives old text (Err Syntax) new = IsNoPattern text ⊎ NestsTooDeep text
 BuildGives old text (Err TooLarge) new = Rose old.refusals new.refusals × IsTrue (old.may_refuse text)
 BuildGives old text (Err Memory) new = Unit {0}
+
+-- the count of refusals stands as it was, unless the text is refused as too large
+abbrev pub KeepsCount : {T : Type 0} → PatternsState → Result T BuildFault → PatternsState → Type 0
+KeepsCount old (Ok x) new = new.refusals ≡ old.refusals
+KeepsCount old (Err Syntax) new = new.refusals ≡ old.refusals
+KeepsCount old (Err TooLarge) new = Unit {0}
+KeepsCount old (Err Memory) new = new.refusals ≡ old.refusals

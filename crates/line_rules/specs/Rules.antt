@@ -1,12 +1,15 @@
 -- Rules over the lines of a log, and what they decide.
-use Rattle.std.specs.Prelude.{◌≡◌, ℕ, zero, suc, ◌+◌, ◌<◌, ◌≤◌, ◌-◌, Bool, false, List, [], ◌∷◌, length, take, drop, chars, codes, nat_lt, Option, Some, None, IsSome, if◌then◌else◌, option_and_then, option_map, unwrap_or, slice_get, IsCharBoundary}
+use Rattle.std.specs.Prelude.{◌≡◌, ℕ, zero, suc, ◌+◌, ◌<◌, ◌≤◌, ◌-◌, Bool, false, List, [], ◌∷◌, length, take, drop, chars, codes, nat_lt, Option, Some, None, IsSome, if◌then◌else◌, option_and_then, option_map, unwrap_or, slice_get, IsCharBoundary, Result, Ok, Err}
 use Rattle.std.specs.List.{position}
 use Rattle.std.specs.Str.{bytes_eq}
 use Rattle.regex.specs.Patterns.{Re, Match, SameCaptures, default_config, find_str, span}
 use Rattle.regex.specs.Writes.{group_of}
 use Rattle.regex_syntax.specs.Grammar.{read}
+use Rattle.line_rules.specs.Times.{time_of}
 use Rattle.line_rules.specs.declared.decision.Decision.{Decision}
 use Rattle.line_rules.specs.declared.decision.Decision.TheVariants as decision
+use Rattle.line_rules.specs.declared.decision.DecideError.{DecideError}
+use Rattle.line_rules.specs.declared.decision.DecideError.TheVariants as undecided
 use Rattle.line_rules.specs.declared.decision.Named.{Named}
 use Rattle.line_rules.specs.declared.decision.Named.TheVariants as named
 
@@ -43,30 +46,49 @@ abbrev pub not_empty : Option (ℕ × ℕ) → Option (ℕ × ℕ)
 not_empty None = None
 not_empty (Some s) = if nat_lt s.0 s.1 then Some s else None
 
--- an event without a time, whose trace text is empty where its group is absent or took no part
-abbrev pub event : Option (ℕ × ℕ) → Named → Decision
-event None name = decision.Event name 0 0 0
-event (Some s) name = decision.Event name s.0 s.1 0
+-- a part of a line
+abbrev pub part : List ℕ → ℕ → ℕ → List ℕ
+part line from to = take (to - from) (drop from line)
 
--- what a rule with this number decides where the groups TYPE and TRACE of its match have these spans
-abbrev pub decided_at : ℕ → Form → (typ trace : Option (ℕ × ℕ)) → Option Decision
-decided_at number Skip typ trace = Some decision.Skip
-decided_at number Separator typ trace = Some decision.Separator
-decided_at number Event typ trace = option_map (λ s. event trace (named.Part s.0 s.1)) (not_empty typ)
-decided_at number (EventOf name) typ trace = Some (event trace (named.Fixed number))
+-- the time that a group says where it took part
+abbrev pub time_at : List ℕ → Option (ℕ × ℕ) → Option ℕ
+time_at line None = None
+time_at line (Some s) = time_of (part line s.0 s.1)
+
+-- the time of an event whose rule has this group TIME, which spans so: 0 without a group, and None where it took no part or says no time
+abbrev pub time_by : (group : Option ℕ) → List ℕ → Option (ℕ × ℕ) → Option ℕ
+time_by None line s = Some 0
+time_by (Some group) line s = time_at line s
+
+-- the time of an event that a match of the rule gives
+abbrev pub time_in : Rule → List ℕ → Match → Option ℕ
+time_in rule line m = time_by (group_named rule.names (codes "TIME")) line (span_of_name rule (codes "TIME") m)
+
+-- an event, whose trace text is empty where its group is absent or took no part; a bad time where it has none
+abbrev pub event : Option (ℕ × ℕ) → Named → Option ℕ → Result Decision DecideError
+event trace name None = Err undecided.BadTime
+event None name (Some time) = Ok (decision.Event name 0 0 time)
+event (Some s) name (Some time) = Ok (decision.Event name s.0 s.1 time)
+
+-- what a rule with this number decides where the groups TYPE and TRACE of its match have these spans, and its time is this
+abbrev pub decided_at : ℕ → Form → (typ trace : Option (ℕ × ℕ)) → Option ℕ → Option (Result Decision DecideError)
+decided_at number Skip typ trace time = Some (Ok decision.Skip)
+decided_at number Separator typ trace time = Some (Ok decision.Separator)
+decided_at number Event typ trace time = option_map (λ s. event trace (named.Part s.0 s.1) time) (not_empty typ)
+decided_at number (EventOf name) typ trace time = Some (event trace (named.Fixed number) time)
 
 -- what a rule with this number decides of a line, if it does
-abbrev pub decided_by : ℕ → Rule → List ℕ → Option Decision
+abbrev pub decided_by : ℕ → Rule → List ℕ → Option (Result Decision DecideError)
 decided_by number rule line =
-    option_and_then (λ m. decided_at number rule.form (span_of_name rule (codes "TYPE") m) (span_of_name rule (codes "TRACE") m)) (find_str rule.re line 0)
+    option_and_then (λ m. decided_at number rule.form (span_of_name rule (codes "TYPE") m) (span_of_name rule (codes "TRACE") m) (time_in rule line m)) (find_str rule.re line 0)
 
--- the decision of the first rule that decides the line, where the rules are numbered from `number`
-abbrev pub decision_from : ℕ → List Rule → List ℕ → Decision
-decision_from number [] line = decision.Undecided
+-- The decision of the first rule that decides the line, where the rules are numbered from `number`. A bad time is one: no later rule is tried.
+abbrev pub decision_from : ℕ → List Rule → List ℕ → Result Decision DecideError
+decision_from number [] line = Ok decision.Undecided
 decision_from number (rule ∷ rules) line = unwrap_or (decided_by number rule line) (decision_from (number + 1) rules line)
 
--- the decision of a line
-abbrev pub decision_of : List Rule → List ℕ → Decision
+-- the decision of a line, or its bad time
+abbrev pub decision_of : List Rule → List ℕ → Result Decision DecideError
 decision_of = decision_from 0
 
 -- the name of a rule's own type, where it has one
@@ -79,10 +101,6 @@ name_of (EventOf name) = Some name
 -- the name that the rule with this number gives its events, where it gives one
 abbrev pub fixed_name : List Rule → ℕ → Option (List ℕ)
 fixed_name rules number = option_and_then (λ rule. name_of rule.form) (slice_get rules number)
-
--- a part of a line
-abbrev pub part : List ℕ → ℕ → ℕ → List ℕ
-part line from to = take (to - from) (drop from line)
 
 -- the type text of an event
 abbrev pub type_text : List Rule → List ℕ → Named → List ℕ

@@ -6,38 +6,38 @@ use Rattle.line_rules.specs.Files.{spelled_by, is_skipped, rule_at, rules_from, 
 use Rattle.line_rules.specs.declared.line_rules.RuleError.{RuleError}
 use Rattle.line_rules.specs.declared.line_rules.RuleError.TheVariants as refused
 
--- the rule is that of a line with its number after so many rules, up to what a search tells apart
-pub record IsRuleOf (before number : ℕ) (line : List ℕ) (rule : Rule) : Type 0 where
+-- the rule is that of a line with its number after these rules, up to what a search tells apart
+pub record IsRuleOf (rules : List Rule) (number : ℕ) (line : List ℕ) (rule : Rule) : Type 0 where
   pub plain : Rule
-  pub read : rule_at before (number, line) ≡ Ok plain
+  pub read : rule_at rules (number, line) ≡ Ok plain
   pub alike : Alike rule plain
 
--- after so many rules a line's pattern is built, and this holds of the pattern
-pub record Builds (before : ℕ) (line : List ℕ) (Holds : List ℕ → Type 0) : Type 0 where
-  pub few : before < 32
+-- after these rules a line's pattern is built, and this holds of the pattern
+pub record Builds (rules : List Rule) (line : List ℕ) (Holds : List ℕ → Type 0) : Type 0 where
+  pub few : length rules < 32
   pub form : Form
   pub pattern : List ℕ
   pub spelled : spelled_by line ≡ Some (form, pattern)
   pub holds : Holds pattern
 
--- why a line with its number is refused so after so many rules
-abbrev pub IsLineRefused : PatternsState → PatternsState → ℕ → ℕ → List ℕ → RuleError → Type 0
-IsLineRefused old new before number line refused.Memory = Unit {0}
-IsLineRefused old new before number line (refused.Syntax at) =
-    (at ≡ number) × ((rule_at before (number, line) ≡ Err (refused.Syntax number)) ⊎ Builds before line NestsTooDeep)
-IsLineRefused old new before number line (refused.TooLarge at) =
-    (at ≡ number) × Rose old.refusals new.refusals × Builds before line (λ pattern. IsTrue (old.may_refuse pattern))
-IsLineRefused old new before number line refused.TooLong = ⊥
-IsLineRefused old new before number line (refused.BadLine at) = rule_at before (number, line) ≡ Err (refused.BadLine at)
-IsLineRefused old new before number line (refused.TooMany at) = rule_at before (number, line) ≡ Err (refused.TooMany at)
-IsLineRefused old new before number line (refused.NoType at) = rule_at before (number, line) ≡ Err (refused.NoType at)
-IsLineRefused old new before number line (refused.MixedTime at) = rule_at before (number, line) ≡ Err (refused.MixedTime at)
-IsLineRefused old new before number line refused.NoEvent = ⊥
+-- why a line with its number is refused so after these rules
+abbrev pub IsLineRefused : PatternsState → PatternsState → List Rule → ℕ → List ℕ → RuleError → Type 0
+IsLineRefused old new rules number line refused.Memory = Unit {0}
+IsLineRefused old new rules number line (refused.Syntax at) =
+    (at ≡ number) × ((rule_at rules (number, line) ≡ Err (refused.Syntax number)) ⊎ Builds rules line NestsTooDeep)
+IsLineRefused old new rules number line (refused.TooLarge at) =
+    (at ≡ number) × Rose old.refusals new.refusals × Builds rules line (λ pattern. IsTrue (old.may_refuse pattern))
+IsLineRefused old new rules number line refused.TooLong = ⊥
+IsLineRefused old new rules number line (refused.BadLine at) = rule_at rules (number, line) ≡ Err (refused.BadLine at)
+IsLineRefused old new rules number line (refused.TooMany at) = rule_at rules (number, line) ≡ Err (refused.TooMany at)
+IsLineRefused old new rules number line (refused.NoType at) = rule_at rules (number, line) ≡ Err (refused.NoType at)
+IsLineRefused old new rules number line (refused.MixedTime at) = rule_at rules (number, line) ≡ Err (refused.MixedTime at)
+IsLineRefused old new rules number line refused.NoEvent = ⊥
 
 -- a line with its number leaves the rules if it is skipped, and adds its rule if not
 abbrev pub AddsLine : ℕ → List ℕ → List Rule → List Rule → Type 0
 AddsLine number line rules new =
-    (IsTrue (is_skipped line) × (new ≡ rules)) ⊎ (IsFalse (is_skipped line) × ((rule : Rule) × (new ≡ rules ++ rule ∷ []) × IsRuleOf (length rules) number line rule))
+    (IsTrue (is_skipped line) × (new ≡ rules)) ⊎ (IsFalse (is_skipped line) × ((rule : Rule) × (new ≡ rules ++ rule ∷ []) × IsRuleOf rules number line rule))
 
 -- the rules are those of all lines, up to what a search tells apart
 pub record AreRulesOf (bytes : List ℕ) (rules : List Rule) : Type 0 where

@@ -1,10 +1,12 @@
 -- Rules and matchers as contracts see them.
-use Rattle.std.specs.Prelude.{◌<◌, ◌≤◌, length, List, map, string_bytes}
+use Rattle.std.specs.Prelude.{◌<◌, ◌≤◌, length, List, map, option_and_then, string_bytes}
+use Rattle.regex.specs.Patterns.{Match}
 use Rattle.regex.specs.Strings.{regex_pattern, regex_names}
 use Rattle.line_rules.specs.Rules as spec
 use Rattle.line_rules.specs.declared.rule.Form.{Form}
 use Rattle.line_rules.specs.declared.rule.Form.TheVariants.{Skip, Separator, Event, EventOf}
 use Rattle.line_rules.specs.declared.rule.Rule.{Rule}
+use Rattle.line_rules.specs.declared.spans.Spans.{Spans}
 use Rattle.line_rules.specs.declared.spelling.Word.{Word}
 use Rattle.line_rules.specs.declared.spelling.Word.TheVariants as word
 use Rattle.line_rules.specs.declared.matchers.RuleMatcher.{RuleMatcher}
@@ -35,6 +37,14 @@ HasShortName (word.EventOf name) = (0 < length name.now) × (length name.now ≤
 -- a rule with its pattern and the names of its groups
 abbrev pub rule_view : Rule → spec.Rule
 rule_view r = record { form = form_view r.form; re = regex_pattern r.regex; names = regex_names r.regex }
+
+-- what the groups of a rule span in a match
+abbrev pub spans_of : Rule → Match → Spans
+spans_of r m = record {
+  typ = option_and_then (spec.span_of m) r.type_group;
+  trace = option_and_then (spec.span_of m) r.trace_group;
+  time = option_and_then (spec.span_of m) r.time_group;
+}
 
 -- the rules that some matchers search for, in their order
 abbrev pub matcher_rules : List RuleMatcher → List spec.Rule

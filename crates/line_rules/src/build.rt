@@ -1,8 +1,8 @@
 //! The rule of one line.
-ghost use Rattle.std.specs.Prelude.{◌≡◌, ◌⊎◌, ◌≤◌, Err, IfOk, IfErr, IsTrue, IsSomeAnd};
-ghost use Rattle.line_rules.specs.Patterns.{IsNoPattern, NestsTooDeep, Stays, Rose};
+ghost use Rattle.std.specs.Prelude.{◌≡◌, ◌⊎◌, ◌<◌, Err, IfOk, IfErr, IsTrue, IsSomeAnd, length, map};
+ghost use Rattle.line_rules.specs.Patterns.{IsNoPattern, NestsTooDeep, Stays, Rose, KeepsCount};
 ghost use Rattle.line_rules.specs.Rules.{rule_of, Alike};
-ghost use Rattle.line_rules.specs.Files.{lacks_type, has_time};
+ghost use Rattle.line_rules.specs.Files.{first_time, mixes_time, KeepsRefusals};
 ghost use Rattle.line_rules.specs.Steps.{IsRuleOf, IsLineRefused};
 ghost use Rattle.line_rules.specs.Views.{form_view, rule_view};
 
@@ -17,6 +17,7 @@ fn build_rule<P: Patterns>(patterns: &mut P, form: Form, text: &str) -> Result<R
     ensures rule { IfOk result (λ r. IsSomeAnd (rule_of (form_view form) text.now) (Alike (rule_view r))) }
     ensures syntax { result ≡ Err BuildFault.Syntax → IsNoPattern text.now ⊎ NestsTooDeep text.now }
     ensures stays { Stays (P.state patterns.old) (P.state patterns.new) }
+    ensures count { KeepsCount (P.state patterns.old) result (P.state patterns.new) }
     ensures large { result ≡ Err BuildFault.TooLarge
         → Rose (P.state patterns.old).refusals (P.state patterns.new).refusals × IsTrue ((P.state patterns.old).may_refuse text.now) }
 {
@@ -26,25 +27,52 @@ fn build_rule<P: Patterns>(patterns: &mut P, form: Form, text: &str) -> Result<R
     }
 }
 
-/// The rule of the line with this number, after so many rules.
+/// Whether the first event rule has a group TIME, where there is an event rule.
+fn first_time(rules: &[Rule]) -> Option<bool>
+    ensures { result ≡ first_time (map rule_view rules.now) }
+{
+    for rule in rules {
+        if rule.form.is_event() {
+            return Some(rule.has_time());
+        }
+    }
+    None
+}
+
+/// Whether this is an event rule that has a group TIME where the first event rule has none, or the other way round.
+fn mixes_time(rules: &[Rule], rule: &Rule) -> bool
+    ensures { result ≡ mixes_time (map rule_view rules.now) (rule_view rule.now) }
+{
+    if !rule.form.is_event() {
+        return false;
+    }
+    match first_time(rules) {
+        Some(timed) => timed != rule.has_time(),
+        None => false,
+    }
+}
+
+/// The rule of the line with this number, after these rules.
 ///
 /// It is refused by the first that fits: `BadLine`, `TooMany`, the refusal of its build, `NoType`, `MixedTime`.
 /// `Memory` may come in place of each.
 pub(crate) fn rule_of_line<P: Patterns>(
     alloc: Global,
-    before: usize,
+    rules: &[Rule],
     number: u32,
     line: &[u8],
     patterns: &mut P,
 ) -> Result<Rule, RuleError>
     ensures stays { Stays (P.state patterns.old) (P.state patterns.new) }
-    ensures ok { IfOk result (λ rule. IsRuleOf before number line.now (rule_view rule)) }
-    ensures err { IfErr result (IsLineRefused (P.state patterns.old) (P.state patterns.new) before number line.now) }
+    ensures count { KeepsRefusals (P.state patterns.old) result (P.state patterns.new) }
+    ensures few { IfOk result (λ _. length rules.now < 32) }
+    ensures ok { IfOk result (λ rule. IsRuleOf (map rule_view rules.now) number line.now (rule_view rule)) }
+    ensures err { IfErr result (IsLineRefused (P.state patterns.old) (P.state patterns.new) (map rule_view rules.now) number line.now) }
 {
     let Some((word, pattern)) = spelled(line) else {
         return Err(RuleError::BadLine(number));
     };
-    if before >= 32 {
+    if rules.len() >= 32 {
         return Err(RuleError::TooMany(number));
     }
     let Ok(form) = word.to_form(alloc) else {
@@ -59,7 +87,7 @@ pub(crate) fn rule_of_line<P: Patterns>(
     if rule.lacks_type() {
         return Err(RuleError::NoType(number));
     }
-    if rule.has_time() {
+    if mixes_time(rules, &rule) {
         return Err(RuleError::MixedTime(number));
     }
     Ok(rule)

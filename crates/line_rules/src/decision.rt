@@ -13,7 +13,7 @@ pub enum Named {
 #[derive(Clone, Copy, Debug, PartialEq, Eq)]
 pub enum Decision {
     /// An event of the trace whose text stands from `trace_from` up to `trace_to`; the time is in billionths,
-    /// and 0 for now, since rules have no times yet.
+    /// and 0 where the rule has no group TIME.
     Event {
         name: Named,
         trace_from: usize,
@@ -31,7 +31,7 @@ pub enum Decision {
 /// Why a line was not decided.
 #[derive(Clone, Copy, Debug, PartialEq, Eq)]
 pub enum DecideError {
-    /// The deciding rule has a time, which the line lacks. It never comes for now.
+    /// The deciding rule has a group TIME, which took no part or says no time.
     BadTime,
     /// Memory was wanted.
     Memory,

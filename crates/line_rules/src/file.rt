@@ -2,7 +2,7 @@
 ghost use Rattle.std.specs.Prelude.{◌≡◌, ◌≤◌, IfOk, IfErr, IsFalse, OnErr, OnOk, length, map, vec_len};
 ghost use Rattle.std.specs.List.{list_any};
 ghost use Rattle.line_rules.specs.Patterns.{Stays};
-ghost use Rattle.line_rules.specs.Files.{is_event, is_skipped};
+ghost use Rattle.line_rules.specs.Files.{is_event, is_skipped, KeepsRefusals};
 ghost use Rattle.line_rules.specs.Steps.{AddsLine, IsLineRefused, AreRulesOf, AreLinesRefused};
 ghost use Rattle.line_rules.specs.Views.{rule_view};
 
@@ -24,15 +24,16 @@ fn add_line<P: Patterns>(
 ) -> Result<(), RuleError>
     requires { vec_len rules.old ≤ 32 }
     ensures stays { Stays (P.state patterns.old) (P.state patterns.new) }
+    ensures count { KeepsRefusals (P.state patterns.old) result (P.state patterns.new) }
     ensures few { vec_len rules.new ≤ 32 }
     ensures ok { OnOk result (AddsLine number line.now (map rule_view rules.old.items) (map rule_view rules.new.items)) }
     ensures not_skipped { OnErr result (IsFalse (is_skipped line.now)) }
-    ensures err { IfErr result (IsLineRefused (P.state patterns.old) (P.state patterns.new) (vec_len rules.old) number line.now) }
+    ensures err { IfErr result (IsLineRefused (P.state patterns.old) (P.state patterns.new) (map rule_view rules.old.items) number line.now) }
 {
     if is_comment(line) {
         return Ok(());
     }
-    let rule = match rule_of_line(alloc, rules.len(), number, line, patterns) {
+    let rule = match rule_of_line(alloc, rules, number, line, patterns) {
         Ok(rule) => rule,
         Err(fault) => return Err(fault),
     };
@@ -50,6 +51,7 @@ pub(crate) fn read_rules<P: Patterns>(
 ) -> Result<Vec<Rule>, RuleError>
     requires { length bytes.now ≤ 65536 }
     ensures stays { Stays (P.state patterns.old) (P.state patterns.new) }
+    ensures count { KeepsRefusals (P.state patterns.old) result (P.state patterns.new) }
     ensures few { IfOk result (λ rules. vec_len rules ≤ 32) }
     ensures ok { IfOk result (λ rules. AreRulesOf bytes.now (map rule_view rules.items)) }
     ensures err { IfErr result (AreLinesRefused bytes.now (P.state patterns.old) (P.state patterns.new)) }

@@ -11,9 +11,11 @@ mod matchers;
 mod patterns;
 mod regex_patterns;
 mod rule;
+mod spans;
 mod spelling;
 #[cfg(test)]
 mod tests;
+mod time;
 
 pub use decision::{DecideError, Decision, Named};
 pub use law::alike_rules_decide_alike;

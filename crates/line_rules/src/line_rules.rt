@@ -2,7 +2,7 @@
 ghost use Rattle.std.specs.Prelude.{◌≡◌, ◌≢◌, ◌<◌, ◌≤◌, length, Some, IsSome, IfOk, IfErr, Err, vec_len};
 ghost use Rattle.line_rules.specs.Patterns.{Stays};
 ghost use Rattle.line_rules.specs.Rules.{decision_of, fixed_name, HasParts};
-ghost use Rattle.line_rules.specs.Files.{AreRead, IsRefused};
+ghost use Rattle.line_rules.specs.Files.{AreRead, IsRefused, KeepsRefusals};
 
 use crate::decision::{DecideError, Decision};
 use crate::file::{has_event, read_rules};
@@ -33,8 +33,9 @@ pub enum RuleError {
     /// The line is `event PATTERN`, and its pattern has no group named TYPE.
     #[error("the pattern in line {0} has no group named TYPE")]
     NoType(u32),
-    /// The line is an event rule whose pattern has a group named TIME.
-    #[error("the pattern in line {0} has a group named TIME, and no rule has times")]
+    /// The line is an event rule, and its pattern has a group named TIME where that of the first event rule has
+    /// none, or the other way round.
+    #[error("the pattern in line {0} and that of the first event rule have not both a group named TIME")]
     MixedTime(u32),
     /// No rule is an event rule.
     #[error("no rule is an event rule")]
@@ -66,6 +67,7 @@ impl LineRules {
         patterns: &mut P,
     ) -> Result<LineRules, RuleError>
         ensures stays { Stays (P.state patterns.old) (P.state patterns.new) }
+        ensures count { KeepsRefusals (P.state patterns.old) result (P.state patterns.new) }
         ensures ok { IfOk result (λ rules. AreRead bytes.now (rules_in rules)) }
         ensures err { IfErr result (IsRefused bytes.now (P.state patterns.old) (P.state patterns.new)) }
     {
@@ -85,15 +87,15 @@ impl LineRules {
     /// What the line is, by the first rule that decides it.
     ///
     /// Places in the decision are byte places in the line, on character bounds, and a trace that has no group
-    /// stands from 0 up to 0. What searches is made within the call, and `Memory` comes only for it: the rules
-    /// may be used again. For many lines see [`LineRules::matchers`].
+    /// stands from 0 up to 0. `BadTime` comes where the first rule that decides the line is an event rule with
+    /// a group TIME, and the group took no part or says no time. What searches is made within the call, and
+    /// `Memory` comes only for it: the rules may be used again. For many lines see [`LineRules::matchers`].
     pub fn decide(&self, line: &str) -> Result<Decision, DecideError>
-        ensures value { IfOk result (λ decision. decision ≡ decision_of (rules_in self.now) line.now) }
+        ensures value { result ≢ Err DecideError.Memory → result ≡ decision_of (rules_in self.now) line.now }
         ensures parts { IfOk result (HasParts (rules_in self.now) line.now) }
-        ensures no_bad_time { result ≢ Err DecideError.BadTime }
     {
         match self.matchers() {
-            Ok(mut matchers) => Ok(matchers.decide(line)),
+            Ok(mut matchers) => matchers.decide(line),
             Err(_) => Err(DecideError::Memory),
         }
     }

@@ -1,6 +1,6 @@
 //! Patterns of which listed builds are refused.
 ghost use Rattle.std.specs.Prelude.{◌≡◌};
-ghost use Rattle.line_rules.specs.Patterns.{Stays, BuildGives};
+ghost use Rattle.line_rules.specs.Patterns.{Stays, BuildGives, KeepsCount};
 ghost use Rattle.line_rules.specs.Listed.{listed_state, ListedGives};
 
 use crate::patterns::{BuildFault, Patterns};
@@ -49,6 +49,7 @@ impl Patterns for ListedPatterns {
     fn build(&mut self, text: &str) -> Result<Regex, BuildFault>
         ensures stays { Stays (listed_state self.old) (listed_state self.new) }
         ensures gives { BuildGives (listed_state self.old) text.now result (listed_state self.new) }
+        ensures count { KeepsCount (listed_state self.old) result (listed_state self.new) }
 
         // The answer and all that is left, by the number of the build and the text.
         ensures exact { ListedGives self.old text.now result self.new }

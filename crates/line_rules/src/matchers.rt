@@ -4,8 +4,9 @@ ghost use Rattle.regex.specs.Strings.{regex_pattern, matcher_pattern};
 ghost use Rattle.line_rules.specs.Rules as spec;
 ghost use Rattle.line_rules.specs.Rules.{decision_of, decided_by, HasParts};
 
-use crate::decision::Decision;
-use crate::rule::{Rule, spans_in};
+use crate::decision::{DecideError, Decision};
+use crate::rule::Rule;
+use crate::spans::spans_in;
 use regex::Matcher;
 use std::alloc::{AllocError, Global};
 
@@ -29,13 +30,17 @@ impl<'r> RuleMatcher<'r> {
     }
 
     /// What the rule, which has this number, decides of the line, if it does.
-    pub(crate) fn decide(&mut self, number: u32, line: &str) -> Option<Decision>
+    pub(crate) fn decide(
+        &mut self,
+        number: u32,
+        line: &str,
+    ) -> Option<Result<Decision, DecideError>>
         ensures value { result ≡ decided_by number (rule_view self.old.rule.now) line.now }
-        ensures parts { (rules : List spec.Rule) → slice_get rules number ≡ Some (rule_view self.old.rule.now) → IfSome result (HasParts rules line.now) }
+        ensures parts { (rules : List spec.Rule) → slice_get rules number ≡ Some (rule_view self.old.rule.now) → IfSome result (λ answer. IfOk answer (HasParts rules line.now)) }
         ensures same { self.new.rule ≡ self.old.rule }
     {
-        let (typ, trace) = spans_in(self.rule, &mut self.matcher, line)?;
-        self.rule.form.decided_at(number, typ, trace)
+        let spans = spans_in(self.rule, &mut self.matcher, line)?;
+        self.rule.decided_at(number, line, spans)
     }
 }
 
@@ -50,16 +55,19 @@ impl<'r> Matchers<'r> {
     ghost use Rattle.line_rules.specs.Views.{matched_rules};
 
     /// What the line is, by the first rule that decides it. It wants no memory.
-    pub fn decide(&mut self, line: &str) -> Decision
+    ///
+    /// `BadTime` comes where that rule is an event rule with a group TIME, and the group took no part or says
+    /// no time.
+    pub fn decide(&mut self, line: &str) -> Result<Decision, DecideError>
         ensures value { result ≡ decision_of (matched_rules self.old) line.now }
-        ensures parts { HasParts (matched_rules self.old) line.now result }
+        ensures parts { IfOk result (HasParts (matched_rules self.old) line.now) }
         ensures same { matched_rules self.new ≡ matched_rules self.old }
     {
         for place in 0..self.rules.len() {
-            if let Some(decision) = self.rules[place].decide(place as u32, line) {
-                return decision;
+            if let Some(answer) = self.rules[place].decide(place as u32, line) {
+                return answer;
             }
         }
-        Decision::Undecided
+        Ok(Decision::Undecided)
     }
 }

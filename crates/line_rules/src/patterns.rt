@@ -1,6 +1,6 @@
 //! What builds the patterns of rules.
 
-ghost use Rattle.line_rules.specs.Patterns.{PatternsState, Stays, BuildGives};
+ghost use Rattle.line_rules.specs.Patterns.{PatternsState, Stays, BuildGives, KeepsCount};
 
 use regex::Regex;
 
@@ -27,5 +27,6 @@ pub trait Patterns {
     /// where the count of refusals rose and this text may be refused.
     fn build(&mut self, text: &str) -> Result<Regex, BuildFault>
         ensures stays { Stays (state self.old) (state self.new) }
-        ensures gives { BuildGives (state self.old) text.now result (state self.new) };
+        ensures gives { BuildGives (state self.old) text.now result (state self.new) }
+        ensures count { KeepsCount (state self.old) result (state self.new) };
 }

@@ -1,6 +1,6 @@
 //! Patterns as `regex` builds them.
 ghost use Rattle.std.specs.Prelude.{◌≡◌, ◌≤◌};
-ghost use Rattle.line_rules.specs.Patterns.{Stays, BuildGives};
+ghost use Rattle.line_rules.specs.Patterns.{Stays, BuildGives, KeepsCount};
 ghost use Rattle.line_rules.specs.Listed.{regex_state, RegexGives, raised};
 
 use crate::patterns::{BuildFault, Patterns};
@@ -50,6 +50,7 @@ impl Patterns for RegexPatterns {
     fn build(&mut self, text: &str) -> Result<Regex, BuildFault>
         ensures stays { Stays (regex_state self.old) (regex_state self.new) }
         ensures gives { BuildGives (regex_state self.old) text.now result (regex_state self.new) }
+        ensures count { KeepsCount (regex_state self.old) result (regex_state self.new) }
 
         // The count rises exactly at a pattern that is refused as too large.
         ensures exact { RegexGives self.old text.now result self.new }

@@ -1,12 +1,13 @@
 //! One rule.
-ghost use Rattle.std.specs.Prelude.{◌≡◌, ◌<◌, ◌≤◌, codes, Some, None, IfSome, length, option_map, option_and_then, string_bytes};
-ghost use Rattle.regex.specs.Patterns.{find_str, Match};
-ghost use Rattle.regex.specs.Strings.{regex_pattern, regex_names, matcher_pattern, match_span, captures_span, captures_haystack};
-ghost use Rattle.line_rules.specs.Rules.{group_named, span_of, name_of};
+ghost use Rattle.std.specs.Prelude.{◌≡◌, ◌<◌, ◌≤◌, codes, IfSome, length, option_map, string_bytes};
+ghost use Rattle.regex.specs.Strings.{regex_names};
+ghost use Rattle.line_rules.specs.Rules.{group_named, name_of};
 ghost use Rattle.line_rules.specs.Rules as spec;
 
-use crate::decision::{Decision, Named};
-use regex::{Captures, Matcher, Regex};
+use crate::decision::{DecideError, Decision, Named};
+use crate::spans::Spans;
+use crate::time::time_of;
+use regex::Regex;
 
 /// The type that a rule gives its events: 1 to 256 bytes.
 #[derive(Drop)]
@@ -36,8 +37,10 @@ pub struct Rule {
     pub(crate) regex: Regex,
     pub(crate) type_group: Option<usize>,
     pub(crate) trace_group: Option<usize>,
+    pub(crate) time_group: Option<usize>,
     ghost type_is: { type_group ≡ group_named (regex_names regex) (codes "TYPE") },
     ghost trace_is: { trace_group ≡ group_named (regex_names regex) (codes "TRACE") },
+    ghost time_is: { time_group ≡ group_named (regex_names regex) (codes "TIME") },
 }
 
 /// The number of the first group with the name.
@@ -58,11 +61,13 @@ impl Rule {
     {
         let type_group = group_number(&regex, "TYPE");
         let trace_group = group_number(&regex, "TRACE");
+        let time_group = group_number(&regex, "TIME");
         Rule {
             form,
             regex,
             type_group,
             trace_group,
+            time_group,
         }
     }
 
@@ -73,11 +78,66 @@ impl Rule {
         matches!(self.form, Form::Event) && self.type_group.is_none()
     }
 
-    /// Whether this is an event rule whose pattern has a group TIME.
+    /// Whether the pattern has a group TIME.
     pub(crate) fn has_time(&self) -> bool
         ensures { result ≡ has_time (rule_view self.now) }
     {
-        self.form.is_event() && group_number(&self.regex, "TIME").is_some()
+        self.time_group.is_some()
+    }
+
+    /// The time of an event in the line, where the group TIME has this span: 0 without such a group. None where the
+    /// group took no part or says no time.
+    fn time_in(&self, line: &str, span: Option<(usize, usize)>) -> Option<u128>
+        requires { IfSome span (spec.IsSpanOf line.now) }
+        ensures { result ≡ spec.time_by self.now.time_group line.now span }
+    {
+        if self.time_group.is_none() {
+            return Some(0);
+        }
+        match span {
+            Some((from, to)) => time_of(&line[from..to]),
+            None => None,
+        }
+    }
+
+    /// An event with its trace, which is empty where its group took no part, and with its time.
+    fn event(&self, line: &str, spans: Spans, name: Named) -> Result<Decision, DecideError>
+        requires { IfSome spans.time (spec.IsSpanOf line.now) }
+        ensures { result ≡ spec.event spans.trace name (spec.time_by self.now.time_group line.now spans.time) }
+    {
+        let Some(time) = self.time_in(line, spans.time) else {
+            return Err(DecideError::BadTime);
+        };
+        let (trace_from, trace_to) = spans.trace.unwrap_or((0, 0));
+        Ok(Decision::Event {
+            name,
+            trace_from,
+            trace_to,
+            time,
+        })
+    }
+
+    /// What the rule, which has this number, decides where its groups have these spans.
+    pub(crate) fn decided_at(
+        &self,
+        number: u32,
+        line: &str,
+        spans: Spans,
+    ) -> Option<Result<Decision, DecideError>>
+        requires { IfSome spans.time (spec.IsSpanOf line.now) }
+        ensures { result ≡ spec.decided_at number (form_view self.now.form) spans.typ spans.trace (spec.time_by self.now.time_group line.now spans.time) }
+    {
+        match &self.form {
+            Form::Skip => Some(Ok(Decision::Skip)),
+            Form::Separator => Some(Ok(Decision::Separator)),
+            Form::Event => match spans.typ {
+                Some((from, to)) if from < to => {
+                    Some(self.event(line, spans, Named::Part(from, to)))
+                }
+                _ => None,
+            },
+            Form::EventOf(_) => Some(self.event(line, spans, Named::Fixed(number))),
+        }
     }
 
     /// The type that the rule gives its events, where it gives one.
@@ -93,45 +153,6 @@ impl Rule {
     }
 }
 
-/// What the group spans, where it took part.
-fn span_of_group(captures: &Captures<'_, '_>, group: Option<usize>) -> Option<(usize, usize)>
-    ensures value { result ≡ option_and_then (captures_span captures.now) group }
-    ensures within { IfSome result (spec.IsSpanOf (captures_haystack captures.now)) }
-{
-    let found = captures.get(group?)?;
-    Some((found.start(), found.end()))
-}
-
-/// What the groups for the type and for the trace span in the first match.
-pub(crate) fn spans_in(
-    rule: &Rule,
-    matcher: &mut Matcher<'_>,
-    line: &str,
-) -> Option<(Option<(usize, usize)>, Option<(usize, usize)>)>
-    ensures found { result ≡ option_map (λ m. (option_and_then (span_of m) rule.now.type_group, option_and_then (span_of m) rule.now.trace_group))
-        (find_str (matcher_pattern matcher.old) line.now 0) }
-    ensures within { IfSome result (λ s. IfSome s.0 (spec.IsSpanOf line.now) × IfSome s.1 (spec.IsSpanOf line.now)) }
-    ensures same { matcher_pattern matcher.new ≡ matcher_pattern matcher.old }
-{
-    let captures = matcher.captures(line)?;
-    let typ = span_of_group(&captures, rule.type_group);
-    let trace = span_of_group(&captures, rule.trace_group);
-    Some((typ, trace))
-}
-
-/// An event of the trace that the group for the trace spans, which is empty where the group took no part.
-fn event(trace: Option<(usize, usize)>, name: Named) -> Decision
-    ensures { result ≡ spec.event trace name }
-{
-    let (trace_from, trace_to) = trace.unwrap_or((0, 0));
-    Decision::Event {
-        name,
-        trace_from,
-        trace_to,
-        time: 0,
-    }
-}
-
 impl Form {
     ghost use Rattle.line_rules.specs.Views.{form_view};
     ghost use Rattle.line_rules.specs.Files.{is_event};
@@ -141,25 +162,5 @@ impl Form {
         ensures { result ≡ is_event (form_view self.now) }
     {
         matches!(self, Form::Event | Form::EventOf(_))
-    }
-
-    /// What a rule of this form decides where the groups for the type and for the trace have these spans.
-    pub(crate) fn decided_at(
-        &self,
-        number: u32,
-        typ: Option<(usize, usize)>,
-        trace: Option<(usize, usize)>,
-    ) -> Option<Decision>
-        ensures { result ≡ spec.decided_at number (form_view self.now) typ trace }
-    {
-        match self {
-            Form::Skip => Some(Decision::Skip),
-            Form::Separator => Some(Decision::Separator),
-            Form::Event => match typ {
-                Some((from, to)) if from < to => Some(event(trace, Named::Part(from, to))),
-                _ => None,
-            },
-            Form::EventOf(_) => Some(event(trace, Named::Fixed(number))),
-        }
     }
 }

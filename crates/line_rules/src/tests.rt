@@ -1,4 +1,4 @@
-use crate::{Decision, LineRules, ListedPatterns, Named, RegexPatterns, RuleError};
+use crate::{DecideError, Decision, LineRules, ListedPatterns, Named, RegexPatterns, RuleError};
 use std::alloc::{AllocError, Global};
 use std::test::Fail;
 
@@ -43,7 +43,23 @@ fn files_are_refused_by_their_first_fault(rt: HostRuntime) -> Result<(), Fail> {
         ("event (\nx", Some(RuleError::Syntax(1))),
         ("event ^a", Some(RuleError::NoType(1))),
         ("event (?<TIME>b)", Some(RuleError::NoType(1))),
-        ("event=a (?<TIME>b)", Some(RuleError::MixedTime(1))),
+        ("event=a (?<TIME>b)", None),
+        ("event=a (?<TIME>b)\nevent=c (?<TIME>d)", None),
+        (
+            "event=a (?<TIME>b)\n\nevent=c d",
+            Some(RuleError::MixedTime(3)),
+        ),
+        (
+            "event=a b\nevent=c (?<TIME>d)",
+            Some(RuleError::MixedTime(2)),
+        ),
+        (
+            "event=a b\nevent=c d\nevent (?<TIME>d)(?<TYPE>e)",
+            Some(RuleError::MixedTime(3)),
+        ),
+        ("event=a b\nevent (?<TIME>d)", Some(RuleError::NoType(2))),
+        ("skip (?<TIME>b)\nseparator (?<TIME>b)\nevent=a b", None),
+        ("event=a (?<TIME>b)\nskip b\nseparator b", None),
         ("skip x", Some(RuleError::NoEvent)),
         ("", Some(RuleError::NoEvent)),
         ("#\n\nEvent=a b", Some(RuleError::BadLine(3))),
@@ -102,8 +118,134 @@ fn lines_are_decided_by_the_first_rule(rt: HostRuntime) -> Result<(), Fail> {
         };
         assert_eq!(rt; rules.decide(line), Ok(want), "at {file}");
         let mut matchers = rules.matchers()?;
-        assert_eq!(rt; matchers.decide(line), want, "at {file}");
-        assert_eq!(rt; matchers.decide(line), want, "again at {file}");
+        assert_eq!(rt; matchers.decide(line), Ok(want), "at {file}");
+        assert_eq!(rt; matchers.decide(line), Ok(want), "again at {file}");
+    }
+    Ok(())
+}
+
+#[test]
+fn times_are_billionths(rt: HostRuntime) -> Result<(), Fail> {
+    let cases = [
+        ("0", Some(0)),
+        ("007", Some(7_000_000_000)),
+        ("1.5", Some(1_500_000_000)),
+        ("1.50000001", Some(1_500_000_010)),
+        ("1.000000001", Some(1_000_000_001)),
+        (
+            "999999999999999999",
+            Some(999_999_999_999_999_999_000_000_000),
+        ),
+        (
+            "999999999999999999.999999999",
+            Some(999_999_999_999_999_999_999_999_999u128),
+        ),
+        ("1000000000000000000", None),
+        ("1000000000000000000.5", None),
+        ("1.", None),
+        (".5", None),
+        (".", None),
+        ("1.1234567890", None),
+        ("1.2.3", None),
+        ("12:00", None),
+        ("+1", None),
+        ("-1", None),
+        ("1.+5", None),
+        ("1e3", None),
+    ];
+    let mut patterns = RegexPatterns::new(rt.alloc());
+    let file = b"event ^(?<TIME>\\S+) (?<TYPE>.+)$\nevent=late (?<TIME>[0-9])";
+    let Ok(rules) = LineRules::read(rt.alloc(), file, &mut patterns) else {
+        return Err(Fail::from("refused"));
+    };
+    let mut matchers = rules.matchers()?;
+    for (text, want) in cases {
+        let line = format!(in rt.alloc(); "{text} a")?;
+        let answer = match want {
+            Some(time) => Ok(Decision::Event {
+                name: Named::Part(text.len() + 1, text.len() + 2),
+                trace_from: 0,
+                trace_to: 0,
+                time,
+            }),
+            None => Err(DecideError::BadTime),
+        };
+        assert_eq!(rt; matchers.decide(&line), answer, "at {text}");
+        assert_eq!(rt; rules.decide(&line), answer, "once more at {text}");
+    }
+    Ok(())
+}
+
+#[test]
+fn a_bad_time_ends_the_search(rt: HostRuntime) -> Result<(), Fail> {
+    let event = |rule, time| {
+        Ok(Decision::Event {
+            name: Named::Fixed(rule),
+            trace_from: 0,
+            trace_to: 0,
+            time,
+        })
+    };
+    let late = "event=late (?<TIME>[0-9])";
+    let cases = [
+        (
+            "event=a ^(?<TIME>[0-9]+)?x",
+            "x 7",
+            Err(DecideError::BadTime),
+        ),
+        ("event=a ^(?<TIME>.*)x", "x 7", Err(DecideError::BadTime)),
+        ("event=a ^(?<TIME>.*)x", "12x", event(0, 12_000_000_000)),
+        ("event=a ^(?<TIME>.*)x", "7", event(1, 7_000_000_000)),
+        (
+            "event ^(?<TIME>\\S+) (?<TYPE>x*)",
+            "12:00 7",
+            event(1, 1_000_000_000),
+        ),
+        ("skip ^(?<TIME>.*)x", "ax 7", Ok(Decision::Skip)),
+        ("separator ^(?<TIME>.*)x", "ax 7", Ok(Decision::Separator)),
+    ];
+    for (first, line, want) in cases {
+        let mut patterns = RegexPatterns::new(rt.alloc());
+        let file = format!(in rt.alloc(); "{first}\n{late}")?;
+        let Ok(rules) = LineRules::read(rt.alloc(), file.as_bytes(), &mut patterns) else {
+            return Err(Fail::from("refused"));
+        };
+        assert_eq!(rt; rules.decide(line), want, "at {first}");
+        let mut matchers = rules.matchers()?;
+        assert_eq!(rt; matchers.decide(line), want, "at {first}");
+    }
+    Ok(())
+}
+
+/// The rules of a shop's log.
+#[test]
+fn shop_rules_are_taken(rt: HostRuntime) -> Result<(), Fail> {
+    let file =
+        b"# shop front end\nskip ^[0-9]+ DEBUG\nevent=leave ^(?<TIME>[0-9]+) INFO s(?<TRACE>[0-9]+) session closed\nevent ^(?<TIME>[0-9]+) INFO s(?<TRACE>[0-9]+) (?<TYPE>[a-z]+)\n";
+    let mut patterns = RegexPatterns::new(rt.alloc());
+    let Ok(rules) = LineRules::read(rt.alloc(), file, &mut patterns) else {
+        return Err(Fail::from("refused"));
+    };
+    let event = |name, time| Decision::Event {
+        name,
+        trace_from: 10,
+        trace_to: 11,
+        time,
+    };
+    let cases = [
+        (
+            "100 INFO s1 login user=7",
+            event(Named::Part(12, 17), 100_000_000_000),
+        ),
+        ("101 DEBUG pool 4 of 16", Decision::Skip),
+        (
+            "124 INFO s3 session closed after 9 s",
+            event(Named::Fixed(1), 124_000_000_000),
+        ),
+        ("12:00 INFO s1 login", Decision::Undecided),
+    ];
+    for (line, want) in cases {
+        assert_eq!(rt; rules.decide(line), Ok(want), "at {line}");
     }
     Ok(())
 }

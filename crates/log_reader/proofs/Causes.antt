@@ -51,6 +51,7 @@ lines-line ignore at before (spec.Event typ trace time) = lines-event at (types_
 lines-line ignore at before spec.Skip = tt
 lines-line ignore at before spec.Separator = tt
 lines-line ignore at before spec.Undecided = lines-cond ignore None (Some (refused.Undecided at)) tt (λ n is. cc)
+lines-line ignore at before spec.BadTime = λ n is. cc
 
 lines-pieces : (s : Setting) (number : ℕ) (cut : Bool) (section : ℕ) (before : List KeyedEvent) (line : ℕ) (ps : List (List ℕ)) → IsOfLines (pieces_refusal s number cut section before line ps)
 lines-pieces s number cut section before line [] = tt
@@ -109,6 +110,7 @@ cause-of s names old new (refused.ReadFault n) causes = ⊎_elim
     causes
 cause-of s names old new (refused.LineTooLong at) causes = of-lines s names old new (refused.LineTooLong at) (λ is. cc) (λ n is. cc) causes
 cause-of s names old new (refused.Undecided at) causes = of-lines s names old new (refused.Undecided at) (λ is. cc) (λ n is. cc) causes
+cause-of s names old new (refused.BadTime at) causes = of-lines s names old new (refused.BadTime at) (λ is. cc) (λ n is. cc) causes
 cause-of s names old new (refused.TypeTooLong at) causes = of-lines s names old new (refused.TypeTooLong at) (λ is. cc) (λ n is. cc) causes
 cause-of s names old new (refused.TraceTooLong at) causes = of-lines s names old new (refused.TraceTooLong at) (λ is. cc) (λ n is. cc) causes
 cause-of s names old new (refused.TypeLimit at) causes = of-lines s names old new (refused.TypeLimit at) (λ is. cc) (λ n is. cc) causes

@@ -35,6 +35,7 @@ is-memory : (e : ReadError) → (e ≡ refused.Memory) ⊎ (e ≡ refused.Memory
 is-memory (refused.ReadFault n) = inr (λ is. cc)
 is-memory (refused.LineTooLong at) = inr (λ is. cc)
 is-memory (refused.Undecided at) = inr (λ is. cc)
+is-memory (refused.BadTime at) = inr (λ is. cc)
 is-memory (refused.TypeTooLong at) = inr (λ is. cc)
 is-memory (refused.TraceTooLong at) = inr (λ is. cc)
 is-memory (refused.TypeLimit at) = inr (λ is. cc)

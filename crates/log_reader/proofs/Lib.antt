@@ -1,6 +1,5 @@
 pub mod Bytes
 pub mod AlikeLogs
-pub mod Timeless
 pub mod Pieces
 pub mod Files
 pub mod UpTo

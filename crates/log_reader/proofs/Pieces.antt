@@ -8,15 +8,15 @@ use Rattle.std.specs.Str.Lossy.{utf8_lossy}
 use Rattle.bstr.specs.Utf8.{lossy_chars}
 use Rattle.bstr.proofs.lemmas.LossyLemmas.{lossy_chars-utf8_lossy}
 use Rattle.traces.specs.Lines.{pieces, on_first, line_of, text_of}
-use Rattle.traces.specs.Words.{Event as KeyedEvent, Log, event_count_of}
-use Rattle.traces.proofs.Grown.{count-log_of}
+use Rattle.traces.specs.Words.{Event as KeyedEvent, Gathering, event_count_of}
+use Rattle.traces.proofs.Grown.{count-gathered_of}
 use Rattle.log_reader.specs.Reading as spec
 use Rattle.log_reader.specs.Reading.{Form, Setting, Decided, decided, decided_piece, line_events, section_after, piece_events, section_at_end, key_file, first_of, event_refusal, line_refusal, piece_refusal, limit_refusal, at_line, pieces_refusal}
 use Rattle.log_reader.specs.declared.refusal.At.{At}
 use Rattle.log_reader.specs.declared.refusal.ReadError.{ReadError}
 use Rattle.log_reader.specs.declared.refusal.ReadError.TheVariants as refused
 use Rattle.log_reader.specs.declared.reader.LogReader.{LogReader}
-use Rattle.log_reader.specs.SoFar.{decider_view, setting_of, IsLogOf, IsReady, IsRefusal, TakesLine, refusal_in, piece_refusal_in, ReadsText, ReadsPiece, ReadsPieces, IsPiecesRefusal}
+use Rattle.log_reader.specs.SoFar.{decider_view, setting_of, IsGatheredOf, IsReady, IsRefusal, TakesLine, refusal_in, piece_refusal_in, ReadsText, ReadsPiece, ReadsPieces, IsPiecesRefusal}
 
 -- one piece
 
@@ -36,7 +36,7 @@ pub piece-decided : (form : Form) (piece line text : List ℕ) → line ≡ line
 piece-decided form piece line text same some is =
     ap (decided form) is ∙ sym (cond-false _ _ _ (subst (λ l. (length l == 0) ≡ false) same some))
 
-pub piece-in : (s : Setting) (at : At) (log : Log) (piece : List ℕ) (d : Decided) → length piece ≤ 65536 → d ≡ decided_piece s.form piece → refusal_in s.ignore at log d ≡ piece_refusal_in s at log piece
+pub piece-in : (s : Setting) (at : At) (log : Gathering) (piece : List ℕ) (d : Decided) → length piece ≤ 65536 → d ≡ decided_piece s.form piece → refusal_in s.ignore at log d ≡ piece_refusal_in s at log piece
 piece-in s at log piece d few is = ap (refusal_in s.ignore at log) is ∙ sym (cond-false _ _ _ (short (length piece) few))
 
 pub reads-piece : (at : At) (piece : List ℕ) (old new : LogReader) (d : Decided) → length piece ≤ 65536 → d ≡ decided_piece (decider_view old.decider) piece → ReadsText at d old new → ReadsPiece at piece old new
@@ -45,18 +45,19 @@ reads-piece at piece old new d few is reads = record {
   reads = subst (λ d. ReadsText at d old new) is reads;
 }
 
--- the refusals of a line after some events, by their log
+-- the refusals of a line after some events, by what was gathered of them
 
-same-refusal : (ignore : Bool) (at : At) (log : Log) (events : List KeyedEvent) → IsLogOf log events → (d : Decided) → line_refusal ignore at events d ≡ refusal_in ignore at log d
+same-refusal : (ignore : Bool) (at : At) (log : Gathering) (events : List KeyedEvent) → IsGatheredOf log events → (d : Decided) → line_refusal ignore at events d ≡ refusal_in ignore at log d
 same-refusal ignore at log events so_far (spec.Event typ trace time) =
     ap₂ (λ types count. event_refusal at types count typ trace)
-    (sym (ap (λ (l : Log). l.types) so_far.is))
-    (sym (count-log_of events) ∙ sym (ap (λ (l : Log). event_count_of l.traces) so_far.is))
+    (sym (ap (λ (g : Gathering). g.types) so_far))
+    (sym (count-gathered_of events) ∙ sym (ap (λ (g : Gathering). event_count_of g.traces) so_far))
 same-refusal ignore at log events so_far spec.Skip = refl
 same-refusal ignore at log events so_far spec.Separator = refl
 same-refusal ignore at log events so_far spec.Undecided = refl
+same-refusal ignore at log events so_far spec.BadTime = refl
 
-same-piece_refusal : (s : Setting) (at : At) (log : Log) (events : List KeyedEvent) → IsLogOf log events → (piece : List ℕ) → piece_refusal s at events piece ≡ piece_refusal_in s at log piece
+same-piece_refusal : (s : Setting) (at : At) (log : Gathering) (events : List KeyedEvent) → IsGatheredOf log events → (piece : List ℕ) → piece_refusal s at events piece ≡ piece_refusal_in s at log piece
 same-piece_refusal s at log events so_far piece =
     ap (λ o. cond (nat_lt 65536 (length piece)) (Some (refused.LineTooLong at)) o) (same-refusal s.ignore at log events so_far (decided_piece s.form piece))
 
@@ -65,6 +66,7 @@ section-few section (spec.Event typ trace time) = omega arith
 section-few section spec.Skip = omega arith
 section-few section spec.Separator = omega arith
 section-few section spec.Undecided = omega arith
+section-few section spec.BadTime = omega arith
 
 -- a piece stands wherever a byte does
 
@@ -86,9 +88,9 @@ no-pieces (b ∷ bytes) = let some : 0 < length (pieces (b ∷ bytes)) = some-pi
 
 -- a file that is read up to a piece
 
-pub record IsPart (s : Setting) (number : ℕ) (cut : Bool) (first : ℕ) (all : List (List ℕ)) (events : List KeyedEvent) (section : ℕ) (log : Log) (line : ℕ) (rest : List (List ℕ)) : Type 0 where
+pub record IsPart (s : Setting) (number : ℕ) (cut : Bool) (first : ℕ) (all : List (List ℕ)) (events : List KeyedEvent) (section : ℕ) (log : Gathering) (line : ℕ) (rest : List (List ℕ)) : Type 0 where
   pub more : List KeyedEvent
-  pub is : IsLogOf log (events ++ more)
+  pub is : IsGatheredOf log (events ++ more)
   pub refusal : pieces_refusal s number cut first events 1 all ≡ pieces_refusal s number cut section (events ++ more) line rest
   pub parts : piece_events s.form (key_file s number) first all ≡ more ++ piece_events s.form (key_file s number) section rest
 
@@ -96,7 +98,7 @@ pub record IsPartWay (number : ℕ) (cut : Bool) (all : List (List ℕ)) (old no
   pub ready : IsReady now
   pub setting : setting_of now ≡ setting_of old
   pub section : section_at_end (setting_of old).form old.log.section all ≡ section_at_end (setting_of old).form now.log.section rest
-  pub log : (events : List KeyedEvent) → IsLogOf old.log.builder events → IsPart (setting_of old) number cut old.log.section all events now.log.section now.log.builder line rest
+  pub log : (events : List KeyedEvent) → IsGatheredOf old.log.builder events → IsPart (setting_of old) number cut old.log.section all events now.log.section now.log.builder line rest
 
 pub part-first : (number : ℕ) (cut : Bool) (all : List (List ℕ)) (old : LogReader) → IsReady old → IsPartWay number cut all old old 1 all
 part-first number cut all old ready = record {
@@ -105,7 +107,7 @@ part-first number cut all old ready = record {
   section = refl;
   log = λ events so_far. record {
     more = [];
-    is = subst (IsLogOf old.log.builder) (sym (append-nil events)) so_far;
+    is = subst (IsGatheredOf old.log.builder) (sym (append-nil events)) so_far;
     refusal = ap (λ es. pieces_refusal (setting_of old) number cut old.log.section es 1 all) (sym (append-nil events));
     parts = refl;
   };
@@ -115,10 +117,10 @@ abbrev refusal_of : Setting → ℕ → Bool → ℕ → List KeyedEvent → ℕ
 refusal_of = pieces_refusal
 
 -- one piece more
-part-more : (s : Setting) (number : ℕ) (cut : Bool) (first : ℕ) (all : List (List ℕ)) (events : List KeyedEvent) (section : ℕ) (old new : Log) (line : ℕ) (piece : List ℕ) (rest : List (List ℕ))
+part-more : (s : Setting) (number : ℕ) (cut : Bool) (first : ℕ) (all : List (List ℕ)) (events : List KeyedEvent) (section : ℕ) (old new : Gathering) (line : ℕ) (piece : List ℕ) (rest : List (List ℕ))
     → IsPart s number cut first all events section old line (piece ∷ rest)
     → (cut && length rest == 0) ≡ false → piece_refusal_in s (at_line number line) old piece ≡ None
-    → ((es : List KeyedEvent) → IsLogOf old es → IsLogOf new (es ++ line_events (key_file s number) section (decided_piece s.form piece)))
+    → ((es : List KeyedEvent) → IsGatheredOf old es → IsGatheredOf new (es ++ line_events (key_file s number) section (decided_piece s.form piece)))
     → IsPart s number cut first all events (section_after section (decided_piece s.form piece)) new (line + 1) rest
 part-more s number cut first all events section old new line piece rest part uncut none adds =
     let d = decided_piece s.form piece in
@@ -129,7 +131,7 @@ part-more s number cut first all events section old new line piece rest part unc
     let next : Option ReadError = pieces_refusal s number cut later (es ++ more) (line + 1) rest in
     record {
       more = part.more ++ more;
-      is = subst (IsLogOf new) (append_assoc events part.more more) (adds es part.is);
+      is = subst (IsGatheredOf new) (append_assoc events part.more more) (adds es part.is);
       refusal = part.refusal ∙ (cond-false (cut && length rest == 0) (Some (limit_refusal (at_line number line) piece)) (first_of (piece_refusal s (at_line number line) es piece) next) uncut
           ∙ (ap (λ o. first_of o next) nothing ∙ ap (λ xs. pieces_refusal s number cut later xs (line + 1) rest) (append_assoc events part.more more)));
       parts = part.parts ∙ sym (append_assoc part.more more (piece_events s.form (key_file s number) later rest));
@@ -145,7 +147,7 @@ way-more number cut all old now new line piece rest after way is uncut reads =
     let join : now.log.join ≡ old.log.join = ap (λ (t : Setting). t.join) way.setting in
     let d : Decided = decided_piece (decider_view old.decider) piece in
     let takes : TakesLine (at_line number line) d now.log new.log = subst (λ f. TakesLine (at_line number line) (decided_piece f piece) now.log new.log) form reads.reads.takes in
-    let at_rest : (events : List KeyedEvent) → IsLogOf old.log.builder events → IsPart s number cut old.log.section all events now.log.section now.log.builder line (piece ∷ after) =
+    let at_rest : (events : List KeyedEvent) → IsGatheredOf old.log.builder events → IsPart s number cut old.log.section all events now.log.section now.log.builder line (piece ∷ after) =
     λ events so_far. subst (IsPart s number cut old.log.section all events now.log.section now.log.builder line) is (way.log events so_far) in
     let S : Form → Bool → Bool → Setting = λ f i j. record { form = f; ignore = i; join = j } in
     record {
@@ -155,8 +157,8 @@ way-more number cut all old now new line piece rest after way is uncut reads =
       section = way.section ∙ (ap (section_at_end s.form now.log.section) is ∙ ap (λ n. section_at_end s.form n after) (sym takes.section));
       log = λ events so_far.
           let none : piece_refusal_in s (at_line number line) now.log.builder piece ≡ None = subst (λ t. piece_refusal_in t (at_line number line) now.log.builder piece ≡ None) way.setting reads.refusal in
-          let adds : (es : List KeyedEvent) → IsLogOf now.log.builder es → IsLogOf new.log.builder (es ++ line_events (key_file s number) now.log.section d) =
-          λ es so. subst (λ j. IsLogOf new.log.builder (es ++ line_events (cond j 0 number) now.log.section d)) join (takes.log es so) in
+          let adds : (es : List KeyedEvent) → IsGatheredOf now.log.builder es → IsGatheredOf new.log.builder (es ++ line_events (key_file s number) now.log.section d) =
+          λ es so. subst (λ j. IsGatheredOf new.log.builder (es ++ line_events (cond j 0 number) now.log.section d)) join (takes.log es so) in
           subst (λ n. IsPart s number cut old.log.section all events n new.log.builder (line + 1) after) (sym takes.section)
           (part-more s number cut old.log.section all events now.log.section now.log.builder new.log.builder line piece after (at_rest events so_far) uncut none adds);
     }
@@ -174,7 +176,7 @@ way-end number cut all old now line rest way is =
           let whole : piece_events s.form (key_file s number) old.log.section all ≡ part.more = part.parts ∙ (ap (λ ps. part.more ++ piece_events s.form (key_file s number) now.log.section ps) is ∙ append-nil part.more) in
           record {
             refusal = part.refusal ∙ ap (pieces_refusal s number cut now.log.section (events ++ part.more) line) is;
-            log = subst (λ es. IsLogOf now.log.builder (events ++ es)) (sym whole) part.is;
+            log = subst (λ es. IsGatheredOf now.log.builder (events ++ es)) (sym whole) part.is;
           };
     }
 

@@ -7,10 +7,10 @@ use Rattle.std.proofs.lemmas.List.{length-map}
 use Rattle.outside.specs.Counts.{next_call}
 use Rattle.outside.specs.Inputs.{Files, InputState, Stays}
 use Rattle.traces.specs.Lines.{pieces}
-use Rattle.traces.specs.Words.{Event as KeyedEvent, Log, log_of}
+use Rattle.traces.specs.Words.{Event as KeyedEvent, Log, gathered_of, in_order, log_of}
 use Rattle.log_reader.specs.Reading.{Setting, piece_events, section_at_end, key_file, next_section, file_events, events_of, first_of, files_refusal, first_refusal}
 use Rattle.log_reader.specs.Inputs.{inputs_of, with_content, told_contents, lacking, first_lacking, SomeContents, ReadsLog}
-use Rattle.log_reader.specs.SoFar.{IsLogOf, IsReady, setting_of}
+use Rattle.log_reader.specs.SoFar.{IsGatheredOf, IsReady, setting_of}
 use Rattle.log_reader.specs.Files.{HasContent, FileIsRead, ReadsFile}
 use Rattle.log_reader.specs.declared.reader.LogReader.{LogReader}
 use Rattle.log_reader.specs.declared.refusal.ReadError.{ReadError}
@@ -35,7 +35,7 @@ pub record IsUpTo (s : Setting) (names : List (List ℕ)) (count : ℕ) (old now
   pub many : length contents ≡ count
   pub told : HasContents old.files names count contents
   pub events : List KeyedEvent
-  pub log : IsLogOf reader.log.builder events
+  pub log : IsGatheredOf reader.log.builder events
   pub refusal : (rest : List (List ℕ)) → first_refusal s (contents ++ rest) ≡ files_refusal s count reader.log.section events room rest
   pub parts : (rest : List (List ℕ)) → events_of s (contents ++ rest) ≡ events ++ file_events s count reader.log.section rest
 
@@ -61,7 +61,7 @@ contents-none : (told : Option Files) (names : List (List ℕ)) → HasContents 
 contents-none None names = tt
 contents-none (Some files) names = (refl, sym (plus-zero (first_lacking files names)))
 
-pub up-to-none : (s : Setting) (names : List (List ℕ)) (old : InputState) (reader : LogReader) → IsReady reader → setting_of reader ≡ s → reader.log.section ≡ 0 → reader.log.builder ≡ log_of []
+pub up-to-none : (s : Setting) (names : List (List ℕ)) (old : InputState) (reader : LogReader) → IsReady reader → setting_of reader ≡ s → reader.log.section ≡ 0 → reader.log.builder ≡ gathered_of []
     → IsUpTo s names 0 old old reader 268435456
 up-to-none s names old reader ready setting section log = record {
   stays = record { files = refl; may_fail = refl; faults = omega arith };
@@ -76,7 +76,7 @@ up-to-none s names old reader ready setting section log = record {
   many = refl;
   told = contents-none old.files names;
   events = [];
-  log = record { is = log; no_times = refl };
+  log = log;
   refusal = λ rest. ap (λ n. files_refusal s 0 n [] 268435456 rest) (sym section);
   parts = λ rest. ap (λ n. file_events s 0 n rest) (sym section);
 }
@@ -147,15 +147,15 @@ some-all None names contents P many has holds = (contents, omega arith, holds)
 some-all (Some files) names contents P many has holds =
     subst P (sym (has.0 ∙ (ap (λ ns. contents ++ told_contents files ns) (at-end names) ∙ append-nil contents))) holds
 
-pub up-to-end : (s : Setting) (names : List (List ℕ)) (k : ℕ) (old now : InputState) (reader : LogReader) (room : ℕ) (log : Log) → IsUpTo s names k old now reader room → k ≡ length names → 0 < k → log ≡ reader.log.builder
-    → ReadsLog s names old now log
-up-to-end s names k old now reader room log so_far all some is =
+pub up-to-end : (s : Setting) (names : List (List ℕ)) (k : ℕ) (old now : InputState) (reader : LogReader) (room : ℕ) (log : Log) → IsUpTo s names k old now reader room → k ≡ length names → 0 < k → log ≡ in_order reader.log.builder
+    → ((events : List KeyedEvent) → in_order (gathered_of events) ≡ log_of events) → ReadsLog s names old now log
+up-to-end s names k old now reader room log so_far all some is ordered =
     let contents = so_far.contents in
     let nothing : first_refusal s contents ≡ None = ap (first_refusal s) (sym (append-nil contents)) ∙ so_far.refusal [] in
     let events : events_of s contents ≡ so_far.events = ap (events_of s) (sym (append-nil contents)) ∙ (so_far.parts [] ∙ append-nil so_far.events) in
     record {
       words = some-all old.files names contents _ (so_far.many ∙ all) (subst (λ n. HasContents old.files names n contents) all so_far.told)
-          (so_far.many ∙ all, nothing, is ∙ (so_far.log.is ∙ ap log_of (sym events)));
+          (so_far.many ∙ all, nothing, is ∙ (ap in_order so_far.log ∙ (ordered so_far.events ∙ ap log_of (sym events))));
       opened = record { opens = subst (λ n. now.opens ≡ min (old.opens + n) (2 ^ 64 - 1)) all (so_far.some some); faults = so_far.faults };
       at_end = so_far.at_end some;
     }

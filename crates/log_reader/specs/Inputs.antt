@@ -71,6 +71,7 @@ abbrev pub HasReadCause : Setting → List (List ℕ) → InputState → InputSt
 HasReadCause s names old new (refused.ReadFault number) = MayFail names old new number ⊎ IsLacking s old.files names number
 HasReadCause s names old new (refused.LineTooLong at) = RefusesLog s names old new (refused.LineTooLong at)
 HasReadCause s names old new (refused.Undecided at) = RefusesLog s names old new (refused.Undecided at)
+HasReadCause s names old new (refused.BadTime at) = RefusesLog s names old new (refused.BadTime at)
 HasReadCause s names old new (refused.TypeTooLong at) = RefusesLog s names old new (refused.TypeTooLong at)
 HasReadCause s names old new (refused.TraceTooLong at) = RefusesLog s names old new (refused.TraceTooLong at)
 HasReadCause s names old new (refused.TypeLimit at) = RefusesLog s names old new (refused.TypeLimit at)

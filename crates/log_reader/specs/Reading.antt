@@ -1,10 +1,11 @@
 -- Logs over several files: the events of their lines, and the first refusal.
-use Rattle.std.specs.Prelude.{ℕ, ◌+◌, ◌-◌, ◌==◌, ◌&&◌, Bool, not, List, [], ◌∷◌, ◌++◌, length, take, nat_lt, nat_le, Option, Some, None, if◌then◌else◌}
+use Rattle.std.specs.Prelude.{ℕ, ◌+◌, ◌-◌, ◌==◌, ◌&&◌, Bool, not, List, [], ◌∷◌, ◌++◌, length, take, nat_lt, nat_le, Option, Some, None, Result, Ok, Err, if◌then◌else◌}
 use Rattle.std.specs.List.{list_any}
 use Rattle.std.specs.Str.{bytes_eq}
 use Rattle.traces.specs.Lines.{pieces, line_of, text_of, plain_fields_of}
 use Rattle.traces.specs.Words.{Event as KeyedEvent, event_of, types_of}
 use Rattle.line_rules.specs.Rules.{Rule, decision_of, type_text, part}
+use Rattle.line_rules.specs.declared.decision.DecideError.{DecideError}
 use Rattle.line_rules.specs.declared.decision.Decision.{Decision}
 use Rattle.line_rules.specs.declared.decision.Decision.TheVariants as decision
 use Rattle.log_reader.specs.declared.refusal.At.{At}
@@ -28,6 +29,7 @@ pub data Decided : Type 0 where
   Skip : Decided
   Separator : Decided
   Undecided : Decided
+  BadTime : Decided
 
 -- in the plain form
 abbrev pub by_fields : Option (List ℕ × List ℕ) → Decided
@@ -35,11 +37,12 @@ by_fields None = Undecided
 by_fields (Some fields) = Event fields.1 fields.0 0
 
 -- by rules
-abbrev pub by_rules : List Rule → List ℕ → Decision → Decided
-by_rules rules text (decision.Event name from to time) = Event (type_text rules text name) (part text from to) time
-by_rules rules text decision.Skip = Skip
-by_rules rules text decision.Separator = Separator
-by_rules rules text decision.Undecided = Undecided
+abbrev pub by_rules : List Rule → List ℕ → Result Decision DecideError → Decided
+by_rules rules text (Ok (decision.Event name from to time)) = Event (type_text rules text name) (part text from to) time
+by_rules rules text (Ok decision.Skip) = Skip
+by_rules rules text (Ok decision.Separator) = Separator
+by_rules rules text (Ok decision.Undecided) = Undecided
+by_rules rules text (Err e) = BadTime
 
 -- what a line with this text is
 abbrev pub decided : Form → List ℕ → Decided
@@ -56,6 +59,7 @@ line_events file section (Event typ trace time) = event_of file section trace ty
 line_events file section Skip = []
 line_events file section Separator = []
 line_events file section Undecided = []
+line_events file section BadTime = []
 
 -- how many separators stand before the next line
 abbrev pub section_after : ℕ → Decided → ℕ
@@ -63,6 +67,7 @@ section_after section (Event typ trace time) = section
 section_after section Skip = section
 section_after section Separator = section + 1
 section_after section Undecided = section
+section_after section BadTime = section
 
 -- the events of the pieces of a file, of which the first stands in this section
 abbrev pub piece_events : Form → ℕ → ℕ → List (List ℕ) → List KeyedEvent
@@ -113,6 +118,7 @@ line_refusal ignore at before (Event typ trace time) = event_refusal at (types_o
 line_refusal ignore at before Skip = None
 line_refusal ignore at before Separator = None
 line_refusal ignore at before Undecided = if ignore then None else Some (refused.Undecided at)
+line_refusal ignore at before BadTime = Some (refused.BadTime at)
 
 -- the refusal of a piece with more than 65,536 bytes comes before all others of its line
 abbrev pub piece_refusal : Setting → At → List KeyedEvent → List ℕ → Option ReadError

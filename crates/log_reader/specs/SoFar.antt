@@ -1,6 +1,6 @@
 -- A log that is read line by line: its events so far, and what one line more makes of them.
 use Rattle.std.specs.Prelude.{ℕ, ◌≡◌, ◌≤◌, ◌⊎◌, Bool, List, ◌++◌, length, nat_lt, Option, Some, None, if◌then◌else◌}
-use Rattle.traces.specs.Words.{Event as KeyedEvent, Log, log_of, event_count_of, HaveNoTimes}
+use Rattle.traces.specs.Words.{Event as KeyedEvent, Gathering, gathered_of, event_count_of}
 use Rattle.line_rules.specs.Views.{rules_in, matched_rules}
 use Rattle.log_reader.specs.Reading as spec
 use Rattle.log_reader.specs.Reading.{Setting, Decided, decided_piece, event_refusal, line_events, section_after, piece_events, section_at_end, key_file, pieces_refusal}
@@ -23,29 +23,29 @@ HasMatchers Plain = Unit {0}
 HasMatchers (Rules kept) = matched_rules kept.matchers ≡ rules_in kept.rules.now
 
 -- within the limits on types and events
-pub record IsWithin (log : Log) : Type 0 where
-  pub types : length log.types ≤ 128
-  pub events : event_count_of log.traces ≤ 1000000
+pub record IsWithin (gathering : Gathering) : Type 0 where
+  pub types : length gathering.types ≤ 128
+  pub events : event_count_of gathering.traces ≤ 1000000
 
--- the log is that of these events, which have no times
-pub record IsLogOf (log : Log) (events : List KeyedEvent) : Type 0 where
-  pub is : log ≡ log_of events
-  pub no_times : HaveNoTimes events
+-- what was gathered is that of these events
+abbrev pub IsGatheredOf : Gathering → List KeyedEvent → Type 0
+IsGatheredOf gathering events = gathering ≡ gathered_of events
 
--- the refusal of a line after the events of a log
-abbrev pub refusal_in : Bool → At → Log → Decided → Option ReadError
-refusal_in ignore at log (spec.Event typ trace time) = event_refusal at log.types (event_count_of log.traces) typ trace
-refusal_in ignore at log spec.Skip = None
-refusal_in ignore at log spec.Separator = None
-refusal_in ignore at log spec.Undecided = if ignore then None else Some (refused.Undecided at)
+-- the refusal of a line after what was gathered
+abbrev pub refusal_in : Bool → At → Gathering → Decided → Option ReadError
+refusal_in ignore at gathering (spec.Event typ trace time) = event_refusal at gathering.types (event_count_of gathering.traces) typ trace
+refusal_in ignore at gathering spec.Skip = None
+refusal_in ignore at gathering spec.Separator = None
+refusal_in ignore at gathering spec.Undecided = if ignore then None else Some (refused.Undecided at)
+refusal_in ignore at gathering spec.BadTime = Some (refused.BadTime at)
 
 -- the refusal is this one, or memory was wanted
 abbrev pub IsRefusal : Option ReadError → ReadError → Type 0
 IsRefusal refusal e = (e ≡ refused.Memory) ⊎ (refusal ≡ Some e)
 
--- from the log of some events, the log of these and of the line's
-abbrev pub AddsLine : ℕ → ℕ → Decided → Log → Log → Type 0
-AddsLine file section d old new = (events : List KeyedEvent) → IsLogOf old events → IsLogOf new (events ++ line_events file section d)
+-- from what was gathered of some events, what was gathered of these and of the line's
+abbrev pub AddsLine : ℕ → ℕ → Decided → Gathering → Gathering → Type 0
+AddsLine file section d old new = (events : List KeyedEvent) → IsGatheredOf old events → IsGatheredOf new (events ++ line_events file section d)
 
 -- a line that is decided so is not refused, and its event and its section are taken in
 pub record TakesLine (at : At) (d : Decided) (old new : LogSoFar) : Type 0 where
@@ -65,10 +65,10 @@ pub record IsReady (reader : LogReader) : Type 0 where
   pub matchers : HasMatchers reader.decider
   pub within : IsWithin reader.log.builder
 
--- the refusal of a piece after the events of a log
-abbrev pub piece_refusal_in : Setting → At → Log → List ℕ → Option ReadError
-piece_refusal_in s at log piece =
-    if nat_lt 65536 (length piece) then Some (refused.LineTooLong at) else refusal_in s.ignore at log (decided_piece s.form piece)
+-- the refusal of a piece after what was gathered
+abbrev pub piece_refusal_in : Setting → At → Gathering → List ℕ → Option ReadError
+piece_refusal_in s at gathering piece =
+    if nat_lt 65536 (length piece) then Some (refused.LineTooLong at) else refusal_in s.ignore at gathering (decided_piece s.form piece)
 
 -- a line that is decided so is taken in, and the reader reads on as before
 pub record ReadsText (at : At) (d : Decided) (old new : LogReader) : Type 0 where
@@ -82,18 +82,18 @@ pub record ReadsPiece (at : At) (piece : List ℕ) (old new : LogReader) : Type 
   pub reads : ReadsText at (decided_piece (decider_view old.decider) piece) old new
 
 -- the pieces of a file that follows these events are not refused, and their events are taken in
-pub record PiecesAreRead (s : Setting) (number : ℕ) (cut : Bool) (section : ℕ) (ps : List (List ℕ)) (events : List KeyedEvent) (new : Log) : Type 0 where
+pub record PiecesAreRead (s : Setting) (number : ℕ) (cut : Bool) (section : ℕ) (ps : List (List ℕ)) (events : List KeyedEvent) (new : Gathering) : Type 0 where
   pub refusal : pieces_refusal s number cut section events 1 ps ≡ None
-  pub log : IsLogOf new (events ++ piece_events s.form (key_file s number) section ps)
+  pub log : IsGatheredOf new (events ++ piece_events s.form (key_file s number) section ps)
 
 -- the pieces of a file are not refused, and their lines are taken in
 pub record ReadsPieces (number : ℕ) (cut : Bool) (ps : List (List ℕ)) (old new : LogReader) : Type 0 where
   pub ready : IsReady new
   pub setting : setting_of new ≡ setting_of old
   pub section : new.log.section ≡ section_at_end (setting_of old).form old.log.section ps
-  pub log : (events : List KeyedEvent) → IsLogOf old.log.builder events → PiecesAreRead (setting_of old) number cut old.log.section ps events new.log.builder
+  pub log : (events : List KeyedEvent) → IsGatheredOf old.log.builder events → PiecesAreRead (setting_of old) number cut old.log.section ps events new.log.builder
 
 -- the first refusal of the pieces of a file is this one, or memory was wanted
 abbrev pub IsPiecesRefusal : ℕ → Bool → List (List ℕ) → LogReader → ReadError → Type 0
 IsPiecesRefusal number cut ps old e =
-    (events : List KeyedEvent) → IsLogOf old.log.builder events → IsRefusal (pieces_refusal (setting_of old) number cut old.log.section events 1 ps) e
+    (events : List KeyedEvent) → IsGatheredOf old.log.builder events → IsRefusal (pieces_refusal (setting_of old) number cut old.log.section events 1 ps) e

@@ -1,7 +1,7 @@
 //! Reads the lines of the files of a log.
 ghost use Rattle.std.specs.Prelude.{◌≡◌, ◌<◌, ◌≤◌, ◌+◌, ◌-◌, ◌^◌, length, OnOk, IfOk, IfErr, [], true, false};
 ghost use Rattle.traces.specs.Lines.{pieces};
-ghost use Rattle.traces.specs.Words.{log_of};
+ghost use Rattle.traces.specs.Words.{gathered_of, in_order};
 ghost use Rattle.log_reader.specs.Views.{form_view};
 ghost use Rattle.log_reader.specs.Reading.{decided, limit_refusal, next_section};
 ghost use Rattle.log_reader.specs.SoFar.{setting_of, IsReady, IsRefusal, refusal_in, piece_refusal_in, ReadsText, ReadsPiece, ReadsPieces, IsPiecesRefusal};
@@ -49,7 +49,7 @@ impl<'r> LogReader<'r> {
         ensures ready { IfOk result IsReady }
         ensures setting { IfOk result (λ reader. setting_of reader ≡ record { form = form_view form.entry; ignore = ignore; join = join }) }
         ensures section { IfOk result (λ reader. reader.log.section ≡ 0) }
-        ensures log { IfOk result (λ reader. reader.log.builder ≡ log_of []) }
+        ensures log { IfOk result (λ reader. reader.log.builder ≡ gathered_of []) }
     {
         match Decider::new(form) {
             Ok(decider) => Ok(LogReader {
@@ -148,9 +148,9 @@ impl<'r> LogReader<'r> {
         }
     }
 
-    /// The types and the traces of the lines that were read.
+    /// The types and the traces of the lines that were read, each trace by the times of its events.
     pub fn finish(self) -> Result<TraceSet, AllocError>
-        ensures { IfOk result (λ set. set ≡ self.entry.log.builder) }
+        ensures { IfOk result (λ set. set ≡ in_order self.entry.log.builder) }
     {
         let LogReader { decider: _, log } = self;
         let LogSoFar {

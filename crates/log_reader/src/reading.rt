@@ -1,5 +1,5 @@
 //! Reads the traces of a log.
-ghost use Rattle.std.specs.Prelude.{◌≡◌, ◌<◌, ◌≤◌, ◌+◌, ◌^◌, length, map, slice_get, Some, IfOk, IfErr};
+ghost use Rattle.std.specs.Prelude.{◌≡◌, ◌<◌, ◌≤◌, ◌+◌, ◌^◌, length, map, slice_get, Some, Err, IfOk, IfErr};
 ghost use Rattle.std.specs.String.{string_bytes};
 ghost use Rattle.outside.specs.Inputs.{Stays};
 ghost use Rattle.log_reader.specs.Files.{ReadsFile, HasFileCause};
@@ -12,7 +12,7 @@ use crate::reader::LogReader;
 use crate::refusal::ReadError;
 use outside::{InputError, Inputs, read_input};
 use std::alloc::Global;
-use traces::TraceSet;
+use traces::{TraceSet, gathering_in_order_is_the_log};
 
 /// The most bytes that all inputs of a log have.
 const MAX_INPUT: usize = 268_435_456;
@@ -43,6 +43,8 @@ fn read_file<I: Inputs>(
     ensures stays { Stays (I.state inputs.old) (I.state inputs.new) }
     ensures ok { IfOk result (λ left. ReadsFile (I.state inputs.old) (I.state inputs.new) name.now number room left reader.old reader.new) }
     ensures err { IfErr result (HasFileCause (I.state inputs.old) (I.state inputs.new) name.now number room reader.old) }
+    ensures memory { result ≡ Err ReadError.Memory → (I.state inputs.new).faults ≡ (I.state inputs.old).faults }
+    ensures opens { (I.state inputs.new).opens ≤ (I.state inputs.old).opens + 1 }
 {
     let bytes = match read_input(alloc, inputs, name, room) {
         Ok(bytes) => bytes,
@@ -62,9 +64,11 @@ fn read_file<I: Inputs>(
 /// The types and the traces of the log in the named inputs, in this order. Without any name it is read
 /// from standard input, as input 0. There are fewer than 2^32 names.
 ///
-/// Lines are decided by the form. A line that nothing decides is refused, or with `ignore` skipped. With
-/// `join` the inputs are one log: traces go on from one to the next, and separators count over all.
+/// Lines are decided by the form. A line that nothing decides is refused, or with `ignore` skipped; one whose
+/// time is bad is refused either way. With `join` the inputs are one log: traces go on from one to the next,
+/// and separators count over all. The events of a trace stand by their times.
 ///
+/// No more inputs are opened than there are, and where memory was wanted no fault was counted.
 /// `ReadFault` comes where an input cannot be opened or read, or is missing where nothing before it is
 /// refused; `Memory` where memory is wanted; and each other refusal is the first in the order of the bytes.
 pub fn read_log<I: Inputs>(
@@ -79,6 +83,8 @@ pub fn read_log<I: Inputs>(
     ensures stays { Stays (I.state inputs.old) (I.state inputs.new) }
     ensures ok { IfOk result (ReadsLog (record { form = form_view form.entry; ignore = ignore; join = join }) (inputs_of (map string_bytes names.now)) (I.state inputs.old) (I.state inputs.new)) }
     ensures err { IfErr result (HasReadCause (record { form = form_view form.entry; ignore = ignore; join = join }) (inputs_of (map string_bytes names.now)) (I.state inputs.old) (I.state inputs.new)) }
+    ensures memory { result ≡ Err ReadError.Memory → (I.state inputs.new).faults ≡ (I.state inputs.old).faults }
+    ensures opens { (I.state inputs.new).opens ≤ (I.state inputs.old).opens + length (inputs_of (map string_bytes names.now)) }
 {
     let Ok(mut reader) = LogReader::new(alloc, form, ignore, join) else {
         return Err(ReadError::Memory);
@@ -91,6 +97,7 @@ pub fn read_log<I: Inputs>(
             Err(error) => return Err(error),
         }
     }
+    gathering_in_order_is_the_log();
     match reader.finish() {
         Ok(set) => Ok(set),
         Err(_) => Err(ReadError::Memory),

@@ -23,6 +23,9 @@ pub enum ReadError {
     /// Nothing decides the line.
     #[error("input {}, line {}: no rule decides", .0.file, .0.line)]
     Undecided(At),
+    /// The rule that decides the line has a group `TIME`, which took no part or says no time.
+    #[error("input {}, line {}: bad time", .0.file, .0.line)]
+    BadTime(At),
     /// The line's type text has more than 256 bytes.
     #[error("input {}, line {}: type too long", .0.file, .0.line)]
     TypeTooLong(At),

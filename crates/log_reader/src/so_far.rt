@@ -9,7 +9,7 @@ ghost use Rattle.log_reader.specs.SoFar.{refusal_in, IsRefusal, IsWithin, TakesL
 
 use crate::decider::{KeptRules, type_text_of};
 use crate::refusal::{At, ReadError};
-use line_rules::Decision;
+use line_rules::{DecideError, Decision};
 use traces::{AddError, Builder, plain_fields};
 
 /// The most bytes of a type text.
@@ -32,12 +32,18 @@ pub struct LogSoFar {
 }
 
 impl LogSoFar {
-    /// Adds the event of a line.
-    fn add(&mut self, at: At, trace_text: &str, type_text: &str) -> Result<(), ReadError>
+    /// Adds the event of a line, with its time in billionths of a second.
+    fn add(
+        &mut self,
+        at: At,
+        trace_text: &str,
+        type_text: &str,
+        time: u128,
+    ) -> Result<(), ReadError>
         requires within { IsWithin self.old.builder }
         requires stands { 0 < length type_text.now }
-        ensures ok { OnOk result (TakesLine at (spec.Event type_text.now trace_text.now 0) self.old self.new) }
-        ensures err { IfErr result (IsRefusal (refusal_in self.old.ignore at self.old.builder (spec.Event type_text.now trace_text.now 0))) }
+        ensures ok { OnOk result (TakesLine at (spec.Event type_text.now trace_text.now time) self.old self.new) }
+        ensures err { IfErr result (IsRefusal (refusal_in self.old.ignore at self.old.builder (spec.Event type_text.now trace_text.now time))) }
     {
         if type_text.len() > MAX_TYPE {
             return Err(ReadError::TypeTooLong(at));
@@ -48,7 +54,7 @@ impl LogSoFar {
         let file = if self.join { 0 } else { at.file };
         match self
             .builder
-            .add(file, self.section, trace_text, type_text, 0)
+            .add(file, self.section, trace_text, type_text, time)
         {
             Ok(()) => Ok(()),
             Err(AddError::TypeLimit) => Err(ReadError::TypeLimit(at)),
@@ -77,12 +83,12 @@ impl LogSoFar {
         ensures err { IfErr result (IsRefusal (refusal_in self.old.ignore at self.old.builder (by_fields (plain_fields_of text.now)))) }
     {
         match plain_fields(text) {
-            Some((trace_text, type_text)) => self.add(at, trace_text, type_text),
+            Some((trace_text, type_text)) => self.add(at, trace_text, type_text, 0),
             None => self.pass(at),
         }
     }
 
-    /// Takes in a line by rules.
+    /// Takes in a line by rules. A bad time is refused whether or not undecided lines are skipped.
     pub fn take_by_rules(
         &mut self,
         kept: &mut KeptRules<'_>,
@@ -98,21 +104,25 @@ impl LogSoFar {
         ensures rules { rules_in kept.new.rules.now ≡ rules_in kept.old.rules.now }
     {
         match kept.matchers.decide(text) {
-            Decision::Event {
-                name,
-                trace_from,
-                trace_to,
-                time: _,
-            } => {
+            Ok(
+                Decision::Event {
+                    name,
+                    trace_from,
+                    trace_to,
+                    time,
+                },
+            ) => {
                 let type_text = type_text_of(kept.rules, text, name);
-                self.add(at, &text[trace_from..trace_to], type_text)
+                self.add(at, &text[trace_from..trace_to], type_text, time)
             }
-            Decision::Skip => Ok(()),
-            Decision::Separator => {
+            Ok(Decision::Skip) => Ok(()),
+            Ok(Decision::Separator) => {
                 self.section += 1;
                 Ok(())
             }
-            Decision::Undecided => self.pass(at),
+            Ok(Decision::Undecided) => self.pass(at),
+            Err(DecideError::BadTime) => Err(ReadError::BadTime(at)),
+            Err(DecideError::Memory) => Err(ReadError::Memory),
         }
     }
 }

@@ -1,6 +1,7 @@
 ghost use Rattle.std.specs.Prelude.{◌≤◌, ◌<◌, ◌^◌, length, IfOk};
 
 use crate::{At, Form, ReadError, read_log};
+use line_rules::{LineRules, RegexPatterns};
 use outside::MemInputs;
 use std::alloc::Global;
 use std::process::Abort;
@@ -117,6 +118,39 @@ fn a_failing_read_names_its_input(rt: HostRuntime) -> Result<(), Fail> {
         let mut inputs = inputs_of(alloc, "1 a\n", "1 b\n", 7, &[failing])?;
         let found = refusal(read_log(alloc, &mut inputs, &names, Form::Plain, false, true));
         assert_eq!(rt; found, Some(ReadError::ReadFault(number)), "at {failing}");
+    }
+    Ok(())
+}
+
+#[test]
+fn events_stand_by_their_times(rt: HostRuntime) -> Result<(), Fail> {
+    let alloc = rt.alloc();
+    let names = names_of(alloc, "second.log")?;
+    let file = br"event ^(?<TIME>\S+) (?<TYPE>.+)$";
+    let rules = match LineRules::read(alloc, file, &mut RegexPatterns::new(alloc)) {
+        Ok(rules) => rules,
+        Err(error) => return Err(Fail::from(error)),
+    };
+    let timed = "1.50000001 b\n1.5 a\n1.5 c\n";
+    let mut inputs = inputs_of(alloc, timed, "", 7, &[])?;
+    match read_log(
+        alloc,
+        &mut inputs,
+        &names,
+        Form::Rules(&rules),
+        false,
+        false,
+    ) {
+        Ok(set) => assert_traces(&rt, &set, &[(0, "", &[3, 4, 2])]),
+        Err(error) => return Err(Fail::from(error)),
+    }
+    let bad = Some(ReadError::BadTime(At { file: 0, line: 4 }));
+    for ignore in [false, true] {
+        let untimed = "1.50000001 b\n1.5 a\n1.5 c\n12:00 a\n";
+        let mut inputs = inputs_of(alloc, untimed, "", 7, &[])?;
+        let form = Form::Rules(&rules);
+        let found = refusal(read_log(alloc, &mut inputs, &names, form, ignore, false));
+        assert_eq!(rt; found, bad, "at {ignore}");
     }
     Ok(())
 }

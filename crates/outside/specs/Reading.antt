@@ -16,3 +16,13 @@ pub record ReadsInput (old new : InputState) (name : List ℕ) (limit : ℕ) (by
   pub short : length bytes ≤ limit + 1
   pub told : IfTold old.files name (λ content. (bytes ≡ take (limit + 1) content) × (new.rest ≡ Some (drop (limit + 1) content)))
   pub at_end : length bytes ≤ limit → IsAtEnd new.rest
+
+-- no input was opened, and no fault was counted
+pub record OpensNone (old new : InputState) : Type 0 where
+  pub opens : new.opens ≡ old.opens
+  pub faults : new.faults ≡ old.faults
+
+-- one input was opened, and no fault was counted
+pub record OpensOne (old new : InputState) : Type 0 where
+  pub opens : new.opens ≡ next_call old.opens
+  pub faults : new.faults ≡ old.faults

@@ -4,7 +4,7 @@ ghost use Rattle.std.specs.Prelude.{◌≡◌, ◌≢◌, ◌≤◌, ◌<◌, �
 ghost use Rattle.std.specs.Io.KnownBytes.{Consumes, IsAtEnd};
 ghost use Rattle.outside.specs.Counts.{Rose};
 ghost use Rattle.outside.specs.Inputs.{Stays, Lacks};
-ghost use Rattle.outside.specs.Reading.{ReadsInput};
+ghost use Rattle.outside.specs.Reading.{ReadsInput, OpensNone, OpensOne};
 
 use crate::{Inputs, OpenError};
 use std::alloc::Global;
@@ -31,6 +31,7 @@ fn read_rest<I: Inputs>(alloc: Global, inputs: &mut I, limit: usize) -> Result<V
     ensures at_end { IfOk result (λ bytes. length bytes.items ≤ limit → IsAtEnd (I.state inputs.new).rest) }
     ensures fault { result ≡ Err InputError.Fault → Rose (I.state inputs.old).faults (I.state inputs.new).faults × IsTrue (I.state inputs.old).mark }
     ensures missing { result ≢ Err InputError.Missing }
+    ensures memory { result ≡ Err InputError.Memory → (I.state inputs.new).faults ≡ (I.state inputs.old).faults }
 {
     let mut bytes = Vec::new(alloc);
     let mut buf = [0u8; 65_536];
@@ -54,8 +55,9 @@ fn read_rest<I: Inputs>(alloc: Global, inputs: &mut I, limit: usize) -> Result<V
 ///
 /// At Ok it was opened once, no fault was counted, and the bytes are those of the input, or its first
 /// `limit + 1`. `Fault` comes only where the inputs counted one and may fail this name, and `Missing`
-/// only where they tell their files and this name is not among them. After an error no clause says
-/// what is open.
+/// only where they tell their files and this name is not among them; nothing was opened then, and no fault
+/// was counted. Where memory was wanted, the input was opened once, and no fault was counted. After an error
+/// no clause says what is left to read.
 pub fn read_input<I: Inputs>(
     alloc: Global,
     inputs: &mut I,
@@ -67,6 +69,9 @@ pub fn read_input<I: Inputs>(
     ensures ok { IfOk result (λ bytes. ReadsInput (I.state inputs.old) (I.state inputs.new) name.now limit bytes.items) }
     ensures fault { result ≡ Err InputError.Fault → Rose (I.state inputs.old).faults (I.state inputs.new).faults × IsTrue ((I.state inputs.old).may_fail name.now) }
     ensures missing { result ≡ Err InputError.Missing → Lacks (I.state inputs.old).files name.now }
+    ensures unopened { result ≡ Err InputError.Missing → OpensNone (I.state inputs.old) (I.state inputs.new) }
+    ensures memory { result ≡ Err InputError.Memory → OpensOne (I.state inputs.old) (I.state inputs.new) }
+    ensures opens { result ≡ Err InputError.Fault → (I.state inputs.new).opens ≤ (I.state inputs.old).opens + 1 }
 {
     match inputs.open(name) {
         Ok(()) => match read_rest(alloc, inputs, limit) {

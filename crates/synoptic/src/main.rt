@@ -35,7 +35,7 @@ fn main(rt: HostRuntime) -> ExitCode {
             &mut err,
         ),
         Err(status) => {
-            tell(&[], status, &mut err);
+            tell(None, status, &mut err);
             status
         }
     };

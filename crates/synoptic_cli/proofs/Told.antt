@@ -9,12 +9,14 @@ use Rattle.line_rules.specs.Patterns.{PatternsState, NestsTooDeep}
 use Rattle.line_rules.specs.Files.{rules_of, AreRead, IsBuilt, IsRefused}
 use Rattle.line_rules.specs.declared.line_rules.RuleError.{RuleError}
 use Rattle.line_rules.specs.declared.line_rules.RuleError.TheVariants as refused
-use Rattle.log_reader.specs.Reading.{Form}
-use Rattle.log_reader.specs.Inputs.{SomeContents, told_contents}
-use Rattle.synoptic_cli.specs.Task.{Task, Plain, ByRules, log_names}
-use Rattle.synoptic_cli.specs.Told.{IsTold, SomeForm, SomeLog}
+use Rattle.log_reader.specs.Reading.{Form, Setting}
+use Rattle.log_reader.specs.Inputs.{SomeContents, inputs_of, told_contents}
+use Rattle.words.specs.Task.{Task}
+use Rattle.words.specs.Task as ask
+use Rattle.synoptic_cli.specs.Told.{IsTold, SomeForm, SomeLog, setting}
+use Rattle.synoptic_cli.specs.Causes.{HasRules, RefusesRules}
 use Rattle.synoptic_cli.specs.declared.status.Status.TheVariants.{Expressions}
-use Rattle.synoptic_cli.specs.Steps.{rules_answer, Ends, ReadsRules}
+use Rattle.synoptic_cli.specs.Steps.{rules_answer, EndsByRules, ReadsRules}
 
 -- ---- of each form and log alike
 
@@ -23,14 +25,15 @@ pub contents-map : (files : Option Files) (names : List (List ℕ)) (P Q : List 
 contents-map None names P Q step some = (some.0, some.1, step some.0 some.2)
 contents-map (Some fs) names P Q step some = step (told_contents fs names) some
 
-pub form-map : (files : Option Files) (task : Task) (P Q : Form → Type 0) → ((f : Form) → P f → Q f) → SomeForm files task P → SomeForm files task Q
-form-map files Plain P Q step some = step _ some
-form-map files (ByRules name) P Q step some = (some.0, some.1, some.2, some.3, step _ some.4)
+pub form-map : (files : Option Files) (form : ask.Form) (P Q : Form → Type 0) → ((f : Form) → P f → Q f) → SomeForm files form P → SomeForm files form Q
+form-map files ask.Plain P Q step some = step _ some
+form-map files (ask.Rules name) P Q step some = (some.0, some.1, some.2, some.3, step _ some.4)
 
-pub log-map : (files : Option Files) (task : Task) (P Q : Form → List (List ℕ) → Type 0) → ((f : Form) (contents : List (List ℕ)) → P f contents → Q f contents)
+pub log-map : (files : Option Files) (task : Task) (P Q : Setting → List (List ℕ) → Type 0) → ((s : Setting) (contents : List (List ℕ)) → P s contents → Q s contents)
     → SomeLog files task P → SomeLog files task Q
 log-map files task P Q step some =
-    form-map files task (λ f. SomeContents files log_names (P f)) (λ f. SomeContents files log_names (Q f)) (λ f. contents-map files log_names (P f) (Q f) (step f)) some
+    form-map files task.form (λ f. SomeContents files (inputs_of task.files) (P (setting task f))) (λ f. SomeContents files (inputs_of task.files) (Q (setting task f)))
+    (λ f. contents-map files (inputs_of task.files) (P (setting task f)) (Q (setting task f)) (step (setting task f))) some
 
 -- ---- a file of rules that was read to its end, or to one byte past its limit
 
@@ -90,18 +93,19 @@ refused-whole content bytes old new e same refusal =
 
 -- the run ends by the refusal of its file of rules
 rules-refused : (old new : InputState) (before after : PatternsState) (name bytes : List ℕ) (e : RuleError) → ReadsInput old new name 65536 bytes → e ≢ refused.Memory
-    → IsRefused bytes before after e → Ends (Expressions e) (ByRules name) old new before after
+    → IsRefused bytes before after e → EndsByRules (Expressions e) name old new before after
 rules-refused old new before after name bytes e reads other refusal =
     let found = told-bytes old.files name bytes (λ content. IsRefused content before after e) _ reads.told (λ content same. refused-whole content bytes before after e same refusal) refusal in
-    λ words out asks. (
-      ByRules name,
+    λ task is words out asks. (
+      task,
       asks,
-      record { bytes = found.0; told = found.1; refusal = found.2; not_memory = other; opened = record { opens = reads.opens; faults = reads.faults }; stops = told-part old.files name _ _ reads.told; silent = refl },
+      subst (HasRules (RefusesRules e (record { inputs = old; patterns = before; out = out }) (record { inputs = new; patterns = after; out = out }))) (sym is)
+          (record { bytes = found.0; told = found.1; refusal = found.2; not_memory = other; opened = record { opens = reads.opens; faults = reads.faults }; stops = told-part old.files name _ _ reads.told; silent = refl }),
     )
 
 -- the same, with want of memory among the refusals
 pub rules-end : (old new : InputState) (before after : PatternsState) (name bytes : List ℕ) (e : RuleError) → ReadsInput old new name 65536 bytes → IsRefused bytes before after e
-    → Ends (rules_answer e) (ByRules name) old new before after
+    → EndsByRules (rules_answer e) name old new before after
 rules-end old new before after name bytes refused.TooLong reads refusal = rules-refused old new before after name bytes refused.TooLong reads (λ same. cc) refusal
 rules-end old new before after name bytes (refused.BadLine number) reads refusal = rules-refused old new before after name bytes (refused.BadLine number) reads (λ same. cc) refusal
 rules-end old new before after name bytes (refused.TooMany number) reads refusal = rules-refused old new before after name bytes (refused.TooMany number) reads (λ same. cc) refusal
@@ -110,4 +114,4 @@ rules-end old new before after name bytes (refused.TooLarge number) reads refusa
 rules-end old new before after name bytes (refused.NoType number) reads refusal = rules-refused old new before after name bytes (refused.NoType number) reads (λ same. cc) refusal
 rules-end old new before after name bytes (refused.MixedTime number) reads refusal = rules-refused old new before after name bytes (refused.MixedTime number) reads (λ same. cc) refusal
 rules-end old new before after name bytes refused.NoEvent reads refusal = rules-refused old new before after name bytes refused.NoEvent reads (λ same. cc) refusal
-rules-end old new before after name bytes refused.Memory reads refusal = λ words out asks. (ByRules name, asks, refl)
+rules-end old new before after name bytes refused.Memory reads refusal = λ task is words out asks. refl

@@ -3,7 +3,8 @@ use Rattle.std.proofs.Common.{ℕ, List, subst}
 use Rattle.std.specs.Io.KnownBytes.{Appends}
 use Rattle.outside.specs.Counts.{Rose}
 use Rattle.outside.specs.Sinks.{AppendsFront}
-use Rattle.synoptic_cli.specs.Task.{Task}
+use Rattle.log_reader.specs.Inputs.{inputs_of}
+use Rattle.words.specs.Task.{Task}
 use Rattle.synoptic_cli.specs.Told.{IsWhole, report_of}
 use Rattle.synoptic_cli.specs.Causes.{World, Reports, IsDone, FailsToWrite}
 use Rattle.synoptic_cli.specs.Steps.{IsReport, ReportsTask}
@@ -12,8 +13,8 @@ use Rattle.synoptic_cli.proofs.Told.{log-map}
 pub written-whole : (task : Task) (old new : World) (text : List ℕ) → ReportsTask task old.inputs new.inputs text → Appends old.out.written new.out.written text → IsDone old new task
 written-whole task old new text report appended = record {
   reports =
-      log-map old.inputs.files task (IsReport text) (λ f contents. IsWhole f contents × Reports old.out new.out f contents)
-      (λ f contents found. (found.whole, record { appended = subst (Appends old.out.written new.out.written) found.value appended; exact = found.exact })) report.log;
+      log-map old.inputs.files task (IsReport text (inputs_of task.files)) (λ s contents. IsWhole (inputs_of task.files) s contents × Reports old.out new.out s contents)
+      (λ s contents found. (found.whole, record { appended = subst (Appends old.out.written new.out.written) found.value appended; exact = found.exact })) report.log;
   opened = report.opened;
   at_end = report.at_end;
 }
@@ -23,8 +24,8 @@ pub written-in-part : (task : Task) (old new : World) (text : List ℕ) → Repo
 written-in-part task old new text report front rose = record {
   rose = rose;
   front =
-      log-map old.inputs.files task (IsReport text) (λ f contents. IsWhole f contents × AppendsFront old.out (report_of f contents) new.out)
-      (λ f contents found. (found.whole, subst (λ (t : List ℕ). AppendsFront old.out t new.out) found.value front)) report.log;
+      log-map old.inputs.files task (IsReport text (inputs_of task.files)) (λ s contents. IsWhole (inputs_of task.files) s contents × AppendsFront old.out (report_of s contents) new.out)
+      (λ s contents found. (found.whole, subst (λ (t : List ℕ). AppendsFront old.out t new.out) found.value front)) report.log;
   opened = report.opened;
   at_end = report.at_end;
 }

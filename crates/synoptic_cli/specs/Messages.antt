@@ -6,6 +6,7 @@ use Rattle.outside.specs.Sinks.{SinkState, AppendsFront}
 use Rattle.line_rules.specs.declared.line_rules.RuleError.{RuleError}
 use Rattle.line_rules.specs.declared.line_rules.RuleError.TheVariants as rule_error
 use Rattle.log_reader.specs.declared.refusal.At.{At}
+use Rattle.words.specs.Task.{Task, task_of}
 use Rattle.synoptic_cli.specs.declared.status.Status.{Status}
 use Rattle.synoptic_cli.specs.declared.status.Status.TheVariants.{Done, Usage, Expressions, Log, Limit, ReadFault, WriteFault, Memory}
 use Rattle.synoptic_cli.specs.declared.status.LogFault.{LogFault}
@@ -14,14 +15,14 @@ use Rattle.synoptic_cli.specs.declared.status.LimitKind.{LimitKind}
 use Rattle.synoptic_cli.specs.declared.status.LimitKind.TheVariants as limits
 use Rattle.synoptic_cli.specs.declared.status.Source.{Source}
 use Rattle.synoptic_cli.specs.declared.status.Source.TheVariants as sources
-use Rattle.synoptic_cli.specs.Task.{Task, task_of, source_name}
+use Rattle.synoptic_cli.specs.Task.{source_name}
 
 -- the name of an input as it is shown: as it was given, and standard input by these two words
 abbrev pub shown : Option (List ℕ) → List ℕ
 shown None = []
 shown (Some name) = if length name == 0 then codes "standard input" else name
 
--- the name of an input of the task that the words ask for
+-- the name of an input of the task, if there is one
 abbrev pub shown_source : Option Task → Source → List ℕ
 shown_source None source = []
 shown_source (Some task) source = shown (source_name task source)
@@ -44,6 +45,7 @@ line_message task at what = codes "synoptic: " ++ shown_source task (sources.Log
 abbrev pub log_message : Option Task → LogFault → List ℕ
 log_message task (faults.LineTooLong at) = line_message task at (codes "line too long")
 log_message task (faults.Undecided at) = line_message task at (codes "no rule decides")
+log_message task (faults.BadTime at) = line_message task at (codes "bad time")
 log_message task (faults.TypeTooLong at) = line_message task at (codes "type too long")
 log_message task (faults.TraceTooLong at) = line_message task at (codes "trace too long")
 
@@ -52,16 +54,20 @@ limit_message limits.Types = codes "synoptic: limit: types 128\n"
 limit_message limits.Events = codes "synoptic: limit: events 1000000\n"
 limit_message limits.Input = codes "synoptic: limit: input 268435456\n"
 
--- what is written where errors go, for a status and the words of the command line
+-- what is written where errors go, for a status and the task that was asked for
+abbrev pub task_message : Option Task → Status → List ℕ
+task_message task Done = []
+task_message task Usage = codes "usage: synoptic infer|check|replay|invariants|graph|paths|bench [-e FILE] [-p] [-m FILE] [-i] [-j] [-n N] [--] [FILE]...\n"
+task_message task (Expressions e) = codes "synoptic: expressions" ++ rule_message e
+task_message task (Log fault) = log_message task fault
+task_message task (Limit kind) = limit_message kind
+task_message task (ReadFault source) = codes "synoptic: cannot read " ++ shown_source task source ++ codes "\n"
+task_message task WriteFault = codes "synoptic: cannot write\n"
+task_message task Memory = codes "synoptic: out of memory\n"
+
+-- the same for the words of the command line
 abbrev pub message_of : List (List ℕ) → Status → List ℕ
-message_of words Done = []
-message_of words Usage = codes "usage: synoptic infer|check|replay|invariants|graph|paths|bench [-e FILE] [-p] [-m FILE] [-i] [-j] [-n N] [--] [FILE]...\n"
-message_of words (Expressions e) = codes "synoptic: expressions" ++ rule_message e
-message_of words (Log fault) = log_message (task_of words) fault
-message_of words (Limit kind) = limit_message kind
-message_of words (ReadFault source) = codes "synoptic: cannot read " ++ shown_source (task_of words) source ++ codes "\n"
-message_of words WriteFault = codes "synoptic: cannot write\n"
-message_of words Memory = codes "synoptic: out of memory\n"
+message_of words status = task_message (task_of words) status
 
 -- the whole text was appended, or a front of it and the count rose
 abbrev pub Tells : List ℕ → SinkState → SinkState → Type 0

@@ -1,17 +1,17 @@
 //! What is written where errors go.
-ghost use Rattle.std.specs.Prelude.{◌≡◌, ◌++◌, codes, decimal, map};
+ghost use Rattle.std.specs.Prelude.{◌≡◌, ◌++◌, Some, codes, decimal, option_map};
 ghost use Rattle.std.specs.List.{flat_map};
-ghost use Rattle.std.specs.String.{string_bytes};
 ghost use Rattle.outside.specs.Sinks.{WholeGives};
-ghost use Rattle.synoptic_cli.specs.Task.{task_of};
-ghost use Rattle.synoptic_cli.specs.Messages.{shown_source, rule_message, line_message, log_message, limit_message, message_of, Tells};
+ghost use Rattle.words.specs.Task.{task_held};
+ghost use Rattle.synoptic_cli.specs.Messages.{shown, shown_source, rule_message, line_message, log_message, limit_message, task_message, Tells};
 
 use crate::status::{LimitKind, LogFault, Source, Status};
-use crate::task::{Task, task_of};
+use crate::task::source_name;
 use itoa::Buffer;
 use line_rules::RuleError;
 use log_reader::At;
 use outside::{Failed, Sink, write_whole};
+use words::Task;
 
 const USAGE: &[u8] =
     b"usage: synoptic infer|check|replay|invariants|graph|paths|bench [-e FILE] [-p] [-m FILE] [-i] [-j] [-n N] [--] [FILE]...\n";
@@ -26,17 +26,26 @@ fn write_texts<E: Sink>(texts: &[&str], err: &mut E) -> Result<(), Failed>
     Ok(())
 }
 
-/// The name of an input as it is shown: as it was given, and standard input by these two words.
-fn shown(words: &[String], source: Source) -> &str
-    ensures { result.now ≡ shown_source (task_of (map string_bytes words.now)) source }
+/// The name as it is shown: as it was given, and standard input by these two words.
+fn shown(name: &str) -> &str
+    ensures { result.now ≡ shown (Some name.now) }
 {
-    let Some(task) = task_of(words) else {
+    if name.is_empty() {
+        return "standard input";
+    }
+    name
+}
+
+/// The name of an input of the task as it is shown; the empty text where there is no such input.
+fn shown_source<'a>(task: Option<&Task<'a>>, source: Source) -> &'a str
+    ensures { result.now ≡ shown_source (option_map (λ t. task_held t.now) task.entry) source }
+{
+    let Some(task) = task else {
         return "";
     };
-    match (source, task) {
-        (Source::Log(0), _) => "standard input",
-        (Source::Expressions, Task::Rules(name)) => name,
-        _ => "",
+    match source_name(task, source) {
+        Some(name) => shown(name),
+        None => "",
     }
 }
 
@@ -69,10 +78,15 @@ fn write_rule_error<E: Sink>(error: RuleError, err: &mut E) -> Result<(), Failed
 }
 
 /// Writes what is wrong with a line of a log.
-fn write_log_line<E: Sink>(words: &[String], at: At, what: &str, err: &mut E) -> Result<(), Failed>
-    ensures { WholeGives (E.state err.old) (line_message (task_of (map string_bytes words.now)) at what.now) result (E.state err.new) }
+fn write_log_line<E: Sink>(
+    task: Option<&Task<'_>>,
+    at: At,
+    what: &str,
+    err: &mut E,
+) -> Result<(), Failed>
+    ensures { WholeGives (E.state err.old) (line_message (option_map (λ t. task_held t.now) task.entry) at what.now) result (E.state err.new) }
 {
-    let name = shown(words, Source::Log(at.file));
+    let name = shown_source(task, Source::Log(at.file));
     let mut digits = Buffer::new();
     write_texts(
         &[
@@ -89,14 +103,19 @@ fn write_log_line<E: Sink>(words: &[String], at: At, what: &str, err: &mut E) ->
 }
 
 /// Writes why a line of a log is refused.
-fn write_log_fault<E: Sink>(words: &[String], fault: LogFault, err: &mut E) -> Result<(), Failed>
-    ensures { WholeGives (E.state err.old) (log_message (task_of (map string_bytes words.now)) fault) result (E.state err.new) }
+fn write_log_fault<E: Sink>(
+    task: Option<&Task<'_>>,
+    fault: LogFault,
+    err: &mut E,
+) -> Result<(), Failed>
+    ensures { WholeGives (E.state err.old) (log_message (option_map (λ t. task_held t.now) task.entry) fault) result (E.state err.new) }
 {
     match fault {
-        LogFault::LineTooLong(at) => write_log_line(words, at, "line too long", err),
-        LogFault::Undecided(at) => write_log_line(words, at, "no rule decides", err),
-        LogFault::TypeTooLong(at) => write_log_line(words, at, "type too long", err),
-        LogFault::TraceTooLong(at) => write_log_line(words, at, "trace too long", err),
+        LogFault::LineTooLong(at) => write_log_line(task, at, "line too long", err),
+        LogFault::Undecided(at) => write_log_line(task, at, "no rule decides", err),
+        LogFault::BadTime(at) => write_log_line(task, at, "bad time", err),
+        LogFault::TypeTooLong(at) => write_log_line(task, at, "type too long", err),
+        LogFault::TraceTooLong(at) => write_log_line(task, at, "trace too long", err),
     }
 }
 
@@ -112,33 +131,44 @@ fn write_limit<E: Sink>(kind: LimitKind, err: &mut E) -> Result<(), Failed>
 }
 
 /// Writes which input could not be read.
-fn write_read_fault<E: Sink>(words: &[String], source: Source, err: &mut E) -> Result<(), Failed>
-    ensures { WholeGives (E.state err.old) (codes "synoptic: cannot read " ++ shown_source (task_of (map string_bytes words.now)) source ++ codes "\n") result (E.state err.new) }
+fn write_read_fault<E: Sink>(
+    task: Option<&Task<'_>>,
+    source: Source,
+    err: &mut E,
+) -> Result<(), Failed>
+    ensures { WholeGives (E.state err.old) (codes "synoptic: cannot read " ++ shown_source (option_map (λ t. task_held t.now) task.entry) source ++ codes "\n") result (E.state err.new) }
 {
-    write_texts(&["synoptic: cannot read ", shown(words, source), "\n"], err)
+    write_texts(
+        &["synoptic: cannot read ", shown_source(task, source), "\n"],
+        err,
+    )
 }
 
 /// Writes the status's message.
-fn write_message<E: Sink>(words: &[String], status: Status, err: &mut E) -> Result<(), Failed>
-    ensures { WholeGives (E.state err.old) (message_of (map string_bytes words.now) status) result (E.state err.new) }
+fn write_message<E: Sink>(
+    task: Option<&Task<'_>>,
+    status: Status,
+    err: &mut E,
+) -> Result<(), Failed>
+    ensures { WholeGives (E.state err.old) (task_message (option_map (λ t. task_held t.now) task.entry) status) result (E.state err.new) }
 {
     match status {
         Status::Done => Ok(()),
         Status::Usage => write_whole(err, USAGE),
         Status::Expressions(error) => write_rule_error(error, err),
-        Status::Log(fault) => write_log_fault(words, fault, err),
+        Status::Log(fault) => write_log_fault(task, fault, err),
         Status::Limit(kind) => write_limit(kind, err),
-        Status::ReadFault(source) => write_read_fault(words, source, err),
+        Status::ReadFault(source) => write_read_fault(task, source, err),
         Status::WriteFault => write_whole(err, b"synoptic: cannot write\n"),
         Status::Memory => write_whole(err, b"synoptic: out of memory\n"),
     }
 }
 
-/// Writes the status's message where errors go, for a run over these words. It takes no memory.
+/// Writes the status's message where errors go, for a run that was asked for this task, if for one. It takes no memory.
 ///
 /// Where the sink fails, a front of the message was written, and the sink counted the fault.
-pub fn tell<E: Sink>(words: &[String], status: Status, err: &mut E)
-    ensures { Tells (message_of (map string_bytes words.now) status) (E.state err.old) (E.state err.new) }
+pub fn tell<E: Sink>(task: Option<&Task<'_>>, status: Status, err: &mut E)
+    ensures { Tells (task_message (option_map (λ t. task_held t.now) task.entry) status) (E.state err.old) (E.state err.new) }
 {
-    let _ = write_message(words, status, err);
+    let _ = write_message(task, status, err);
 }

@@ -1,47 +1,65 @@
-//! What the words of the command line ask for.
-ghost use Rattle.std.specs.Prelude.{◌≡◌, ◌∷◌, [], map, MatchOption};
+//! The inputs of the task that the words of the command line ask for.
+ghost use Rattle.std.specs.Prelude.{◌≡◌, ◌<◌, ◌^◌, IfOk, length, map, option_map, slice_get};
 ghost use Rattle.std.specs.String.{string_bytes};
-ghost use Rattle.synoptic_cli.specs.Task.{task_of};
-ghost use Rattle.synoptic_cli.specs.Views.{task_view};
+ghost use Rattle.log_reader.specs.Inputs.{inputs_of};
+ghost use Rattle.words.specs.Task.{form_held, task_held};
+ghost use Rattle.synoptic_cli.specs.Task.{rules_name, source_name};
 
-/// The invariants of the log on standard input, by what decides its lines.
-#[derive(Clone, Copy)]
-pub enum Task<'w> {
-    /// Each line is `trace type`.
-    Plain,
-    /// The rules of the file with this name.
-    Rules(&'w str),
+use crate::status::Source;
+use std::alloc::{AllocError, Global};
+use words::{Form, Task};
+
+/// So many files are more than a log has.
+const TOO_MANY_FILES: usize = 4_294_967_296;
+
+/// The name of the file of rules, where lines are read by one.
+fn rules_name<'a>(form: Form<'a>) -> Option<&'a str>
+    ensures { option_map (λ s. s.now) result ≡ rules_name (form_held form.entry) }
+{
+    match form {
+        Form::Plain => None,
+        Form::Rules(name) => Some(name),
+    }
 }
 
-/// The task of two words.
-fn task_by_flag(command: &str, option: &str) -> Option<Task<'static>>
-    ensures { MatchOption result (task_of (command.now ∷ option.now ∷ []) ≡ None) (λ task. task_of (command.now ∷ option.now ∷ []) ≡ Some (task_view task)) }
+/// The name of the log's input with this number: without any file, the empty name is that of input 0.
+fn input_name<'a>(files: &[&'a str], number: u32) -> Option<&'a str>
+    ensures { option_map (λ s. s.now) result ≡ slice_get (inputs_of (map (λ s. s.now) files.now)) number }
 {
-    if command == "invariants" && option == "-p" {
-        return Some(Task::Plain);
+    if files.is_empty() && number == 0 {
+        return Some("");
     }
-    None
+    files.get(number as usize).copied()
 }
 
-/// The task of three words.
-fn task_by_file<'w>(command: &str, option: &str, file: &'w str) -> Option<Task<'w>>
-    ensures { MatchOption result (task_of (command.now ∷ option.now ∷ file.now ∷ []) ≡ None) (λ task. task_of (command.now ∷ option.now ∷ file.now ∷ []) ≡ Some (task_view task)) }
+/// The name of an input of a task; the empty one is standard input.
+pub fn source_name<'a>(task: &Task<'a>, source: Source) -> Option<&'a str>
+    ensures { option_map (λ s. s.now) result ≡ source_name (task_held task.now) source }
 {
-    if command == "invariants" && option == "-e" && !file.is_empty() {
-        return Some(Task::Rules(file));
+    match source {
+        Source::Expressions => rules_name(task.form),
+        Source::Log(number) => input_name(&task.files, number),
     }
-    None
 }
 
-/// The task that the words ask for, if they ask for one.
-pub fn task_of(words: &[String]) -> Option<Task<'_>>
-    ensures { MatchOption result (task_of (map string_bytes words.now) ≡ None) (λ task. task_of (map string_bytes words.now) ≡ Some (task_view task)) }
+/// The names, each in memory of its own.
+fn owned(alloc: Global, files: &[&str]) -> Result<Vec<String>, AllocError>
+    ensures { IfOk result (λ names. map string_bytes names.items ≡ map (λ s. s.now) files.now) }
 {
-    match words {
-        [command, option] => task_by_flag(command.as_str(), option.as_str()),
-        [command, option, file] => {
-            task_by_file(command.as_str(), option.as_str(), file.as_str())
-        }
-        _ => None,
+    let mut names = Vec::new(alloc);
+    for file in files {
+        names.push(String::from_str(alloc, file)?)?;
     }
+    Ok(names)
+}
+
+/// The names of the log's files, as its reader takes them: fewer than 2^32.
+pub fn names_of(alloc: Global, task: &Task<'_>) -> Result<Vec<String>, AllocError>
+    ensures names { IfOk result (λ names. map string_bytes names.items ≡ (task_held task.now).files) }
+    ensures few { IfOk result (λ names. length names.items < 2 ^ 32) }
+{
+    if task.files.len() >= TOO_MANY_FILES {
+        return Err(AllocError);
+    }
+    owned(alloc, &task.files)
 }

@@ -1,11 +1,11 @@
 -- The events of traces have the numbers of types.
-use Rattle.std.proofs.Common.{◌≡◌, ℕ, zero, suc, ◌<◌, ◌≤◌, List, [], ◌∷◌, ◌++◌, length, get_or, refl, sym, subst, ⊎_elim, arith}
+use Rattle.std.proofs.Common.{◌≡◌, ℕ, zero, suc, ◌<◌, ◌≤◌, List, [], ◌∷◌, ◌++◌, length, get_or, refl, sym, subst, ⊎_elim, arith, length-append}
 use Rattle.std.proofs.lemmas.Bool.{cases_Bool, cond-true, cond-false}
 use Rattle.std.specs.List.{All, AllByRecursion}
 use Rattle.traces.specs.Gathered.{trace_views}
 use Rattle.traces.specs.declared.gathered.Gathered.{Gathered}
-use Rattle.traces.specs.Kept.{IsTypeNumber, AreNumbered}
-use Rattle.traces.specs.Words.{Trace, same_key, with_event}
+use Rattle.traces.specs.Kept.{IsTypeNumber, AreNumbered, HaveTimes}
+use Rattle.traces.specs.Words.{Trace, same_key, trace_with, with_event}
 use Rattle.traces.specs.declared.key.Key.{Key}
 
 numbers-more : (n m : ℕ) (numbers : List ℕ) → n ≤ m → AllByRecursion (IsTypeNumber n) numbers → AllByRecursion (IsTypeNumber m) numbers
@@ -21,13 +21,23 @@ numbered-more n m [] more all = tt
 numbered-more n m (trace ∷ traces) more all = (numbers-more n m trace.events more all.0, numbered-more n m traces more all.1)
 
 -- after one event more
-pub numbered-with_event : (n m x : ℕ) (traces : List Trace) (key : Key) → n ≤ m → IsTypeNumber m x → AreNumbered n traces → AreNumbered m (with_event traces key x)
-numbered-with_event n m x [] key more is all = ((is, tt), tt)
-numbered-with_event n m x (trace ∷ traces) key more is all = ⊎_elim
-    (λ same. subst (AreNumbered m) (sym (cond-true (same_key key trace.key) (record { key = trace.key; events = trace.events ++ x ∷ [] } ∷ traces) (trace ∷ with_event traces key x) same))
+pub numbered-with_event : (n m x time : ℕ) (traces : List Trace) (key : Key) → n ≤ m → IsTypeNumber m x → AreNumbered n traces → AreNumbered m (with_event traces key x time)
+numbered-with_event n m x time [] key more is all = ((is, tt), tt)
+numbered-with_event n m x time (trace ∷ traces) key more is all = ⊎_elim
+    (λ same. subst (AreNumbered m) (sym (cond-true (same_key key trace.key) (trace_with trace x time ∷ traces) (trace ∷ with_event traces key x time) same))
     (numbers-push m x trace.events is (numbers-more n m trace.events more all.0), numbered-more n m traces more all.1))
-    (λ differ. subst (AreNumbered m) (sym (cond-false (same_key key trace.key) (record { key = trace.key; events = trace.events ++ x ∷ [] } ∷ traces) (trace ∷ with_event traces key x) differ))
-    (numbers-more n m trace.events more all.0, numbered-with_event n m x traces key more is all.1))
+    (λ differ. subst (AreNumbered m) (sym (cond-false (same_key key trace.key) (trace_with trace x time ∷ traces) (trace ∷ with_event traces key x time) differ))
+    (numbers-more n m trace.events more all.0, numbered-with_event n m x time traces key more is all.1))
+    (cases_Bool (same_key key trace.key))
+
+-- a time for each event, after one event more
+pub timed-with_event : (number time : ℕ) (traces : List Trace) (key : Key) → HaveTimes traces → HaveTimes (with_event traces key number time)
+timed-with_event number time [] key all = (refl, tt)
+timed-with_event number time (trace ∷ traces) key all = ⊎_elim
+    (λ same. subst HaveTimes (sym (cond-true (same_key key trace.key) (trace_with trace number time ∷ traces) (trace ∷ with_event traces key number time) same))
+    (omega (arith, all.0, length-append trace.times (time ∷ []), length-append trace.events (number ∷ [])), all.1))
+    (λ differ. subst HaveTimes (sym (cond-false (same_key key trace.key) (trace_with trace number time ∷ traces) (trace ∷ with_event traces key number time) differ))
+    (all.0, timed-with_event number time traces key all.1))
     (cases_Bool (same_key key trace.key))
 
 each : {X : Type 0} (P : X → Type 0) (xs : List X) → AllByRecursion P xs → All P xs

@@ -1,12 +1,11 @@
-use Rattle.std.proofs.Common.{◌≡◌, ◌+◌, ℕ, List, false, refl, arith, subst, map, length, vec_len}
-use Rattle.std.proofs.lemmas.List.{length-map}
+use Rattle.std.proofs.Common.{◌≡◌, ◌∙◌, ◌+◌, ℕ, List, false, refl, arith, subst, map}
 use Rattle.traces.specs.Lines.{line_of}
 use Rattle.line_rules.specs.Patterns.{PatternsState}
 use Rattle.line_rules.specs.Rules as spec
 use Rattle.line_rules.specs.Files.{is_skipped}
 use Rattle.line_rules.specs.Steps.{AddsLine, IsLineRefused}
 use Rattle.line_rules.specs.Views.{rule_view}
-use Rattle.line_rules.proofs.Lines.{begin, step, refuse, stays-on}
+use Rattle.line_rules.proofs.Lines.{begin, step, refuse, stays-on, count-on}
 use Rattle.line_rules.proofs.file.read_rules.Goals as goal
 
 pub loop-rest-init : goal.loop-rest-init
@@ -14,6 +13,7 @@ loop-rest-init g c = record {
   counted = omega arith;
   few = omega arith;
   stays = record { may_refuse = refl; refusals = omega arith };
+  count = refl;
   read = rw c.new-rules.ensures.items (begin c.args.bytes.now);
 }
 
@@ -29,6 +29,7 @@ loop-rest-preserved g c =
       counted = omega arith;
       few = c.add_line.ensures.few;
       stays = stays-on (state c.args.patterns.now) (state l.patterns) (state c.add_line.new.patterns) l.invariant.stays c.add_line.ensures.stays;
+      count = c.in-Ok.ensures.count ∙ l.invariant.count;
       read = step c.args.bytes.now l.number l.rest.now c.next_piece.result.0.now c.next_piece.result.1.now rs new l.invariant.read c.next_piece.ensures.pieces adds;
     }
 
@@ -41,9 +42,12 @@ returns-in-Err-clause-err g c =
     let rs : List spec.Rule = map rule_view l.rules.items in
     let fault = c.in-Err.fault in
     let piece : List ℕ = c.next_piece.result.0.now in
-    let count : vec_len l.rules ≡ length rs = omega (arith, length-map l.rules.items rule_view) in
     let counts : is_skipped (line_of piece) ≡ false = subst (λ (t : List ℕ). is_skipped t ≡ false) c.without_return.ensures c.in-Err.ensures.not_skipped in
-    let refused : IsLineRefused mid new (vec_len l.rules) (l.number + 1) (line_of piece) fault =
-    subst (λ (t : List ℕ). IsLineRefused mid new (vec_len l.rules) (l.number + 1) t fault) c.without_return.ensures c.in-Err.ensures.err in
-    refuse c.args.bytes.now l.number l.rest.now piece c.next_piece.result.1.now rs (state c.args.patterns.now) mid new fault c.requires l.invariant.read c.next_piece.ensures.pieces counts l.invariant.stays
-    (subst (λ (n : ℕ). IsLineRefused mid new n (l.number + 1) (line_of piece) fault) count refused)
+    let refused : IsLineRefused mid new rs (l.number + 1) (line_of piece) fault =
+    subst (λ (t : List ℕ). IsLineRefused mid new rs (l.number + 1) t fault) c.without_return.ensures c.in-Err.ensures.err in
+    refuse c.args.bytes.now l.number l.rest.now piece c.next_piece.result.1.now rs (state c.args.patterns.now) mid new fault c.requires l.invariant.read c.next_piece.ensures.pieces counts l.invariant.stays refused
+
+pub returns-in-Err-clause-count : goal.returns-in-Err-clause-count
+returns-in-Err-clause-count g c =
+    let state = g.P.Patterns.state in
+    count-on (state c.args.patterns.now) (state c.loop-rest.patterns) (state c.add_line.new.patterns) c.in-Err.fault c.loop-rest.invariant.count c.in-Err.ensures.count

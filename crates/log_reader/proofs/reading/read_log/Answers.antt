@@ -26,4 +26,4 @@ returns-in-Ok-finish-clause-ok g c =
     let k = c.loop-number.number in
     let all : k ≡ length (inputs_of (map string_bytes c.args.names.now)) =
     all-inputs string_bytes c.args.names.now k c.max-number-end.result c.max-number-end.ensures c.loop-number.auto.number-end c.loop-number-test.false in
-    up-to-end _ _ k _ (g.I.Inputs.state c.loop-number.inputs) c.loop-number.reader c.loop-number.room c.in-Ok-finish.set c.loop-number.invariant all (omega arith) c.in-Ok-finish.ensures
+    up-to-end _ _ k _ (g.I.Inputs.state c.loop-number.inputs) c.loop-number.reader c.loop-number.room c.in-Ok-finish.set c.loop-number.invariant all (omega arith) c.in-Ok-finish.ensures c.gathering_in_order_is_the_log.ensures

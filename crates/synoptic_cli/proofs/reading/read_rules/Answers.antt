@@ -1,8 +1,7 @@
 use Rattle.std.proofs.Common.{List, ℕ, subst, sym}
 use Rattle.line_rules.specs.Files.{AreRead, IsRefused}
 use Rattle.line_rules.specs.Views.{rules_in}
-use Rattle.synoptic_cli.specs.Task.{ByRules}
-use Rattle.synoptic_cli.specs.Steps.{Ends}
+use Rattle.synoptic_cli.specs.Steps.{EndsByRules}
 use Rattle.synoptic_cli.specs.declared.status.Status.{Status}
 use Rattle.synoptic_cli.proofs.Told.{rules-read, rules-end}
 use Rattle.synoptic_cli.proofs.reading.read_rules.Goals as goal
@@ -21,6 +20,6 @@ returns-clause-err g c =
     let before = g.P.Patterns.state c.args.patterns.now in
     let after = g.P.Patterns.state c.read.new.patterns in
     let name = c.args.name.now in
-    subst (λ (status : Status). Ends status (ByRules name) old new before after) (sym c.rules_answer.ensures)
+    subst (λ (status : Status). EndsByRules status name old new before after) (sym c.rules_answer.ensures)
     (rules-end old new before after name c.in-Ok.bytes.items c.in-Err.error c.in-Ok.ensures.ok
     (subst (λ (bytes : List ℕ). IsRefused bytes before after c.in-Err.error) c.deref.ensures.value c.in-Err.ensures.err))

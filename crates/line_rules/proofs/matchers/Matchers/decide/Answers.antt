@@ -3,13 +3,15 @@ use Rattle.std.proofs.lemmas.List.{length-map}
 use Rattle.line_rules.specs.Rules as spec
 use Rattle.line_rules.specs.Rules.{decision_from, decided_by, decision_of}
 use Rattle.line_rules.specs.Views.{matcher_rules, matched_rules, rule_view}
+use Rattle.std.specs.Prelude.{Result}
 use Rattle.line_rules.specs.declared.decision.Decision.{Decision}
+use Rattle.line_rules.specs.declared.decision.DecideError.{DecideError}
 use Rattle.line_rules.specs.declared.matchers.RuleMatcher.{RuleMatcher}
 use Rattle.line_rules.proofs.Decided.{next-matcher, rules-kept, at-place, past-last}
 use Rattle.line_rules.proofs.matchers.Matchers.decide.Goals as goal
 
 -- one step of the loop, over plain values
-step : (rs : List spec.Rule) (ms : List RuleMatcher) (i : ℕ) (m : RuleMatcher) (line : List ℕ) (answer : Option Decision) → i < length ms → m ≡ get_or ms i m
+step : (rs : List spec.Rule) (ms : List RuleMatcher) (i : ℕ) (m : RuleMatcher) (line : List ℕ) (answer : Option (Result Decision DecideError)) → i < length ms → m ≡ get_or ms i m
     → matcher_rules ms ≡ rs → decision_of rs line ≡ decision_from i (drop i rs) line → answer ≡ decided_by i (rule_view m.rule.now) line
     → decision_of rs line ≡ unwrap_or answer (decision_from (i + 1) (drop (i + 1) rs) line)
 step rs ms i m line answer inside is views rest answered =
@@ -21,7 +23,7 @@ pub returns-in-Some-clause-value : goal.returns-in-Some-clause-value
 unfolding matched_rules
 returns-in-Some-clause-value c =
     let l = c.loop-place in
-    sym (step (matcher_rules c.args.self.now.rules.items) l.self.rules.items l.place c.index_mut.result.now c.args.line.now (Some c.in-Some.decision) (search rules) c.index_mut.ensures.value
+    sym (step (matcher_rules c.args.self.now.rules.items) l.self.rules.items l.place c.index_mut.result.now c.args.line.now (Some c.in-Some.answer) (search rules) c.index_mut.ensures.value
     l.invariant.rules l.invariant.rest c.in-Some.ensures.value)
 
 pub returns-in-Some-clause-same : goal.returns-in-Some-clause-same

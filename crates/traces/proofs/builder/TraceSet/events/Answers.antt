@@ -11,5 +11,5 @@ returns-clause-numbers c =
     let inside = subst (λ (log : Log). c.args.t < length log.traces) (sym c.self.view_is) c.requires in
     subst (λ (xs : List ℕ). All (IsTypeNumber (length c.args.self.now.types)) xs) (sym c.deref.ensures.value)
     (subst (λ n. All (IsTypeNumber n) c.index.result.now.events.items) types
-    (numbers-at (length c.self.inside.types) c.self.inside.traces.items c.args.t c.index.result.now c.self.invariant.numbered
+    (numbers-at (length c.self.inside.types) c.self.inside.traces.items c.args.t c.index.result.now c.self.invariant.0.numbered
     (omega (arith, inside, length-trace_views c.self.inside.traces.items)) c.index.ensures))

@@ -1,0 +1,9 @@
+//! Tests of whole runs over files and times, in memory.
+#![tactic(auto)]
+
+#[cfg(test)]
+mod files;
+#[cfg(test)]
+mod harness;
+#[cfg(test)]
+mod times;

@@ -1,0 +1,5 @@
+use Rattle.traces.proofs.Ordered.{in_order-gathered}
+use Rattle.traces.proofs.law.gathering_in_order_is_the_log.Goals as goal
+
+pub returns : goal.returns
+returns c = in_order-gathered

@@ -1,0 +1,15 @@
+//! What the words of the command line ask for.
+//!
+//! `clap` reads the words, and the table of the commands says which uses of a command are allowed: [`parse`].
+#![tactic(auto)]
+
+mod command;
+mod given;
+mod law;
+mod task;
+#[cfg(test)]
+mod tests;
+
+pub use crate::given::ParseError;
+pub use crate::law::lines_tell;
+pub use crate::task::{Command, Form, Task, parse};

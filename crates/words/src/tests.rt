@@ -1,0 +1,170 @@
+use crate::{Command, Form, ParseError, Task, parse};
+use std::alloc::{AllocError, Global};
+use std::mem::replace;
+use std::process::Abort;
+use std::test::Fail;
+
+const WORDS: [&str; 14] = [
+    "invariants",
+    "infer",
+    "-p",
+    "-e",
+    "x",
+    "-i",
+    "-j",
+    "-m",
+    "-n",
+    "--",
+    "",
+    "--help",
+    "-px",
+    "-",
+];
+
+/// What a reader by hand keeps of the words that it has read.
+#[derive(Drop)]
+struct Reader<'a> {
+    command: Option<&'a str>,
+    files: Vec<&'a str>,
+    rules: Option<&'a str>,
+    plain: bool,
+    ignore: bool,
+    join: bool,
+    /// A model or a number was given, which no command takes yet.
+    has_more: bool,
+    /// The option that waits for its value.
+    waiting: Option<&'a str>,
+    /// `--` was read.
+    is_past_options: bool,
+    is_faulty: bool,
+}
+
+impl<'a> Reader<'a> {
+    fn new(alloc: Global) -> Reader<'a> {
+        Reader {
+            command: None,
+            files: Vec::new(alloc),
+            rules: None,
+            plain: false,
+            ignore: false,
+            join: false,
+            has_more: false,
+            waiting: None,
+            is_past_options: false,
+            is_faulty: false,
+        }
+    }
+
+    /// Reads a word that stands alone.
+    fn read_operand(&mut self, word: &'a str) -> Result<(), AllocError> {
+        if self.command.is_none() {
+            self.command = Some(word);
+            return Ok(());
+        }
+        self.files.push(word)?;
+        Ok(())
+    }
+
+    /// Reads an option; a flag may be there once.
+    fn read_option(&mut self, word: &'a str) {
+        let is_wrong = match word {
+            "-p" => replace(&mut self.plain, true),
+            "-i" => replace(&mut self.ignore, true),
+            "-j" => replace(&mut self.join, true),
+            "-e" | "-m" | "-n" => {
+                self.waiting = Some(word);
+                false
+            }
+            _ => true,
+        };
+        self.is_faulty = self.is_faulty | is_wrong;
+    }
+
+    /// Reads the value of an option.
+    fn read_value(&mut self, option: &str, word: &'a str) {
+        self.waiting = None;
+        match option {
+            "-e" => self.rules = Some(word),
+            _ => self.has_more = true,
+        }
+    }
+
+    fn read(&mut self, word: &'a str) -> Result<(), AllocError> {
+        let is_option = word.len() > 1 && word.starts_with('-');
+        if self.is_past_options {
+            return self.read_operand(word);
+        }
+        if let Some(option) = self.waiting {
+            self.is_faulty = self.is_faulty | is_option;
+            self.read_value(option, word);
+            return Ok(());
+        }
+        if word == "--" {
+            self.is_past_options = true;
+            return Ok(());
+        }
+        if is_option {
+            self.read_option(word);
+            return Ok(());
+        }
+        self.read_operand(word)
+    }
+
+    /// The form of a log, where the words ask for its invariants.
+    fn form(&self) -> Option<Form<'a>> {
+        if self.is_faulty || self.waiting.is_some() || self.has_more {
+            return None;
+        }
+        if self.command != Some("invariants") || self.files.iter().any(|file| file.is_empty()) {
+            return None;
+        }
+        match (self.rules, self.plain) {
+            (None, true) => Some(Form::Plain),
+            (Some(""), _) => None,
+            (Some(name), false) => Some(Form::Rules(name)),
+            _ => None,
+        }
+    }
+}
+
+/// Compares a task with what was read by hand.
+fn assert_same(rt: &impl Abort, line: &[&str], task: &Task<'_>, reader: &Reader<'_>) {
+    assert_eq!(rt; task.command, Command::Invariants, "at {line:?}");
+    assert_eq!(rt; Some(task.form), reader.form(), "at {line:?}");
+    assert_eq!(rt; task.ignore, reader.ignore, "at {line:?}");
+    assert_eq!(rt; task.join, reader.join, "at {line:?}");
+    let are_same = task.files.as_slice() == reader.files.as_slice();
+    assert!(rt; are_same, "at {line:?}");
+}
+
+/// Compares the task of the words with what the reader by hand makes of them.
+fn compare(rt: &impl Abort, alloc: Global, line: &[&str]) -> Result<(), Fail> {
+    let mut words = Vec::new(alloc);
+    let mut reader = Reader::new(alloc);
+    for word in line {
+        words.push(String::from_str(alloc, word)?)?;
+        reader.read(word)?;
+    }
+    match parse(alloc, &words) {
+        Ok(task) => assert_same(rt, line, &task, &reader),
+        Err(ParseError::Usage) => assert_eq!(rt; reader.form(), None, "at {line:?}"),
+        Err(ParseError::Memory) => return Err(AllocError.into()),
+    }
+    Ok(())
+}
+
+#[test]
+fn short_lines_are_read_as_by_hand(rt: HostRuntime) -> Result<(), Fail> {
+    let alloc = rt.alloc();
+    compare(&rt, alloc, &[])?;
+    for first in WORDS {
+        compare(&rt, alloc, &[first])?;
+        for second in WORDS {
+            compare(&rt, alloc, &[first, second])?;
+            for third in WORDS {
+                compare(&rt, alloc, &[first, second, third])?;
+            }
+        }
+    }
+    Ok(())
+}
