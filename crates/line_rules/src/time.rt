@@ -23,15 +23,16 @@ fn are_digits(text: &str, most: usize) -> bool
 }
 
 /// The number that 1 to 18 digits write.
-fn number(digits: &str) -> u128
+fn number(digits: &str) -> u64
     requires { are_digits 18 digits.now ≡ true }
     ensures value { result ≡ digits_value 10 digits.now }
     ensures small { result < 10 ^ 18 }
 {
-    match digits.parse::<u128>() {
-        Ok(number) => number,
-        Err(_) => unreachable!(),
+    let mut number = 0;
+    for digit in digits.as_bytes() {
+        number = number * 10 + u64::from(*digit - b'0');
     }
+    number
 }
 
 /// The time of 1 to 18 digits.
@@ -41,7 +42,7 @@ fn whole_time(text: &str) -> Option<u128>
     if !are_digits(text, 18) {
         return None;
     }
-    Some(number(text) * BILLION)
+    Some(u128::from(number(text)) * BILLION)
 }
 
 /// The time of 1 to 18 digits before a point and 1 to 9 digits after it.
@@ -55,7 +56,7 @@ fn fractional_time(whole: &str, fraction: &str) -> Option<u128>
         return None;
     }
     let unit = 10u128.pow(9 - fraction.len() as u32);
-    Some(number(whole) * BILLION + number(fraction) * unit)
+    Some(u128::from(number(whole)) * BILLION + u128::from(number(fraction)) * unit)
 }
 
 /// What stands before the first point and after it, where there is a point.
@@ -70,8 +71,12 @@ fn parts(text: &str) -> Option<(&str, &str)>
 pub(crate) fn time_of(text: &str) -> Option<u128>
     ensures { result ≡ time_of text.now }
 {
+    // Most texts have no point, so that is tried first.
+    if let Some(time) = whole_time(text) {
+        return Some(time);
+    }
     match parts(text) {
         Some((whole, fraction)) => fractional_time(whole, fraction),
-        None => whole_time(text),
+        None => None,
     }
 }

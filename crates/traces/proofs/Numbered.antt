@@ -4,7 +4,7 @@ use Rattle.std.proofs.lemmas.Bool.{cases_Bool, cond-true, cond-false}
 use Rattle.std.specs.List.{All, AllByRecursion}
 use Rattle.traces.specs.Gathered.{trace_views}
 use Rattle.traces.specs.declared.gathered.Gathered.{Gathered}
-use Rattle.traces.specs.Kept.{IsTypeNumber, AreNumbered, HaveTimes}
+use Rattle.traces.specs.Kept.{IsTypeNumber, AreNumbered, HaveTimes, HaveEvents}
 use Rattle.traces.specs.Words.{Trace, same_key, trace_with, with_event}
 use Rattle.traces.specs.declared.key.Key.{Key}
 
@@ -40,6 +40,16 @@ timed-with_event number time (trace ∷ traces) key all = ⊎_elim
     (all.0, timed-with_event number time traces key all.1))
     (cases_Bool (same_key key trace.key))
 
+-- an event in each trace, after one event more
+pub begun-with_event : (number time : ℕ) (traces : List Trace) (key : Key) → HaveEvents traces → HaveEvents (with_event traces key number time)
+begun-with_event number time [] key all = (omega arith, tt)
+begun-with_event number time (trace ∷ traces) key all = ⊎_elim
+    (λ same. subst HaveEvents (sym (cond-true (same_key key trace.key) (trace_with trace number time ∷ traces) (trace ∷ with_event traces key number time) same))
+    (omega (arith, length-append trace.events (number ∷ [])), all.1))
+    (λ differ. subst HaveEvents (sym (cond-false (same_key key trace.key) (trace_with trace number time ∷ traces) (trace ∷ with_event traces key number time) differ))
+    (all.0, begun-with_event number time traces key all.1))
+    (cases_Bool (same_key key trace.key))
+
 each : {X : Type 0} (P : X → Type 0) (xs : List X) → AllByRecursion P xs → All P xs
 each P [] all k d inside = absurd (omega arith)
 each P (x ∷ xs) all zero d inside = all.0
@@ -50,6 +60,12 @@ pub numbers-at : (n : ℕ) (traces : List Gathered) (t : ℕ) (g : Gathered) →
 numbers-at n [] t g all inside at = absurd (omega arith)
 numbers-at n (trace ∷ traces) zero g all inside at = subst (λ (x : Gathered). All (IsTypeNumber n) x.events.items) (sym at) (each (IsTypeNumber n) trace.events.items all.0)
 numbers-at n (trace ∷ traces) (suc t) g all inside at = numbers-at n traces t g all.1 (omega arith) at
+
+-- the trace at a place has an event
+pub begun-at : (traces : List Gathered) (t : ℕ) (g : Gathered) → HaveEvents (trace_views traces) → t < length traces → g ≡ get_or traces t g → 0 < length g.events.items
+begun-at [] t g all inside at = absurd (omega arith)
+begun-at (trace ∷ traces) zero g all inside at = subst (λ (x : Gathered). 0 < length x.events.items) (sym at) all.0
+begun-at (trace ∷ traces) (suc t) g all inside at = begun-at traces t g all.1 (omega arith) at
 
 pub length-trace_views : (traces : List Gathered) → length (trace_views traces) ≡ length traces
 length-trace_views [] = refl

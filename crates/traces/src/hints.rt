@@ -7,56 +7,112 @@ ghost use Rattle.traces.specs.Hashes.{hash_of_bytes};
 
 use std::alloc::Global;
 
-/// The slots that the first hints get.
-const FIRST_SLOTS: usize = 1024;
+/// The buckets that the first hints get.
+const FIRST_BUCKETS: usize = 256;
+
+/// How many slots a bucket has. Memory holds them beside one another, so that one that is looked at brings the others.
+const SLOTS: usize = 4;
 
 /// The multiplier of the hash.
 const FACTOR: u64 = 1_099_511_628_211;
 
-/// Places by a hash; a slot holds what was noted in it last.
+/// A place, and a part of the hash of what stands there, so that most other hashes are told apart without a look at
+/// the place.
+#[derive(Clone, Copy)]
+struct Slot {
+    mark: u32,
+    place: u32,
+}
+
+/// A slot in which nothing was noted: nothing stands at its place.
+const EMPTY: Slot = Slot {
+    mark: 0,
+    place: u32::MAX,
+};
+
+/// Slots for what has one part of the hash in common.
+#[derive(Clone, Copy)]
+struct Bucket {
+    slots: [Slot; SLOTS],
+}
+
+impl Bucket {
+    /// The place in the first slot with the mark.
+    fn place(&self, mark: u32) -> usize {
+        for slot in &self.slots {
+            if slot.mark == mark {
+                return slot.place as usize;
+            }
+        }
+        u32::MAX as usize
+    }
+
+    /// Writes the first empty slot, or else the one that the mark chooses.
+    fn note(&mut self, noted: Slot) {
+        for slot in &mut self.slots {
+            if slot.place == u32::MAX {
+                *slot = noted;
+                return;
+            }
+        }
+        self.slots[noted.mark as usize % SLOTS] = noted;
+    }
+}
+
+/// Places by a hash; a bucket holds what was noted in it lately.
 #[derive(Drop)]
 pub struct Hints {
-    places: Vec<u32>,
+    buckets: Vec<Bucket>,
+}
+
+/// The part of a hash that tells apart what is in one bucket.
+fn mark_of(hash: u64) -> u32 {
+    (hash >> 32) as u32
 }
 
 impl Hints {
     /// No hints. It takes no memory.
     pub fn new(alloc: Global) -> Hints {
         Hints {
-            places: Vec::new(alloc),
+            buckets: Vec::new(alloc),
         }
     }
 
-    /// A place at which something with this hash may stand.
+    /// A place at which something with this hash may stand. It is past all others where none was noted.
     pub fn place(&self, hash: u64) -> usize {
-        let slots = self.places.len();
-        if slots == 0 {
-            return 0;
+        let buckets = self.buckets.len();
+        if buckets == 0 {
+            return u32::MAX as usize;
         }
-        self.places[hash as usize & (slots - 1)] as usize
+        self.buckets[hash as usize & (buckets - 1)].place(mark_of(hash))
     }
 
     /// Notes where something with this hash stands.
     pub fn note(&mut self, hash: u64, place: usize) {
-        let slots = self.places.len();
-        if slots == 0 {
+        let buckets = self.buckets.len();
+        if buckets == 0 {
             return;
         }
-        let slot = hash as usize & (slots - 1);
-        self.places[slot] = u32::try_from(place).unwrap_or(0);
+        self.buckets[hash as usize & (buckets - 1)].note(Slot {
+            mark: mark_of(hash),
+            place: u32::try_from(place).unwrap_or(u32::MAX),
+        });
     }
 
-    /// Makes four slots for each place where there are fewer than two, and forgets all then.
+    /// Makes eight slots for each place where there are no more than two, and forgets all then.
     /// Without memory for them it leaves those that there are. Whether it forgot.
     pub fn grow(&mut self, alloc: Global, places: usize) -> bool {
-        let slots = self.places.len();
-        if places <= slots / 2 {
+        let buckets = self.buckets.len();
+        if places / 2 < buckets {
             return false;
         }
-        let wanted = slots.saturating_mul(4).max(FIRST_SLOTS);
-        match vec![in alloc; 0; wanted] {
+        let wanted = buckets.saturating_mul(4).max(FIRST_BUCKETS);
+        let empty = Bucket {
+            slots: [EMPTY; SLOTS],
+        };
+        match vec![in alloc; empty; wanted] {
             Ok(fresh) => {
-                self.places = fresh;
+                self.buckets = fresh;
                 true
             }
             Err(_) => false,

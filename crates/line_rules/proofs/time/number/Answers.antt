@@ -1,23 +1,32 @@
-use Rattle.std.proofs.Common.{◌≡◌, arith}
-use Rattle.std.specs.Str.Parse.{digits_value}
-use Rattle.line_rules.proofs.Times.{small-number, reads-number}
+use Rattle.std.proofs.Common.{arith}
+use Rattle.line_rules.proofs.Times.{reads-on, read-all, small-number}
 use Rattle.line_rules.proofs.time.number.Goals as goal
 
-pub unreachable-requires : goal.unreachable-requires
-unreachable-requires c =
-    let ok = reads-number c.args.digits.now c.parse.result c.parse.ensures.value.0 c.requires in
-    let err = c.in-Err.is in
-    absurd cc
+pub overflow_mul-number : goal.overflow_mul-number
+overflow_mul-number c =
+    let read = reads-on c.args.digits.now c.as_bytes-digit-items.result.now c.loop-digit.digit-index c.loop-digit.number
+    c.requires c.as_bytes-digit-items.ensures.value c.loop-digit-test.true c.loop-digit.invariant in
+    omega (arith, read.small)
+
+pub overflow_add-number : goal.overflow_add-number
+overflow_add-number c =
+    let read = reads-on c.args.digits.now c.as_bytes-digit-items.result.now c.loop-digit.digit-index c.loop-digit.number
+    c.requires c.as_bytes-digit-items.ensures.value c.loop-digit-test.true c.loop-digit.invariant in
+    omega (arith, c.from.ensures, read.small)
+
+pub loop-digit-preserved : goal.loop-digit-preserved
+loop-digit-preserved c =
+    let read = reads-on c.args.digits.now c.as_bytes-digit-items.result.now c.loop-digit.digit-index c.loop-digit.number
+    c.requires c.as_bytes-digit-items.ensures.value c.loop-digit-test.true c.loop-digit.invariant in
+    omega (arith, c.from.ensures, read.value)
 
 pub returns-clause-value : goal.returns-clause-value
 returns-clause-value c =
-    let ok = reads-number c.args.digits.now c.parse.result c.parse.ensures.value.0 c.requires in
-    let is = c.in-Ok.is in
-    cc
+    read-all c.args.digits.now c.as_bytes-digit-items.result.now c.loop-digit.digit-index c.loop-digit.number
+    c.as_bytes-digit-items.ensures.value c.loop-digit-test.false c.loop-digit.invariant
 
 pub returns-clause-small : goal.returns-clause-small
 returns-clause-small c =
-    let ok = reads-number c.args.digits.now c.parse.result c.parse.ensures.value.0 c.requires in
-    let is = c.in-Ok.is in
-    let same : c.in-Ok.number ≡ digits_value 10 c.args.digits.now = cc in
-    omega (arith, same, small-number c.args.digits.now c.requires)
+    let value = read-all c.args.digits.now c.as_bytes-digit-items.result.now c.loop-digit.digit-index c.loop-digit.number
+    c.as_bytes-digit-items.ensures.value c.loop-digit-test.false c.loop-digit.invariant in
+    omega (arith, value, small-number c.args.digits.now c.requires)
