@@ -2,7 +2,7 @@
 //!
 //! The invariants are those of Beschastnikh, Brun, Schneider, Sloan and Ernst (ESEC/FSE 2011).
 //! A trace is read as a word of type numbers: 0 is INITIAL, 1 is TERMINAL, and a log with T types has the numbers 2 to T + 1 for them.
-//! `Seq` and `Text` are the lists and the texts of public data. No call here takes memory.
+//! `Seq` and `Text` are the lists and the texts of public data, and the records are what a model says. No call here takes memory.
 #![tactic(auto)]
 
 ghost use Rattle.std.specs.Prelude.{◌≡◌, ◌+◌, ◌*◌, ◌≤◌, length};
@@ -49,6 +49,7 @@ pub fn candidate_count(types: u32) -> u32
 mod law;
 mod monitor;
 mod numbered;
+mod records;
 #[cfg(test)]
 mod tests;
 
@@ -58,3 +59,4 @@ pub use law::{
 };
 pub use monitor::Monitor;
 pub use numbered::{candidate, index_of};
+pub use records::{Block, Edge, Merge, Partition, Split};

@@ -1,0 +1,70 @@
+-- Graphs of partitions, their paths, and the words of these.
+use Rattle.std.specs.Prelude.{◌≡◌, ◌==◌, ◌&&◌, ◌||◌, not, ℕ, ◌<◌, ◌≤◌, ◌⊎◌, Bool, true, List, [], ◌∷◌, map, length}
+use Rattle.invariants.specs.declared.Invariant.{Invariant}
+use Rattle.invariants.specs.Holds.{Holds}
+
+-- typ p is the type of the id p, and edge p q says whether there is an edge from p to q.
+-- Which ids are listed matters only where pairs of ids are meant.
+pub record Graph : Type 0 where
+  pub typ : ℕ → ℕ
+  pub edge : ℕ → ℕ → Bool
+  pub listed : ℕ → Bool
+
+-- p and then the list go along edges, and end with q
+abbrev pub Walk : Graph → ℕ → List ℕ → ℕ → Type 0
+Walk g p [] q = p ≡ q
+Walk g p (r ∷ rs) q = (g.edge p r ≡ true) × Walk g r rs q
+
+-- a list of ids that begins with 0, ends with 1 and goes along edges
+abbrev pub IsPath : Graph → List ℕ → Type 0
+IsPath g [] = ⊥
+IsPath g (x ∷ xs) = (x ≡ 0) × Walk g x xs 1
+
+-- the types of a list of ids
+abbrev pub word : Graph → List ℕ → List ℕ
+word g path = map g.typ path
+
+-- some path of the graph has this word
+abbrev pub Accepts : Graph → List ℕ → Type 0
+Accepts g w = (path : List ℕ) × IsPath g path × (word g path ≡ w)
+
+-- the invariant holds of the word of every path
+abbrev pub Satisfies : Graph → Invariant → Type 0
+Satisfies g inv = (path : List ℕ) → IsPath g path → Holds inv (word g path)
+
+-- the path is one of the graph, and its word breaks the invariant
+abbrev pub Breaks : Graph → Invariant → List ℕ → Type 0
+Breaks g inv path = IsPath g path × (Holds inv (word g path) → ⊥)
+
+-- of two lists of one length: the first is lexicographically smaller
+abbrev pub IsBefore : List ℕ → List ℕ → Type 0
+IsBefore [] ys = ⊥
+IsBefore (x ∷ xs) [] = ⊥
+IsBefore (x ∷ xs) (y ∷ ys) = (x < y) ⊎ ((x ≡ y) × IsBefore xs ys)
+
+-- a path that breaks the invariant: no path that breaks it is shorter, and none as long is lexicographically smaller
+pub record IsLeastViolation (g : Graph) (inv : Invariant) (path : List ℕ) : Type 0 where
+  pub breaks : Breaks g inv path
+  pub shortest : (other : List ℕ) → Breaks g inv other → length path ≤ length other
+  pub first : (other : List ℕ) → Breaks g inv other → length other ≡ length path → IsBefore other path → ⊥
+
+-- the two ends are listed, with their own types; edges go between listed ids, none into 0 and none out of 1
+pub record IsFormed (g : Graph) : Type 0 where
+  pub start_listed : g.listed 0 ≡ true
+  pub end_listed : g.listed 1 ≡ true
+  pub start_type : g.typ 0 ≡ 0
+  pub end_type : g.typ 1 ≡ 1
+  pub between : (p q : ℕ) → g.edge p q ≡ true → (g.listed p ≡ true) × (g.listed q ≡ true)
+  pub none_into_start : (p : ℕ) → g.edge p 0 ≡ true → ⊥
+  pub none_out_of_end : (q : ℕ) → g.edge 1 q ≡ true → ⊥
+
+-- whether there is an edge from u to v where q is replaced by p
+abbrev pub merged_edge : Graph → ℕ → ℕ → ℕ → ℕ → Bool
+merged_edge g p q u v =
+    not (u == q) && not (v == q)
+    && (g.edge u v || (u == p && g.edge q v) || (v == p && g.edge u q) || (u == p && v == p && g.edge q q))
+
+-- the graph with q replaced by p in ids and edges
+abbrev pub Merged : Graph → ℕ → ℕ → Graph
+Merged g p q =
+    record { typ = g.typ; edge = λ u v. merged_edge g p q u v; listed = λ u. not (u == q) && g.listed u }
