@@ -3,7 +3,7 @@
 ghost use Rattle.std.specs.Prelude.{◌≡◌, ◌<◌, ◌^◌};
 ghost use Rattle.outside.specs.Inputs.{InputState, Stays, OpenGives, ReadGives};
 
-use crate::harness::{PLAIN, repeated, words_of};
+use harness::{PLAIN, repeated, words_of};
 use line_rules::RegexPatterns;
 use outside::{Failed, Inputs, MemSink, OpenError};
 use std::test::Fail;

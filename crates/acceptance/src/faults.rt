@@ -1,7 +1,7 @@
 //! Inputs and sinks that fail.
 
-use crate::harness::{BY_RULES, PLAIN, by_rules, front, plain, run_in, words_of};
-use crate::reports::{TWO, TWO_REPORT};
+use crate::printed::{TWO, TWO_REPORT};
+use harness::{BY_RULES, PLAIN, by_rules, front, plain, run_in, words_of};
 use line_rules::RegexPatterns;
 use outside::{MemInputs, MemSink};
 use std::test::Fail;

@@ -6,8 +6,6 @@ mod endless;
 #[cfg(test)]
 mod faults;
 #[cfg(test)]
-mod harness;
+mod printed;
 #[cfg(test)]
 mod refusals;
-#[cfg(test)]
-mod reports;

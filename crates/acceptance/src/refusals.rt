@@ -1,7 +1,7 @@
 //! Refusals of rules, of logs, and at limits.
 
-use crate::harness::{Setting, by_rules, plain, repeated, run_in};
-use crate::reports::TWO;
+use crate::printed::TWO;
+use harness::{Setting, by_rules, plain, repeated, run_in};
 use line_rules::RuleError;
 use log_reader::At;
 use std::alloc::Global;

@@ -1,6 +1,6 @@
 //! Logs in files: joined or not, with undecided lines skipped or not, and where one of them is refused.
 
-use crate::harness::{over_files, run_in, split};
+use harness::{over_files, run_in, split};
 use std::test::Fail;
 use synoptic_cli::{Source, Status};
 

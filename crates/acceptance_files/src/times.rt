@@ -1,6 +1,6 @@
 //! Logs whose events have times.
 
-use crate::harness::{by_rules, make_setting, over_files, run_in};
+use harness::{SHOP, by_rules, make_setting, over_files, run_in};
 use std::test::Fail;
 use synoptic_cli::Status;
 
@@ -58,21 +58,6 @@ fn bad_times_are_refused(rt: HostRuntime) -> Result<(), Fail> {
     }
     Ok(())
 }
-
-const SHOP: [(&str, &str); 3] = [
-    (
-        "shop.rules",
-        "# shop front end\nskip ^[0-9]+ DEBUG\nevent=leave ^(?<TIME>[0-9]+) INFO s(?<TRACE>[0-9]+) session closed\nevent ^(?<TIME>[0-9]+) INFO s(?<TRACE>[0-9]+) (?<TYPE>[a-z]+)\n",
-    ),
-    (
-        "a.log",
-        "100 INFO s1 login user=7\n101 DEBUG pool 4 of 16\n103 INFO s1 search q=lamp\n110 INFO s1 checkout total=1290\n112 INFO s2 guest\n113 INFO s2 search q=desk\n115 INFO s3 guest\n118 INFO s2 cart add=441\n119 INFO s3 cart add=12\n120 INFO s2 checkout total=18900\n124 INFO s3 session closed after 9 s\n130 INFO s4 login user=3\n131 INFO s4 offers page=1\n131 INFO s5 guest\n133 INFO s4 cart add=77\n133 INFO s5 session closed after 2 s\n137 INFO s4 checkout total=560\n140 INFO s6 login user=9\n142 INFO s6 search q=chair\n149 INFO s6 checkout total=4500\n",
-    ),
-    (
-        "b.log",
-        "200 INFO s1 login user=7\n202 INFO s1 search q=vase\n203 INFO s2 guest\n204 INFO s1 checkout total=900\n205 INFO s2 search q=rug\n207 INFO s3 guest\n209 INFO s2 cart add=5\n210 INFO s3 cart add=8\n211 INFO s2 checkout total=7700\n214 INFO s3 session closed after 7 s\n220 INFO s5 guest\n221 INFO s4 offers page=2\n219 INFO s4 login user=1\n222 INFO s5 session closed after 2 s\n225 INFO s4 cart add=30\n226 INFO s4 checkout total=310\n227 DEBUG pool 2 of 16\n230 INFO s6 login user=4\n231 INFO s6 offers page=1\n232 INFO s6 cart add=61\n235 INFO s6 checkout total=220\n",
-    ),
-];
 
 #[test]
 fn the_shop(rt: HostRuntime) -> Result<(), Fail> {

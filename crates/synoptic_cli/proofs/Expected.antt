@@ -127,7 +127,7 @@ refused-task words task files status old new some asks cause =
 
 done-task : (words : List (List ℕ)) (task : Task) (files : Files) (old new : World) → old.inputs.files ≡ Some files → task_of words ≡ Some task → IsDone old new task → Done ≡ expected words files
 done-task words task files old new some asks cause =
-    done words task files (Reports old.out new.out) asks (subst (λ f. SomeLog f task (λ s contents. IsWhole (inputs_of task.files) s contents × Reports old.out new.out s contents)) some cause.reports)
+    done words task files (Reports task.command old.out new.out) asks (subst (λ f. SomeLog f task (λ s contents. IsWhole (inputs_of task.files) s contents × Reports task.command old.out new.out s contents)) some cause.reports)
 
 pub cause-expected : (status : Status) (words : List (List ℕ)) (old new : World) → HasCause status words old new → IsExpected status words old new
 cause-expected Done words old new cause = if-some old.inputs.files _ (λ files some calm-in calm-patterns calm-out. inl (done-task words cause.0 files old new some cause.1 cause.2))

@@ -1,8 +1,6 @@
 -- The report of a log, and how the log is told.
-use Rattle.std.proofs.Common.{◌≡◌, ◌↔◌, ◌+◌, ℕ, Bool, List, length, Contains, sym, ap, ◌∙◌, subst, arith}
-use Rattle.invariants.specs.declared.Invariant.{Invariant}
-use Rattle.invariants.specs.Mined.{mined, IsListed}
-use Rattle.traces.specs.Words.{Log, Event, log_of, words_of}
+use Rattle.std.proofs.Common.{◌≡◌, ◌+◌, ℕ, Bool, List, length, sym, ap, ◌∙◌, subst, arith}
+use Rattle.traces.specs.Words.{Log, Event, log_of}
 use Rattle.outside.specs.Inputs.{InputState, Stays}
 use Rattle.line_rules.specs.Rules.{Rule, AreAlike}
 use Rattle.log_reader.specs.Reading.{Setting, events_of, first_refusal}
@@ -10,36 +8,30 @@ use Rattle.log_reader.specs.Reading as form
 use Rattle.log_reader.specs.Inputs.{ReadsLog, SomeContents, Opened, inputs_of}
 use Rattle.words.specs.Task.{Task}
 use Rattle.words.specs.Task as ask
-use Rattle.synoptic_cli.specs.Report.{invariant_report}
+use Rattle.words.specs.declared.task.Command.{Command}
+use Rattle.synoptic_cli.specs.Printed.{printed, IsExact, Prints}
 use Rattle.synoptic_cli.specs.Task.{rules_opened, inputs_opened}
 use Rattle.synoptic_cli.specs.Told.{SomeForm, setting}
 use Rattle.synoptic_cli.specs.Steps.{IsReport, ReportsLog, ReportsTask, ReadsRules}
 use Rattle.synoptic_cli.proofs.Told.{contents-map}
 
--- the text of a log
-abbrev pub text_of : Log → List ℕ
-text_of log = invariant_report log.types (mined (length log.types) (words_of log))
-
--- the listed invariants are exactly those that hold
-abbrev pub Lists : Log → Type 0
-Lists log = (inv : Invariant) → Contains (mined (length log.types) (words_of log)) inv ↔ IsListed (length log.types) (words_of log) inv
-
-pub log-reported : (s : Setting) (names : List (List ℕ)) (old new : InputState) (log : Log) (text : List ℕ) → ReadsLog s names old new log → text ≡ text_of log → Lists log → ReportsLog s names old new text
-log-reported s names old new log text reads value exact = record {
+pub log-reported : (command : Command) (s : Setting) (names : List (List ℕ)) (old new : InputState) (log : Log) (text : List ℕ) → ReadsLog s names old new log → Prints command log text
+    → ReportsLog command s names old new text
+log-reported command s names old new log text reads prints = record {
   log =
-      contents-map old.files names _ (IsReport text names s)
-      (λ contents p. record { whole = record { count = p.0; no_refusal = p.1 }; value = value ∙ ap text_of p.2; exact = subst Lists p.2 exact }) reads.words;
+      contents-map old.files names _ (IsReport command text names s)
+      (λ contents p. record { whole = record { count = p.0; no_refusal = p.1 }; value = prints.value ∙ ap (printed command) p.2; exact = subst (IsExact command) p.2 prints.exact }) reads.words;
   opened = reads.opened;
   at_end = reads.at_end;
 }
 
 -- a report of a log that is read so is that of one which is read alike
-report-along : (s t : Setting) (names : List (List ℕ)) (text : List ℕ) (contents : List (List ℕ)) → first_refusal s contents ≡ first_refusal t contents
-    → events_of s contents ≡ events_of t contents → IsReport text names s contents → IsReport text names t contents
-report-along s t names text contents refusal events report = record {
+report-along : (command : Command) (s t : Setting) (names : List (List ℕ)) (text : List ℕ) (contents : List (List ℕ)) → first_refusal s contents ≡ first_refusal t contents
+    → events_of s contents ≡ events_of t contents → IsReport command text names s contents → IsReport command text names t contents
+report-along command s t names text contents refusal events report = record {
   whole = record { count = report.whole.count; no_refusal = sym refusal ∙ report.whole.no_refusal };
-  value = report.value ∙ ap (λ (found : List Event). text_of (log_of found)) events;
-  exact = subst (λ (found : List Event). Lists (log_of found)) events report.exact;
+  value = report.value ∙ ap (λ (found : List Event). printed command (log_of found)) events;
+  exact = subst (λ (found : List Event). IsExact command (log_of found)) events report.exact;
 }
 
 -- the same count by another word
@@ -51,11 +43,11 @@ pub opened-both : (a b : ℕ) (old mid new : InputState) → Opened a old mid �
 opened-both a b old mid new first second = record { opens = omega (arith, first.opens, second.opens); faults = second.faults ∙ first.faults }
 
 pub plain-reported : (task : Task) (names : List (List ℕ)) (old new : InputState) (text : List ℕ) → task.form ≡ ask.Plain → names ≡ task.files
-    → ReportsLog (setting task form.Plain) (inputs_of names) old new text → ReportsTask task old new text
+    → ReportsLog task.command (setting task form.Plain) (inputs_of names) old new text → ReportsTask task old new text
 plain-reported task names old new text is same report =
-    let here : ReportsLog (setting task form.Plain) (inputs_of task.files) old new text = subst (λ (ns : List (List ℕ)). ReportsLog (setting task form.Plain) (inputs_of ns) old new text) same report in
+    let here : ReportsLog task.command (setting task form.Plain) (inputs_of task.files) old new text = subst (λ (ns : List (List ℕ)). ReportsLog task.command (setting task form.Plain) (inputs_of ns) old new text) same report in
     record {
-      log = subst (λ (w : ask.Form). SomeForm old.files w (λ f. SomeContents old.files (inputs_of task.files) (IsReport text (inputs_of task.files) (setting task f)))) (sym is) here.log;
+      log = subst (λ (w : ask.Form). SomeForm old.files w (λ f. SomeContents old.files (inputs_of task.files) (IsReport task.command text (inputs_of task.files) (setting task f)))) (sym is) here.log;
       opened = opened-is (length (inputs_of task.files)) (inputs_opened task) old new (omega (arith, ap rules_opened is)) here.opened;
       at_end = here.at_end;
     }
@@ -71,20 +63,20 @@ ReadAlike =
     → (first_refusal (by_rules rs ignore join) files ≡ first_refusal (by_rules ss ignore join) files) × (events_of (by_rules rs ignore join) files ≡ events_of (by_rules ss ignore join) files)
 
 pub rules-reported : ReadAlike → (task : Task) (names : List (List ℕ)) (old mid new : InputState) (name : List ℕ) (rules : List Rule) (text : List ℕ) → task.form ≡ ask.Rules name → names ≡ task.files
-    → Stays old mid → ReadsRules old mid name rules → ReportsLog (setting task (form.Rules rules)) (inputs_of names) mid new text → ReportsTask task old new text
+    → Stays old mid → ReadsRules old mid name rules → ReportsLog task.command (setting task (form.Rules rules)) (inputs_of names) mid new text → ReportsTask task old new text
 rules-reported law task names old mid new name rules text is same stays read report =
     let inputs = inputs_of task.files in
-    let here : ReportsLog (setting task (form.Rules rules)) inputs mid new text = subst (λ (ns : List (List ℕ)). ReportsLog (setting task (form.Rules rules)) (inputs_of ns) mid new text) same report in
+    let here : ReportsLog task.command (setting task (form.Rules rules)) inputs mid new text = subst (λ (ns : List (List ℕ)). ReportsLog task.command (setting task (form.Rules rules)) (inputs_of ns) mid new text) same report in
     record {
       log =
-          subst (λ (w : ask.Form). SomeForm old.files w (λ f. SomeContents old.files inputs (IsReport text inputs (setting task f)))) (sym is) (
+          subst (λ (w : ask.Form). SomeForm old.files w (λ f. SomeContents old.files inputs (IsReport task.command text inputs (setting task f)))) (sym is) (
             read.bytes,
             read.told,
             read.plain,
             read.read,
-            subst (λ files. SomeContents files inputs (IsReport text inputs (setting task (form.Rules read.plain)))) stays.files
-                (contents-map mid.files inputs (IsReport text inputs (setting task (form.Rules rules))) (IsReport text inputs (setting task (form.Rules read.plain)))
-                (λ contents. report-along (setting task (form.Rules rules)) (setting task (form.Rules read.plain)) inputs text contents (law rules read.plain task.ignore task.join contents read.alike).0
+            subst (λ files. SomeContents files inputs (IsReport task.command text inputs (setting task (form.Rules read.plain)))) stays.files
+                (contents-map mid.files inputs (IsReport task.command text inputs (setting task (form.Rules rules))) (IsReport task.command text inputs (setting task (form.Rules read.plain)))
+                (λ contents. report-along task.command (setting task (form.Rules rules)) (setting task (form.Rules read.plain)) inputs text contents (law rules read.plain task.ignore task.join contents read.alike).0
                 (law rules read.plain task.ignore task.join contents read.alike).1) here.log),
           );
       opened = opened-is (1 + length inputs) (inputs_opened task) old new (omega (arith, ap rules_opened is)) (opened-both 1 (length inputs) old mid new read.opened here.opened);

@@ -13,7 +13,7 @@ use Rattle.synoptic_cli.proofs.Told.{log-map}
 pub written-whole : (task : Task) (old new : World) (text : List ℕ) → ReportsTask task old.inputs new.inputs text → Appends old.out.written new.out.written text → IsDone old new task
 written-whole task old new text report appended = record {
   reports =
-      log-map old.inputs.files task (IsReport text (inputs_of task.files)) (λ s contents. IsWhole (inputs_of task.files) s contents × Reports old.out new.out s contents)
+      log-map old.inputs.files task (IsReport task.command text (inputs_of task.files)) (λ s contents. IsWhole (inputs_of task.files) s contents × Reports task.command old.out new.out s contents)
       (λ s contents found. (found.whole, record { appended = subst (Appends old.out.written new.out.written) found.value appended; exact = found.exact })) report.log;
   opened = report.opened;
   at_end = report.at_end;
@@ -24,7 +24,7 @@ pub written-in-part : (task : Task) (old new : World) (text : List ℕ) → Repo
 written-in-part task old new text report front rose = record {
   rose = rose;
   front =
-      log-map old.inputs.files task (IsReport text (inputs_of task.files)) (λ s contents. IsWhole (inputs_of task.files) s contents × AppendsFront old.out (report_of s contents) new.out)
+      log-map old.inputs.files task (IsReport task.command text (inputs_of task.files)) (λ s contents. IsWhole (inputs_of task.files) s contents × AppendsFront old.out (report_of task.command s contents) new.out)
       (λ s contents found. (found.whole, subst (λ (t : List ℕ). AppendsFront old.out t new.out) found.value front)) report.log;
   opened = report.opened;
   at_end = report.at_end;

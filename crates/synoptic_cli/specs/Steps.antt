@@ -12,12 +12,13 @@ use Rattle.log_reader.specs.Reading.{Setting}
 use Rattle.log_reader.specs.Inputs.{Opened, SomeContents, inputs_of}
 use Rattle.words.specs.Task.{Task, task_of}
 use Rattle.words.specs.Task as ask
+use Rattle.words.specs.declared.task.Command.{Command}
 use Rattle.words.specs.declared.given.ParseError.{ParseError}
 use Rattle.words.specs.declared.given.ParseError.TheVariants as parse_error
 use Rattle.synoptic_cli.specs.declared.status.Status.{Status}
 use Rattle.synoptic_cli.specs.declared.status.Status.TheVariants.{Usage, Expressions, Memory}
 use Rattle.synoptic_cli.specs.Task.{inputs_opened}
-use Rattle.synoptic_cli.specs.Told.{IsTold, SomeLog, IsWhole, report_of, ListsExactly}
+use Rattle.synoptic_cli.specs.Told.{IsTold, SomeLog, IsWhole, report_of, TellsExactly}
 use Rattle.synoptic_cli.specs.Causes.{HasCause}
 
 -- the status that a refusal of the file of rules is answered by: want of memory is no fault of the file
@@ -49,20 +50,20 @@ pub record ReadsRules (old new : InputState) (name : List ℕ) (rules : List Rul
   pub alike : AreAlike rules plain
   pub opened : Opened 1 old new
 
--- the text is the report of the log of these inputs, which is read whole, and it lists exactly what holds
-pub record IsReport (text : List ℕ) (names : List (List ℕ)) (s : Setting) (contents : List (List ℕ)) : Type 0 where
+-- the text is the command's report of the log of these inputs, which is read whole, and it lists exactly what there is
+pub record IsReport (command : Command) (text : List ℕ) (names : List (List ℕ)) (s : Setting) (contents : List (List ℕ)) : Type 0 where
   pub whole : IsWhole names s contents
-  pub value : text ≡ report_of s contents
-  pub exact : ListsExactly s contents
+  pub value : text ≡ report_of command s contents
+  pub exact : TellsExactly command s contents
 
--- the inputs were read to their ends, and the text is the report of their log
-pub record ReportsLog (s : Setting) (names : List (List ℕ)) (old new : InputState) (text : List ℕ) : Type 0 where
-  pub log : SomeContents old.files names (IsReport text names s)
+-- the inputs were read to their ends, and the text is the command's report of their log
+pub record ReportsLog (command : Command) (s : Setting) (names : List (List ℕ)) (old new : InputState) (text : List ℕ) : Type 0 where
+  pub log : SomeContents old.files names (IsReport command text names s)
   pub opened : Opened (length names) old new
   pub at_end : IsAtEnd new.rest
 
 -- the inputs of the task were read, the last of them to its end, and the text is the report of its log
 pub record ReportsTask (task : Task) (old new : InputState) (text : List ℕ) : Type 0 where
-  pub log : SomeLog old.files task (IsReport text (inputs_of task.files))
+  pub log : SomeLog old.files task (IsReport task.command text (inputs_of task.files))
   pub opened : Opened (inputs_opened task) old new
   pub at_end : IsAtEnd new.rest

@@ -1,10 +1,7 @@
 //! The top call.
-ghost use Rattle.std.specs.Prelude.{◌≡◌, ◌≢◌, Err, ◌↔◌, ◌<◌, ◌^◌, List, ℕ, Some, map, length, Contains, IfOk, IfErr};
+ghost use Rattle.std.specs.Prelude.{◌≡◌, ◌≢◌, Err, ◌<◌, ◌^◌, List, ℕ, Some, map, length, IfOk, IfErr};
 ghost use Rattle.std.specs.String.{string_bytes};
 ghost use Rattle.outside.specs.Inputs.{Stays};
-ghost use Rattle.traces.specs.Words.{words_of};
-ghost use Rattle.invariants.specs.declared.Invariant.{Invariant};
-ghost use Rattle.invariants.specs.Mined.{mined, IsListed};
 ghost use Rattle.line_rules.specs.Patterns.{PatternsState};
 ghost use Rattle.line_rules.specs.declared.line_rules.RuleError.{RuleError};
 ghost use Rattle.log_reader.specs.Inputs.{HasReadCause, inputs_of};
@@ -12,52 +9,40 @@ ghost use Rattle.log_reader.specs.Views.{form_view};
 ghost use Rattle.words.specs.Task.{Plain, Rules, form_held, task_held, task_of};
 ghost use Rattle.synoptic_cli.specs.Causes.{World, HasCause, IsExpected, KeepsCount, KeepsCounts};
 ghost use Rattle.synoptic_cli.specs.Messages.{Tells, message_of};
-ghost use Rattle.synoptic_cli.specs.Report.{invariant_report};
 ghost use Rattle.synoptic_cli.specs.Steps.{Ends, ReportsLog, ReportsTask, status_without_task};
 
 use crate::message::tell;
+use crate::printing::print;
 use crate::reading::{read_rules, status_of};
-use crate::report::invariant_report;
 use crate::status::Status;
 use crate::task::names_of;
-use count_miner::mine;
-use invariants::mined_tells;
+use invariants::Seq;
 use line_rules::Patterns;
 use log_reader::{ReadError, alike_rules_read_alike, read_log};
 use outside::{Inputs, Sink, write_whole};
-use std::alloc::{AllocError, Global};
-use traces::TraceSet;
-use words::{Form, ParseError, Task, parse};
+use std::alloc::Global;
+use words::{Command, Form, ParseError, Task, parse};
 
-/// The report of what holds of every trace.
-fn report_of(alloc: Global, traces: &TraceSet) -> Result<Vec<u8>, AllocError>
-    ensures text { IfOk result (λ text. text.items ≡ invariant_report (traces.now).types (mined (length (traces.now).types) (words_of traces.now))) }
-    ensures exact { (inv : Invariant) → Contains (mined (length (traces.now).types) (words_of traces.now)) inv ↔ IsListed (length (traces.now).types) (words_of traces.now) inv }
-{
-    mined_tells();
-    let mined = mine(alloc, traces)?;
-    invariant_report(alloc, traces.types(), mined.as_slice())
-}
-
-/// The report of the log in the named inputs.
+/// The command's report of the log in the named inputs.
 fn report_log<I: Inputs>(
     alloc: Global,
+    command: Command,
     names: &[String],
     form: log_reader::Form<'_>,
     ignore: bool,
     join: bool,
     inputs: &mut I,
-) -> Result<Vec<u8>, ReadError>
+) -> Result<Seq<u8>, ReadError>
     requires few { length names.now < 2 ^ 32 }
     ensures memory { result ≡ Err ReadError.Memory → (I.state inputs.new).faults ≡ (I.state inputs.old).faults }
-    ensures ok { IfOk result (λ text. ReportsLog (record { form = form_view form.entry; ignore = ignore; join = join }) (inputs_of (map string_bytes names.now)) (I.state inputs.old) (I.state inputs.new) text.items) }
+    ensures ok { IfOk result (λ text. ReportsLog command (record { form = form_view form.entry; ignore = ignore; join = join }) (inputs_of (map string_bytes names.now)) (I.state inputs.old) (I.state inputs.new) text) }
     ensures err { IfErr result (HasReadCause (record { form = form_view form.entry; ignore = ignore; join = join }) (inputs_of (map string_bytes names.now)) (I.state inputs.old) (I.state inputs.new)) }
 {
     let traces = match read_log(alloc, inputs, names, form, ignore, join) {
         Ok(traces) => traces,
         Err(error) => return Err(error),
     };
-    let Ok(text) = report_of(alloc, &traces) else {
+    let Ok(text) = print(alloc, command, &traces) else {
         return Err(ReadError::Memory);
     };
     Ok(text)
@@ -69,17 +54,25 @@ fn report_plain<I: Inputs>(
     task: &Task<'_>,
     names: &[String],
     inputs: &mut I,
-) -> Result<Vec<u8>, Status>
+) -> Result<Seq<u8>, Status>
     requires plain { (task_held task.now).form ≡ Plain }
     requires names { map string_bytes names.now ≡ (task_held task.now).files }
     requires few { length names.now < 2 ^ 32 }
     ensures memory { result ≡ Err Status.Memory → (I.state inputs.new).faults ≡ (I.state inputs.old).faults }
     ensures expressions { (e : RuleError) → result ≢ Err (Status.Expressions e) }
-    ensures ok { IfOk result (λ text. ReportsTask (task_held task.now) (I.state inputs.old) (I.state inputs.new) text.items) }
+    ensures ok { IfOk result (λ text. ReportsTask (task_held task.now) (I.state inputs.old) (I.state inputs.new) text) }
     ensures err { IfErr result (λ status. (patterns : PatternsState) → Ends status (task_held task.now) (I.state inputs.old) (I.state inputs.new) patterns patterns) }
 {
     let form = log_reader::Form::Plain;
-    match report_log(alloc, names, form, task.ignore, task.join, inputs) {
+    match report_log(
+        alloc,
+        task.command,
+        names,
+        form,
+        task.ignore,
+        task.join,
+        inputs,
+    ) {
         Ok(text) => Ok(text),
         Err(error) => Err(status_of(error)),
     }
@@ -93,13 +86,13 @@ fn report_by_rules<I: Inputs, P: Patterns>(
     names: &[String],
     inputs: &mut I,
     patterns: &mut P,
-) -> Result<Vec<u8>, Status>
+) -> Result<Seq<u8>, Status>
     requires rules { (task_held task.now).form ≡ Rules name.now }
     requires names { map string_bytes names.now ≡ (task_held task.now).files }
     requires few { length names.now < 2 ^ 32 }
     ensures memory { result ≡ Err Status.Memory → (I.state inputs.new).faults ≡ (I.state inputs.old).faults }
     ensures count { KeepsCounts result (P.state patterns.old) (P.state patterns.new) }
-    ensures ok { IfOk result (λ text. ReportsTask (task_held task.now) (I.state inputs.old) (I.state inputs.new) text.items) }
+    ensures ok { IfOk result (λ text. ReportsTask (task_held task.now) (I.state inputs.old) (I.state inputs.new) text) }
     ensures err { IfErr result (λ status. Ends status (task_held task.now) (I.state inputs.old) (I.state inputs.new) (P.state patterns.old) (P.state patterns.new)) }
 {
     let rules = match read_rules(alloc, name, inputs, patterns) {
@@ -108,7 +101,15 @@ fn report_by_rules<I: Inputs, P: Patterns>(
     };
     alike_rules_read_alike();
     let form = log_reader::Form::Rules(&rules);
-    match report_log(alloc, names, form, task.ignore, task.join, inputs) {
+    match report_log(
+        alloc,
+        task.command,
+        names,
+        form,
+        task.ignore,
+        task.join,
+        inputs,
+    ) {
         Ok(text) => Ok(text),
         Err(error) => Err(status_of(error)),
     }
@@ -120,10 +121,10 @@ fn report_for<I: Inputs, P: Patterns>(
     task: &Task<'_>,
     inputs: &mut I,
     patterns: &mut P,
-) -> Result<Vec<u8>, Status>
+) -> Result<Seq<u8>, Status>
     ensures memory { result ≡ Err Status.Memory → (I.state inputs.new).faults ≡ (I.state inputs.old).faults }
     ensures count { KeepsCounts result (P.state patterns.old) (P.state patterns.new) }
-    ensures ok { IfOk result (λ text. ReportsTask (task_held task.now) (I.state inputs.old) (I.state inputs.new) text.items) }
+    ensures ok { IfOk result (λ text. ReportsTask (task_held task.now) (I.state inputs.old) (I.state inputs.new) text) }
     ensures err { IfErr result (λ status. Ends status (task_held task.now) (I.state inputs.old) (I.state inputs.new) (P.state patterns.old) (P.state patterns.new)) }
 {
     let names = match names_of(alloc, task) {
@@ -152,7 +153,7 @@ fn answer<I: Inputs, P: Patterns, O: Sink>(
         Ok(text) => text,
         Err(status) => return status,
     };
-    match write_whole(out, &text) {
+    match write_whole(out, text.as_slice()) {
         Ok(()) => Status::Done,
         Err(_) => Status::WriteFault,
     }
@@ -172,13 +173,16 @@ fn status_without_task(error: ParseError) -> Status
 ///
 /// The words are those of the command line after the program's name; `words::parse` says what they ask for.
 /// `invariants -p [FILE]...` reads the files as lines `trace type`; `invariants -e RULES [FILE]...` reads them by
-/// the rules of that file. Either writes the invariants that hold in every trace, one a line. Without any FILE the
-/// log is standard input. With `-i` lines that nothing decides are skipped, though not those with a bad time, and
-/// with `-j` the files are one log.
+/// the rules of that file. Either writes the invariants that hold in every trace, one a line. `graph` reads the same
+/// log, and writes the edges of the graph that has one partition for each type, one a line, each with how many of
+/// the events that it leaves go along it. Without any FILE the log is standard input. With `-i` lines that nothing
+/// decides are skipped, though not those with a bad time, and with `-j` the files are one log.
 ///
 /// - `cause`: what each status says of the words, the inputs, the patterns and what was written.
 ///   - `Done`: each file was read to its end, and nothing in it or in the file of rules is refused. The whole
-///     report stands in `out`, and its invariants are exactly the candidates that hold, by places, of every trace.
+///     report stands in `out`. The invariants that `invariants` lists are exactly the candidates that hold, by
+///     places, of every trace. The partitions and edges that `graph` shows are exactly those of the traces where
+///     each event has the id that is its type's number, and each trace is the word of a path of that graph.
 ///   - `Usage`: the words ask for nothing that is known, and nothing was opened, built or written.
 ///   - `Expressions`: the file of rules has this refusal; it was read to its end, or to one byte past its limit.
 ///     A pattern is too deep or too large only at the line that is named, where no line before it is refused.

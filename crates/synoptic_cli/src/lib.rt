@@ -1,12 +1,13 @@
 //! The command line of the program, as a library: what the words ask, from the bytes of the inputs to the bytes of the output.
 //!
-//! `run` is the top call. It reads, mines and writes, and answers a `Status`. `tell` writes the line of a status where errors go.
+//! `run` is the top call. It reads a log, makes the report of its invariants or of its graph, writes it, and answers a `Status`.
+//! `tell` writes the line of a status where errors go.
 #![tactic(auto)]
 
 mod command;
 mod message;
+mod printing;
 mod reading;
-mod report;
 mod status;
 mod task;
 

@@ -8,7 +8,11 @@ use Rattle.words.specs.declared.task.Command.TheVariants as commands
 abbrev pub invariants_of : Form → Bool → Bool → List Text → Option Task
 invariants_of form ignore join files = Some (record { command = commands.Invariants; form = form; ignore = ignore; join = join; files = files })
 
--- lines that ask for invariants
+-- the same for the graph of a log
+abbrev pub graph_of : Form → Bool → Bool → List Text → Option Task
+graph_of form ignore join files = Some (record { command = commands.Graph; form = form; ignore = ignore; join = join; files = files })
+
+-- lines that ask for invariants, or for a graph
 pub record TakesLines : Type 0 where
   pub plain : task_of (codes "invariants" ∷ codes "-p" ∷ []) ≡ invariants_of Plain false false []
   pub rules : task_of (codes "invariants" ∷ codes "-e" ∷ codes "x" ∷ []) ≡ invariants_of (Rules (codes "x")) false false []
@@ -18,6 +22,8 @@ pub record TakesLines : Type 0 where
   pub ends_options : task_of (codes "invariants" ∷ codes "-ie" ∷ codes "x" ∷ codes "a" ∷ codes "-j" ∷ codes "--" ∷ codes "-p" ∷ [])
       ≡ invariants_of (Rules (codes "x")) true true (codes "a" ∷ codes "-p" ∷ [])
   pub hyphen : task_of (codes "invariants" ∷ codes "-p" ∷ codes "-" ∷ []) ≡ invariants_of Plain false false (codes "-" ∷ [])
+  pub graph : task_of (codes "graph" ∷ codes "-p" ∷ []) ≡ graph_of Plain false false []
+  pub graph_of_files : task_of (codes "-ij" ∷ codes "graph" ∷ codes "-e" ∷ codes "x" ∷ codes "a" ∷ codes "b" ∷ []) ≡ graph_of (Rules (codes "x")) true true (codes "a" ∷ codes "b" ∷ [])
 
 -- lines that ask for nothing
 pub record RefusesLines : Type 0 where
@@ -39,4 +45,9 @@ pub record RefusesLines : Type 0 where
   pub unknown_command : task_of (codes "guess" ∷ codes "-p" ∷ []) ≡ None
   pub not_built : task_of (codes "infer" ∷ codes "-p" ∷ []) ≡ None
   pub other_command : task_of (codes "bench" ∷ []) ≡ None
+  pub graph_no_form : task_of (codes "graph" ∷ []) ≡ None
+  pub graph_both_forms : task_of (codes "graph" ∷ codes "-p" ∷ codes "-e" ∷ codes "x" ∷ []) ≡ None
+  pub graph_model : task_of (codes "graph" ∷ codes "-m" ∷ codes "m" ∷ []) ≡ None
+  pub graph_model_and_form : task_of (codes "graph" ∷ codes "-m" ∷ codes "m" ∷ codes "-p" ∷ []) ≡ None
+  pub graph_number : task_of (codes "graph" ∷ codes "-n" ∷ codes "3" ∷ codes "-p" ∷ []) ≡ None
   pub form_alone : task_of (codes "-p" ∷ []) ≡ None

@@ -46,7 +46,8 @@ form_of u = one_form u.rules u.plain
 
 -- the command of a word
 abbrev pub command_of : Text → Option Command
-command_of text = if bytes_eq text (codes "invariants") then Some commands.Invariants else None
+command_of text =
+    if bytes_eq text (codes "invariants") then Some commands.Invariants else (if bytes_eq text (codes "graph") then Some commands.Graph else None)
 
 -- the words name a log, by names that are not empty, and no number
 abbrev pub reads_log : Use → Bool
@@ -55,6 +56,7 @@ reads_log u = is_absent u.number && list_all is_word u.files
 -- the row of the table, but for the form
 abbrev pub passes : Command → Use → Bool
 passes commands.Invariants u = reads_log u && is_absent u.model
+passes commands.Graph u = reads_log u && is_absent u.model
 
 -- the task that was asked for
 abbrev pub asked : Command → Use → Form → Task

@@ -12,6 +12,8 @@ use std::alloc::Global;
 pub enum Command {
     /// Print the invariants of a log.
     Invariants,
+    /// Print the graph of a log that has one partition for each type.
+    Graph,
 }
 
 /// How the lines of a log are read.
@@ -44,6 +46,7 @@ fn command_of(text: &str) -> Option<Command>
 {
     match text {
         "invariants" => Some(Command::Invariants),
+        "graph" => Some(Command::Graph),
         _ => None,
     }
 }
@@ -86,6 +89,7 @@ fn passes(command: Command, given: &Given<'_>) -> bool
 {
     match command {
         Command::Invariants => reads_log(given) && given.model.is_none(),
+        Command::Graph => reads_log(given) && given.model.is_none(),
     }
 }
 

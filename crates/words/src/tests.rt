@@ -4,8 +4,9 @@ use std::mem::replace;
 use std::process::Abort;
 use std::test::Fail;
 
-const WORDS: [&str; 14] = [
+const WORDS: [&str; 15] = [
     "invariants",
+    "graph",
     "infer",
     "-p",
     "-e",
@@ -110,12 +111,21 @@ impl<'a> Reader<'a> {
         self.read_operand(word)
     }
 
-    /// The form of a log, where the words ask for its invariants.
+    /// The command, where the words name one.
+    fn command(&self) -> Option<Command> {
+        match self.command {
+            Some("invariants") => Some(Command::Invariants),
+            Some("graph") => Some(Command::Graph),
+            _ => None,
+        }
+    }
+
+    /// The form of a log, where the words ask for its invariants or its graph.
     fn form(&self) -> Option<Form<'a>> {
         if self.is_faulty || self.waiting.is_some() || self.has_more {
             return None;
         }
-        if self.command != Some("invariants") || self.files.iter().any(|file| file.is_empty()) {
+        if self.command().is_none() || self.files.iter().any(|file| file.is_empty()) {
             return None;
         }
         match (self.rules, self.plain) {
@@ -129,7 +139,7 @@ impl<'a> Reader<'a> {
 
 /// Compares a task with what was read by hand.
 fn assert_same(rt: &impl Abort, line: &[&str], task: &Task<'_>, reader: &Reader<'_>) {
-    assert_eq!(rt; task.command, Command::Invariants, "at {line:?}");
+    assert_eq!(rt; Some(task.command), reader.command(), "at {line:?}");
     assert_eq!(rt; Some(task.form), reader.form(), "at {line:?}");
     assert_eq!(rt; task.ignore, reader.ignore, "at {line:?}");
     assert_eq!(rt; task.join, reader.join, "at {line:?}");

@@ -11,7 +11,7 @@ returns-in-Ok-write_whole-clause-cause g c = λ words asks.
     let after = g.O.Sink.state c.write_whole.new.sink in (
       task_held c.args.task.now,
       asks,
-      written-whole (task_held c.args.task.now) _ _ c.in-Ok.text.items c.in-Ok.ensures.ok (subst (Appends before.written after.written) c.deref.ensures.value c.in-Ok-write_whole.ensures.gives.0),
+      written-whole (task_held c.args.task.now) _ _ c.in-Ok.text c.in-Ok.ensures.ok (subst (Appends before.written after.written) c.as_slice.ensures c.in-Ok-write_whole.ensures.gives.0),
     )
 
 pub returns-clause-cause : goal.returns-clause-cause
@@ -20,7 +20,7 @@ returns-clause-cause g c = λ words asks.
     let after = g.O.Sink.state c.write_whole.new.sink in (
       task_held c.args.task.now,
       asks,
-      written-in-part (task_held c.args.task.now) _ _ c.in-Ok.text.items c.in-Ok.ensures.ok (subst (λ (t : List ℕ). AppendsFront before t after) c.deref.ensures.value c.in-Err-write_whole.ensures.gives.0)
+      written-in-part (task_held c.args.task.now) _ _ c.in-Ok.text c.in-Ok.ensures.ok (subst (λ (t : List ℕ). AppendsFront before t after) c.as_slice.ensures c.in-Err-write_whole.ensures.gives.0)
           c.in-Err-write_whole.ensures.gives.1,
     )
 

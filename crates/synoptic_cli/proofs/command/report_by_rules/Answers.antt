@@ -12,7 +12,7 @@ pub returns-in-Ok-report_log-clause-ok : goal.returns-in-Ok-report_log-clause-ok
 returns-in-Ok-report_log-clause-ok g c =
     let law : ReadAlike = λ rs ss ignore join files alike. (c.alike_rules_read_alike.ensures.refusal rs ss ignore join files alike, c.alike_rules_read_alike.ensures.events rs ss ignore join files alike) in
     rules-reported law (task_held c.args.task.now) (map string_bytes c.args.names.now) (g.I.Inputs.state c.args.inputs.now) (g.I.Inputs.state c.read_rules.new.inputs)
-    (g.I.Inputs.state c.report_log.new.inputs) c.args.name.now (rules_in c.in-Ok.rules) c.in-Ok-report_log.text.items c.requires.rules c.requires.names c.read_rules.ensures.stays c.in-Ok.ensures.ok
+    (g.I.Inputs.state c.report_log.new.inputs) c.args.name.now (rules_in c.in-Ok.rules) c.in-Ok-report_log.text c.requires.rules c.requires.names c.read_rules.ensures.stays c.in-Ok.ensures.ok
     c.in-Ok-report_log.ensures.ok
 
 pub returns-in-Err-clause-err : goal.returns-in-Err-clause-err

@@ -7,5 +7,5 @@ use Rattle.synoptic_cli.proofs.command.report_log.Goals as goal
 
 pub returns-clause-ok : goal.returns-clause-ok
 returns-clause-ok g c =
-    log-reported (record { form = form_view c.args.form; ignore = c.args.ignore; join = c.args.join }) (inputs_of (map string_bytes c.args.names.now)) (g.I.Inputs.state c.args.inputs.now)
-    (g.I.Inputs.state c.read_log.new.inputs) _ _ c.in-Ok.ensures.ok c.in-Ok-report_of.ensures.text c.in-Ok-report_of.ensures.exact
+    log-reported c.args.command (record { form = form_view c.args.form; ignore = c.args.ignore; join = c.args.join }) (inputs_of (map string_bytes c.args.names.now)) (g.I.Inputs.state c.args.inputs.now)
+    (g.I.Inputs.state c.read_log.new.inputs) _ _ c.in-Ok.ensures.ok c.in-Ok-print.ensures

@@ -10,7 +10,7 @@ use Rattle.synoptic_cli.proofs.command.report_plain.Goals as goal
 
 pub returns-in-Ok-clause-ok : goal.returns-in-Ok-clause-ok
 returns-in-Ok-clause-ok g c =
-    plain-reported (task_held c.args.task.now) (map string_bytes c.args.names.now) (g.I.Inputs.state c.args.inputs.now) (g.I.Inputs.state c.report_log.new.inputs) c.in-Ok.text.items
+    plain-reported (task_held c.args.task.now) (map string_bytes c.args.names.now) (g.I.Inputs.state c.args.inputs.now) (g.I.Inputs.state c.report_log.new.inputs) c.in-Ok.text
     c.requires.plain c.requires.names c.in-Ok.ensures.ok
 
 pub returns-in-Err-clause-err : goal.returns-in-Err-clause-err

@@ -1,0 +1,7 @@
+//! Tests of whole runs of the command `graph`, in memory.
+#![tactic(auto)]
+
+#[cfg(test)]
+mod faults;
+#[cfg(test)]
+mod graphs;

@@ -1,0 +1,141 @@
+-- Cells that are moved to a new id, and what a graph keeps of them.
+use Rattle.std.proofs.Common.{◌≡◌, ◌≢◌, ◌⊎◌, ℕ, suc, ◌+◌, ◌<◌, ◌≤◌, ◌^◌, ◌==◌, ◌&&◌, Bool, true, false, cond, List, [], ◌∷◌, length, map, take, get_or, arith, ap, ap₂, sym, ◌∙◌, refl, subst, inl, inr, length-append}
+use Rattle.std.proofs.lemmas.Bool.{cases_Bool}
+use Rattle.std.proofs.lemmas.List.{length-map, take-map}
+use Rattle.std.proofs.lemmas.List.Elements.{All-from_recursion}
+use Rattle.std.specs.List.{All, AllByRecursion}
+use Rattle.partition_model.specs.Assignments.{Event, Assignment, events, type_of, IsTyped}
+use Rattle.partition_model.specs.Listings.{first_event, AreBelow}
+use Rattle.partition_model.specs.Refinement.{split, split_trace}
+use Rattle.partition_model.specs.Laws.{IsFresh}
+use Rattle.partition_model.proofs.Lists.{In, In-events, events-In, all_in, all_from}
+use Rattle.partition_model.proofs.Runs.{split-typed, split-event, split-In}
+use Rattle.partition_graph.specs.declared.cells.Cell.{Cell}
+use Rattle.partition_graph.specs.Cells.{event_of, put_before, traces_of, IsClosed, first_id, moved_cells}
+use Rattle.partition_graph.specs.Counts.{count_at, edges_along, cells_with, last_type}
+use Rattle.partition_graph.specs.Kept.{IsKept}
+use Rattle.partition_graph.proofs.Traces.{events_are, types_are, members_are}
+use Rattle.partition_graph.proofs.Edges.{edges_are}
+use Rattle.partition_graph.proofs.Lasts.{first_begins}
+use Rattle.partition_graph.proofs.Words.{all_weaker}
+
+abbrev moved_event : ℕ → ℕ → ℕ → Event → ℕ → Event
+moved_event p q n e behind = record { typ = e.typ; id = cond (e.id == p && behind == q) n e.id }
+
+-- the moved traces of moved cells
+put_moved : (p q n : ℕ) (c : Cell) (cs : List Cell) → IsClosed false cs → put_before (moved_event p q n (event_of c) (first_id cs)) (split p q n (traces_of cs)) ≡ split p q n (put_before (event_of c) (traces_of cs))
+put_moved p q n c [] k = absurd (cc k)
+put_moved p q n c (d ∷ ds) k =
+    let f : (t : List Event) × (h : Assignment) × (traces_of (d ∷ ds) ≡ (event_of d ∷ t) ∷ h) = first_begins d ds in
+    subst (λ (g : Assignment). put_before (moved_event p q n (event_of c) d.id) (split p q n g) ≡ split p q n (put_before (event_of c) g)) (sym f.2) refl
+
+traces_moved : (p q n : ℕ) (ended : Bool) (cs : List Cell) → IsClosed ended cs → traces_of (moved_cells p q n cs) ≡ split p q n (traces_of cs)
+traces_moved p q n ended [] k = refl
+traces_moved p q n ended (c ∷ cs) k =
+    let i : traces_of (moved_cells p q n cs) ≡ split p q n (traces_of cs) = traces_moved p q n c.last cs k in
+    elim (cases_Bool c.last) [
+      | inl t ↦ rw t (ap (λ (h : Assignment). (moved_event p q n (event_of c) 1 ∷ []) ∷ h) i)
+      | inr f ↦ rw f (ap (λ (h : Assignment). put_before (moved_event p q n (event_of c) (first_id cs)) h) i ∙ put_moved p q n c cs (subst (λ (z : Bool). IsClosed z cs) f k))
+    ]
+
+pub moved_are : (p q n : ℕ) (cs : List Cell) → IsClosed true cs → traces_of (moved_cells p q n cs) ≡ split p q n (traces_of cs)
+moved_are p q n cs k = traces_moved p q n true cs k
+
+pub length-moved_cells : (p q n : ℕ) (cs : List Cell) → length (moved_cells p q n cs) ≡ length cs
+length-moved_cells p q n [] = refl
+length-moved_cells p q n (c ∷ cs) = ap suc (length-moved_cells p q n cs)
+
+moved_closed : (p q n : ℕ) (ended : Bool) (cs : List Cell) → IsClosed ended cs → IsClosed ended (moved_cells p q n cs)
+moved_closed p q n ended [] k = k
+moved_closed p q n ended (c ∷ cs) k = moved_closed p q n c.last cs k
+
+-- the ids and the types after a split
+fresh : (h : Assignment) (n : ℕ) → 2 ≤ n → AreBelow n h → IsFresh n h
+fresh h n two b = (two, all_from (λ e. e.id ≢ n) (events h) (λ e i q. absurd (let l : e.id < n = all_in (λ e. e.id < n) e (events h) b i in omega arith)))
+
+split_below : (p q n : ℕ) (h : Assignment) → AreBelow n h → AreBelow (n + 1) (split p q n h)
+split_below p q n h b =
+    all_from (λ e. e.id < n + 1) (events (split p q n h)) (λ e i.
+    let u : (s : List Event) × In s (split p q n h) × In e s = events-In e (split p q n h) i in
+    let v : (t : List Event) × In t h × (split_trace p q n t ≡ u.0) = split-In p q n u.0 h u.1 in
+    let w : (d : Event) × In d v.0 × ((e.id ≡ n) ⊎ (e.id ≡ d.id)) = split-event p q n v.0 e (subst (λ (z : List Event). In e z) (sym v.2) u.2) in
+    let l : w.0.id < n = all_in (λ e. e.id < n) w.0 (events h) b (In-events w.0 v.0 h v.1 w.1) in
+    elim w.2 [ inl a ↦ omega arith | inr a ↦ omega arith ])
+
+-- the first events after a split
+length-split_trace : (p q n : ℕ) (t : List Event) → length (split_trace p q n t) ≡ length t
+length-split_trace p q n [] = refl
+length-split_trace p q n (e ∷ es) = ap suc (length-split_trace p q n es)
+
+length-events-split : (p q n : ℕ) (h : Assignment) → length (events (split p q n h)) ≡ length (events h)
+length-events-split p q n [] = refl
+length-events-split p q n (t ∷ h) =
+    length-append (split_trace p q n t) (events (split p q n h))
+    ∙ ap₂ (λ a b. a + b) (length-split_trace p q n t) (length-events-split p q n h)
+    ∙ sym (length-append t (events h))
+
+first_event-split : (p q n : ℕ) (h : Assignment) (t : ℕ) → first_event (split p q n h) t ≡ first_event h t
+first_event-split p q n h t =
+    ap (λ (z : Assignment). length (events z)) (take-map (λ (trace : List Event). split_trace p q n trace) t h)
+    ∙ length-events-split p q n (take t h)
+
+-- what holds of each event holds of each cell
+unmapped : (P : Event → Type 0) (cs : List Cell) → AllByRecursion P (map event_of cs) → AllByRecursion (λ (c : Cell). P (event_of c)) cs
+unmapped P [] a = tt
+unmapped P (c ∷ cs) a = (a.0, unmapped P cs a.1)
+
+all_cells : (P : Event → Type 0) (cs : List Cell) → AllByRecursion P (events (traces_of cs)) → AllByRecursion (λ (c : Cell). P (event_of c)) cs
+all_cells P cs a = unmapped P cs (subst (λ (es : List Event). AllByRecursion P es) (events_are cs) a)
+
+pub below_all : (k n : ℕ) (cs : List Cell) → n ≤ k → AreBelow n (traces_of cs) → All (λ (c : Cell). c.id < k) cs
+below_all k n cs l b =
+    All-from_recursion (λ (c : Cell). c.id < k) cs
+    (all_weaker (λ (c : Cell). c.id < n) (λ (c : Cell). c.id < k) cs (λ c m. let r : c.id < k = omega arith in r) (all_cells (λ (e : Event). e.id < n) cs b))
+
+pub two_all : (cs : List Cell) → IsTyped (traces_of cs) → All (λ (c : Cell). 2 ≤ c.id) cs
+two_all cs t =
+    All-from_recursion (λ (c : Cell). 2 ≤ c.id) cs
+    (all_weaker (λ (c : Cell). (2 ≤ c.id) × (c.typ ≡ type_of (traces_of cs) c.id)) (λ (c : Cell). 2 ≤ c.id) cs (λ c m. m.0) (all_cells (λ (e : Event). (2 ≤ e.id) × (e.typ ≡ type_of (traces_of cs) e.id)) cs t))
+
+-- what is counted anew after a split
+pub moved_typed : (p q n : ℕ) (cells moved : List Cell) (firsts types sizes counts : List ℕ) → IsKept cells firsts types sizes counts n → moved ≡ moved_cells p q n cells → IsTyped (traces_of moved)
+moved_typed p q n cells moved firsts types sizes counts k e =
+    let h : traces_of moved ≡ split p q n (traces_of cells) = ap (λ (cs : List Cell). traces_of cs) e ∙ moved_are p q n cells k.closed in
+    subst (λ (z : Assignment). IsTyped z) (sym h) (split-typed (traces_of cells) p q n k.typed (fresh (traces_of cells) n k.two k.below))
+
+pub moved_below : (p q n : ℕ) (cells moved : List Cell) (firsts types sizes counts : List ℕ) → IsKept cells firsts types sizes counts n → moved ≡ moved_cells p q n cells → AreBelow (n + 1) (traces_of moved)
+moved_below p q n cells moved firsts types sizes counts k e =
+    let h : traces_of moved ≡ split p q n (traces_of cells) = ap (λ (cs : List Cell). traces_of cs) e ∙ moved_are p q n cells k.closed in
+    subst (λ (z : Assignment). AreBelow (n + 1) z) (sym h) (split_below p q n (traces_of cells) k.below)
+
+pub still_kept : (p q n : ℕ) (cells moved : List Cell) (firsts types sizes counts new_types new_sizes new_counts : List ℕ) → IsKept cells firsts types sizes counts n → n < 1024
+    → moved ≡ moved_cells p q n cells
+    → length new_types ≡ 1024 → ((r : ℕ) → r < 1024 → get_or new_types r 0 ≡ last_type r 0 moved)
+    → length new_sizes ≡ 1024 → ((r : ℕ) → r < 1024 → get_or new_sizes r 0 ≡ cells_with r moved)
+    → length new_counts ≡ 1048576 → ((r s : ℕ) → r < 1024 → s < 1024 → count_at new_counts r s ≡ edges_along 0 moved r s)
+    → IsKept moved firsts new_types new_sizes new_counts (n + 1)
+still_kept p q n cells moved firsts types sizes counts new_types new_sizes new_counts k l e type_room typ size_room siz count_room edg =
+    let h : traces_of moved ≡ split p q n (traces_of cells) = ap (λ (cs : List Cell). traces_of cs) e ∙ moved_are p q n cells k.closed in
+    let two : 2 ≤ n = k.two in
+    let same : length moved ≡ length cells = ap (λ (cs : List Cell). length cs) e ∙ length-moved_cells p q n cells in
+    let few : length cells < 2 ^ 32 = k.few in
+    let closed : IsClosed true moved = subst (λ (cs : List Cell). IsClosed true cs) (sym e) (moved_closed p q n true cells k.closed) in
+    let typed : IsTyped (traces_of moved) = moved_typed p q n cells moved firsts types sizes counts k e in
+    let T : ℕ → ℕ = λ x. type_of (traces_of moved) x in
+    record {
+      two = omega arith;
+      limit = omega arith;
+      few = omega arith;
+      closed = closed;
+      typed = typed;
+      below = moved_below p q n cells moved firsts types sizes counts k e;
+      first_count = k.first_count ∙ sym (ap (λ (z : Assignment). length z) h ∙ length-map (traces_of cells) (λ (trace : List Event). split_trace p q n trace));
+      firsts_are = λ t b. k.firsts_are t b ∙ sym (ap (λ (z : Assignment). first_event z t) h ∙ first_event-split p q n (traces_of cells) t);
+      type_room = type_room;
+      types_are = λ r b. typ r b ∙ types_are T r moved
+          (all_weaker (λ (c : Cell). (2 ≤ c.id) × (c.typ ≡ T c.id)) (λ (c : Cell). c.typ ≡ T c.id) moved (λ c m. m.1) (all_cells (λ (e : Event). (2 ≤ e.id) × (e.typ ≡ T e.id)) moved typed));
+      size_room = size_room;
+      sizes_are = λ r b. siz r b ∙ sym (members_are r moved);
+      count_room = count_room;
+      counts_are = λ r s a b. edg r s a b ∙ edges_are moved r s closed;
+    }

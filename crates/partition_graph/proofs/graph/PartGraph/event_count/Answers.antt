@@ -1,0 +1,11 @@
+use Rattle.std.proofs.Common.{◌≡◌, length, subst, arith}
+use Rattle.partition_model.specs.Assignments.{events}
+use Rattle.partition_graph.specs.Cells.{traces_of}
+use Rattle.partition_graph.specs.Parts.{Parts}
+use Rattle.partition_graph.proofs.Traces.{length-events}
+use Rattle.partition_graph.proofs.graph.PartGraph.event_count.Goals as goal
+
+pub returns : goal.returns
+returns c =
+    subst (λ (x : Parts). c.len.result ≡ length (events x.traces)) c.self.view_is
+    (let e : length (events (traces_of c.self.inside.cells.items)) ≡ length c.self.inside.cells.items = length-events c.self.inside.cells.items in omega (arith, e, c.len.ensures))

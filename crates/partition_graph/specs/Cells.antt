@@ -1,0 +1,56 @@
+-- The cells of events, trace after trace.
+use Rattle.std.specs.Prelude.{ℕ, ◌≡◌, ◌<◌, ◌≤◌, ◌==◌, ◌&&◌, Bool, true, false, if◌then◌else◌, List, [], ◌∷◌, length, take, slice_index}
+use Rattle.std.specs.List.{flat_map, AllByRecursion}
+use Rattle.partition_model.specs.Assignments.{Event, Assignment}
+use Rattle.partition_graph.specs.declared.cells.Cell.{Cell}
+
+-- the event of a cell
+abbrev pub event_of : Cell → Event
+event_of c = record { typ = c.typ; id = c.id }
+
+-- an event in front of the first trace
+abbrev pub put_before : Event → Assignment → Assignment
+put_before e [] = (e ∷ []) ∷ []
+put_before e (t ∷ h) = (e ∷ t) ∷ h
+
+-- the traces of cells, cut behind each cell that is the last of its trace
+abbrev pub traces_of : List Cell → Assignment
+traces_of [] = []
+traces_of (c ∷ cs) = if c.last then (event_of c ∷ []) ∷ traces_of cs else put_before (event_of c) (traces_of cs)
+
+-- the last cell is the last of its trace; where there is none, a trace ended before
+abbrev pub IsClosed : Bool → List Cell → Type 0
+IsClosed ended [] = ended ≡ true
+IsClosed ended (c ∷ cs) = IsClosed c.last cs
+
+abbrev pub is_end : List ℕ → Bool
+is_end [] = true
+is_end (n ∷ ns) = false
+
+-- the cells of a trace, whose ids are the numbers of the types
+abbrev pub cells_of : List ℕ → List Cell
+cells_of [] = []
+cells_of (n ∷ ns) = record { typ = n; last = is_end ns; id = n } ∷ cells_of ns
+
+-- the cells of the first traces of a log, and where each of these begins; the types' numbers are below the bound
+pub record IsGathered (bound : ℕ) (words : List (List ℕ)) (traces : ℕ) (cells : List Cell) (firsts : List ℕ) : Type 0 where
+  pub cells_are : cells ≡ flat_map cells_of (take traces words)
+  pub count : length firsts ≡ traces
+  pub firsts_are : (t : ℕ) → t < traces → slice_index firsts t ≡ length (flat_map cells_of (take t words))
+  pub some : AllByRecursion (λ w. 0 < length w) (take traces words)
+  pub numbered : AllByRecursion (λ w. AllByRecursion (λ n. (2 ≤ n) × (n < bound)) w) (take traces words)
+
+-- the id of the first cell, or else TERMINAL
+abbrev pub first_id : List Cell → ℕ
+first_id [] = 1
+first_id (c ∷ cs) = c.id
+
+-- the id that follows the first cell at once: that of the cell behind it, and TERMINAL where its trace ends
+abbrev pub id_behind : List Cell → ℕ
+id_behind [] = 1
+id_behind (c ∷ cs) = if c.last then 1 else first_id cs
+
+-- the same cells, where those of p that are followed at once by q have the id n
+abbrev pub moved_cells : ℕ → ℕ → ℕ → List Cell → List Cell
+moved_cells p q n [] = []
+moved_cells p q n (c ∷ cs) = record { typ = c.typ; last = c.last; id = if c.id == p && id_behind (c ∷ cs) == q then n else c.id } ∷ moved_cells p q n cs

@@ -1,0 +1,34 @@
+-- What is counted of cells.
+use Rattle.std.specs.Prelude.{ℕ, ◌+◌, ◌*◌, ◌==◌, ◌&&◌, if◌then◌else◌, List, [], ◌∷◌, slice_index}
+use Rattle.partition_graph.specs.declared.cells.Cell.{Cell}
+
+-- the count of the edge from p to q, in the table by targets
+abbrev pub count_at : List ℕ → ℕ → ℕ → ℕ
+count_at counts p q = slice_index counts (q * 1024 + p)
+
+-- whether the edge from a to b is the one from p to q, as a number
+abbrev pub is_edge : ℕ → ℕ → ℕ → ℕ → ℕ
+is_edge a b p q = if a == p && b == q then 1 else 0
+
+-- how often the edge from p to q leads to a cell, or from it to TERMINAL
+abbrev pub edges_at : ℕ → Cell → ℕ → ℕ → ℕ
+edges_at before c p q = is_edge before c.id p q + (if c.last then is_edge c.id 1 p q else 0)
+
+-- the id before the cell behind this one
+abbrev pub before_next : Cell → ℕ
+before_next c = if c.last then 0 else c.id
+
+-- how often the edge from p to q stands in cells, the first of which follows the id before
+abbrev pub edges_along : ℕ → List Cell → ℕ → ℕ → ℕ
+edges_along before [] p q = 0
+edges_along before (c ∷ cs) p q = edges_at before c p q + edges_along (before_next c) cs p q
+
+-- how many cells have the id
+abbrev pub cells_with : ℕ → List Cell → ℕ
+cells_with p [] = 0
+cells_with p (c ∷ cs) = (if c.id == p then 1 else 0) + cells_with p cs
+
+-- the type of the last cell with the id, or else the given one
+abbrev pub last_type : ℕ → ℕ → List Cell → ℕ
+last_type p typ [] = typ
+last_type p typ (c ∷ cs) = last_type p (if c.id == p then c.typ else typ) cs

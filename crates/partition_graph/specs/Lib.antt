@@ -1,0 +1,5 @@
+pub mod Cells
+pub mod Counts
+pub mod Kept
+pub mod Parts
+pub mod Seen

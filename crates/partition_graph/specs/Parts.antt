@@ -1,0 +1,22 @@
+-- What contracts see of a partition graph.
+use Rattle.std.specs.Prelude.{ℕ, ◌≡◌, ◌+◌, ◌<◌, true, List, length, map}
+use Rattle.traces.specs.Words.{Log}
+use Rattle.partition_model.specs.Graphs.{Graph}
+use Rattle.partition_model.specs.Assignments.{Assignment, by_type}
+
+-- the traces, each event with the id of its partition, and how many ids are used: those below this number
+pub record Parts : Type 0 where
+  pub traces : Assignment
+  pub used : ℕ
+
+-- the words of a log without their ends
+abbrev pub inner_words_of : Log → List (List ℕ)
+inner_words_of log = map (λ trace. trace.events) log.traces
+
+-- the first assignment of a log: a partition for each type, whose id is the type's number
+abbrev pub start_of : Log → Parts
+start_of log = record { traces = by_type (inner_words_of log); used = length log.types + 2 }
+
+-- edges go between ids below this number
+abbrev pub HasEdgesBelow : Graph → ℕ → Type 0
+HasEdgesBelow g n = (p q : ℕ) → g.edge p q ≡ true → (p < n) × (q < n)

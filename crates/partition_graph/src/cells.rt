@@ -1,0 +1,57 @@
+//! A cell for each event, trace after trace.
+ghost use Rattle.std.specs.Prelude.{◌≡◌, ◌+◌, ◌++◌, ◌<◌, OnOk, IfOk, length};
+ghost use Rattle.partition_graph.specs.Cells.{cells_of, IsGathered};
+ghost use Rattle.partition_graph.specs.Counts.{before_next};
+ghost use Rattle.partition_graph.specs.Parts.{inner_words_of};
+
+use std::alloc::{AllocError, Global};
+use traces::TraceSet;
+
+/// An event.
+#[derive(Clone, Copy, Debug)]
+pub struct Cell {
+    /// The number of its type.
+    pub typ: u16,
+    /// Whether it is the last event of its trace.
+    pub last: bool,
+    /// The id of its partition.
+    pub id: u32,
+}
+
+impl Cell {
+    /// The id that stands before the next cell: that of this one, and INITIAL where a trace ends here.
+    pub fn before_next(&self) -> u32
+        ensures { result ≡ before_next self.now }
+    {
+        if self.last { 0 } else { self.id }
+    }
+}
+
+/// The cells of all traces, each with its type's number for its id, and the number of the first event of each trace.
+pub fn gather(alloc: Global, traces: &TraceSet) -> Result<(Vec<Cell>, Vec<u32>), AllocError>
+    ensures gathered { IfOk result (λ pair. IsGathered (length traces.now.types + 2) (inner_words_of traces.now) (length traces.now.traces) pair.0.items pair.1.items) }
+    ensures few { IfOk result (λ pair. length pair.0.items < 4294967296) }
+{
+    let event_count = traces.event_count();
+    let mut cells = Vec::with_capacity(alloc, event_count as usize)?;
+    let mut firsts = Vec::with_capacity(alloc, traces.trace_count() as usize)?;
+    for t in 0..traces.trace_count() {
+        firsts.push(cells.len() as u32)?;
+        push_cells(&mut cells, traces.events(t))?;
+    }
+    Ok((cells, firsts))
+}
+
+/// Puts the cells of a trace behind the others.
+fn push_cells(cells: &mut Vec<Cell>, numbers: &[u16]) -> Result<(), AllocError>
+    ensures { OnOk result (cells.new.items ≡ cells.old.items ++ cells_of numbers.now) }
+{
+    for (i, number) in numbers.iter().enumerate() {
+        cells.push(Cell {
+            typ: *number,
+            last: i + 1 == numbers.len(),
+            id: u32::from(*number),
+        })?;
+    }
+    Ok(())
+}

@@ -1,0 +1,241 @@
+//! The partitions of events, and the counts of edges.
+ghost use Rattle.std.specs.Prelude.{◌≡◌, ◌≤◌, ◌<◌, ◌+◌, ◌++◌, ℕ, IfOk, OnOk, length, map, filter, slice_index, slice_get, Some, MatchOption};
+
+use crate::cells::{Cell, gather};
+use crate::counts::{MAX_IDS, edge_counts, recount, types_and_sizes};
+use crate::splitting::move_cells;
+use invariants::{Edge, Partition, Seq};
+use std::alloc::{AllocError, Global};
+use std::marker::Model;
+use traces::TraceSet;
+
+/// A partition for each event of some traces, and the graph that these partitions give: there is an edge from one
+/// to another wherever an event of the first is followed at once by an event of the second. Before each trace
+/// stands INITIAL, with the id 0, and behind it TERMINAL, with the id 1; all other ids are at least 2.
+///
+/// Contracts see the traces, each event with its type and the id of its partition, and how many ids are used.
+/// Events are numbered trace after trace, from 0.
+#[derive(Drop)]
+pub struct PartGraph {
+    /// The events, trace after trace.
+    cells: Vec<Cell>,
+    /// The number of the first event of each trace.
+    firsts: Vec<u32>,
+    /// The type of each id that has events, and else 0.
+    types: Vec<u16>,
+    /// How many events each id has.
+    sizes: Vec<u32>,
+    /// The counts of the edges: that from p to q stands at the place q * 1024 + p.
+    counts: Vec<u32>,
+    used: u32,
+}
+
+impl Model for PartGraph {
+    ghost use Rattle.partition_graph.specs.Parts.{Parts};
+    ghost use Rattle.partition_graph.specs.Cells.{traces_of};
+    ghost use Rattle.partition_graph.specs.Kept.{IsKept};
+
+    ghost Value = { Parts };
+
+    ghost view = { λ g. record { traces = traces_of g.cells.items; used = g.used } };
+
+    ghost invariant = { λ g. IsKept g.cells.items g.firsts.items g.types.items g.sizes.items g.counts.items g.used };
+}
+
+impl PartGraph {
+    ghost use Rattle.partition_model.specs.Assignments.{edge_count, events, is_live, size, type_of, G, IsTyped};
+    ghost use Rattle.partition_model.specs.Listings.{edges_below, edges_from, first_event, partitions_below, parts_of, AreBelow, IsLast};
+    ghost use Rattle.partition_model.specs.Refinement.{split};
+    ghost use Rattle.partition_graph.specs.Parts.{start_of, HasEdgesBelow};
+
+    /// The graph with one partition for each type, whose id is the type's number. It takes the memory for 1,024 ids.
+    pub fn open(alloc: Global, traces: &TraceSet) -> Result<PartGraph, AllocError>
+        ensures { IfOk result (λ graph. graph ≡ start_of traces.now) }
+    {
+        let used = traces.types().len() as u32 + 2;
+        let (cells, firsts) = gather(alloc, traces)?;
+        let (types, sizes) = types_and_sizes(alloc, &cells)?;
+        let counts = edge_counts(alloc, &cells)?;
+        Ok(PartGraph {
+            cells,
+            firsts,
+            types,
+            sizes,
+            counts,
+            used,
+        })
+    }
+
+    /// Moves the events of p that are followed at once by one of `next` (1 is TERMINAL) to a new id, the next one that is
+    /// not used, and answers it. None comes exactly where 1,024 ids are used, and then nothing changed. It takes no memory.
+    pub fn split(&mut self, p: u32, next: u32) -> Option<u32>
+        ensures { MatchOption result
+            (((self.old).used ≡ 1024) × (self.new ≡ self.old))
+            (λ n. (n ≡ (self.old).used) × (n < 1024) × (self.new ≡ record { traces = split p next n (self.old).traces; used = n + 1 })) }
+    {
+        if self.used == 1024 {
+            return None;
+        }
+        let n = self.used;
+        move_cells(&mut self.cells, p, next, n);
+        recount(
+            &self.cells,
+            &mut self.types,
+            &mut self.sizes,
+            &mut self.counts,
+        );
+        self.used = n + 1;
+        Some(n)
+    }
+
+    /// How many ids are used, the two ends counted: each id is less than this number. Some of them may have no events.
+    pub fn ids_used(&self) -> u32
+        ensures value { result ≡ (self.now).used }
+        ensures two { 2 ≤ result }
+        ensures limit { result ≤ 1024 }
+        ensures typed { IsTyped (self.now).traces }
+        ensures below { AreBelow result (self.now).traces }
+        ensures within { HasEdgesBelow (G (self.now).traces) result }
+    {
+        self.used
+    }
+
+    /// At how many places of traces an event of p is followed at once by one of q; the two ends stand at the ends
+    /// of each trace. It is 0 for ids that are not used.
+    pub fn edge_count(&self, p: u32, q: u32) -> u32
+        ensures { result ≡ edge_count (self.now).traces p q }
+    {
+        if p >= self.used || q >= self.used {
+            return 0;
+        }
+        self.counts[q as usize * MAX_IDS + p as usize]
+    }
+
+    /// How many events p has; of the two ends, how many traces there are.
+    pub fn size(&self, p: u32) -> u32
+        ensures { result ≡ size (self.now).traces p }
+    {
+        if p < 2 {
+            return self.firsts.len() as u32;
+        }
+        if p >= self.used {
+            return 0;
+        }
+        self.sizes[p as usize]
+    }
+
+    /// The type of the events of p, and 0 where it has none. The two ends have types of their own, 0 and 1.
+    pub fn type_of(&self, p: u32) -> u16
+        ensures { result ≡ type_of (self.now).traces p }
+    {
+        if p < 2 {
+            return p as u16;
+        }
+        if p >= self.used {
+            return 0;
+        }
+        self.types[p as usize]
+    }
+
+    /// Whether p has events. The two ends are always live.
+    pub fn is_live(&self, p: u32) -> bool
+        ensures { result ≡ is_live (self.now).traces p }
+    {
+        p < 2 || self.size(p) > 0
+    }
+
+    /// The id of the event with this number.
+    pub fn part_of(&self, event: u32) -> u32
+        requires { event < length (events (self.now).traces) }
+        ensures value { result ≡ slice_index (parts_of (self.now).traces) event }
+        ensures there { slice_get (parts_of (self.now).traces) event ≡ Some result }
+    {
+        self.cells[event as usize].id
+    }
+
+    /// How many events all traces have.
+    pub fn event_count(&self) -> u32
+        ensures { result ≡ length (events (self.now).traces) }
+    {
+        self.cells.len() as u32
+    }
+
+    /// The number of the event behind this one in its trace, and None for the last event of a trace.
+    pub fn next_event(&self, event: u32) -> Option<u32>
+        requires { event < length (events (self.now).traces) }
+        ensures { MatchOption result (IsLast (self.now).traces event) (λ n. (n ≡ event + 1) × (IsLast (self.now).traces event → ⊥)) }
+    {
+        if self.cells[event as usize].last {
+            return None;
+        }
+        Some(event + 1)
+    }
+
+    /// How many traces there are.
+    pub fn trace_count(&self) -> u32
+        ensures { result ≡ length (self.now).traces }
+    {
+        self.firsts.len() as u32
+    }
+
+    /// The number of the first event of trace t; traces are counted from 0.
+    pub fn first_event(&self, t: u32) -> u32
+        requires { t < length (self.now).traces }
+        ensures { result ≡ first_event (self.now).traces t }
+    {
+        self.firsts[t as usize]
+    }
+
+    /// The live partitions, by their ids.
+    pub fn partitions(&self, alloc: Global) -> Result<Seq<Partition>, AllocError>
+        ensures { IfOk result (λ list. list ≡ partitions_below (self.now).used (self.now).traces) }
+    {
+        let mut list = Vec::new(alloc);
+        for p in 0..self.ids_used() {
+            if self.is_live(p) {
+                list.push(Partition {
+                    id: p,
+                    typ: self.type_of(p),
+                    count: self.size(p),
+                })?;
+            }
+        }
+        Ok(Seq::from_vec(list))
+    }
+
+    /// The edges whose count is above 0, by the ids that they leave and then by those that they enter.
+    pub fn edges(&self, alloc: Global) -> Result<Seq<Edge>, AllocError>
+        ensures { IfOk result (λ list. list ≡ edges_below (self.now).used (self.now).traces) }
+    {
+        let mut list = Vec::new(alloc);
+        for p in 0..self.ids_used() {
+            self.push_edges_from(p, &mut list)?;
+        }
+        Ok(Seq::from_vec(list))
+    }
+
+    /// Puts the edges that leave p behind the others.
+    fn push_edges_from(&self, p: u32, list: &mut Vec<Edge>) -> Result<(), AllocError>
+        ensures { OnOk result (list.new.items ≡ list.old.items ++ edges_from (self.now).used (self.now).traces p) }
+    {
+        for q in 0..self.ids_used() {
+            let count = self.edge_count(p, q);
+            if count > 0 {
+                list.push(Edge {
+                    from: p,
+                    to: q,
+                    count,
+                })?;
+            }
+        }
+        Ok(())
+    }
+
+    /// The id of each event, trace after trace.
+    pub fn parts(&self, alloc: Global) -> Result<Seq<u32>, AllocError>
+        ensures { IfOk result (λ list. list ≡ parts_of (self.now).traces) }
+    {
+        let ids = self.cells.iter().map(|cell| cell.id).collect(alloc)?;
+        Ok(Seq::from_vec(ids))
+    }
+}

@@ -1,0 +1,13 @@
+//! The partitions of a log's events, and the graph that they give.
+#![tactic(auto)]
+
+mod cells;
+mod counts;
+mod graph;
+mod splitting;
+#[cfg(test)]
+mod tests;
+mod view;
+
+pub use graph::PartGraph;
+pub use view::View;

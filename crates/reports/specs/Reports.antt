@@ -1,0 +1,58 @@
+-- The texts of invariants and of graphs.
+use Rattle.std.specs.Prelude.{ℕ, ◌==◌, zero, suc, List, [], ◌∷◌, ◌++◌, codes, decimal, slice_get, unwrap_or, Option}
+use Rattle.std.specs.Option.{option_map}
+use Rattle.std.specs.List.{flat_map, find}
+use Rattle.serde_json.specs.Data.{string}
+use Rattle.serde_json.specs.Written.{compact_text}
+use Rattle.invariants.specs.declared.Kind.{Kind}
+use Rattle.invariants.specs.declared.Kind.TheVariants.{AF, NF, AP}
+use Rattle.invariants.specs.declared.Invariant.{Invariant}
+use Rattle.invariants.specs.declared.records.Partition.{Partition}
+use Rattle.invariants.specs.declared.records.Edge.{Edge}
+
+-- a type's name: its text as a JSON string, or that of an end
+abbrev pub name_of : List (List ℕ) → ℕ → List ℕ
+name_of types zero = codes "INITIAL"
+name_of types (suc zero) = codes "TERMINAL"
+name_of types (suc (suc n)) = unwrap_or (option_map (λ text. compact_text (string text)) (slice_get types n)) []
+
+-- what stands between the two types
+abbrev pub verb_of : Kind → List ℕ
+verb_of AF = codes " AlwaysFollowedBy "
+verb_of NF = codes " NeverFollowedBy "
+verb_of AP = codes " AlwaysPrecedes "
+
+-- the line of an invariant
+abbrev pub invariant_line : List (List ℕ) → Invariant → List ℕ
+invariant_line types i = name_of types i.a ++ verb_of i.kind ++ name_of types i.b ++ 10 ∷ []
+
+-- a line for each invariant, in their order
+abbrev pub invariant_report : List (List ℕ) → List Invariant → List ℕ
+invariant_report types invariants = flat_map (invariant_line types) invariants
+
+-- the partition with this id
+abbrev pub partition_with : List Partition → ℕ → Option Partition
+partition_with partitions id = find (λ p. p.id == id) partitions
+
+-- how a partition is shown: by its type's name and its id, and an end by its name alone
+abbrev pub shown_as : List (List ℕ) → Option Partition → ℕ → List ℕ
+shown_as types found zero = codes "INITIAL"
+shown_as types found (suc zero) = codes "TERMINAL"
+shown_as types found (suc (suc n)) = unwrap_or (option_map (λ p. name_of types p.typ) found) [] ++ codes "@" ++ decimal (suc (suc n))
+
+-- how many events a partition has
+abbrev pub count_of : Option Partition → ℕ
+count_of found = unwrap_or (option_map (λ p. p.count) found) 0
+
+-- the line of an edge between these partitions: from where and to where it goes, its count, and that of the events that it can come from
+abbrev pub edge_text : List (List ℕ) → Edge → Option Partition → Option Partition → List ℕ
+edge_text types e from to =
+    shown_as types from e.from ++ codes " -> " ++ shown_as types to e.to ++ codes ": " ++ decimal e.count ++ codes " of " ++ decimal (count_of from) ++ 10 ∷ []
+
+-- the line of an edge, whose partitions are found by their ids
+abbrev pub edge_line : List (List ℕ) → List Partition → Edge → List ℕ
+edge_line types partitions e = edge_text types e (partition_with partitions e.from) (partition_with partitions e.to)
+
+-- a line for each edge, in their order
+abbrev pub graph_report : List (List ℕ) → List Partition → List Edge → List ℕ
+graph_report types partitions edges = flat_map (edge_line types partitions) edges

@@ -1,0 +1,70 @@
+use super::*;
+use invariants::{Edge, Invariant, Kind, Partition, Seq, Text};
+use std::alloc::{AllocError, Global};
+use std::test::Fail;
+
+/// The texts of types, between spaces.
+fn types_of(alloc: Global, words: &str) -> Result<Seq<Text>, AllocError> {
+    let mut types = Vec::new(alloc);
+    for word in words.split(' ') {
+        types.push(Text::from_string(String::from_str(alloc, word)?))?;
+    }
+    Ok(Seq::from_vec(types))
+}
+
+fn part(id: u32, typ: u16, count: u32) -> Partition {
+    Partition { id, typ, count }
+}
+
+fn edge(from: u32, to: u32, count: u32) -> Edge {
+    Edge { from, to, count }
+}
+
+fn invariant(kind: Kind, a: u16, b: u16) -> Invariant {
+    Invariant { kind, a, b }
+}
+
+#[test]
+fn lines_of_invariants(rt: HostRuntime) -> Result<(), Fail> {
+    let alloc = rt.alloc();
+    let types = types_of(alloc, "a b\"c")?;
+    let invs = [
+        invariant(Kind::AF, 0, 2),
+        invariant(Kind::NF, 2, 3),
+        invariant(Kind::AP, 3, 1),
+    ];
+    let text = invariant_report(alloc, &types, &invs)?;
+    assert_eq!(rt;
+        text.as_slice(),
+        b"INITIAL AlwaysFollowedBy \"a\"\n\"a\" NeverFollowedBy \"b\\\"c\"\n\"b\\\"c\" AlwaysPrecedes TERMINAL\n".as_slice()
+    );
+    Ok(())
+}
+
+#[test]
+fn lines_of_edges(rt: HostRuntime) -> Result<(), Fail> {
+    let alloc = rt.alloc();
+    let types = types_of(alloc, "a c")?;
+    let partitions = [
+        part(7, 3, 4),
+        part(0, 0, 3),
+        part(1, 1, 3),
+        part(2, 2, 5),
+        part(2, 3, 9),
+    ];
+    let edges = [
+        edge(0, 2, 3),
+        edge(2, 2, 2),
+        edge(2, 7, 1),
+        edge(7, 1, 4),
+        edge(8, 1, 6),
+    ];
+    let text = graph_report(alloc, &types, &partitions, &edges)?;
+    assert_eq!(rt;
+        text.as_slice(),
+        b"INITIAL -> \"a\"@2: 3 of 3\n\"a\"@2 -> \"a\"@2: 2 of 5\n\"a\"@2 -> \"c\"@7: 1 of 5\n\"c\"@7 -> TERMINAL: 4 of 4\n@8 -> TERMINAL: 6 of 0\n".as_slice()
+    );
+    let none = graph_report(alloc, &types, &partitions, &[])?;
+    assert!(rt; none.is_empty());
+    Ok(())
+}
