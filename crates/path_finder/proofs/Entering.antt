@@ -1,0 +1,313 @@
+-- What is kept when a pair is entered.
+use Rattle.std.proofs.Common.{◌≡◌, ◌≢◌, ◌⊎◌, ◌==◌, ℕ, zero, suc, ◌+◌, ◌*◌, ◌<◌, ◌≤◌, true, false, List, [], ◌∷◌, ◌++◌, length, slice_index, slice_get, set, get_or, count_by, replicate, Some, None, sym, ◌∙◌, refl, ap, ap₂, subst, inl, inr, arith, get_or-set_same, get_or-set_other, length-append, Bool, if◌then◌else◌, sum_by, ne_eqb}
+use Rattle.std.proofs.lemmas.Bool.{cases_eq, cases_lt}
+use Rattle.std.proofs.lemmas.List.{length-set, length-replicate, get_or-replicate}
+use Rattle.std.proofs.lemmas.List.Sums.{count_by-le-length, sum_by-set}
+use Rattle.std.proofs.lemmas.Option.{same_Some, slice_get_within}
+use Rattle.invariants.specs.Monitors.{run, is_bad}
+use Rattle.partition_model.specs.Graphs.{word}
+use Rattle.path_finder.specs.declared.pair.Pair.{Pair}
+use Rattle.path_finder.specs.declared.search.Turn.{Turn}
+use Rattle.path_finder.specs.Walks.{Asked, IsPairOf, Leads, EndsBadly, Finishes}
+use Rattle.path_finder.specs.Tables.{Entries, place, at, open_count, with_pair, IsClosedAt, IsSearched, Grows, IsBegun}
+use Rattle.path_finder.specs.Turns.{IsTurn}
+
+-- elements of a list with one more at its end
+pub slice_get_kept : {X : Type 0} (xs ys : List X) (i : ℕ) (x : X) → slice_get xs i ≡ Some x → slice_get (xs ++ ys) i ≡ Some x
+slice_get_kept [] ys i x e = absurd (cc e)
+slice_get_kept (y ∷ xs) ys zero x e = e
+slice_get_kept (y ∷ xs) ys (suc i) x e = slice_get_kept xs ys i x e
+
+pub slice_get_last : {X : Type 0} (xs : List X) (y : X) → slice_get (xs ++ y ∷ []) (length xs) ≡ Some y
+slice_get_last [] y = refl
+slice_get_last (x ∷ xs) y = slice_get_last xs y
+
+pub slice_get_push : {X : Type 0} (xs : List X) (y : X) (i : ℕ) (x : X) → slice_get (xs ++ y ∷ []) i ≡ Some x → (slice_get xs i ≡ Some x) ⊎ ((i ≡ length xs) × (y ≡ x))
+slice_get_push [] y zero x e = inr (refl, same_Some y x e)
+slice_get_push [] y (suc i) x e = absurd (cc e)
+slice_get_push (z ∷ xs) y zero x e = inl e
+slice_get_push (z ∷ xs) y (suc i) x e = elim (slice_get_push xs y i x e) [ inl a ↦ inl a | inr b ↦ inr (ap suc b.0, b.1) ]
+
+pub same_pair : (a : Asked) (r s : Pair) → IsPairOf a r → IsPairOf a s → place r ≡ place s → r ≡ s
+same_pair a r s p q e =
+    let rs : r.state < 3 = p.state in
+    let ss : s.state < 3 = q.state in
+    let h : r.id * 3 + r.state ≡ s.id * 3 + s.state = e in
+    let i : r.id ≡ s.id = omega arith in
+    let t : r.state ≡ s.state = omega arith in
+    let make : ℕ → ℕ → Pair = λ x y. record { id = x; state = y } in
+    ap₂ make i t
+
+pub place_within : (a : Asked) (r : Pair) → IsPairOf a r → place r < a.ids * 3
+place_within a r p =
+    let i : r.id < a.ids = p.id in
+    let s : r.state < 3 = p.state in
+    omega arith
+
+pub at_same : (e : Entries) (r s : Pair) (d : ℕ) → place r < length e.distances → place s ≡ place r → at (with_pair e r d) s ≡ d
+at_same e r s d l q = ap (λ (i : ℕ). get_or (set e.distances (place r) d) i 0) q ∙ get_or-set_same e.distances (place r) d 0 l
+
+pub at_other : (e : Entries) (r s : Pair) (d : ℕ) → place s ≢ place r → at (with_pair e r d) s ≡ at e s
+at_other e r s d n = get_or-set_other e.distances (place r) (place s) d 0 n
+
+pub at_known : (e : Entries) (r s : Pair) (d : ℕ) → at e r ≡ 65535 → at e s < 65535 → at (with_pair e r d) s ≡ at e s
+at_known e r s d o k =
+    elim (cases_eq (place s) (place r)) [
+      | inl q ↦ absurd (let x : at e s ≡ at e r = ap (λ (i : ℕ). get_or e.distances i 0) q in omega arith)
+      | inr n ↦ at_other e r s d n
+    ]
+
+pub open_fewer : (xs : List ℕ) (i d : ℕ) → i < length xs → get_or xs i 0 ≡ 65535 → d < 65535 → count_by (λ x. x == 65535) (set xs i d) + 1 ≡ count_by (λ x. x == 65535) xs
+open_fewer xs i d l o k =
+    let f : ℕ → ℕ = λ x. if x == 65535 then 1 else 0 in
+    let s : sum_by f (set xs i d) + f (get_or xs i 0) ≡ sum_by f xs + f d = sum_by-set f xs i d 0 l in
+    let u : f (get_or xs i 0) ≡ 1 = ap f o in
+    let n : d ≢ 65535 = λ q. omega arith in
+    let v : f d ≡ 0 = ap (λ (b : Bool). if b then 1 else 0) (ne_eqb d 65535 n) in
+    (let w : count_by (λ x. x == 65535) (set xs i d) + f (get_or xs i 0) ≡ count_by (λ x. x == 65535) xs + f d = s in omega arith)
+
+pub grows_pair : (e : Entries) (r : Pair) (d : ℕ) → at e r ≡ 65535 → Grows e (with_pair e r d)
+grows_pair e r d o = record { known = λ s k. at_known e r s d o k; listed = λ i s q. slice_get_kept e.entered (r ∷ []) i s q }
+
+pub grows_none : (e : Entries) → Grows e e
+grows_none e = record { known = λ r k. refl; listed = λ i r q. q }
+
+pub grows_more : (x y z : Entries) → Grows x y → Grows y z → Grows x z
+grows_more x y z g h = record {
+  known = λ r k. let e : at y r ≡ at x r = g.known r k in let f : at z r ≡ at y r = h.known r (omega arith) in f ∙ e;
+  listed = λ i r q. h.listed i r (g.listed i r q);
+}
+
+-- what has to be so for an open pair to be entered with a distance
+pub record CanEnter (a : Asked) (next : ℕ) (e : Entries) (r : Pair) (d : ℕ) : Type 0 where
+  pub searched : IsSearched a next e
+  pub pair : IsPairOf a r
+  pub stands_open : at e r ≡ 65535
+  pub small : d < 65534
+  pub count : d ≤ length e.entered
+  pub behind : next ≤ length e.entered
+  pub finishes : Finishes a r d
+  pub low : (i : ℕ) (s : Pair) → slice_get e.entered i ≡ Some s → at e s ≤ d
+  pub near : (s : Pair) → slice_get e.entered next ≡ Some s → d ≤ at e s + 1
+
+-- a pair of the order after one was entered: an earlier one, or this one
+pub either : (a : Asked) (next : ℕ) (e : Entries) (r : Pair) (d i : ℕ) (s : Pair) → CanEnter a next e r d → slice_get (e.entered ++ r ∷ []) i ≡ Some s
+    → ((slice_get e.entered i ≡ Some s) × (at (with_pair e r d) s ≡ at e s) × (at e s ≤ d)) ⊎ ((i ≡ length e.entered) × (r ≡ s) × (at (with_pair e r d) s ≡ d))
+either a next e r d i s c q =
+    elim (slice_get_push e.entered r i s q) [
+      | inl o ↦ inl (o, (let l : at e s ≤ d = c.low i s o in let m : d < 65534 = c.small in at_known e r s d c.stands_open (omega arith)), c.low i s o)
+      | inr n ↦ inr (n.0, n.1, at_same e r s d (let l : place r < a.ids * 3 = place_within a r c.pair in let z : length e.distances ≡ a.ids * 3 = c.searched.size in omega arith) (ap (λ (p : Pair). place p) (sym n.1)))
+    ]
+
+pub enter_keeps : (a : Asked) (next : ℕ) (e : Entries) (r : Pair) (d : ℕ) → CanEnter a next e r d → IsSearched a next (with_pair e r d)
+enter_keeps a next e r d c =
+    let z : length e.distances ≡ a.ids * 3 = c.searched.size in
+    let l : place r < length e.distances = (let w : place r < a.ids * 3 = place_within a r c.pair in omega arith) in
+    let m : d < 65534 = c.small in
+    let b : next ≤ length e.entered = c.behind in
+    record {
+      size = length-set e.distances (place r) d ∙ c.searched.size;
+      count =
+          let f : open_count (with_pair e r d) + 1 ≡ open_count e = open_fewer e.distances (place r) d l c.stands_open (omega arith) in
+          let g : length (e.entered ++ r ∷ []) ≡ length e.entered + 1 = length-append e.entered (r ∷ []) in
+          let h : length e.entered + open_count e ≤ a.ids * 3 = c.searched.count in
+          omega arith;
+      sound = λ s p k. elim (cases_eq (place s) (place r)) [
+        | inl q ↦
+            let v : d ≡ at (with_pair e r d) s = sym (at_same e r s d l q) in
+            let f : Finishes a s d = subst (λ (x : Pair). Finishes a x d) (sym (same_pair a s r p c.pair q)) c.finishes in
+            subst (λ (x : ℕ). Finishes a s x) v f
+        | inr n ↦
+            let v : at (with_pair e r d) s ≡ at e s = at_other e r s d n in
+            subst (λ (x : ℕ). Finishes a s x) (sym v) (c.searched.sound s p (subst (λ (x : ℕ). x < 65535) v k))
+      ];
+      found = λ s p k. elim (cases_eq (place s) (place r)) [
+        | inl q ↦ (length e.entered, slice_get_last e.entered r ∙ ap (λ (x : Pair). Some x) (sym (same_pair a s r p c.pair q)))
+        | inr n ↦
+            let v : at (with_pair e r d) s ≡ at e s = at_other e r s d n in
+            let o : (i : ℕ) × (slice_get e.entered i ≡ Some s) = c.searched.found s p (subst (λ (x : ℕ). x < 65535) v k) in
+            (o.0, slice_get_kept e.entered (r ∷ []) o.0 s o.1)
+      ];
+      listed = λ i s q. elim (either a next e r d i s c q) [
+        | inl o ↦ (
+          (c.searched.listed i s o.0).0,
+          (let x : at e s ≤ i = (c.searched.listed i s o.0).1 in let y : at (with_pair e r d) s ≡ at e s = o.1 in omega arith),
+        )
+        | inr n ↦ (
+          subst (λ (x : Pair). IsPairOf a x) n.1 c.pair,
+          (let x : d ≤ length e.entered = c.count in let y : at (with_pair e r d) s ≡ d = n.2 in let w : i ≡ length e.entered = n.0 in omega arith),
+        )
+      ];
+      order = λ i j s t le qs qt. order i j s t le (either a next e r d i s c qs) (either a next e r d j t c qt);
+      near = λ j s t qs qt. near j s t (either a next e r d next s c qs) (either a next e r d j t c qt);
+      done = λ i s lt q. elim (either a next e r d i s c q) [
+        | inl o ↦ λ p pp ld.
+            let x : at e p ≤ at e s + 1 = c.searched.done i s lt o.0 p pp ld in
+            let y : at (with_pair e r d) s ≡ at e s = o.1 in
+            let w : at e s ≤ d = o.2 in
+            let v : at (with_pair e r d) p ≡ at e p = at_known e r p d c.stands_open (omega arith) in
+            omega arith
+        | inr n ↦ absurd (let w : i ≡ length e.entered = n.0 in omega arith)
+      ];
+    }
+  where
+    order : (i j : ℕ) (s t : Pair) → i ≤ j
+        → ((slice_get e.entered i ≡ Some s) × (at (with_pair e r d) s ≡ at e s) × (at e s ≤ d)) ⊎ ((i ≡ length e.entered) × (r ≡ s) × (at (with_pair e r d) s ≡ d))
+        → ((slice_get e.entered j ≡ Some t) × (at (with_pair e r d) t ≡ at e t) × (at e t ≤ d)) ⊎ ((j ≡ length e.entered) × (r ≡ t) × (at (with_pair e r d) t ≡ d))
+        → at (with_pair e r d) s ≤ at (with_pair e r d) t
+    order i j s t le (inl x) (inl y) = let o : at e s ≤ at e t = c.searched.order i j s t le x.0 y.0 in let u : at (with_pair e r d) s ≡ at e s = x.1 in let v : at (with_pair e r d) t ≡ at e t = y.1 in omega arith
+    order i j s t le (inl x) (inr y) = let o : at e s ≤ d = x.2 in let u : at (with_pair e r d) s ≡ at e s = x.1 in let v : at (with_pair e r d) t ≡ d = y.2 in omega arith
+    order i j s t le (inr x) (inl y) = absurd (let o : j < length e.entered = slice_get_within e.entered j t y.0 in let u : i ≡ length e.entered = x.0 in omega arith)
+    order i j s t le (inr x) (inr y) = let u : at (with_pair e r d) s ≡ d = x.2 in let v : at (with_pair e r d) t ≡ d = y.2 in omega arith
+
+    near : (j : ℕ) (s t : Pair)
+        → ((slice_get e.entered next ≡ Some s) × (at (with_pair e r d) s ≡ at e s) × (at e s ≤ d)) ⊎ ((next ≡ length e.entered) × (r ≡ s) × (at (with_pair e r d) s ≡ d))
+        → ((slice_get e.entered j ≡ Some t) × (at (with_pair e r d) t ≡ at e t) × (at e t ≤ d)) ⊎ ((j ≡ length e.entered) × (r ≡ t) × (at (with_pair e r d) t ≡ d))
+        → at (with_pair e r d) t ≤ at (with_pair e r d) s + 1
+    near j s t (inl x) (inl y) = let o : at e t ≤ at e s + 1 = c.searched.near j s t x.0 y.0 in let u : at (with_pair e r d) s ≡ at e s = x.1 in let v : at (with_pair e r d) t ≡ at e t = y.1 in omega arith
+    near j s t (inl x) (inr y) = let o : d ≤ at e s + 1 = c.near s x.0 in let u : at (with_pair e r d) s ≡ at e s = x.1 in let v : at (with_pair e r d) t ≡ d = y.2 in omega arith
+    near j s t (inr x) (inl y) = let o : at e t ≤ d = y.2 in let u : at (with_pair e r d) s ≡ d = x.2 in let v : at (with_pair e r d) t ≡ at e t = y.1 in omega arith
+    near j s t (inr x) (inr y) = let u : at (with_pair e r d) s ≡ d = x.2 in let v : at (with_pair e r d) t ≡ d = y.2 in omega arith
+
+-- from a pair that leads to another, the walks of the other go on
+pub ends_before : (a : Asked) (p q : Pair) (xs : List ℕ) → Leads a p q → EndsBadly a q xs → EndsBadly a p (q.id ∷ xs)
+ends_before a p q xs l b = record { walk = (l.edge, b.walk); bad = subst (λ (x : ℕ). is_bad a.inv (run a.inv x (word a.graph xs)) ≡ true) (sym l.step) b.bad }
+
+-- in its turn, an open pair that leads to the pair whose turn it is can be entered
+pub turn_enters : (a : Asked) (t : Turn) (e : Entries) (r : Pair) → a.ids ≤ 1024 → IsTurn a t e → IsPairOf a r → at e r ≡ 65535 → Leads a r t.pair → CanEnter a t.next e r t.distance
+turn_enters a t e r few tn pr o ld =
+    let n : t.next < length e.entered = slice_get_within e.entered t.next t.pair tn.pair in
+    let k : at e t.pair ≤ t.next = (tn.searched.listed t.next t.pair tn.pair).1 in
+    let dd : at e t.pair + 1 ≡ t.distance = tn.distance in
+    let cn : length e.entered + open_count e ≤ a.ids * 3 = tn.searched.count in
+    let w : Finishes a t.pair (at e t.pair) = tn.searched.sound t.pair (tn.searched.listed t.next t.pair tn.pair).0 (omega arith) in
+    record {
+      searched = tn.searched;
+      pair = pr;
+      stands_open = o;
+      small = omega arith;
+      count = omega arith;
+      behind = omega arith;
+      finishes = (
+        t.pair.id ∷ w.0,
+        (let l : length w.0 ≡ at e t.pair = w.1 in omega arith),
+        ends_before a r t.pair w.0 ld w.2,
+      );
+      low = λ i s q. let x : at e s ≤ at e t.pair + 1 = tn.searched.near i t.pair s tn.pair q in omega arith;
+      near = λ s q.
+          let x : t.pair ≡ s = same_Some t.pair s (sym tn.pair ∙ q) in
+          let y : at e t.pair ≡ at e s = ap (λ (p : Pair). at e p) x in
+          omega arith;
+    }
+
+pub turn_keeps : (a : Asked) (t : Turn) (e : Entries) (r : Pair) → a.ids ≤ 1024 → IsTurn a t e → IsPairOf a r → at e r ≡ 65535 → Leads a r t.pair → IsTurn a t (with_pair e r t.distance)
+turn_keeps a t e r few tn pr o ld =
+    let c : CanEnter a t.next e r t.distance = turn_enters a t e r few tn pr o ld in
+    let m : t.distance < 65534 = c.small in
+    let dd : at e t.pair + 1 ≡ t.distance = tn.distance in
+    let k : at (with_pair e r t.distance) t.pair ≡ at e t.pair = at_known e r t.pair t.distance o (omega arith) in
+    record {
+      searched = enter_keeps a t.next e r t.distance c;
+      pair = slice_get_kept e.entered (r ∷ []) t.next t.pair tn.pair;
+      distance = omega arith;
+    }
+
+pub entered_now : (a : Asked) (t : Turn) (e : Entries) (r : Pair) → a.ids ≤ 1024 → IsTurn a t e → IsPairOf a r → at e r ≡ 65535 → Leads a r t.pair → at (with_pair e r t.distance) r < 65535
+entered_now a t e r few tn pr o ld =
+    let c : CanEnter a t.next e r t.distance = turn_enters a t e r few tn pr o ld in
+    let m : t.distance < 65534 = c.small in
+    let z : length e.distances ≡ a.ids * 3 = tn.searched.size in
+    let l : place r < a.ids * 3 = place_within a r pr in
+    let v : at (with_pair e r t.distance) r ≡ t.distance = at_same e r r t.distance (omega arith) refl in
+    omega arith
+
+-- after a turn
+pub turn_ends : (a : Asked) (t : Turn) (e : Entries) → a.ids ≤ 1024 → IsTurn a t e → ((p : Pair) → IsPairOf a p → Leads a p t.pair → at e p < 65535) → IsSearched a (t.next + 1) e
+turn_ends a t e few tn f =
+    let s : IsSearched a t.next e = tn.searched in
+    record {
+      size = s.size;
+      count = s.count;
+      sound = s.sound;
+      found = s.found;
+      listed = s.listed;
+      order = s.order;
+      near = λ j x y qx qy.
+          let u : at e y ≤ at e t.pair + 1 = s.near j t.pair y tn.pair qy in
+          let v : at e t.pair ≤ at e x = s.order t.next (t.next + 1) t.pair x (omega arith) tn.pair qx in
+          omega arith;
+      done = λ i x lt q. elim (cases_lt i t.next) [
+        | inl l ↦ s.done i x l q
+        | inr g ↦
+            let ie : i ≡ t.next = omega arith in
+            let x0 : t.pair ≡ x = same_Some t.pair x (sym tn.pair ∙ ap (λ (k : ℕ). slice_get e.entered k) (sym ie) ∙ q) in
+            subst (λ (z : Pair). IsClosedAt a e z) x0 (λ p pp ld.
+            let o : (j : ℕ) × (slice_get e.entered j ≡ Some p) = s.found p pp (f p pp ld) in
+            s.near o.0 t.pair p tn.pair o.1)
+      ];
+    }
+
+-- the first table
+pub blank_begins : (a : Asked) (e : Entries) → 2 ≤ a.ids → e.distances ≡ replicate (a.ids * 3) 65535 → e.entered ≡ [] → IsBegun a 0 e
+blank_begins a e two ds es =
+    let ln : length e.distances ≡ a.ids * 3 = ap length ds ∙ length-replicate {A = ℕ} (a.ids * 3) 65535 in
+    let all : (c : ℕ) → c < a.ids * 3 → slice_index e.distances c ≡ 65535 = λ c k. ap (λ (z : List ℕ). get_or z c 0) ds ∙ get_or-replicate (a.ids * 3) c 65535 0 k in
+    let none : (i : ℕ) (r : Pair) → slice_get e.entered i ≡ Some r → ⊥ = λ i r q. (let w : None ≡ Some r = ap (λ (z : List Pair). slice_get z i) (sym es) ∙ q in cc) in
+    record {
+      searched = record {
+        size = ln;
+        count = let x : open_count e ≤ length e.distances = count_by-le-length (λ d. d == 65535) e.distances in let y : length e.entered ≡ 0 = ap length es in omega arith;
+        sound = λ r p k. absurd (let x : at e r ≡ 65535 = all (place r) (place_within a r p) in omega arith);
+        found = λ r p k. absurd (let x : at e r ≡ 65535 = all (place r) (place_within a r p) in omega arith);
+        listed = λ i r q. absurd (none i r q);
+        order = λ i j r s le q t. absurd (none i r q);
+        near = λ j r s q t. absurd (none 0 r q);
+        done = λ i r lt q. absurd (none i r q);
+      };
+      low = λ i r q. absurd (none i r q);
+      ends = λ r i lt b. absurd (omega arith);
+      rest = λ r i le lt. all (place r) (let x : r.id ≡ 1 = i in let y : r.state < 3 = lt in omega arith);
+    }
+
+pub end_enters : (a : Asked) (e : Entries) (s : ℕ) → 2 ≤ a.ids → s < 3 → IsBegun a s e → is_bad a.inv s ≡ true → IsBegun a (s + 1) (with_pair e (record { id = 1; state = s }) 0)
+end_enters a e s two s3 b bad =
+    let r : Pair = record { id = 1; state = s } in
+    let pr : IsPairOf a r = record { id = two; state = s3 } in
+    let o : at e r ≡ 65535 = b.rest r refl (omega arith) s3 in
+    let c : CanEnter a 0 e r 0 = record {
+      searched = b.searched;
+      pair = pr;
+      stands_open = o;
+      small = omega arith;
+      count = omega arith;
+      behind = omega arith;
+      finishes = ([], refl, record { walk = refl; bad = bad });
+      low = λ i x q. let z : at e x ≡ 0 = b.low i x q in omega arith;
+      near = λ x q. omega arith;
+    } in
+    let z : length e.distances ≡ a.ids * 3 = b.searched.size in
+    let l : place r < length e.distances = (let w : place r < a.ids * 3 = place_within a r pr in omega arith) in
+    record {
+      searched = enter_keeps a 0 e r 0 c;
+      low = λ i x q. elim (either a 0 e r 0 i x c q) [
+        | inl h ↦ (h.1 ∙ b.low i x h.0)
+        | inr h ↦ h.2
+      ];
+      ends = λ x i lt bx. elim (cases_eq (place x) (place r)) [
+        | inl q ↦ at_same e r x 0 l q
+        | inr n ↦ at_other e r x 0 n ∙ b.ends x i (let xi : x.id ≡ 1 = i in let d : x.id * 3 + x.state ≢ 1 * 3 + s = n in omega arith) bx
+      ];
+      rest = λ x i le lt. at_other e r x 0 (λ q. let xi : x.id ≡ 1 = i in let h : x.id * 3 + x.state ≡ 1 * 3 + s = q in omega arith) ∙ b.rest x i (omega arith) lt;
+    }
+
+pub end_skips : (a : Asked) (e : Entries) (s : ℕ) → IsBegun a s e → is_bad a.inv s ≡ false → IsBegun a (s + 1) e
+end_skips a e s b good =
+    record {
+      searched = b.searched;
+      low = b.low;
+      ends = λ x i lt bx. elim (cases_lt x.state s) [
+        | inl l ↦ b.ends x i l bx
+        | inr g ↦ absurd (let q : x.state ≡ s = omega arith in let w : true ≡ false = sym bx ∙ ap (λ (y : ℕ). is_bad a.inv y) q ∙ good in cc)
+      ];
+      rest = λ x i le lt. b.rest x i (omega arith) lt;
+    }

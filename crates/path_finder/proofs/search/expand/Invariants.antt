@@ -1,0 +1,15 @@
+use Rattle.std.proofs.Common.{◌<◌}
+use Rattle.path_finder.specs.declared.pair.Pair.{Pair}
+use Rattle.path_finder.specs.Asking.{asked}
+use Rattle.path_finder.specs.Walks.{IsPairOf, Leads}
+use Rattle.path_finder.specs.Tables.{at, Grows}
+use Rattle.path_finder.specs.Turns.{IsTurn}
+use Rattle.path_finder.proofs.search.expand.Given as goal
+
+abbrev pub invariant-loop-state : goal.invariant-loop-state
+invariant-loop-state l =
+    record {
+      turn : IsTurn (asked l.question) l.turn l.table;
+      grows : Grows l.initial.table l.table;
+      entered : (p : Pair) → IsPairOf (asked l.question) p → p.state < l.state → Leads (asked l.question) p l.turn.pair → at l.table p < 65535;
+    }

@@ -1,0 +1,22 @@
+use Rattle.std.proofs.Common.{◌≡◌, ◌+◌, ◌≤◌, ◌<◌, List, ℕ, ◌∷◌, length, vec_len, vec_capacity}
+use Rattle.path_finder.specs.Asking.{asked}
+use Rattle.path_finder.specs.Walks.{IsPairOf}
+use Rattle.path_finder.specs.Tables.{at, IsKnown}
+use Rattle.path_finder.proofs.Least.{IsLedTo}
+use Rattle.path_finder.proofs.trace.trace.Given as goal
+
+abbrev pub invariant-loop-left : goal.invariant-loop-left
+invariant-loop-left l =
+    record {
+      pair : IsPairOf (asked l.question) l.pair;
+      entry : at l.table l.pair ≡ l.left;
+      known : IsKnown (asked l.question) l.left l.table;
+      stands : l.left < 65535;
+      room : vec_len l.path + l.left ≤ vec_capacity l.path;
+      more : 3073 ≤ vec_capacity l.path;
+      few : length l.path.items + l.left ≤ 3073;
+      front : (front : List ℕ) × (l.path.items ≡ 0 ∷ front) × IsLedTo (asked l.question) l.fn.start front l.pair;
+    }
+
+abbrev pub decreases-loop-left : goal.decreases-loop-left
+decreases-loop-left l = l.left

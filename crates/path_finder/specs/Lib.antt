@@ -1,0 +1,4 @@
+pub mod Asking
+pub mod Walks
+pub mod Tables
+pub mod Turns

@@ -1,0 +1,11 @@
+-- A turn of the search.
+use Rattle.std.specs.Prelude.{◌≡◌, ◌+◌, Some, slice_get}
+use Rattle.path_finder.specs.declared.search.Turn.{Turn}
+use Rattle.path_finder.specs.Walks.{Asked}
+use Rattle.path_finder.specs.Tables.{Entries, at, IsSearched}
+
+-- the turn is that of the pair that was entered at its place, and those that lead to this pair are one edge further away
+pub record IsTurn (a : Asked) (t : Turn) (e : Entries) : Type 0 where
+  pub searched : IsSearched a t.next e
+  pub pair : slice_get e.entered t.next ≡ Some t.pair
+  pub distance : at e t.pair + 1 ≡ t.distance

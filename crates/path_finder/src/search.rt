@@ -1,0 +1,112 @@
+//! The search backwards: the distances of pairs, from TERMINAL in the bad state on.
+ghost use Rattle.std.specs.Prelude.{◌≡◌, ◌≤◌, ◌<◌, ◌+◌, ◌*◌, true};
+ghost use Rattle.partition_graph.specs.Parts.{HasEdgesBelow};
+ghost use Rattle.path_finder.specs.Asking.{asked};
+ghost use Rattle.path_finder.specs.Walks.{state_at, IsPairOf, Leads};
+ghost use Rattle.path_finder.specs.Tables.{at, Grows, HasEnds, IsBegun, IsMeasured, IsSearched};
+ghost use Rattle.path_finder.specs.Turns.{IsTurn};
+
+use crate::pair::Pair;
+use crate::question::Question;
+use crate::table::{OPEN, Table};
+
+/// A turn of the search: the pair whose turn it is, its place in the order in which pairs were entered, and the
+/// distance of the pairs that lead to it.
+#[derive(Clone, Copy)]
+struct Turn {
+    next: usize,
+    pair: Pair,
+    distance: u16,
+}
+
+/// Enters the pair, if it is open and an edge leads from it to the pair whose turn it is.
+fn enter_pair(question: &Question<'_>, table: &mut Table, turn: Turn, pair: Pair)
+    requires turn { IsTurn (asked question.now) turn table.old }
+    requires pair { IsPairOf (asked question.now) pair }
+    requires state { state_at (asked question.now) pair.state turn.pair.id ≡ turn.pair.state }
+    ensures turn { IsTurn (asked question.now) turn table.new }
+    ensures grows { Grows table.old table.new }
+    ensures entered { Leads (asked question.now) pair turn.pair → at table.new pair < 65535 }
+{
+    if table.distance(pair) != OPEN {
+        return;
+    }
+    if !question.has_edge(pair.id, turn.pair.id) {
+        return;
+    }
+    table.enter(pair, turn.distance);
+}
+
+/// Enters the open pairs of the state that lead to the pair whose turn it is.
+fn enter_state(question: &Question<'_>, table: &mut Table, turn: Turn, state: u8)
+    requires turn { IsTurn (asked question.now) turn table.old }
+    requires state { state < 3 }
+    ensures turn { IsTurn (asked question.now) turn table.new }
+    ensures grows { Grows table.old table.new }
+    ensures entered { (p : Pair) → IsPairOf (asked question.now) p → p.state ≡ state → Leads (asked question.now) p turn.pair → at table.new p < 65535 }
+{
+    if question.state_at(state, turn.pair.id) != turn.pair.state {
+        return;
+    }
+    for id in 0..question.ids() {
+        enter_pair(question, table, turn, Pair { id, state });
+    }
+}
+
+/// Enters the open pairs that lead to the pair whose turn it is.
+fn expand(question: &Question<'_>, table: &mut Table, turn: Turn)
+    requires { IsTurn (asked question.now) turn table.old }
+    ensures searched { IsSearched (asked question.now) (turn.next + 1) table.new }
+    ensures grows { Grows table.old table.new }
+{
+    for state in 0..3 {
+        enter_state(question, table, turn, state);
+    }
+}
+
+/// Enters TERMINAL in the state, if that is the bad one.
+fn enter_end(question: &Question<'_>, table: &mut Table, state: u8)
+    requires state { state < 3 }
+    requires begun { IsBegun (asked question.now) state table.old }
+    ensures { IsBegun (asked question.now) (state + 1) table.new }
+{
+    if question.is_bad(state) {
+        table.enter(Pair { id: 1, state }, 0);
+    }
+}
+
+/// Leaves TERMINAL in the bad state as the only pair that is entered.
+fn begin(question: &Question<'_>, table: &mut Table)
+    ensures searched { IsSearched (asked question.now) 0 table.new }
+    ensures ends { HasEnds (asked question.now) table.new }
+{
+    table.clear(question.ids() as usize * 3);
+    for state in 0..3 {
+        enter_end(question, table, state);
+    }
+}
+
+/// Finds the distances of pairs, in the order of their distances, until that of the start is found.
+pub(crate) fn measure(question: &Question<'_>, table: &mut Table, start: Pair)
+    requires { IsPairOf (asked question.now) start }
+    ensures { IsMeasured (asked question.now) start table.new }
+{
+    begin(question, table);
+    let mut next = 0;
+    while table.distance(start) == OPEN {
+        let Some(pair) = table.entered(next) else {
+            return;
+        };
+        let distance = table.distance(pair) + 1;
+        expand(
+            question,
+            table,
+            Turn {
+                next,
+                pair,
+                distance,
+            },
+        );
+        next += 1;
+    }
+}

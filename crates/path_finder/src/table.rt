@@ -1,0 +1,86 @@
+//! The table of distances.
+ghost use Rattle.std.specs.Prelude.{◌≡◌, ◌≤◌, ◌<◌, ◌+◌, [], length, replicate, slice_get, IfOk};
+ghost use Rattle.path_finder.specs.Tables.{at, open_count, place, with_pair};
+
+use crate::pair::Pair;
+use std::alloc::{AllocError, Global};
+use std::marker::Model;
+
+/// The most pairs: three states for each of 1,024 ids.
+pub(crate) const MAX_PAIRS: usize = 3072;
+
+/// The distance of a pair that was not entered.
+pub(crate) const OPEN: u16 = 65535;
+
+/// A distance for each pair, and the pairs in the order in which they were entered.
+///
+/// The distance of a pair is the number of edges of the shortest walk from it to TERMINAL that ends in the bad state.
+#[derive(Drop)]
+pub(crate) struct Table {
+    distances: Vec<u16>,
+    entered: Vec<Pair>,
+}
+
+impl Model for Table {
+    ghost use Rattle.std.specs.Prelude.{◌≤◌, vec_capacity};
+    ghost use Rattle.path_finder.specs.Tables.{Entries};
+
+    ghost Value = { Entries };
+
+    ghost view = { λ t. record { distances = t.distances.items; entered = t.entered.items } };
+
+    ghost invariant = { λ t. (3072 ≤ vec_capacity t.distances) × (3072 ≤ vec_capacity t.entered) };
+}
+
+impl Table {
+    /// An empty table with the memory for all pairs.
+    pub fn make(alloc: Global) -> Result<Table, AllocError>
+        ensures { IfOk result (λ table. table.entered ≡ []) }
+    {
+        let distances = Vec::with_capacity(alloc, MAX_PAIRS)?;
+        let entered = Vec::with_capacity(alloc, MAX_PAIRS)?;
+        Ok(Table { distances, entered })
+    }
+
+    /// Leaves this many pairs, all of them open.
+    pub fn clear(&mut self, pairs: usize)
+        requires { pairs ≤ 3072 }
+        ensures distances { (self.new).distances ≡ replicate pairs 65535 }
+        ensures entered { (self.new).entered ≡ [] }
+    {
+        self.entered.clear();
+        self.distances.clear();
+        if self.distances.resize(pairs, OPEN).is_err() {
+            unreachable!()
+        }
+    }
+
+    /// The distance of the pair, which is `OPEN` where it was not entered.
+    pub fn distance(&self, pair: Pair) -> u16
+        requires { place pair < length (self.now).distances }
+        ensures { result ≡ at self.now pair }
+    {
+        self.distances[pair.id as usize * 3 + pair.state as usize]
+    }
+
+    /// The pair that was entered as this one, counted from 0.
+    pub fn entered(&self, index: usize) -> Option<Pair>
+        ensures { result ≡ slice_get (self.now).entered index }
+    {
+        self.entered.get(index).copied()
+    }
+
+    /// Enters an open pair with this distance.
+    pub fn enter(&mut self, pair: Pair, distance: u16)
+        requires within { place pair < length (self.old).distances }
+        requires stands_open { at self.old pair ≡ 65535 }
+        requires closes { distance < 65535 }
+        requires room { length (self.old).entered + open_count self.old ≤ 3072 }
+        ensures { self.new ≡ with_pair self.old pair distance }
+    {
+        self.distances[pair.id as usize * 3 + pair.state as usize] = distance;
+        if self.entered.push(pair).is_err() {
+            unreachable!()
+        }
+    }
+}

@@ -1,0 +1,304 @@
+ghost use Rattle.std.specs.Prelude.{◌≡◌, ◌<◌};
+
+use crate::Finder;
+use invariants::{Invariant, Kind, candidate, candidate_count};
+use partition_graph::{PartGraph, View};
+use std::alloc::Global;
+use std::marker::Brand;
+use std::sync::ledger::{Blank, Ledger};
+use std::test::Fail;
+use steps::Steps;
+use traces::Builder;
+
+/// The graph opened from these traces, each of types between spaces.
+fn graph_of(alloc: Global, traces: &[&str]) -> Result<PartGraph, Fail> {
+    let mut builder = Builder::new(alloc);
+    for (t, trace) in traces.iter().enumerate() {
+        let file = u32::try_from(t)?;
+        for type_text in trace.split_whitespace() {
+            if !type_text.is_empty() && type_text.len() <= 256 {
+                builder.add(file, 0, "", type_text, 0)?;
+            }
+        }
+    }
+    Ok(PartGraph::open(alloc, &builder.finish()?)?)
+}
+
+/// Asks with a counter that nobody reads.
+fn ask<L: Ledger>(
+    alloc: Global,
+    finder: &mut Finder,
+    graph: &PartGraph,
+    inv: Invariant,
+    blank: Blank,
+) -> Result<Vec<u32>, Fail>
+    requires name { blank.name ≡ L.name }
+    requires parts { blank.parts ≡ L.parts }
+    requires stands { 0 < blank.parts }
+{
+    let mut steps = Steps::<L>::open(blank);
+    match finder.least_violation(&View::Plain(graph), inv, &mut steps) {
+        Some(path) => Ok(path.to_vec(alloc)?),
+        None => Ok(Vec::new(alloc)),
+    }
+}
+
+/// The least violation, or no ids where there is none.
+fn find(
+    alloc: Global,
+    finder: &mut Finder,
+    graph: &PartGraph,
+    inv: Invariant,
+) -> Result<Vec<u32>, Fail> {
+    ask::<Brand>(alloc, finder, graph, inv, Blank::new(1))
+}
+
+#[test]
+fn least_paths_of_small_logs(rt: HostRuntime) -> Result<(), Fail> {
+    let alloc = rt.alloc();
+    let two = graph_of(alloc, &["a c d", "b c e"])?;
+    let one = graph_of(alloc, &["a a a"])?;
+    let cases: [(&PartGraph, Kind, u16, u16, &[u32]); 6] = [
+        (&two, Kind::AF, 2, 4, &[0, 2, 3, 6, 1]),
+        (&two, Kind::NF, 3, 4, &[0, 2, 3, 4, 1]),
+        (&two, Kind::NF, 2, 2, &[]),
+        (&one, Kind::NF, 2, 2, &[0, 2, 2, 1]),
+        (&one, Kind::AP, 2, 2, &[0, 2, 1]),
+        (&one, Kind::AF, 0, 2, &[]),
+    ];
+    let mut finder = Finder::make(alloc)?;
+    for (graph, kind, a, b, path) in cases {
+        let found = find(alloc, &mut finder, graph, Invariant { kind, a, b })?;
+        assert_eq!(rt; found.as_slice(), path, "{kind:?}({a},{b})");
+    }
+    Ok(())
+}
+
+/// Whether the word breaks the invariant, by its places.
+fn breaks(inv: Invariant, word: &[u16]) -> bool {
+    for (i, x) in word.iter().enumerate() {
+        let before = word[..i].contains(&inv.a);
+        let after = word[i..].iter().skip(1).any(|y| *y == inv.b);
+        let broken = match inv.kind {
+            Kind::AF => *x == inv.a && !after,
+            Kind::NF => *x == inv.a && after,
+            Kind::AP => *x == inv.b && !before,
+        };
+        if broken {
+            return true;
+        }
+    }
+    false
+}
+
+/// Whether the path is one of the graph that breaks the invariant.
+fn is_violation(
+    alloc: Global,
+    graph: &PartGraph,
+    inv: Invariant,
+    path: &[u32],
+) -> Result<bool, Fail> {
+    if path.last() != Some(&1) {
+        return Ok(false);
+    }
+    let mut word = Vec::new(alloc);
+    for p in path {
+        word.push(graph.type_of(*p))?;
+    }
+    Ok(breaks(inv, &word))
+}
+
+/// Puts as many ids more after `last`, so that a violation stands in `path`: the first one in lexicographic order.
+/// Whether there is one; if not, `path` is as before.
+fn complete(
+    alloc: Global,
+    graph: &PartGraph,
+    inv: Invariant,
+    path: &mut Vec<u32>,
+    last: u32,
+    more: u32,
+) -> Result<bool, Fail> {
+    if more == 0 {
+        return is_violation(alloc, graph, inv, path);
+    }
+    for next in 0..graph.ids_used() {
+        if graph.edge_count(last, next) > 0 {
+            path.push(next)?;
+            if complete(alloc, graph, inv, path, next, more - 1)? {
+                return Ok(true);
+            }
+            let _ = path.pop();
+        }
+    }
+    Ok(false)
+}
+
+/// The first violation, by lengths of fewer edges than the limit and then in lexicographic order, or no ids.
+fn first_by_length(
+    alloc: Global,
+    graph: &PartGraph,
+    inv: Invariant,
+    limit: u32,
+) -> Result<Vec<u32>, Fail> {
+    for more in 1..limit {
+        let mut path = vec![in alloc; 0; 1]?;
+        if complete(alloc, graph, inv, &mut path, 0, more)? {
+            return Ok(path);
+        }
+    }
+    Ok(Vec::new(alloc))
+}
+
+/// Numbers that look random.
+#[derive(Drop)]
+struct Random {
+    state: u64,
+}
+
+impl Random {
+    /// A number below the limit.
+    fn below(&mut self, limit: u64) -> u64
+        requires { 0 < limit }
+        ensures { result < limit }
+    {
+        self.state = self
+            .state
+            .wrapping_mul(6364136223846793005)
+            .wrapping_add(1442695040888963407);
+        (self.state >> 33) % limit
+    }
+}
+
+/// A trace of up to six events, of up to three types.
+fn random_trace(alloc: Global, random: &mut Random, types: u64) -> Result<String, Fail>
+    requires { 0 < types }
+{
+    let mut trace = String::new(alloc);
+    for _ in 0..random.below(7) {
+        trace.push_str(match random.below(types) {
+            0 => "a ",
+            1 => "b ",
+            _ => "c ",
+        })?;
+    }
+    Ok(trace)
+}
+
+/// The graph of a log of three such traces.
+fn random_graph(alloc: Global, random: &mut Random, types: u64) -> Result<PartGraph, Fail>
+    requires { 0 < types }
+{
+    let first = random_trace(alloc, random, types)?;
+    let second = random_trace(alloc, random, types)?;
+    let third = random_trace(alloc, random, types)?;
+    graph_of(alloc, &[&first, &second, &third])
+}
+
+/// As a walk between two ids can be cut where it meets an id twice, a least violation in a graph of three types has at
+/// most nine edges: three to an event of `a`, three to one of `b`, and three to TERMINAL.
+#[test]
+fn answers_as_all_paths_in_order(rt: HostRuntime) -> Result<(), Fail> {
+    let alloc = rt.alloc();
+    let mut random = Random { state: 2011 };
+    let mut finder = Finder::make(alloc)?;
+    for round in 0..120u64 {
+        let graph = random_graph(alloc, &mut random, round % 3 + 1)?;
+        let types = graph.ids_used() - 2;
+        assert!(rt; types <= 3);
+        let limit = if types < 3 { 13 } else { 10 };
+        for index in 0..candidate_count(types) {
+            if let Some(inv) = candidate(types, index) {
+                let found = find(alloc, &mut finder, &graph, inv)?;
+                let wanted = first_by_length(alloc, &graph, inv, limit)?;
+                assert_eq!(rt;
+                    found,
+                    wanted,
+                    "round {round}: {:?}({},{})",
+                    inv.kind, inv.a, inv.b
+                );
+            }
+        }
+    }
+    Ok(())
+}
+
+/// The graph of one trace of 128 types, each once.
+fn chain(alloc: Global) -> Result<PartGraph, Fail> {
+    let mut trace = String::new(alloc);
+    for number in 2..130u32 {
+        trace.push_str(&format!(in alloc; "{number} ")?)?;
+    }
+    graph_of(alloc, &[&trace])
+}
+
+/// There are as many ids as types can be; more come only with splits. The one path goes through all of them, and many
+/// asks have no answer, so each id is looked at in each state.
+#[test]
+fn thousands_of_asks_of_a_long_graph(rt: HostRuntime) -> Result<(), Fail> {
+    let alloc = rt.alloc();
+    let graph = chain(alloc)?;
+    assert_eq!(rt; graph.ids_used(), 130);
+    let mut finder = Finder::make(alloc)?;
+    for a in (2..130u16).step_by(6) {
+        for b in (2..130u16).step_by(8) {
+            for (kind, breaks) in [(Kind::AF, b <= a), (Kind::NF, a < b), (Kind::AP, b <= a)] {
+                let found = find(alloc, &mut finder, &graph, Invariant { kind, a, b })?;
+                let wanted = if breaks { 130 } else { 0 };
+                assert_eq!(rt; found.len(), wanted, "{kind:?}({a},{b})");
+            }
+        }
+    }
+    Ok(())
+}
+
+/// A trace of two types with so many of a between them.
+fn row(alloc: Global, first: &str, letters: u32, last: &str) -> Result<String, Fail> {
+    let mut trace = String::new(alloc);
+    trace.push_str(first)?;
+    for _ in 0..letters {
+        trace.push_str(" a ")?;
+    }
+    trace.push_str(last)?;
+    Ok(trace)
+}
+
+/// Two rows whose partition of a, with the id 3, is divided one place of the second row after another, from its end on.
+fn divided_rows(alloc: Global, letters: u32) -> Result<PartGraph, Fail> {
+    let first = row(alloc, "p", letters, "q")?;
+    let second = row(alloc, "r", letters, "s")?;
+    let mut graph = graph_of(alloc, &[&first, &second])?;
+    let mut next = 6;
+    for _ in 0..letters {
+        if let Some(id) = graph.split(3, next) {
+            next = id;
+        }
+    }
+    Ok(graph)
+}
+
+/// In the end all 1,024 ids are used, and no edge leads from one row to the other. The second row has one path, of
+/// 1,021 ids: its own, with the two ends.
+#[test]
+fn a_thousand_asks_of_a_graph_of_all_ids(rt: HostRuntime) -> Result<(), Fail> {
+    let alloc = rt.alloc();
+    let graph = divided_rows(alloc, 1017)?;
+    assert_eq!(rt; graph.ids_used(), 1024);
+    let cases = [
+        (Kind::AF, 2, 4, 0),
+        (Kind::AF, 5, 4, 1021),
+        (Kind::NF, 2, 6, 0),
+        (Kind::NF, 5, 3, 1021),
+        (Kind::AP, 2, 6, 1021),
+        (Kind::AP, 5, 6, 0),
+        (Kind::NF, 2, 4, 5),
+        (Kind::AF, 3, 4, 1021),
+    ];
+    let mut finder = Finder::make(alloc)?;
+    for _ in 0..125 {
+        for (kind, a, b, wanted) in cases {
+            let found = find(alloc, &mut finder, &graph, Invariant { kind, a, b })?;
+            assert_eq!(rt; found.len(), wanted, "{kind:?}({a},{b})");
+        }
+    }
+    Ok(())
+}
