@@ -1,9 +1,8 @@
 -- The events of traces have the numbers of types.
-use Rattle.std.proofs.Common.{◌≡◌, ℕ, zero, suc, ◌<◌, ◌≤◌, List, [], ◌∷◌, ◌++◌, length, get_or, refl, sym, subst, ⊎_elim, arith, length-append}
+use Rattle.std.proofs.Common.{◌≡◌, ℕ, zero, suc, ◌<◌, ◌≤◌, List, [], ◌∷◌, ◌++◌, length, slice_get, Some, refl, sym, subst, ⊎_elim, arith, length-append}
 use Rattle.std.proofs.lemmas.Bool.{cases_Bool, cond-true, cond-false}
+use Rattle.std.proofs.lemmas.Option.{same_Some, none-some}
 use Rattle.std.specs.List.{All, AllByRecursion}
-use Rattle.traces.specs.Gathered.{trace_views}
-use Rattle.traces.specs.declared.gathered.Gathered.{Gathered}
 use Rattle.traces.specs.Kept.{IsTypeNumber, AreNumbered, HaveTimes, HaveEvents}
 use Rattle.traces.specs.Words.{Trace, same_key, trace_with, with_event}
 use Rattle.traces.specs.declared.key.Key.{Key}
@@ -56,17 +55,13 @@ each P (x ∷ xs) all zero d inside = all.0
 each P (x ∷ xs) all (suc k) d inside = each P xs all.1 k d (omega arith)
 
 -- of the trace at a place
-pub numbers-at : (n : ℕ) (traces : List Gathered) (t : ℕ) (g : Gathered) → AreNumbered n (trace_views traces) → t < length traces → g ≡ get_or traces t g → All (IsTypeNumber n) g.events.items
-numbers-at n [] t g all inside at = absurd (omega arith)
-numbers-at n (trace ∷ traces) zero g all inside at = subst (λ (x : Gathered). All (IsTypeNumber n) x.events.items) (sym at) (each (IsTypeNumber n) trace.events.items all.0)
-numbers-at n (trace ∷ traces) (suc t) g all inside at = numbers-at n traces t g all.1 (omega arith) at
+pub numbers-at : (n : ℕ) (traces : List Trace) (t : ℕ) (trace : Trace) → AreNumbered n traces → slice_get traces t ≡ Some trace → All (IsTypeNumber n) trace.events
+numbers-at n [] t trace all at = absurd (none-some trace at)
+numbers-at n (first ∷ traces) zero trace all at = subst (λ (x : Trace). All (IsTypeNumber n) x.events) (same_Some first trace at) (each (IsTypeNumber n) first.events all.0)
+numbers-at n (first ∷ traces) (suc t) trace all at = numbers-at n traces t trace all.1 at
 
 -- the trace at a place has an event
-pub begun-at : (traces : List Gathered) (t : ℕ) (g : Gathered) → HaveEvents (trace_views traces) → t < length traces → g ≡ get_or traces t g → 0 < length g.events.items
-begun-at [] t g all inside at = absurd (omega arith)
-begun-at (trace ∷ traces) zero g all inside at = subst (λ (x : Gathered). 0 < length x.events.items) (sym at) all.0
-begun-at (trace ∷ traces) (suc t) g all inside at = begun-at traces t g all.1 (omega arith) at
-
-pub length-trace_views : (traces : List Gathered) → length (trace_views traces) ≡ length traces
-length-trace_views [] = refl
-length-trace_views (trace ∷ traces) = omega (arith, length-trace_views traces)
+pub begun-at : (traces : List Trace) (t : ℕ) (trace : Trace) → HaveEvents traces → slice_get traces t ≡ Some trace → 0 < length trace.events
+begun-at [] t trace all at = absurd (none-some trace at)
+begun-at (first ∷ traces) zero trace all at = subst (λ (x : Trace). 0 < length x.events) (same_Some first trace at) all.0
+begun-at (first ∷ traces) (suc t) trace all at = begun-at traces t trace all.1 at

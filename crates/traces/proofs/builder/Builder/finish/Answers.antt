@@ -1,26 +1,60 @@
-use Rattle.std.proofs.Common.{◌≡◌, List, length, map, arith, ap, sym, ◌∙◌, subst}
-use Rattle.std.proofs.lemmas.List.{with_items_is}
-use Rattle.std.specs.List.{All}
-use Rattle.std.specs.Vec.{with_items}
-use Rattle.traces.specs.Gathered.{trace_views, IsEnoughFor}
+use Rattle.std.proofs.Common.{◌≡◌, ℕ, List, length, map, ap, sym, ◌∙◌, subst, arith}
+use Rattle.traces.specs.Columns.{laid, AreStarts}
 use Rattle.traces.specs.Kept.{IsKept}
-use Rattle.traces.specs.Words.{Trace, trace_in_order}
-use Rattle.traces.specs.declared.gathered.Gathered.{Gathered}
+use Rattle.traces.specs.Words.{Trace, Log, trace_in_order, in_order, event_count_of}
+use Rattle.traces.proofs.Columned.{length-columned}
+use Rattle.traces.proofs.InOrder.{columned-count}
+use Rattle.traces.proofs.Laid.{zeros-enough}
 use Rattle.traces.proofs.Ordered.{kept-in-order}
-use Rattle.traces.proofs.Zeros.{enough-serve}
 use Rattle.traces.proofs.builder.Builder.finish.Goals as goal
+
+pub lay_in_order-requires-clause-few : goal.lay_in_order-requires-clause-few
+lay_in_order-requires-clause-few c =
+    let keys = c.into_columns-keys.result.0.items in
+    let events = c.into_columns-keys.result.1 in
+    omega (
+      arith,
+      columned-count keys events.places.items events.numbers.items events.times.items c.into_columns-keys.ensures.columns,
+      ap event_count_of c.into_columns-keys.ensures.view,
+      c.self.invariant.count,
+      c.self.invariant.few_events,
+    )
+
+pub lay_in_order-requires-clause-traces : goal.lay_in_order-requires-clause-traces
+lay_in_order-requires-clause-traces c =
+    let keys = c.into_columns-keys.result.0.items in
+    let events = c.into_columns-keys.result.1 in
+    omega (
+      arith,
+      length-columned keys events.places.items events.numbers.items events.times.items,
+      ap length c.into_columns-keys.ensures.view,
+      c.self.invariant.few_traces,
+      c.self.invariant.few_events,
+    )
 
 pub invariant_of-result : goal.invariant_of-result
 invariant_of-result c =
-    let old = c.into_traces-traces.result in
-    let new : List Gathered = c.sort_traces.new.traces in
-    let vec : (with_items old new).items ≡ new = with_items_is old new (omega (arith, c.sort_traces.auto.traces, c.deref_mut.ensures.len)) in
-    let views : trace_views new ≡ map trace_in_order c.self.inside.traces =
-    c.in_ok-sort_traces.ensures ∙ ap (λ (ts : List Gathered). map trace_in_order (trace_views ts)) c.deref_mut.ensures.value ∙ ap (map trace_in_order) c.into_traces-traces.ensures in
-    let types : length c.self.inside.types ≡ length c.from_vec.result = ap length (sym (c.from_vec.ensures ∙ c.into_texts.ensures)) in (
-      subst (λ n. IsKept n (trace_views (with_items old new).items) c.self.inside.event_count) types
-          (subst (λ (ts : List Trace). IsKept (length c.self.inside.types) ts c.self.inside.event_count) (sym (ap trace_views vec ∙ views))
+    let keys = c.into_columns-keys.result.0.items in
+    let events = c.into_columns-keys.result.1 in
+    let done = c.in_ok-events.events in
+    let order : laid keys done.starts.items done.numbers.items done.times.items ≡ map trace_in_order c.self.inside.traces =
+    c.in_ok-events.ensures.order keys (omega arith) ∙ ap (map trace_in_order) c.into_columns-keys.ensures.view in
+    let types : length c.self.inside.types ≡ length c.from_vec.result = ap length (sym (c.from_vec.ensures ∙ c.into_texts.ensures)) in
+    let starts = subst (λ n. AreStarts n (length done.numbers.items) done.starts.items) (omega arith) c.in_ok-events.ensures.starts in (
+      subst (λ n. IsKept n (laid keys done.starts.items done.numbers.items done.times.items) c.self.inside.event_count) types
+          (subst (λ (ts : List Trace). IsKept (length c.self.inside.types) ts c.self.inside.event_count) (sym order)
           (kept-in-order (length c.self.inside.types) c.self.inside.traces c.self.inside.event_count c.self.invariant)),
-      enough-serve c.in_ok-zeros.zeros.items c.zeros_for.result (with_items old new).items (c.in_ok-zeros.ensures.items_if_clones_equal (λ y same. same))
-          (subst (λ (gs : List Gathered). All (IsEnoughFor c.zeros_for.result) gs) c.deref.ensures.value c.zeros_for.ensures),
+      starts,
+      c.in_ok-events.ensures.beside,
+      zeros-enough c.in_ok-zeros.zeros.items c.zeros.result (length keys) (length done.numbers.items) done.starts.items done.times.items (c.in_ok-zeros.ensures.items_if_clones_equal (λ y same. same)) starts c.zeros.ensures,
     )
+
+pub returns : goal.returns
+returns c =
+    let keys = c.into_columns-keys.result.0.items in
+    let done = c.in_ok-events.events in
+    let shown : List (List ℕ) → List Trace → Log = λ types traces. record { types = types; traces = traces } in
+    let order : laid keys done.starts.items done.numbers.items done.times.items ≡ map trace_in_order c.self.inside.traces =
+    c.in_ok-events.ensures.order keys (omega arith) ∙ ap (map trace_in_order) c.into_columns-keys.ensures.view in
+    ap (λ types. shown types (laid keys done.starts.items done.numbers.items done.times.items)) (c.from_vec.ensures ∙ c.into_texts.ensures)
+    ∙ (ap (shown c.self.inside.types) order ∙ ap in_order c.self.view_is)

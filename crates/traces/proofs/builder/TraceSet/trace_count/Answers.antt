@@ -1,0 +1,13 @@
+use Rattle.std.proofs.Common.{arith}
+use Rattle.traces.proofs.Laid.{length-laid, count-shown}
+use Rattle.traces.proofs.builder.TraceSet.trace_count.Goals as goal
+
+pub overflow_cast-result : goal.overflow_cast-result
+overflow_cast-result c =
+    let s = c.self.inside in
+    omega (arith, length-laid s.keys.items s.events.starts.items s.events.numbers.items s.events.times.items, c.self.invariant.0.few_traces, c.self.invariant.0.few_events)
+
+pub returns : goal.returns
+returns c =
+    let s = c.self.inside in
+    omega (arith, count-shown c.args.self.now s.types s.keys.items s.events.starts.items s.events.numbers.items s.events.times.items c.self.view_is)
