@@ -55,16 +55,6 @@ alike-decision number (r ∷ rs) [] line bytes alike = absurd alike
 alike-decision number (r ∷ rs) (s ∷ ss) line bytes alike =
     ap₂ unwrap_or (alike-decide number r s line bytes alike.0) (alike-decision (number + 1) rs ss line bytes alike.1)
 
--- what a build gives is the rule that the grammar reads
-pub built-rule : (form : spec.Form) (text : List ℕ) (re : Re) (names : List (Option (List ℕ))) → IsReadAs text re names
-    → IsSomeAnd (spec.rule_of form text) (Alike (record { form = form; re = re; names = names }))
-built-rule form text re names is = by-tree (read default_config (chars text)) is
-  where
-    by-tree : (o : Option (Nested Re × Names)) → IsSomeAnd o (λ (tree, found). (tree.depth ≤ 250) × SameCaptures re tree.value × (names ≡ found))
-        → IsSomeAnd (option_map (λ (tree, found). record { form = form; re = tree.value; names = found }) o) (Alike (record { form = form; re = re; names = names }))
-    by-tree None h = absurd h
-    by-tree (Some x) h = record { form = refl; names = h.2; captures = h.1 }
-
 -- rules that are alike give the same names
 pub alike-name : (rs ss : List spec.Rule) (number : ℕ) → AreAlike rs ss → fixed_name rs number ≡ fixed_name ss number
 alike-name [] [] number alike = refl

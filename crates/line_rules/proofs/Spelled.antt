@@ -10,10 +10,6 @@ use Rattle.line_rules.specs.Files.{spelled_by, is_space, form_of_word}
 pub no-text : (line : List ℕ) → (IsUtf8 line → ⊥) → spelled_by line ≡ None
 no-text line none = ⊎_elim (λ is. absurd (none (IsUtf8-from_is_utf8 line is))) (λ not. rw not refl) (cases_Bool (is_utf8 line))
 
--- without a pattern nothing is spelled
-pub no-pattern : (line : List ℕ) → IsUtf8 line → length (after_first is_space line) ≡ 0 → spelled_by line ≡ None
-no-pattern line text none = rw (is_utf8-from_IsUtf8 line text, none) refl
-
 -- with a pattern the word decides
 by-word : (line : List ℕ) → IsUtf8 line → 0 < length (after_first is_space line) → spelled_by line ≡ option_map (λ form. (form, after_first is_space line)) (form_of_word (before_first is_space line))
 by-word line text some = rw (is_utf8-from_IsUtf8 line text, lt-ltb 0 (length (after_first is_space line)) some) refl

@@ -12,7 +12,6 @@ pub mod Least
 pub mod Runs
 pub mod Counting
 pub mod Rows
-pub mod Moves
 pub mod Unique
 pub mod Forming
 pub mod Listing

@@ -64,9 +64,6 @@ division_keeps h divided p n t d inv s = satisfies_maps (back p n) (G divided) (
 pub split_is_division : SplitIsDivision
 split_is_division h p q n f = record { fresh = f; undone = split_back p q n h f.1 }
 
-pub split_maps : (h : Assignment) (p q n : ℕ) → IsTyped h → IsFresh n h → Maps (back p n) (G (split p q n h)) (G h)
-split_maps h p q n t f = division_maps h (split p q n h) p n t (split_is_division h p q n f)
-
 pub split_shrinks : SplitShrinks
 split_shrinks h p q n t f w a = division_shrinks h (split p q n h) p n t (split_is_division h p q n f) w a
 

@@ -69,15 +69,6 @@ open_fewer xs i d l o k =
 pub grows_pair : (e : Entries) (r : Pair) (d : ℕ) → at e r ≡ 65535 → Grows e (with_pair e r d)
 grows_pair e r d o = record { known = λ s k. at_known e r s d o k; listed = λ i s q. slice_get_kept e.entered (r ∷ []) i s q }
 
-pub grows_none : (e : Entries) → Grows e e
-grows_none e = record { known = λ r k. refl; listed = λ i r q. q }
-
-pub grows_more : (x y z : Entries) → Grows x y → Grows y z → Grows x z
-grows_more x y z g h = record {
-  known = λ r k. let e : at y r ≡ at x r = g.known r k in let f : at z r ≡ at y r = h.known r (omega arith) in f ∙ e;
-  listed = λ i r q. h.listed i r (g.listed i r q);
-}
-
 -- what has to be so for an open pair to be entered with a distance
 pub record CanEnter (a : Asked) (next : ℕ) (e : Entries) (r : Pair) (d : ℕ) : Type 0 where
   pub searched : IsSearched a next e
@@ -221,54 +212,6 @@ entered_now a t e r few tn pr o ld =
     let v : at (with_pair e r t.distance) r ≡ t.distance = at_same e r r t.distance (omega arith) refl in
     omega arith
 
--- after a turn
-pub turn_ends : (a : Asked) (t : Turn) (e : Entries) → a.ids ≤ 1024 → IsTurn a t e → ((p : Pair) → IsPairOf a p → Leads a p t.pair → at e p < 65535) → IsSearched a (t.next + 1) e
-turn_ends a t e few tn f =
-    let s : IsSearched a t.next e = tn.searched in
-    record {
-      size = s.size;
-      count = s.count;
-      sound = s.sound;
-      found = s.found;
-      listed = s.listed;
-      order = s.order;
-      near = λ j x y qx qy.
-          let u : at e y ≤ at e t.pair + 1 = s.near j t.pair y tn.pair qy in
-          let v : at e t.pair ≤ at e x = s.order t.next (t.next + 1) t.pair x (omega arith) tn.pair qx in
-          omega arith;
-      done = λ i x lt q. elim (cases_lt i t.next) [
-        | inl l ↦ s.done i x l q
-        | inr g ↦
-            let ie : i ≡ t.next = omega arith in
-            let x0 : t.pair ≡ x = same_Some t.pair x (sym tn.pair ∙ ap (λ (k : ℕ). slice_get e.entered k) (sym ie) ∙ q) in
-            subst (λ (z : Pair). IsClosedAt a e z) x0 (λ p pp ld.
-            let o : (j : ℕ) × (slice_get e.entered j ≡ Some p) = s.found p pp (f p pp ld) in
-            s.near o.0 t.pair p tn.pair o.1)
-      ];
-    }
-
--- the first table
-pub blank_begins : (a : Asked) (e : Entries) → 2 ≤ a.ids → e.distances ≡ replicate (a.ids * 3) 65535 → e.entered ≡ [] → IsBegun a 0 e
-blank_begins a e two ds es =
-    let ln : length e.distances ≡ a.ids * 3 = ap length ds ∙ length-replicate {A = ℕ} (a.ids * 3) 65535 in
-    let all : (c : ℕ) → c < a.ids * 3 → slice_index e.distances c ≡ 65535 = λ c k. ap (λ (z : List ℕ). get_or z c 0) ds ∙ get_or-replicate (a.ids * 3) c 65535 0 k in
-    let none : (i : ℕ) (r : Pair) → slice_get e.entered i ≡ Some r → ⊥ = λ i r q. (let w : None ≡ Some r = ap (λ (z : List Pair). slice_get z i) (sym es) ∙ q in cc) in
-    record {
-      searched = record {
-        size = ln;
-        count = let x : open_count e ≤ length e.distances = count_by-le-length (λ d. d == 65535) e.distances in let y : length e.entered ≡ 0 = ap length es in omega arith;
-        sound = λ r p k. absurd (let x : at e r ≡ 65535 = all (place r) (place_within a r p) in omega arith);
-        found = λ r p k. absurd (let x : at e r ≡ 65535 = all (place r) (place_within a r p) in omega arith);
-        listed = λ i r q. absurd (none i r q);
-        order = λ i j r s le q t. absurd (none i r q);
-        near = λ j r s q t. absurd (none 0 r q);
-        done = λ i r lt q. absurd (none i r q);
-      };
-      low = λ i r q. absurd (none i r q);
-      ends = λ r i lt b. absurd (omega arith);
-      rest = λ r i le lt. all (place r) (let x : r.id ≡ 1 = i in let y : r.state < 3 = lt in omega arith);
-    }
-
 pub end_enters : (a : Asked) (e : Entries) (s : ℕ) → 2 ≤ a.ids → s < 3 → IsBegun a s e → is_bad a.inv s ≡ true → IsBegun a (s + 1) (with_pair e (record { id = 1; state = s }) 0)
 end_enters a e s two s3 b bad =
     let r : Pair = record { id = 1; state = s } in
@@ -298,16 +241,4 @@ end_enters a e s two s3 b bad =
         | inr n ↦ at_other e r x 0 n ∙ b.ends x i (let xi : x.id ≡ 1 = i in let d : x.id * 3 + x.state ≢ 1 * 3 + s = n in omega arith) bx
       ];
       rest = λ x i le lt. at_other e r x 0 (λ q. let xi : x.id ≡ 1 = i in let h : x.id * 3 + x.state ≡ 1 * 3 + s = q in omega arith) ∙ b.rest x i (omega arith) lt;
-    }
-
-pub end_skips : (a : Asked) (e : Entries) (s : ℕ) → IsBegun a s e → is_bad a.inv s ≡ false → IsBegun a (s + 1) e
-end_skips a e s b good =
-    record {
-      searched = b.searched;
-      low = b.low;
-      ends = λ x i lt bx. elim (cases_lt x.state s) [
-        | inl l ↦ b.ends x i l bx
-        | inr g ↦ absurd (let q : x.state ≡ s = omega arith in let w : true ≡ false = sym bx ∙ ap (λ (y : ℕ). is_bad a.inv y) q ∙ good in cc)
-      ];
-      rest = λ x i le lt. b.rest x i (omega arith) lt;
     }
