@@ -1,8 +1,8 @@
 -- Why a log is refused.
-use Rattle.std.proofs.Common.{◌≡◌, ◌⊎◌, ℕ, zero, suc, ◌+◌, ◌-◌, ◌<◌, ◌&&◌, ◌==◌, Bool, true, false, cond, not, nat_lt, nat_le, List, [], ◌∷◌, ◌++◌, length, take, drop, Option, Some, None, option_map, sym, ap, ◌∙◌, subst, arith, inl, inr, ⊎_elim, append-nil, length-append}
+use Rattle.std.proofs.Common.{◌≡◌, ◌⊎◌, ℕ, zero, suc, ◌+◌, ◌-◌, ◌<◌, ◌&&◌, ◌==◌, Bool, true, false, cond, not, nat_lt, nat_le, List, [], ◌∷◌, ◌++◌, length, take, drop, Option, Some, None, option_map, refl, sym, ap, ◌∙◌, subst, arith, inl, inr, ⊎_elim, append-nil, length-append}
 use Rattle.std.proofs.lemmas.Option.{none-some}
 use Rattle.std.specs.List.{slice_get, list_any}
-use Rattle.std.specs.Prelude.{IsSomeAnd, IsTrue}
+use Rattle.std.specs.Prelude.{IfSome, IsSomeAnd, IsTrue}
 use Rattle.std.specs.Str.{bytes_eq}
 use Rattle.outside.specs.Counts.{Rose}
 use Rattle.outside.specs.Inputs.{Files, InputState, Lacks}
@@ -10,7 +10,7 @@ use Rattle.traces.specs.Lines.{pieces}
 use Rattle.traces.specs.Words.{Event as KeyedEvent, types_of}
 use Rattle.log_reader.specs.Reading as spec
 use Rattle.log_reader.specs.Reading.{Setting, Decided, decided_piece, line_events, piece_events, section_after, section_at_end, key_file, next_section, at_line, first_of, event_refusal, line_refusal, piece_refusal, limit_refusal, bytes_refusal, pieces_refusal, files_refusal, first_refusal}
-use Rattle.log_reader.specs.Inputs.{with_content, told_contents, lacking, first_lacking, SomeContents, RefusesLog, IsLacking, MayFail, HasReadCause}
+use Rattle.log_reader.specs.Inputs.{with_content, told_contents, lacking, first_lacking, SomeContents, refused_input, RefusesLog, IsLacking, MayFail, HasReadCause}
 use Rattle.log_reader.specs.Files.{HasContent, RefusesFile, IsUnread, HasFileCause}
 use Rattle.log_reader.specs.declared.reader.LogReader.{LogReader}
 use Rattle.log_reader.specs.declared.refusal.At.{At}
@@ -81,6 +81,62 @@ no-fault (Some e) n lines is = let same : e ≡ refused.ReadFault n = cc in line
 never-fault : (s : Setting) (told : Option Files) (names : List (List ℕ)) (n : ℕ) → SomeContents told names (λ contents. first_refusal s contents ≡ Some (refused.ReadFault n)) → ⊥
 never-fault s None names n some = no-fault (first_refusal s some.0) n (lines-files s 0 0 [] 268435456 some.0) some.2
 never-fault s (Some files) names n some = no-fault (first_refusal s (told_contents files names)) n (lines-files s 0 0 [] 268435456 (told_contents files names)) some
+
+-- each refusal of a file's lines names a line of that file
+
+abbrev IsAt : ℕ → Option ReadError → Type 0
+IsAt number None = Unit {0}
+IsAt number (Some e) = IfSome (refused_input e) (λ n. n ≡ number)
+
+at-cond : (number : ℕ) (b : Bool) (x y : Option ReadError) → IsAt number x → IsAt number y → IsAt number (cond b x y)
+at-cond number true x y p q = p
+at-cond number false x y p q = q
+
+at-first : (number : ℕ) (x y : Option ReadError) → IsAt number x → IsAt number y → IsAt number (first_of x y)
+at-first number None y p q = q
+at-first number (Some e) y p q = p
+
+at-limit : (b : Bool) (at : At) → IsAt at.file (Some (cond b (refused.LineTooLong at) refused.InputLimit))
+at-limit true at = refl
+at-limit false at = tt
+
+at-event : (at : At) (types : List (List ℕ)) (count : ℕ) (typ trace : List ℕ) → IsAt at.file (event_refusal at types count typ trace)
+at-event at types count typ trace =
+    let last : Option ReadError = cond (nat_le 1000000 count) (Some (refused.EventLimit at)) None in
+    let third : Option ReadError = cond (not (list_any (bytes_eq typ) types) && nat_le 128 (length types)) (Some (refused.TypeLimit at)) last in
+    let second : Option ReadError = cond (nat_lt 1024 (length trace)) (Some (refused.TraceTooLong at)) third in
+    at-cond at.file (nat_lt 256 (length typ)) (Some (refused.TypeTooLong at)) second refl
+    (at-cond at.file (nat_lt 1024 (length trace)) (Some (refused.TraceTooLong at)) third refl
+    (at-cond at.file (not (list_any (bytes_eq typ) types) && nat_le 128 (length types)) (Some (refused.TypeLimit at)) last refl
+    (at-cond at.file (nat_le 1000000 count) (Some (refused.EventLimit at)) None refl tt)))
+
+at-decided : (ignore : Bool) (at : At) (before : List KeyedEvent) (d : Decided) → IsAt at.file (line_refusal ignore at before d)
+at-decided ignore at before (spec.Event typ trace time) = at-event at (types_of before) (length before) typ trace
+at-decided ignore at before spec.Skip = tt
+at-decided ignore at before spec.Separator = tt
+at-decided ignore at before spec.Undecided = at-cond at.file ignore None (Some (refused.Undecided at)) tt refl
+at-decided ignore at before spec.BadTime = refl
+
+at-pieces : (s : Setting) (number : ℕ) (cut : Bool) (section : ℕ) (before : List KeyedEvent) (line : ℕ) (ps : List (List ℕ)) → IsAt number (pieces_refusal s number cut section before line ps)
+at-pieces s number cut section before line [] = tt
+at-pieces s number cut section before line (p ∷ ps) =
+    let at = at_line number line in
+    let d = decided_piece s.form p in
+    let here : Option ReadError = piece_refusal s at before p in
+    let next : Option ReadError = pieces_refusal s number cut (section_after section d) (before ++ line_events (key_file s number) section d) (line + 1) ps in
+    at-cond number (cut && length ps == 0) (Some (limit_refusal at p)) (first_of here next) (at-limit (nat_lt 65536 (length p)) at)
+    (at-first number here next
+    (at-cond number (nat_lt 65536 (length p)) (Some (refused.LineTooLong at)) (line_refusal s.ignore at before d) refl (at-decided s.ignore at before d))
+    (at-pieces s number cut (section_after section d) (before ++ line_events (key_file s number) section d) (line + 1) ps))
+
+refused-in : (s : Setting) (number section : ℕ) (before : List KeyedEvent) (room : ℕ) (bytes : List ℕ) (e : ReadError) → bytes_refusal s number section before room bytes ≡ Some e
+    → IfSome (refused_input e) (λ n. n ≡ number)
+refused-in s number section before room bytes e is =
+    subst (IsAt number) is (at-pieces s number (nat_lt room (length bytes)) section before 1 (pieces (take (room + 1) bytes)))
+
+after-it : (o : Option ℕ) (number : ℕ) → IfSome o (λ n. n ≡ number) → IfSome o (λ n. number + 1 ≡ suc n)
+after-it None number is = tt
+after-it (Some n) number is = omega (arith, is)
 
 -- the three causes of an answer
 
@@ -175,6 +231,7 @@ refused-log s names k old before after reader room name e so_far at refuses =
       count = k + 1;
       some = omega arith;
       few = omega (arith, below-at names k name at);
+      last = after-it (refused_input e) k (refused-in s k section events room content e here);
       opened = record { opens = opens-next old.opens before.opens after.opens k so_far.none so_far.some refuses.opens; faults = refuses.faults ∙ so_far.faults };
     }
 

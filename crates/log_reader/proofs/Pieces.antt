@@ -100,22 +100,6 @@ pub record IsPartWay (number : ℕ) (cut : Bool) (all : List (List ℕ)) (old no
   pub section : section_at_end (setting_of old).form old.log.section all ≡ section_at_end (setting_of old).form now.log.section rest
   pub log : (events : List KeyedEvent) → IsGatheredOf old.log.builder events → IsPart (setting_of old) number cut old.log.section all events now.log.section now.log.builder line rest
 
-pub part-first : (number : ℕ) (cut : Bool) (all : List (List ℕ)) (old : LogReader) → IsReady old → IsPartWay number cut all old old 1 all
-part-first number cut all old ready = record {
-  ready = ready;
-  setting = refl;
-  section = refl;
-  log = λ events so_far. record {
-    more = [];
-    is = subst (IsGatheredOf old.log.builder) (sym (append-nil events)) so_far;
-    refusal = ap (λ es. pieces_refusal (setting_of old) number cut old.log.section es 1 all) (sym (append-nil events));
-    parts = refl;
-  };
-}
-
-abbrev refusal_of : Setting → ℕ → Bool → ℕ → List KeyedEvent → ℕ → List (List ℕ) → Option ReadError
-refusal_of = pieces_refusal
-
 -- one piece more
 part-more : (s : Setting) (number : ℕ) (cut : Bool) (first : ℕ) (all : List (List ℕ)) (events : List KeyedEvent) (section : ℕ) (old new : Gathering) (line : ℕ) (piece : List ℕ) (rest : List (List ℕ))
     → IsPart s number cut first all events section old line (piece ∷ rest)
@@ -163,23 +147,6 @@ way-more number cut all old now new line piece rest after way is uncut reads =
           (part-more s number cut old.log.section all events now.log.section now.log.builder new.log.builder line piece after (at_rest events so_far) uncut none adds);
     }
 
--- at the end of the file
-pub way-end : (number : ℕ) (cut : Bool) (all : List (List ℕ)) (old now : LogReader) (line : ℕ) (rest : List (List ℕ)) → IsPartWay number cut all old now line rest → rest ≡ [] → ReadsPieces number cut all old now
-way-end number cut all old now line rest way is =
-    let s = setting_of old in
-    record {
-      ready = way.ready;
-      setting = way.setting;
-      section = sym (way.section ∙ ap (section_at_end s.form now.log.section) is);
-      log = λ events so_far.
-          let part = way.log events so_far in
-          let whole : piece_events s.form (key_file s number) old.log.section all ≡ part.more = part.parts ∙ (ap (λ ps. part.more ++ piece_events s.form (key_file s number) now.log.section ps) is ∙ append-nil part.more) in
-          record {
-            refusal = part.refusal ∙ ap (pieces_refusal s number cut now.log.section (events ++ part.more) line) is;
-            log = subst (λ es. IsGatheredOf now.log.builder (events ++ es)) (sym whole) part.is;
-          };
-    }
-
 first-of : (o next : Option ReadError) (e : ReadError) → IsRefusal o e → IsRefusal (first_of o next) e
 first-of None next e is = ⊎_elim (λ memory. inl memory) (λ none. absurd (none-some e none)) is
 first-of (Some x) next e is = is
@@ -199,19 +166,6 @@ way-refused number cut all old now line piece rest after e way is uncut refusal 
     subst (λ o. IsRefusal o e)
     (sym (part.refusal ∙ (ap (pieces_refusal s number cut now.log.section es line) is ∙ cond-false (cut && length after == 0) (Some (limit_refusal at piece)) (first_of (piece_refusal s at es piece) next) uncut)))
     (first-of (piece_refusal s at es piece) next e here)
-
--- the piece with the byte past the limit
-pub way-limit : (number : ℕ) (cut : Bool) (all : List (List ℕ)) (old now : LogReader) (line : ℕ) (piece : List ℕ) (rest after : List (List ℕ)) (e : ReadError)
-    → IsPartWay number cut all old now line rest → rest ≡ piece ∷ after → (cut && length after == 0) ≡ true → e ≡ limit_refusal (at_line number line) piece → IsPiecesRefusal number cut all old e
-way-limit number cut all old now line piece rest after e way is closed limit = λ events so_far.
-    let s = setting_of old in
-    let part = way.log events so_far in
-    let es = events ++ part.more in
-    let at = at_line number line in
-    let d = decided_piece s.form piece in
-    let next : Option ReadError = pieces_refusal s number cut (section_after now.log.section d) (es ++ line_events (key_file s number) now.log.section d) (line + 1) after in
-    inr (part.refusal ∙ (ap (pieces_refusal s number cut now.log.section es line) is
-    ∙ (cond-true (cut && length after == 0) (Some (limit_refusal at piece)) (first_of (piece_refusal s at es piece) next) closed ∙ ap (λ x. Some x) (sym limit))))
 
 -- where the file is cut, bytes follow
 pub some-after : (cut : Bool) (after : List ℕ) → cut ≡ true → (cut && length (pieces after) == 0) ≡ false → 0 < length after

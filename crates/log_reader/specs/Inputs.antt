@@ -1,5 +1,5 @@
 -- The inputs of a log, and why reading them ends as it does.
-use Rattle.std.specs.Prelude.{ℕ, ◌≡◌, ◌≤◌, ◌⊎◌, ◌+◌, ◌-◌, ◌^◌, min, List, [], ◌∷◌, length, slice_get, IsTrue, IsSomeAnd, Option, Some, None, option_map}
+use Rattle.std.specs.Prelude.{ℕ, suc, ◌≡◌, ◌≤◌, ◌⊎◌, ◌+◌, ◌-◌, ◌^◌, min, List, [], ◌∷◌, length, slice_get, IsTrue, IsSomeAnd, IfSome, Option, Some, None, option_map}
 use Rattle.std.specs.Io.KnownBytes.{IsAtEnd}
 use Rattle.outside.specs.Counts.{Rose}
 use Rattle.outside.specs.Inputs.{Files, InputState, bytes_of}
@@ -49,12 +49,26 @@ pub record ReadsLog (s : Setting) (names : List (List ℕ)) (old new : InputStat
   pub opened : Opened (length names) old new
   pub at_end : IsAtEnd new.rest
 
--- the inputs have this first refusal, and some of them were opened
+-- the number of the input with the line that is refused, where a line is named
+abbrev pub refused_input : ReadError → Option ℕ
+refused_input (refused.LineTooLong at) = Some at.file
+refused_input (refused.Undecided at) = Some at.file
+refused_input (refused.BadTime at) = Some at.file
+refused_input (refused.TypeTooLong at) = Some at.file
+refused_input (refused.TraceTooLong at) = Some at.file
+refused_input (refused.TypeLimit at) = Some at.file
+refused_input (refused.EventLimit at) = Some at.file
+refused_input (refused.ReadFault number) = Some number
+refused_input refused.InputLimit = None
+refused_input refused.Memory = None
+
+-- the inputs have this first refusal, and some of them were opened: those up to the one with the line that is refused
 pub record RefusesLog (s : Setting) (names : List (List ℕ)) (old new : InputState) (e : ReadError) : Type 0 where
   pub refusal : SomeContents old.files names (λ contents. first_refusal s contents ≡ Some e)
   pub count : ℕ
   pub some : 1 ≤ count
   pub few : count ≤ length names
+  pub last : IfSome (refused_input e) (λ number. count ≡ suc number)
   pub opened : Opened count old new
 
 -- files are told, the one with this number is the first that is not there, and nothing in those before it is refused

@@ -38,6 +38,7 @@ refuses s f task old new mid e same leads silent log = record {
   count = log.count;
   some = log.some;
   few = log.few;
+  last = log.last;
   opened = leads.opens log.count new.inputs log.opened;
   silent = silent;
 }

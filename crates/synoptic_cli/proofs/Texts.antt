@@ -47,15 +47,6 @@ fails-within f texts count x old mid new lt before fails =
           (Appends-trans old.written mid.written new.written first (take fails.0 part) before.written fails.1),
     )
 
--- a write of the same text
-pub whole-is : {T E : Type 0} (old : SinkState) (a b : List ℕ) (r : Result T E) (new : SinkState) → a ≡ b → WholeGives old a r new → WholeGives old b r new
-whole-is old a b r new same gives = subst (λ t. WholeGives old t r new) same gives
-
--- what a write leaves, whichever way it ended
-pub told-by : {T E : Type 0} (old : SinkState) (text : List ℕ) (r : Result T E) (new : SinkState) → WholeGives old text r new → Tells text old new
-told-by old text (Ok x) new gives = inl gives.0
-told-by old text (Err e) new gives = inr gives
-
 -- a count that rose later rose
 pub rose-since : (before mid now : ℕ) → before ≤ mid → Rose mid now → Rose before now
 rose-since before mid now up rose = omega arith
