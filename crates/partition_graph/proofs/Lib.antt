@@ -6,3 +6,4 @@ pub mod Words
 pub mod Listing
 pub mod Gathered
 pub mod Moving
+pub mod Starting

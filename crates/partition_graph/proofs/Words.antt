@@ -115,17 +115,6 @@ traces-le (c ∷ cs) =
     let p : length (put_before (event_of c) (traces_of cs)) ≤ suc (length (traces_of cs)) = length-put_before (event_of c) (traces_of cs) in
     elim c.last as (λ b. length (cond b ((event_of c ∷ []) ∷ traces_of cs) (put_before (event_of c) (traces_of cs))) ≤ suc (length cs)) [ true ↦ omega arith | false ↦ omega arith ]
 
--- the words of a gathering
-pub none_gathered : (bound : ℕ) (words : List (List ℕ)) → IsGathered bound words 0 [] []
-none_gathered bound words =
-    record {
-      cells_are = refl;
-      count = refl;
-      firsts_are = λ t l. absurd (let z : t < 0 = l in omega arith);
-      some = tt;
-      numbered = tt;
-    }
-
 first_at : (bound : ℕ) (words : List (List ℕ)) (t : ℕ) (cells : List Cell) (firsts : List ℕ) → IsGathered bound words t cells firsts → (k : ℕ) → k < t + 1 → get_or (firsts ++ length cells ∷ []) k 0 ≡ length (flat_map cells_of (take k words))
 first_at bound words t cells firsts g k b =
     let n : length firsts ≡ t = g.count in

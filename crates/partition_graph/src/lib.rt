@@ -4,10 +4,12 @@
 mod cells;
 mod counts;
 mod graph;
+mod law;
 mod splitting;
 #[cfg(test)]
 mod tests;
 mod view;
 
 pub use graph::PartGraph;
+pub use law::starts_are_typed;
 pub use view::View;

@@ -1,0 +1,5 @@
+use Rattle.splitter.proofs.Steps.{divides-some}
+use Rattle.splitter.proofs.refining.place_before_end.Goals as goal
+
+pub place-requires-clause-some : goal.place-requires-clause-some
+place-requires-clause-some c = divides-some c.args.graph.now.traces c.args.path.now c.args.graph.now.used c.requires.divides

@@ -1,0 +1,87 @@
+//! Where a path leaves the traces.
+ghost use Rattle.std.specs.Prelude.{◌≡◌, ◌<◌, ◌+◌, IfOk, IfSome, IsOk, Some, length, slice_get};
+ghost use Rattle.partition_model.specs.Assignments.{events, id_list};
+ghost use Rattle.partition_model.specs.Listings.{first_event};
+ghost use Rattle.partition_model.specs.Refinement.{common, stitch};
+
+use partition_graph::PartGraph;
+use std::alloc::{AllocError, Global};
+use std::marker::Model;
+
+/// Finds the places at which paths leave the traces.
+///
+/// Contracts see how many events the graphs have that it was made for.
+#[derive(Drop)]
+pub struct Stitcher {
+    event_count: u32,
+}
+
+impl Model for Stitcher {
+    ghost use Rattle.std.specs.Prelude.{ℕ};
+
+    ghost Value = { ℕ };
+
+    ghost view = { λ s. s.event_count };
+}
+
+/// The number behind that of the last event of trace t.
+fn end_of(graph: &PartGraph, t: u32) -> u32
+    requires { t < length (graph.now).traces }
+    ensures { result ≡ first_event (graph.now).traces (t + 1) }
+{
+    let traces = graph.trace_count();
+    if t + 1 < traces {
+        return graph.first_event(t + 1);
+    }
+    graph.event_count()
+}
+
+/// With how many of the path's first ids the ids of trace t begin, INITIAL and TERMINAL among them.
+fn followed_in(graph: &PartGraph, path: &[u32], t: u32) -> usize
+    requires starts { slice_get path.now 0 ≡ Some 0 }
+    requires there { t < length (graph.now).traces }
+    ensures { IfSome (slice_get (graph.now).traces t) (λ trace. result ≡ common path.now (id_list trace)) }
+{
+    let mut place = 1;
+    for event in graph.first_event(t)..end_of(graph, t) {
+        if path.get(place).copied() != Some(graph.part_of(event)) {
+            return place;
+        }
+        place += 1;
+    }
+    if path.get(place).copied() == Some(1) {
+        return place + 1;
+    }
+    place
+}
+
+impl Stitcher {
+    /// A stitcher for graphs with as many events as this one. It takes no memory, so it never refuses; its answer is
+    /// that of all that takes memory.
+    pub fn make(alloc: Global, graph: &PartGraph) -> Result<Stitcher, AllocError>
+        ensures value { IfOk result (λ s. s ≡ length (events (graph.now).traces)) }
+        ensures never { IsOk result }
+    {
+        let _ = alloc;
+        Ok(Stitcher {
+            event_count: graph.event_count(),
+        })
+    }
+
+    /// The place of the path's stitch: the last place, counted from 0, of its longest front with which the ids of some
+    /// trace begin. They stand between those of INITIAL and TERMINAL. It takes no memory.
+    pub fn place(&mut self, graph: &PartGraph, path: &[u32]) -> usize
+        requires starts { slice_get path.now 0 ≡ Some 0 }
+        requires some { 0 < length (graph.now).traces }
+        requires made { self.old ≡ length (events (graph.now).traces) }
+        ensures value { result ≡ stitch (graph.now).traces path.now }
+        ensures within { result < length path.now }
+        ensures same { self.new ≡ self.old }
+    {
+        let mut longest = 0;
+        for t in 0..graph.trace_count() {
+            longest = longest.max(followed_in(graph, path, t));
+        }
+        longest - 1
+    }
+}
