@@ -9,7 +9,6 @@ use Rattle.std.specs.Ordering.{ord_max}
 use Rattle.partition_model.specs.Assignments.{Event, Assignment, events, ids_of, id_list}
 use Rattle.partition_model.specs.Listings.{first_event, parts_of}
 use Rattle.partition_model.specs.Refinement.{common, followed, stitch}
-use Rattle.partition_model.proofs.Stitching.{common-le}
 use Rattle.partition_model.proofs.Longest.{stitch_is_last}
 
 -- one id more in common
@@ -177,9 +176,6 @@ following-end h path t place event k l q d =
     let p : place ≡ suc (length tr) = end-place h t event place l k.place_is q in
     let g : slice_get (id_list tr) place ≡ Some 1 = ap (slice_get (id_list tr)) p ∙ id-end tr (length tr) refl in
     answer h path t place l (follow-stop place path (id_list tr) k.follows (λ x a b. d (a ∙ sym b ∙ g)))
-
-pub following-le : (h : Assignment) (path : List ℕ) (t place event : ℕ) → IsFollowing h path t place event → place ≤ length path
-following-le h path t place event k = let a : common path (id_list (trace_at h t)) ≤ length path = common-le path (id_list (trace_at h t)) in let f : place ≤ common path (id_list (trace_at h t)) = k.follows in omega arith
 
 -- the longest of the first traces
 followed-next : (path : List ℕ) (h : Assignment) (t n : ℕ) → t < length h → IfSome (slice_get h t) (λ trace. n ≡ common path (id_list trace))

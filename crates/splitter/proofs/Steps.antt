@@ -6,7 +6,7 @@ use Rattle.invariants.specs.declared.Invariant.{Invariant}
 use Rattle.invariants.specs.declared.records.Split.{Split}
 use Rattle.invariants.specs.Holds.{Holds}
 use Rattle.traces.specs.Words.{log_of}
-use Rattle.partition_model.specs.Graphs.{Graph, IsPath, Satisfies, IsLeastViolation}
+use Rattle.partition_model.specs.Graphs.{Graph, Satisfies, IsLeastViolation}
 use Rattle.partition_model.specs.Assignments.{Event, Assignment, G, IsTyped, word_of, by_type, inner_words, types_of, events, members}
 use Rattle.partition_model.specs.Refinement.{Splits, Refines, SatisfiesAll, IsNextSplit, after_split, stitch}
 use Rattle.partition_model.specs.Laws.{SatisfiesBefore, IsFresh, IsRun, AreTyped, HoldAll, Divides, EndsIn, NamesRests, IsOneOf}
@@ -15,15 +15,7 @@ use Rattle.partition_model.proofs.Stitching.{stitch_divides}
 use Rattle.partition_model.proofs.Runs.{start-run, one_pass_splits, words-typed, fresh-run, traces-hold, ids_within_rests, fewer_splits}
 use Rattle.partition_graph.specs.Parts.{Parts, inner_words_of}
 use Rattle.partition_graph.proofs.Starting.{start-typed}
-use Rattle.splitter.specs.Refining.{IsOpened, event_count, EndsRefined, IsOnTheWay, IsFull, AreFewer}
-
--- a violation, and its stitch
-path-starts : (g : Graph) (path : List ℕ) → IsPath g path → slice_get path 0 ≡ Some 0
-path-starts g [] w = absurd w
-path-starts g (x ∷ xs) w = ap Some w.0
-
-pub violation-starts : (g : Graph) (inv : Invariant) (path : List ℕ) → IsLeastViolation g inv path → slice_get path 0 ≡ Some 0
-violation-starts g inv path v = path-starts g path v.breaks.0
+use Rattle.splitter.specs.Refining.{IsOpened, event_count, EndsRefined, IsFull, AreFewer}
 
 pub violation-divides : (h : Assignment) (inv : Invariant) (path : List ℕ) (n : ℕ) → IsTyped h → IsFresh n h → AllByRecursion (λ trace. Holds inv (word_of trace)) h
     → IsLeastViolation (G h) inv path → Divides h path n
@@ -112,10 +104,6 @@ two-used invs old now k ss o r =
     let u : now.used ≡ old.used + length ss = r.used in
     omega arith
 
--- what one ask needs
-pub refining-typed : (invs : List Invariant) (old now : Parts) (k : ℕ) (ss : List Split) → IsRefining invs old now k ss → IsTyped now.traces
-refining-typed invs old now k ss r = r.run.typed
-
 pub refining-fresh : (invs : List Invariant) (old now : Parts) (k : ℕ) (ss : List Split) → IsOpened old → IsRefining invs old now k ss → IsFresh now.used now.traces
 refining-fresh invs old now k ss o r = fresh-run (inner_words old.traces) now.traces now.used r.run (two-used invs old now k ss o r)
 
@@ -194,9 +182,6 @@ refining-some invs old now k ss d s o a r l few si v sp =
 pub refining-end : (invs : List Invariant) (old now : Parts) (k : ℕ) (ss : List Split) → IsRefining invs old now k ss → length invs ≤ k → EndsRefined invs old ss now
 refining-end invs old now k ss r l =
     record { run = refines_from invs ss old.traces old.used now.traces r.so_far (all_before (G now.traces) invs k l r.before); used = r.used; within = r.limit }
-
-pub refining-stands : (invs : List Invariant) (old now : Parts) (k : ℕ) (ss : List Split) → IsRefining invs old now k ss → (splits : List Split) × IsOnTheWay invs old splits now
-refining-stands invs old now k ss r = (ss, record { run = r.so_far; used = r.used })
 
 -- all ids are used
 pub refining-full : (invs : List Invariant) (old now : Parts) (k : ℕ) (ss : List Split) (d : Invariant) (path : List ℕ) → IsOpened old → HoldAll (inner_words old.traces) invs → IsRefining invs old now k ss
