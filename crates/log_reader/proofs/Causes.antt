@@ -1,5 +1,5 @@
 -- Why a log is refused.
-use Rattle.std.proofs.Common.{◌≡◌, ◌⊎◌, ℕ, zero, suc, ◌+◌, ◌-◌, ◌<◌, ◌&&◌, ◌==◌, Bool, true, false, cond, not, nat_lt, nat_le, List, [], ◌∷◌, ◌++◌, length, take, drop, Option, Some, None, option_map, refl, sym, ap, ◌∙◌, subst, arith, inl, inr, ⊎_elim, append-nil, length-append}
+use Rattle.std.proofs.Common.{◌≡◌, ◌⊎◌, ℕ, zero, suc, ◌+◌, ◌-◌, ◌<◌, ◌&&◌, ◌==◌, Bool, true, false, cond, not, nat_lt, nat_le, ◌≤◌, ◌^◌, min, List, [], ◌∷◌, ◌++◌, length, take, drop, Option, Some, None, option_map, refl, sym, ap, ◌∙◌, subst, arith, inl, inr, ⊎_elim, append-nil, length-append}
 use Rattle.std.proofs.lemmas.Option.{none-some}
 use Rattle.std.specs.List.{slice_get, list_any}
 use Rattle.std.specs.Prelude.{IfSome, IsSomeAnd, IsTrue}
@@ -247,3 +247,28 @@ up-to-cause s names k old before after reader room name e so_far at cause =
     (λ refuses. inr (refused-log s names k old before after reader room name e so_far at refuses))
     rest))
     cause)
+
+-- the input that could not be read is the one that was read then
+fault-here : (s : Setting) (names : List (List ℕ)) (k n : ℕ) (old before after : InputState) (reader : LogReader) (room : ℕ) (name : List ℕ)
+    → IsUpTo s names k old before reader room → slice_get names k ≡ Some name → HasFileCause before after name k room reader (refused.ReadFault n) → n ≡ k
+fault-here s names k n old before after reader room name so_far at cause =
+    ⊎_elim
+    (λ (is : refused.ReadFault n ≡ refused.Memory). cc)
+    (λ rest. ⊎_elim
+    (λ (unread : IsUnread before after name k (refused.ReadFault n)). cc (unread.answer))
+    (λ (refuses : RefusesFile before after name k room reader (refused.ReadFault n)).
+    absurd (never-fault s old.files names n (refused-log s names k old before after reader room name (refused.ReadFault n) so_far at refuses).refusal))
+    rest)
+    cause
+
+opens-before : (k old now : ℕ) → (k ≡ 0 → now ≡ old) → (0 < k → now ≡ min (old + k) (2 ^ 64 - 1)) → now ≤ old + k
+opens-before zero old now none some = omega (arith, none refl)
+opens-before (suc k) old now none some = omega (arith, some (omega arith))
+
+-- none after it was opened
+pub fault-opens : (s : Setting) (names : List (List ℕ)) (k n : ℕ) (old before after : InputState) (reader : LogReader) (room : ℕ) (name : List ℕ) (e : ReadError)
+    → IsUpTo s names k old before reader room → slice_get names k ≡ Some name → HasFileCause before after name k room reader e → after.opens ≤ before.opens + 1
+    → e ≡ refused.ReadFault n → after.opens ≤ old.opens + (n + 1)
+fault-opens s names k n old before after reader room name e so_far at cause one is =
+    let here : n ≡ k = fault-here s names k n old before after reader room name so_far at (subst (HasFileCause before after name k room reader) is cause) in
+    omega (arith, one, here, opens-before k old.opens before.opens so_far.none so_far.some)

@@ -1,5 +1,5 @@
 -- Pieces of a file, one by one.
-use Rattle.std.proofs.Common.{◌≡◌, ℕ, ◌+◌, ◌<◌, ◌≤◌, ◌&&◌, ◌==◌, Bool, true, false, List, [], ◌∷◌, ◌++◌, length, nat_lt, cond, Option, Some, None, refl, sym, ap, ap₂, ◌∙◌, subst, arith, inl, inr, ⊎_elim, true≢false, append-nil, append_assoc, IsUtf8, encode_utf8_all}
+use Rattle.std.proofs.Common.{◌≡◌, ℕ, ◌+◌, ◌<◌, ◌≤◌, ◌&&◌, ◌==◌, Bool, true, false, List, [], ◌∷◌, ◌++◌, length, nat_lt, cond, Option, Some, None, refl, sym, ap, ap₂, ◌∙◌, subst, arith, inl, ⊎_elim, true≢false, append_assoc, IsUtf8, encode_utf8_all}
 use Rattle.std.proofs.lemmas.Bool.{cases_Bool, cond-true, cond-false}
 use Rattle.std.proofs.lemmas.Bool.Decides.{nat_tests}
 use Rattle.std.proofs.lemmas.Option.{none-some}
@@ -16,7 +16,7 @@ use Rattle.log_reader.specs.declared.refusal.At.{At}
 use Rattle.log_reader.specs.declared.refusal.ReadError.{ReadError}
 use Rattle.log_reader.specs.declared.refusal.ReadError.TheVariants as refused
 use Rattle.log_reader.specs.declared.reader.LogReader.{LogReader}
-use Rattle.log_reader.specs.SoFar.{decider_view, setting_of, IsGatheredOf, IsReady, IsRefusal, TakesLine, refusal_in, piece_refusal_in, ReadsText, ReadsPiece, ReadsPieces, IsPiecesRefusal}
+use Rattle.log_reader.specs.SoFar.{decider_view, setting_of, IsGatheredOf, IsReady, IsRefusal, TakesLine, refusal_in, piece_refusal_in, ReadsText, ReadsPiece, IsPiecesRefusal}
 
 -- one piece
 

@@ -1,5 +1,5 @@
 -- The inputs of a log, and why reading them ends as it does.
-use Rattle.std.specs.Prelude.{ℕ, suc, ◌≡◌, ◌≤◌, ◌⊎◌, ◌+◌, ◌-◌, ◌^◌, min, List, [], ◌∷◌, length, slice_get, IsTrue, IsSomeAnd, IfSome, Option, Some, None, option_map}
+use Rattle.std.specs.Prelude.{ℕ, suc, ◌≡◌, ◌≤◌, ◌⊎◌, ◌+◌, ◌-◌, ◌^◌, min, List, [], ◌∷◌, length, slice_get, IsTrue, IsSomeAnd, IfSome, Option, Some, None, option_map, Result, Err}
 use Rattle.std.specs.Io.KnownBytes.{IsAtEnd}
 use Rattle.outside.specs.Counts.{Rose}
 use Rattle.outside.specs.Inputs.{Files, InputState, bytes_of}
@@ -92,3 +92,7 @@ HasReadCause s names old new (refused.TypeLimit at) = RefusesLog s names old new
 HasReadCause s names old new (refused.EventLimit at) = RefusesLog s names old new (refused.EventLimit at)
 HasReadCause s names old new refused.InputLimit = RefusesLog s names old new refused.InputLimit
 HasReadCause s names old new refused.Memory = Unit {0}
+
+-- where an input could not be read, none after it was opened
+abbrev pub OpensUpToFault : {T : Type 0} → Result T ReadError → InputState → InputState → Type 0
+OpensUpToFault result old new = (number : ℕ) → result ≡ Err (refused.ReadFault number) → new.opens ≤ old.opens + (number + 1)

@@ -3,7 +3,7 @@ ghost use Rattle.std.specs.Prelude.{◌≡◌, ◌<◌, ◌≤◌, ◌+◌, ◌^
 ghost use Rattle.std.specs.String.{string_bytes};
 ghost use Rattle.outside.specs.Inputs.{Stays};
 ghost use Rattle.log_reader.specs.Files.{ReadsFile, HasFileCause};
-ghost use Rattle.log_reader.specs.Inputs.{inputs_of, ReadsLog, HasReadCause};
+ghost use Rattle.log_reader.specs.Inputs.{inputs_of, ReadsLog, HasReadCause, OpensUpToFault};
 ghost use Rattle.log_reader.specs.SoFar.{IsReady};
 ghost use Rattle.log_reader.specs.Views.{form_view};
 
@@ -68,7 +68,8 @@ fn read_file<I: Inputs>(
 /// time is bad is refused either way. With `join` the inputs are one log: traces go on from one to the next,
 /// and separators count over all. The events of a trace stand by their times.
 ///
-/// No more inputs are opened than there are, and where memory was wanted no fault was counted.
+/// No more inputs are opened than there are, none after one that could not be read, and where memory was wanted
+/// no fault was counted.
 /// `ReadFault` comes where an input cannot be opened or read, or is missing where nothing before it is
 /// refused; `Memory` where memory is wanted; and each other refusal is the first in the order of the bytes.
 pub fn read_log<I: Inputs>(
@@ -85,6 +86,7 @@ pub fn read_log<I: Inputs>(
     ensures err { IfErr result (HasReadCause (record { form = form_view form.entry; ignore = ignore; join = join }) (inputs_of (map string_bytes names.now)) (I.state inputs.old) (I.state inputs.new)) }
     ensures memory { result ≡ Err ReadError.Memory → (I.state inputs.new).faults ≡ (I.state inputs.old).faults }
     ensures opens { (I.state inputs.new).opens ≤ (I.state inputs.old).opens + length (inputs_of (map string_bytes names.now)) }
+    ensures fault { OpensUpToFault result (I.state inputs.old) (I.state inputs.new) }
 {
     let Ok(mut reader) = LogReader::new(alloc, form, ignore, join) else {
         return Err(ReadError::Memory);

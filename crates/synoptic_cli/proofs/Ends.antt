@@ -1,103 +1,155 @@
--- Why a run ends where its log is refused.
-use Rattle.std.proofs.Common.{◌≡◌, ◌⊎◌, ◌+◌, ℕ, Bool, List, sym, ap, ◌∙◌, subst, ⊎_elim, inl, inr, arith, Option, None, Some, IsTrue, slice_get, refl}
+-- What a task reads, and why a run ends where its log is refused.
+use Rattle.std.proofs.Common.{◌≡◌, ◌⊎◌, ◌+◌, ◌≤◌, ℕ, Bool, List, [], ◌∷◌, length, sym, ap, subst, ⊎_elim, inl, inr, arith, Option, None, Some, Result, Err, IsTrue, slice_get, refl}
+use Rattle.std.specs.Prelude.{IsSome}
 use Rattle.std.specs.Option.{IsSomeAnd}
 use Rattle.outside.specs.Inputs.{Files, InputState, Stays}
-use Rattle.line_rules.specs.Rules.{Rule}
 use Rattle.line_rules.specs.Patterns.{PatternsState}
-use Rattle.log_reader.specs.Reading.{Form, Setting, first_refusal}
-use Rattle.log_reader.specs.Reading as form
-use Rattle.log_reader.specs.Inputs.{Opened, SomeContents, inputs_of, told_contents, RefusesLog, MayFail, IsLacking, HasReadCause}
+use Rattle.log_reader.specs.Reading.{Setting}
+use Rattle.log_reader.specs.Inputs.{RefusesLog, MayFail as LogMayFail, IsLacking, HasReadCause, inputs_of, refused_input}
 use Rattle.log_reader.specs.declared.refusal.ReadError.{ReadError}
 use Rattle.log_reader.specs.declared.refusal.ReadError.TheVariants as refused
 use Rattle.words.specs.Task.{Task, task_of}
-use Rattle.words.specs.Task as ask
+use Rattle.synoptic_cli.specs.declared.status.Status.{Status}
+use Rattle.synoptic_cli.specs.declared.status.Status.TheVariants.{Memory, ReadFault}
+use Rattle.synoptic_cli.specs.declared.status.Source.{Source}
 use Rattle.synoptic_cli.specs.declared.status.Source.TheVariants as sources
-use Rattle.synoptic_cli.specs.Task.{rules_opened}
-use Rattle.synoptic_cli.specs.Told.{SomeForm, setting}
-use Rattle.synoptic_cli.specs.Causes.{World, status_of, RefusesTask, FailsToRead, HasCause}
-use Rattle.synoptic_cli.specs.Steps.{Ends, ReadsRules}
+use Rattle.synoptic_cli.specs.declared.stages.SoFar as rust
+use Rattle.synoptic_cli.specs.Stages.{Filled, LogFiles, SoFar, Stage, Stop, at_start, input_count, log_stages, log_stop, reads, rules_stages, setting_by, stages_of, status_of, stop_after, stop_at}
+use Rattle.synoptic_cli.specs.Endings.{EndsAfter, EndsOver, IsFirstLacking, SomeBytes}
+use Rattle.synoptic_cli.specs.Causes.{World, FailsToRead, HasCause, Stops, world}
+use Rattle.synoptic_cli.specs.Steps.{Ends, HasRead, IsHeld, LogHalts, Reads, ReadsTask, StopsReading, held_form, setting_of}
 use Rattle.synoptic_cli.proofs.Texts.{rose-since}
-use Rattle.synoptic_cli.proofs.Told.{contents-map}
-use Rattle.synoptic_cli.proofs.Reports.{ReadAlike, opened-is, opened-both}
+use Rattle.synoptic_cli.proofs.Bytes.{bytes-map, bytes-told, input_count-append, later}
+use Rattle.synoptic_cli.proofs.Through.{read-faults, read-more, read-most, read-stop, stop-bytes}
+use Rattle.synoptic_cli.proofs.Rules.{memory-ends}
+use Rattle.synoptic_cli.proofs.LogStage.{AreReadAlike, ReadAlike, alike-forms, log-lacks, log-stage-is, log-stops}
 
--- the form of a task is told, and the log is read after what the task reads first
-pub record LeadsTo (task : Task) (f : Form) (old mid : InputState) : Type 1 where
+-- all stages of a task were read
+pub task-read : (task : Task) (start held : rust.SoFar) (old mid new : InputState) (last : rust.SoFar) → IsHeld start at_start → Stays old mid → Reads (rules_stages task) start old mid held
+    → Reads (log_stages task) held mid new last → ReadsTask task old new last.material
+task-read task start held old mid new last is stays first second =
+    let a = first at_start is in
+    let b = second a.0 a.1 in
+    record { so_far = b.0; value = b.1.material; read = read-more (rules_stages task) (log_stages task) old mid new at_start a.0 b.0 stays a.2 b.2 }
+
+-- what stands before the stage of the log, which is read with this setting
+pub record Before (task : Task) (s : Setting) (old mid : InputState) : Type 0 where
+  pub so_far : SoFar
   pub stays : Stays old mid
-  pub form : (P : Form → Type 0) → P f → SomeForm old.files task.form P
-  pub opens : (count : ℕ) (new : InputState) → Opened count mid new → Opened (rules_opened task.form + count) old new
+  pub read : HasRead (rules_stages task) old mid at_start so_far
+  pub alike : AreReadAlike s (setting_by so_far task.ignore task.join)
+  pub log : log_stages task ≡ LogFiles (inputs_of task.files) task.ignore task.join ∷ []
 
-refuses : (s : Setting) (f : Form) (task : Task) (old new : World) (mid : InputState) (e : ReadError) → ((files : List (List ℕ)) → first_refusal s files ≡ first_refusal (setting task f) files)
-    → LeadsTo task f old.inputs mid → new.out ≡ old.out → RefusesLog s (inputs_of task.files) mid new.inputs e → RefusesTask (status_of e) old new task
-refuses s f task old new mid e same leads silent log = record {
-  e = e;
-  answered = refl;
-  refusal =
-      leads.form (λ g. SomeContents old.inputs.files (inputs_of task.files) (λ contents. first_refusal (setting task g) contents ≡ Some e))
-      (subst (λ files. SomeContents files (inputs_of task.files) (λ contents. first_refusal (setting task f) contents ≡ Some e)) leads.stays.files
-      (contents-map mid.files (inputs_of task.files) (λ contents. first_refusal s contents ≡ Some e) (λ contents. first_refusal (setting task f) contents ≡ Some e) (λ contents p. sym (same contents) ∙ p) log.refusal));
-  count = log.count;
-  some = log.some;
-  few = log.few;
-  last = log.last;
-  opened = leads.opens log.count new.inputs log.opened;
-  silent = silent;
-}
+stop-status : (o : Option ℕ) (most : ℕ) (status : Status) → (stop_at o most status).status ≡ status
+stop-status None most status = refl
+stop-status (Some number) most status = refl
 
-lacking-along : (s t : Setting) (files : Option Files) (names : List (List ℕ)) (number : ℕ) → ((contents : List (List ℕ)) → first_refusal s contents ≡ first_refusal t contents) → IsLacking s files names number → IsLacking t files names number
-lacking-along s t None names number same lacks = absurd lacks
-lacking-along s t (Some fs) names number same lacks = (lacks.0, sym (same (told_contents fs names)) ∙ lacks.1)
+-- a reading that stops ends the run
+stopped : (task : Task) (filled : List Filled) (stop : Stop) → reads at_start filled ≡ Err stop → EndsOver task filled (Err stop)
+stopped task filled stop is = subst (λ (r : Result SoFar Stop). EndsAfter task r (Err stop)) (sym is) refl
 
-fails : (s : Setting) (f : Form) (task : Task) (old new : World) (mid : InputState) (number : ℕ) → ((files : List (List ℕ)) → first_refusal s files ≡ first_refusal (setting task f) files)
-    → LeadsTo task f old.inputs mid → new.out ≡ old.out → MayFail (inputs_of task.files) mid new.inputs number ⊎ IsLacking s mid.files (inputs_of task.files) number → FailsToRead (sources.Log number) old new task
-fails s f task old new mid number same leads silent cause = record {
+-- the log is refused
+refuses : (task : Task) (s : Setting) (old new : World) (mid : InputState) (e : ReadError) → Before task s old.inputs mid → new.out ≡ old.out
+    → RefusesLog s (inputs_of task.files) mid new.inputs e → Stops (status_of e) old new task
+refuses task s old new mid e before silent refusal =
+    let stop = log_stop (length (inputs_of task.files)) e in
+    let here = log-stops before.so_far s (inputs_of task.files) task.ignore task.join mid new.inputs e before.alike refusal in
+    let there =
+    read-stop (rules_stages task) (log_stages task) old.inputs mid new.inputs at_start before.so_far stop before.stays before.read
+    (subst (λ (stages : List Stage). StopsReading stages mid new.inputs before.so_far stop) (sym before.log) here) in
+    record {
+      stop = later (input_count (rules_stages task)) stop;
+      answered = stop-status (refused_input e) (length (inputs_of task.files)) (status_of e);
+      ends = bytes-map old.inputs.files (stages_of task) _ (λ filled. EndsOver task filled (Err (later (input_count (rules_stages task)) stop))) (λ filled is. stopped task filled (later (input_count (rules_stages task)) stop) is) there.bytes;
+      count = there.count;
+      least = there.least;
+      most = there.most;
+      opened = there.opened;
+      silent = silent;
+    }
+
+-- a file of the log is not there
+lacks-told : (s : Setting) (told : Option Files) (names : List (List ℕ)) (number : ℕ) → IsLacking s told names number → IsSome told
+lacks-told s None names number lacks = absurd lacks
+lacks-told s (Some files) names number lacks = refl
+
+first-lacking : (told : Option Files) (task : Task) (source : Source) (count : ℕ) → IsSome told → SomeBytes told (stages_of task) (λ filled. reads at_start filled ≡ Err (stop_after count (ReadFault source)))
+    → IsFirstLacking told task source
+first-lacking None task source count some bytes = cc
+first-lacking (Some files) task source count some bytes = (count, bytes-told files (stages_of task) (λ filled. reads at_start filled ≡ Err (stop_after count (ReadFault source))) bytes)
+
+lacks : (task : Task) (s : Setting) (old mid : InputState) (number : ℕ) → Before task s old mid → IsLacking s mid.files (inputs_of task.files) number → IsFirstLacking old.files task (sources.Log number)
+lacks task s old mid number before lacking =
+    let stop : Stop = stop_after number (ReadFault (sources.Log number)) in
+    let here : SomeBytes mid.files (log_stages task) (λ filled. reads before.so_far filled ≡ Err stop) =
+    subst (λ (stages : List Stage). SomeBytes mid.files stages (λ filled. reads before.so_far filled ≡ Err stop)) (sym before.log)
+    (log-lacks before.so_far s (inputs_of task.files) task.ignore task.join mid.files number before.alike lacking) in
+    first-lacking old.files task (sources.Log number) (input_count (rules_stages task) + number) (subst (λ (files : Option Files). IsSome files) before.stays.files (lacks-told s mid.files (inputs_of task.files) number lacking))
+    (stop-bytes old.files (rules_stages task) (log_stages task) at_start before.so_far stop before.read.bytes
+    (subst (λ (files : Option Files). SomeBytes files (log_stages task) (λ filled. reads before.so_far filled ≡ Err stop)) before.stays.files here))
+
+-- a file of the log could not be read
+fails : (task : Task) (s : Setting) (old new : World) (mid : InputState) (number : ℕ) → Before task s old.inputs mid → new.out ≡ old.out → new.inputs.opens ≤ mid.opens + (number + 1)
+    → LogMayFail (inputs_of task.files) mid new.inputs number ⊎ IsLacking s mid.files (inputs_of task.files) number → FailsToRead (sources.Log number) old new task
+fails task s old new mid number before silent opens cause = record {
   why =
       ⊎_elim
-      (λ (may : MayFail (inputs_of task.files) mid new.inputs number).
-      inl (
-        rose-since old.inputs.faults mid.faults new.inputs.faults leads.stays.faults may.0,
-        subst (λ (may_fail : List ℕ → Bool). IsSomeAnd (slice_get (inputs_of task.files) number) (λ name. IsTrue (may_fail name))) leads.stays.may_fail may.1,
-      ))
-      (λ (lacks : IsLacking s mid.files (inputs_of task.files) number).
-      inr (leads.form (λ g. IsLacking (setting task g) old.inputs.files (inputs_of task.files) number)
-      (subst (λ files. IsLacking (setting task f) files (inputs_of task.files) number) leads.stays.files (lacking-along s (setting task f) mid.files (inputs_of task.files) number same lacks))))
+      (λ (may : LogMayFail (inputs_of task.files) mid new.inputs number).
+      inl (record {
+        rose = rose-since old.inputs.faults mid.faults new.inputs.faults before.stays.faults may.0;
+        may_fail = subst (λ (may_fail : List ℕ → Bool). IsSomeAnd (slice_get (inputs_of task.files) number) (λ name. IsTrue (may_fail name))) before.stays.may_fail may.1;
+      }))
+      (λ (lacking : IsLacking s mid.files (inputs_of task.files) number). inr (lacks task s old.inputs mid number before lacking))
       cause;
+  opens = omega (arith, opens, read-most (input_count (rules_stages task)) old.inputs mid before.read.inputs);
   silent = silent;
 }
 
+-- the task has as many inputs as its file of rules and its log
+inputs-are : (task : Task) (s : Setting) (old mid : InputState) → Before task s old mid → input_count (stages_of task) ≡ input_count (rules_stages task) + length (inputs_of task.files)
+inputs-are task s old mid before =
+    let log : input_count (log_stages task) ≡ length (inputs_of task.files) + 0 = ap input_count before.log in
+    omega (arith, log, input_count-append (rules_stages task) (log_stages task))
+
 -- the run ends by the refusal of its log
-pub log-ends : (s : Setting) (f : Form) (task : Task) (words : List (List ℕ)) (old new : World) (mid : InputState) (e : ReadError) → ((files : List (List ℕ)) → first_refusal s files ≡ first_refusal (setting task f) files)
-    → LeadsTo task f old.inputs mid → new.out ≡ old.out → task_of words ≡ Some task → HasReadCause s (inputs_of task.files) mid new.inputs e → HasCause (status_of e) words old new
-log-ends s f task words old new mid (refused.ReadFault number) same leads silent asks cause = (task, asks, fails s f task old new mid number same leads silent cause)
-log-ends s f task words old new mid (refused.LineTooLong at) same leads silent asks cause = (task, asks, refuses s f task old new mid (refused.LineTooLong at) same leads silent cause)
-log-ends s f task words old new mid (refused.Undecided at) same leads silent asks cause = (task, asks, refuses s f task old new mid (refused.Undecided at) same leads silent cause)
-log-ends s f task words old new mid (refused.BadTime at) same leads silent asks cause = (task, asks, refuses s f task old new mid (refused.BadTime at) same leads silent cause)
-log-ends s f task words old new mid (refused.TypeTooLong at) same leads silent asks cause = (task, asks, refuses s f task old new mid (refused.TypeTooLong at) same leads silent cause)
-log-ends s f task words old new mid (refused.TraceTooLong at) same leads silent asks cause = (task, asks, refuses s f task old new mid (refused.TraceTooLong at) same leads silent cause)
-log-ends s f task words old new mid (refused.TypeLimit at) same leads silent asks cause = (task, asks, refuses s f task old new mid (refused.TypeLimit at) same leads silent cause)
-log-ends s f task words old new mid (refused.EventLimit at) same leads silent asks cause = (task, asks, refuses s f task old new mid (refused.EventLimit at) same leads silent cause)
-log-ends s f task words old new mid refused.InputLimit same leads silent asks cause = (task, asks, refuses s f task old new mid refused.InputLimit same leads silent cause)
-log-ends s f task words old new mid refused.Memory same leads silent asks cause = silent
+log-ends : (task : Task) (s : Setting) (words : List (List ℕ)) (old new : World) (mid : InputState) (e : ReadError) → Before task s old.inputs mid → new.out ≡ old.out → task_of words ≡ Some task
+    → new.inputs.opens ≤ mid.opens + length (inputs_of task.files) → ((number : ℕ) → e ≡ refused.ReadFault number → new.inputs.opens ≤ mid.opens + (number + 1))
+    → HasReadCause s (inputs_of task.files) mid new.inputs e → HasCause (status_of e) words old new
+log-ends task s words old new mid (refused.ReadFault number) before silent asks few fault cause = (task, asks, fails task s old new mid number before silent (fault number refl) cause)
+log-ends task s words old new mid (refused.LineTooLong at) before silent asks few fault cause = (task, asks, refuses task s old new mid (refused.LineTooLong at) before silent cause)
+log-ends task s words old new mid (refused.Undecided at) before silent asks few fault cause = (task, asks, refuses task s old new mid (refused.Undecided at) before silent cause)
+log-ends task s words old new mid (refused.BadTime at) before silent asks few fault cause = (task, asks, refuses task s old new mid (refused.BadTime at) before silent cause)
+log-ends task s words old new mid (refused.TypeTooLong at) before silent asks few fault cause = (task, asks, refuses task s old new mid (refused.TypeTooLong at) before silent cause)
+log-ends task s words old new mid (refused.TraceTooLong at) before silent asks few fault cause = (task, asks, refuses task s old new mid (refused.TraceTooLong at) before silent cause)
+log-ends task s words old new mid (refused.TypeLimit at) before silent asks few fault cause = (task, asks, refuses task s old new mid (refused.TypeLimit at) before silent cause)
+log-ends task s words old new mid (refused.EventLimit at) before silent asks few fault cause = (task, asks, refuses task s old new mid (refused.EventLimit at) before silent cause)
+log-ends task s words old new mid refused.InputLimit before silent asks few fault cause = (task, asks, refuses task s old new mid refused.InputLimit before silent cause)
+log-ends task s words old new mid refused.Memory before silent asks few fault cause =
+    let most = read-most (input_count (rules_stages task)) old.inputs mid before.read.inputs in
+    record { opens = (memory-ends task old.inputs new.inputs old.patterns old.patterns (omega (arith, few, most, inputs-are task s old.inputs mid before)) words old.out asks).opens; silent = silent }
 
--- in the plain form the log is all that is read
-pub plain-ends : (task : Task) (names : List (List ℕ)) (old new : InputState) (patterns : PatternsState) (e : ReadError) → task.form ≡ ask.Plain → names ≡ task.files
-    → HasReadCause (setting task form.Plain) (inputs_of names) old new e → Ends (status_of e) task old new patterns patterns
-plain-ends task names old new patterns e is named cause = λ words out asks.
-    log-ends (setting task form.Plain) form.Plain task words (record { inputs = old; patterns = patterns; out = out }) (record { inputs = new; patterns = patterns; out = out }) old e (λ files. refl)
-    (record {
-      stays = record { files = refl; may_fail = refl; faults = omega arith };
-      form = λ P here. subst (λ (w : ask.Form). SomeForm old.files w P) (sym is) here;
-      opens = λ count later opened. opened-is count (rules_opened task.form + count) old later (omega (arith, ap rules_opened is)) opened;
-    }) refl asks (subst (λ (ns : List (List ℕ)). HasReadCause (setting task form.Plain) (inputs_of ns) old new e) named cause)
+-- the same for what the program holds
+pub log-stage-ends : ReadAlike → (task : Task) (start held : rust.SoFar) (old mid new : InputState) (before after : PatternsState) (e : ReadError) → IsHeld start at_start → Stays old mid
+    → Reads (rules_stages task) start old mid held → LogHalts task (held_form held) mid new e → Ends (status_of e) task old new before after
+log-stage-ends law task start held old mid new before after e is stays first halts = λ words out asks.
+    let a = first at_start is in
+    log-ends task (setting_of task (held_form held)) words (world old before out) (world new after out) mid e
+    (record { so_far = a.0; stays = stays; read = a.2; alike = alike-forms law (held_form held) a.0.form task.ignore task.join a.1.form; log = log-stage-is task halts.reads })
+    refl asks halts.opens halts.fault halts.cause
 
--- the log that is read by rules is that of the rules as the grammar reads them
-pub rules-log-ends : ReadAlike → (task : Task) (names : List (List ℕ)) (old mid new : InputState) (before after : PatternsState) (name : List ℕ) (rules : List Rule) (e : ReadError)
-    → task.form ≡ ask.Rules name → names ≡ task.files → Stays old mid → ReadsRules old mid name rules
-    → HasReadCause (setting task (form.Rules rules)) (inputs_of names) mid new e → Ends (status_of e) task old new before after
-rules-log-ends law task names old mid new before after name rules e is named stays read cause = λ words out asks.
-    log-ends (setting task (form.Rules rules)) (form.Rules read.plain) task words (record { inputs = old; patterns = before; out = out }) (record { inputs = new; patterns = after; out = out }) mid e
-    (λ files. (law rules read.plain task.ignore task.join files read.alike).0)
-    (record {
-      stays = stays;
-      form = λ P here. subst (λ (w : ask.Form). SomeForm old.files w P) (sym is) (read.bytes, read.told, read.plain, read.read, here);
-      opens = λ count later opened. opened-is (1 + count) (rules_opened task.form + count) old later (omega (arith, ap rules_opened is)) (opened-both 1 count old mid later read.opened opened);
-    }) refl asks (subst (λ (ns : List (List ℕ)). HasReadCause (setting task (form.Rules rules)) (inputs_of ns) mid new e) named cause)
+-- memory is answered where memory was wanted
+pub log-memory : (e : ReadError) → status_of e ≡ Memory → e ≡ refused.Memory
+log-memory (refused.ReadFault number) is = cc
+log-memory (refused.LineTooLong at) is = cc
+log-memory (refused.Undecided at) is = cc
+log-memory (refused.BadTime at) is = cc
+log-memory (refused.TypeTooLong at) is = cc
+log-memory (refused.TraceTooLong at) is = cc
+log-memory (refused.TypeLimit at) is = cc
+log-memory (refused.EventLimit at) is = cc
+log-memory refused.InputLimit is = cc
+log-memory refused.Memory is = refl
+
+-- no fault was counted before the stage of the log
+pub stage-faults : (task : Task) (start held : rust.SoFar) (old mid : InputState) → IsHeld start at_start → Reads (rules_stages task) start old mid held → mid.faults ≡ old.faults
+stage-faults task start held old mid is first = read-faults (input_count (rules_stages task)) old mid (first at_start is).2.inputs

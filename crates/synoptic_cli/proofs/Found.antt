@@ -10,14 +10,14 @@ use Rattle.partition_model.specs.Assignments.{Event, Assignment, AllEvents, IsTy
 use Rattle.partition_model.specs.Laws.{GraphsAreFormed}
 use Rattle.partition_model.specs.Listings.{AreBelow, ArePartitions, AreEdges, partition_of}
 use Rattle.reports.specs.Reports.{partition_with}
-use Rattle.synoptic_cli.specs.Printed.{HasText}
+use Rattle.synoptic_cli.specs.Commands.TypeNames.{HasText}
 
 -- a search of the list finds the assignment's partition with this id
 abbrev Finds : Assignment → List Partition → ℕ → Type 0
 Finds h xs id = partition_with xs id ≡ Some (partition_of h id)
 
 -- what is so of each member is so all along the list
-all-members : {X : Type 0} (P : X → Type 0) (xs : List X) → ((x : X) → Contains xs x → P x) → AllByRecursion P xs
+pub all-members : {X : Type 0} (P : X → Type 0) (xs : List X) → ((x : X) → Contains xs x → P x) → AllByRecursion P xs
 all-members P [] f = tt
 all-members P (x ∷ xs) f = (f x (0, omega arith, refl), all-members P xs (λ y c. f y (suc c.0, omega (arith, c.1), c.2)))
 

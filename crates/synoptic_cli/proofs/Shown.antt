@@ -1,10 +1,8 @@
 -- The graph of a log's first assignment shows the log.
-use Rattle.std.proofs.Common.{◌≡◌, ℕ, ◌≤◌, List, [], ◌∷◌, ◌++◌, length, map, refl, ap, ap₂, ◌∙◌, subst}
+use Rattle.std.proofs.Common.{◌≡◌, ℕ, ◌≤◌, List, [], ◌∷◌, ◌++◌, map, refl, ap, ap₂, ◌∙◌, subst}
 use Rattle.std.specs.List.{AllByRecursion}
 use Rattle.traces.specs.Words.{Log, Trace, words_of}
 use Rattle.traces.specs.Words as logs
-use Rattle.invariants.specs.Mined.{MinedTells, mined}
-use Rattle.invariants.specs.declared.Invariant.{Invariant}
 use Rattle.invariants.specs.declared.records.Partition.{Partition}
 use Rattle.invariants.specs.declared.records.Edge.{Edge}
 use Rattle.partition_model.specs.Graphs.{Graph, Accepts, IsPath, word}
@@ -12,9 +10,8 @@ use Rattle.partition_model.specs.Assignments.{Event, Assignment, AllEvents, G, I
 use Rattle.partition_model.specs.Laws.{AcceptsTraces, GraphsAreFormed}
 use Rattle.partition_model.specs.Listings.{AreBelow, ListingsTell, partitions_below, edges_below}
 use Rattle.partition_graph.specs.Parts.{Parts, start_of, inner_words_of}
-use Rattle.reports.specs.Reports.{graph_report, invariant_report}
-use Rattle.words.specs.declared.task.Command.TheVariants.{Invariants, Graph as GraphCommand}
-use Rattle.synoptic_cli.specs.Printed.{Prints, ShowsExactly, parts_report}
+use Rattle.reports.specs.Reports.{graph_report}
+use Rattle.synoptic_cli.specs.Commands.PrintGraph.{ShowsExactly, parts_report}
 use Rattle.synoptic_cli.proofs.Found.{ends-found, names-found}
 
 -- the events of a word, each with its type's number as its id
@@ -63,26 +60,19 @@ graph-shown log accepts tell formed typed two below =
       named = names-found log.types h (partitions_below (start_of log).used h) same below listed.0;
     }
 
--- the text of the lists of the first assignment is the report of the log's graph
-pub graph-printed : (log : Log) (parts : Parts) (used : ℕ) (types : List (List ℕ)) (partitions : List Partition) (edges : List Edge) (text : List ℕ) → AcceptsTraces → ListingsTell → GraphsAreFormed
-    → parts ≡ start_of log → used ≡ parts.used → 2 ≤ used → IsTyped parts.traces → AreBelow used parts.traces → types ≡ log.types → partitions ≡ partitions_below parts.used parts.traces
-    → edges ≡ edges_below parts.used parts.traces → text ≡ graph_report types partitions edges → Prints GraphCommand log text
-graph-printed log parts used types partitions edges text accepts tell formed start count two typed below same-types listed-partitions listed-edges same =
+-- the same for the parts of the graph that was opened
+pub graph-exact : (log : Log) (parts : Parts) (used : ℕ) → AcceptsTraces → ListingsTell → GraphsAreFormed → parts ≡ start_of log → used ≡ parts.used → 2 ≤ used → IsTyped parts.traces → AreBelow used parts.traces
+    → ShowsExactly log
+graph-exact log parts used accepts tell formed start count two typed below =
     let all : used ≡ (start_of log).used = count ∙ ap (λ (s : Parts). s.used) start in
     let traces : parts.traces ≡ (start_of log).traces = ap (λ (s : Parts). s.traces) start in
-    record {
-      value =
-          same ∙ (ap (λ (l : List (List ℕ)). graph_report l partitions edges) same-types
-          ∙ (ap₂ (λ (ps : List Partition) (es : List Edge). graph_report log.types ps es) listed-partitions listed-edges ∙ ap (parts_report log.types) start));
-      exact =
-          graph-shown log accepts tell formed (subst IsTyped traces typed) (subst (λ n. 2 ≤ n) all two)
-          (subst (λ (h : Assignment). AreBelow (start_of log).used h) traces (subst (λ n. AreBelow n parts.traces) all below));
-    }
+    graph-shown log accepts tell formed (subst IsTyped traces typed) (subst (λ n. 2 ≤ n) all two)
+    (subst (λ (h : Assignment). AreBelow (start_of log).used h) traces (subst (λ n. AreBelow n parts.traces) all below))
 
--- the text of the mined invariants is the report of the log's invariants
-pub invariants-printed : (log : Log) (types : List (List ℕ)) (invs : List Invariant) (text : List ℕ) → MinedTells → types ≡ log.types → invs ≡ mined (length log.types) (words_of log)
-    → text ≡ invariant_report types invs → Prints Invariants log text
-invariants-printed log types invs text tells same-types listed same = record {
-  value = same ∙ ap₂ (λ (ts : List (List ℕ)) (is : List Invariant). invariant_report ts is) same-types listed;
-  exact = tells (length log.types) (words_of log);
-}
+-- the text of the lists of the first assignment is that of the log's graph
+pub graph-text : (log : Log) (parts : Parts) (types : List (List ℕ)) (partitions : List Partition) (edges : List Edge) (text : List ℕ) → parts ≡ start_of log → types ≡ log.types
+    → partitions ≡ partitions_below parts.used parts.traces → edges ≡ edges_below parts.used parts.traces → text ≡ graph_report types partitions edges → text ≡ parts_report log.types (start_of log)
+graph-text log parts types partitions edges text start same-types listed-partitions listed-edges same =
+    same
+    ∙ (ap (λ (l : List (List ℕ)). graph_report l partitions edges) same-types
+    ∙ (ap₂ (λ (ps : List Partition) (es : List Edge). graph_report log.types ps es) listed-partitions listed-edges ∙ ap (parts_report log.types) start))

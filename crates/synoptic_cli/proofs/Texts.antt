@@ -1,5 +1,5 @@
 -- Texts that are written one after another.
-use Rattle.std.proofs.Common.{◌≡◌, ℕ, ◌+◌, ◌<◌, ◌≤◌, List, ◌∷◌, ◌++◌, add-one, length, take, drop, get_or, sym, ap, ◌∙◌, subst, arith, Result, Ok, Err, take-append-drop, drop-cons, take_all, inl, inr, ⊎_elim}
+use Rattle.std.proofs.Common.{◌≡◌, ℕ, ◌+◌, ◌<◌, ◌≤◌, List, ◌∷◌, ◌++◌, add-one, length, take, drop, get_or, sym, ap, ◌∙◌, subst, arith, take-append-drop, drop-cons, take_all, ⊎_elim}
 use Rattle.std.proofs.Math.Seq.{take-append-add}
 use Rattle.std.proofs.lemmas.Bool.{cases_lt}
 use Rattle.std.proofs.lemmas.List.{take-append-le}
@@ -8,8 +8,7 @@ use Rattle.std.specs.List.{flat_map}
 use Rattle.std.proofs.KnownBytes.{Appends-trans}
 use Rattle.std.specs.Io.KnownBytes.{Appends}
 use Rattle.outside.specs.Counts.{Rose}
-use Rattle.outside.specs.Sinks.{SinkState, AppendsFront, WholeGives}
-use Rattle.synoptic_cli.specs.Messages.{Tells}
+use Rattle.outside.specs.Sinks.{SinkState, AppendsFront}
 
 -- the first texts were appended, and no count fell
 pub record HasWritten {X : Type 0} (f : X → List ℕ) (texts : List X) (count : ℕ) (old new : SinkState) : Type 0 where

@@ -1,31 +1,103 @@
--- What stands written, beside the report of a task.
-use Rattle.std.proofs.Common.{ℕ, List, subst}
+-- What stands written, and why a run ends after its command was asked.
+use Rattle.std.proofs.Common.{◌≡◌, ℕ, List, Some, Result, Ok, Err, refl, sym, subst, arith}
 use Rattle.std.specs.Io.KnownBytes.{Appends}
 use Rattle.outside.specs.Counts.{Rose}
+use Rattle.outside.specs.Inputs.{InputState}
 use Rattle.outside.specs.Sinks.{AppendsFront}
-use Rattle.log_reader.specs.Inputs.{inputs_of}
-use Rattle.words.specs.Task.{Task}
-use Rattle.synoptic_cli.specs.Told.{IsWhole, report_of}
-use Rattle.synoptic_cli.specs.Causes.{World, Reports, IsDone, FailsToWrite}
-use Rattle.synoptic_cli.specs.Steps.{IsReport, ReportsTask}
-use Rattle.synoptic_cli.proofs.Told.{log-map}
+use Rattle.line_rules.specs.Patterns.{PatternsState}
+use Rattle.line_rules.specs.Files.{KeepsAt}
+use Rattle.line_rules.specs.declared.line_rules.RuleError.{RuleError}
+use Rattle.line_rules.specs.declared.line_rules.RuleError.TheVariants as rule_error
+use Rattle.words.specs.Task.{Task, task_of}
+use Rattle.synoptic_cli.specs.declared.answer.Answer.{Answer}
+use Rattle.synoptic_cli.specs.declared.material.Material.{Material}
+use Rattle.synoptic_cli.specs.declared.status.LimitKind.{LimitKind}
+use Rattle.synoptic_cli.specs.declared.status.Status.{Status}
+use Rattle.synoptic_cli.specs.declared.status.Status.TheVariants.{Done, Usage, Expressions, Log, Limit, ReadFault, WriteFault, Memory}
+use Rattle.synoptic_cli.specs.Stages.{SoFar, Stop, at_start, input_count, reads, stages_of, stop_after}
+use Rattle.synoptic_cli.specs.Commands.{Answers}
+use Rattle.synoptic_cli.specs.Endings.{EndsAfter, EndsOver}
+use Rattle.synoptic_cli.specs.Causes.{World, HasAnswer, HasCause, KeepsCount, WritesAll, WritesPart}
+use Rattle.synoptic_cli.specs.Steps.{Ends, IsVerdict, ReadsTask}
+use Rattle.synoptic_cli.proofs.Bytes.{bytes-map}
+use Rattle.synoptic_cli.proofs.Through.{read-faults, read-most, read-opens}
+use Rattle.synoptic_cli.proofs.Rules.{memory-ends}
 
-pub written-whole : (task : Task) (old new : World) (text : List ℕ) → ReportsTask task old.inputs new.inputs text → Appends old.out.written new.out.written text → IsDone old new task
-written-whole task old new text report appended = record {
-  reports =
-      log-map old.inputs.files task (IsReport task.command text (inputs_of task.files)) (λ s contents. IsWhole (inputs_of task.files) s contents × Reports task.command old.out new.out s contents)
-      (λ s contents found. (found.whole, record { appended = subst (Appends old.out.written new.out.written) found.value appended; exact = found.exact })) report.log;
-  opened = report.opened;
-  at_end = report.at_end;
+-- everything was read, and the command answered
+task-answered : (task : Task) (old new : World) (m : Material) (a : Answer) → ReadsTask task old.inputs new.inputs m → Answers task m (Ok a) → HasAnswer task a old new
+task-answered task old new m a read answers = record {
+  ends =
+      bytes-map old.inputs.files (stages_of task) (λ filled. reads at_start filled ≡ Ok read.so_far) (λ filled. EndsOver task filled (Ok a))
+      (λ filled is. subst (λ (r : Result SoFar Stop). EndsAfter task r (Ok a)) (sym is) (subst (λ (n : Material). Answers task n (Ok a)) (sym read.value) answers)) read.read.bytes;
+  read = read.read.inputs;
 }
 
-pub written-in-part : (task : Task) (old new : World) (text : List ℕ) → ReportsTask task old.inputs new.inputs text → AppendsFront old.out text new.out → Rose old.out.faults new.out.faults
-    → FailsToWrite old new task
-written-in-part task old new text report front rose = record {
-  rose = rose;
-  front =
-      log-map old.inputs.files task (IsReport task.command text (inputs_of task.files)) (λ s contents. IsWhole (inputs_of task.files) s contents × AppendsFront old.out (report_of task.command s contents) new.out)
-      (λ s contents found. (found.whole, subst (λ (t : List ℕ). AppendsFront old.out t new.out) found.value front)) report.log;
-  opened = report.opened;
-  at_end = report.at_end;
-}
+-- a status that comes with a text has that cause
+answer-cause : (status : Status) (words : List (List ℕ)) (task : Task) (old new : World) → IsVerdict status → task_of words ≡ Some task → WritesAll status old new task → HasCause status words old new
+answer-cause Done words task old new is asks written = (task, asks, written)
+answer-cause Usage words task old new is asks written = absurd is
+answer-cause (Expressions e) words task old new is asks written = absurd is
+answer-cause (Log fault) words task old new is asks written = absurd is
+answer-cause (Limit kind) words task old new is asks written = absurd is
+answer-cause (ReadFault source) words task old new is asks written = absurd is
+answer-cause WriteFault words task old new is asks written = absurd is
+answer-cause Memory words task old new is asks written = absurd is
+
+pub written-whole : (task : Task) (words : List (List ℕ)) (old new : World) (m : Material) (a : Answer) → ReadsTask task old.inputs new.inputs m → Answers task m (Ok a) → IsVerdict a.status
+    → Appends old.out.written new.out.written a.text → task_of words ≡ Some task → HasCause a.status words old new
+written-whole task words old new m a read answers verdict appended asks =
+    answer-cause a.status words task old new verdict asks (record { text = a.text; answer = task-answered task old new m a read answers; written = appended })
+
+pub written-in-part : (task : Task) (old new : World) (m : Material) (a : Answer) → ReadsTask task old.inputs new.inputs m → Answers task m (Ok a)
+    → AppendsFront old.out a.text new.out → Rose old.out.faults new.out.faults → WritesPart old new task
+written-in-part task old new m a read answers front rose = record { whole = a; answer = task-answered task old new m a read answers; written = front; rose = rose }
+
+-- the command stops at a limit
+pub limit-ends : (task : Task) (old new : InputState) (before after : PatternsState) (m : Material) (kind : LimitKind) → ReadsTask task old new m → Answers task m (Err kind) → Ends (Limit kind) task old new before after
+limit-ends task old new before after m kind read answers = λ words out asks. (
+  task,
+  asks,
+  record {
+    stop = stop_after (input_count (stages_of task)) (Limit kind);
+    answered = refl;
+    ends =
+        bytes-map old.files (stages_of task) (λ filled. reads at_start filled ≡ Ok read.so_far) (λ filled. EndsOver task filled (Err (stop_after (input_count (stages_of task)) (Limit kind))))
+        (λ filled is.
+        subst (λ (r : Result SoFar Stop). EndsAfter task r (Err (stop_after (input_count (stages_of task)) (Limit kind)))) (sym is)
+        (kind, subst (λ (n : Material). Answers task n (Err kind)) (sym read.value) answers, refl)) read.read.bytes;
+    count = input_count (stages_of task);
+    least = omega arith;
+    most = omega arith;
+    opened = read-opens (input_count (stages_of task)) old new read.read.inputs;
+    silent = refl;
+  },
+)
+
+-- the command wants memory
+pub answer-memory : (task : Task) (old new : InputState) (before after : PatternsState) (m : Material) → ReadsTask task old new m → Ends Memory task old new before after
+answer-memory task old new before after m read = memory-ends task old new before after (read-most (input_count (stages_of task)) old new read.read.inputs)
+
+pub task-faults : (task : Task) (old new : InputState) (m : Material) → ReadsTask task old new m → new.faults ≡ old.faults
+task-faults task old new m read = read-faults (input_count (stages_of task)) old new read.read.inputs
+
+-- where no pattern was refused, each status keeps the count
+keeps-at : (e : RuleError) (before after : PatternsState) → after.refusals ≡ before.refusals → KeepsAt before e after
+keeps-at rule_error.TooLong before after same = same
+keeps-at (rule_error.BadLine number) before after same = same
+keeps-at (rule_error.TooMany number) before after same = same
+keeps-at (rule_error.Syntax number) before after same = same
+keeps-at (rule_error.TooLarge number) before after same = tt
+keeps-at (rule_error.NoType number) before after same = same
+keeps-at (rule_error.MixedTime number) before after same = same
+keeps-at rule_error.NoEvent before after same = same
+keeps-at rule_error.Memory before after same = same
+
+pub keeps-count : (status : Status) (before after : PatternsState) → after.refusals ≡ before.refusals → KeepsCount status before after
+keeps-count Done before after same = same
+keeps-count Usage before after same = same
+keeps-count (Expressions e) before after same = keeps-at e before after same
+keeps-count (Log fault) before after same = same
+keeps-count (Limit kind) before after same = same
+keeps-count (ReadFault source) before after same = same
+keeps-count WriteFault before after same = same
+keeps-count Memory before after same = same

@@ -54,6 +54,10 @@ limit_message limits.Types = codes "synoptic: limit: types 128\n"
 limit_message limits.Events = codes "synoptic: limit: events 1000000\n"
 limit_message limits.Input = codes "synoptic: limit: input 268435456\n"
 
+-- the input that could not be read
+abbrev pub read_message : Option Task → Source → List ℕ
+read_message task source = codes "synoptic: cannot read " ++ shown_source task source ++ codes "\n"
+
 -- what is written where errors go, for a status and the task that was asked for
 abbrev pub task_message : Option Task → Status → List ℕ
 task_message task Done = []
@@ -61,7 +65,7 @@ task_message task Usage = codes "usage: synoptic infer|check|replay|invariants|g
 task_message task (Expressions e) = codes "synoptic: expressions" ++ rule_message e
 task_message task (Log fault) = log_message task fault
 task_message task (Limit kind) = limit_message kind
-task_message task (ReadFault source) = codes "synoptic: cannot read " ++ shown_source task source ++ codes "\n"
+task_message task (ReadFault source) = read_message task source
 task_message task WriteFault = codes "synoptic: cannot write\n"
 task_message task Memory = codes "synoptic: out of memory\n"
 

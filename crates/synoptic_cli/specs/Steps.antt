@@ -1,25 +1,33 @@
 -- What the steps of a run leave before it writes.
-use Rattle.std.specs.Prelude.{ℕ, ◌≡◌, List, length, Some, Ok}
-use Rattle.std.specs.Io.KnownBytes.{IsAtEnd}
+use Rattle.std.specs.Prelude.{ℕ, ◌≡◌, ◌≤◌, List, ◌+◌, length, Option, Some, None, IsSome, option_map, Result, Ok, Err, ⊤}
 use Rattle.outside.specs.Inputs.{InputState}
 use Rattle.outside.specs.Sinks.{SinkState}
 use Rattle.line_rules.specs.Rules.{Rule, AreAlike}
 use Rattle.line_rules.specs.Patterns.{PatternsState}
 use Rattle.line_rules.specs.Files.{rules_of}
+use Rattle.line_rules.specs.Views.{rules_in}
 use Rattle.line_rules.specs.declared.line_rules.RuleError.{RuleError}
 use Rattle.line_rules.specs.declared.line_rules.RuleError.TheVariants as rule_error
-use Rattle.log_reader.specs.Reading.{Setting}
-use Rattle.log_reader.specs.Inputs.{Opened, SomeContents, inputs_of}
+use Rattle.log_reader.specs.Reading.{Form, Setting}
+use Rattle.log_reader.specs.Reading as form
+use Rattle.log_reader.specs.Inputs.{HasReadCause, inputs_of}
+use Rattle.log_reader.specs.declared.refusal.ReadError.{ReadError}
+use Rattle.log_reader.specs.declared.refusal.ReadError.TheVariants as refused
 use Rattle.words.specs.Task.{Task, task_of}
-use Rattle.words.specs.Task as ask
-use Rattle.words.specs.declared.task.Command.{Command}
 use Rattle.words.specs.declared.given.ParseError.{ParseError}
 use Rattle.words.specs.declared.given.ParseError.TheVariants as parse_error
+use Rattle.synoptic_cli.specs.declared.answer.Answer.{Answer}
+use Rattle.synoptic_cli.specs.declared.answer.NoAnswer.{NoAnswer}
+use Rattle.synoptic_cli.specs.declared.answer.NoAnswer.TheVariants as no_answer
+use Rattle.synoptic_cli.specs.declared.material.Material.{Material}
+use Rattle.synoptic_cli.specs.declared.stages.SoFar as rust
+use Rattle.synoptic_cli.specs.declared.status.LimitKind.{LimitKind}
 use Rattle.synoptic_cli.specs.declared.status.Status.{Status}
-use Rattle.synoptic_cli.specs.declared.status.Status.TheVariants.{Usage, Expressions, Memory}
-use Rattle.synoptic_cli.specs.Task.{inputs_opened}
-use Rattle.synoptic_cli.specs.Told.{IsTold, SomeLog, IsWhole, report_of, TellsExactly}
-use Rattle.synoptic_cli.specs.Causes.{HasCause}
+use Rattle.synoptic_cli.specs.declared.status.Status.TheVariants.{Done, Usage, Expressions, Log, Limit, ReadFault, WriteFault, Memory}
+use Rattle.synoptic_cli.specs.Task.{rules_name}
+use Rattle.synoptic_cli.specs.Stages.{Stage, SoFar, Stop, at_start, input_count, reads, stages_of}
+use Rattle.synoptic_cli.specs.Endings.{IsTold, SomeBytes, OpenedAll, ReadAll}
+use Rattle.synoptic_cli.specs.Causes.{HasCause, world}
 
 -- the status that a refusal of the file of rules is answered by: want of memory is no fault of the file
 abbrev pub rules_answer : RuleError → Status
@@ -35,35 +43,91 @@ status_without_task parse_error.Memory = Memory
 abbrev pub Ends : Status → Task → (old new : InputState) (before after : PatternsState) → Type 0
 Ends status task old new before after =
     (words : List (List ℕ)) (out : SinkState) → task_of words ≡ Some task
-    → HasCause status words (record { inputs = old; patterns = before; out = out }) (record { inputs = new; patterns = after; out = out })
+    → HasCause status words (world old before out) (world new after out)
 
 -- so it is for each task that reads its lines by the rules of the named file
 abbrev pub EndsByRules : Status → List ℕ → (old new : InputState) (before after : PatternsState) → Type 0
-EndsByRules status name old new before after = (task : Task) → task.form ≡ ask.Rules name → Ends status task old new before after
+EndsByRules status name old new before after =
+    (task : Task) → rules_name task.form ≡ Some name → Ends status task old new before after
 
--- the named file was read, and its rules are these, up to what a search tells apart
+-- the named file was read to its end, and its rules are these, up to what a search tells apart
 pub record ReadsRules (old new : InputState) (name : List ℕ) (rules : List Rule) : Type 0 where
   pub bytes : List ℕ
   pub told : IsTold old.files name bytes
   pub plain : List Rule
   pub read : rules_of bytes ≡ Ok plain
   pub alike : AreAlike rules plain
-  pub opened : Opened 1 old new
+  pub opened : ReadAll 1 old new
 
--- the text is the command's report of the log of these inputs, which is read whole, and it lists exactly what there is
-pub record IsReport (command : Command) (text : List ℕ) (names : List (List ℕ)) (s : Setting) (contents : List (List ℕ)) : Type 0 where
-  pub whole : IsWhole names s contents
-  pub value : text ≡ report_of command s contents
-  pub exact : TellsExactly command s contents
+-- what decides the lines of a log: the rules that were read, where some were
+abbrev pub form_with : Option (List Rule) → Form
+form_with None = form.Plain
+form_with (Some rules) = form.Rules rules
 
--- the inputs were read to their ends, and the text is the command's report of their log
-pub record ReportsLog (command : Command) (s : Setting) (names : List (List ℕ)) (old new : InputState) (text : List ℕ) : Type 0 where
-  pub log : SomeContents old.files names (IsReport command text names s)
-  pub opened : Opened (length names) old new
-  pub at_end : IsAtEnd new.rest
+-- the two decide lines by rules that no search tells apart, or both in the plain form
+abbrev pub AreAlikeForms : Form → Form → Type 0
+AreAlikeForms form.Plain form.Plain = ⊤
+AreAlikeForms (form.Rules rules) (form.Rules others) = AreAlike rules others
+AreAlikeForms form.Plain (form.Rules others) = ⊥
+AreAlikeForms (form.Rules rules) form.Plain = ⊥
 
--- the inputs of the task were read, the last of them to its end, and the text is the report of its log
-pub record ReportsTask (task : Task) (old new : InputState) (text : List ℕ) : Type 0 where
-  pub log : SomeLog old.files task (IsReport task.command text (inputs_of task.files))
-  pub opened : Opened (inputs_opened task) old new
-  pub at_end : IsAtEnd new.rest
+-- how the program reads its lines by what it holds
+abbrev pub held_form : rust.SoFar → Form
+held_form held = form_with (option_map rules_in held.rules)
+
+-- how a task's log is read, where this decides its lines
+abbrev pub setting_of : Task → Form → Setting
+setting_of task f = record { form = f; ignore = task.ignore; join = task.join }
+
+-- the task reads a log, and its reading ends by this answer of the log's reader, for a cause
+pub record LogHalts (task : Task) (f : Form) (old new : InputState) (e : ReadError) : Type 0 where
+  pub reads : IsSome task.form
+  pub cause : HasReadCause (setting_of task f) (inputs_of task.files) old new e
+  pub opens : new.opens ≤ old.opens + length (inputs_of task.files)
+  pub fault : (number : ℕ) → e ≡ refused.ReadFault number → new.opens ≤ old.opens + (number + 1)
+
+-- the program holds what was read so far, with rules that are alike
+pub record IsHeld (held : rust.SoFar) (so_far : SoFar) : Type 0 where
+  pub form : AreAlikeForms (held_form held) so_far.form
+  pub material : so_far.material ≡ held.material
+
+-- the inputs of the stages were read, and take what was read before to what is read now
+pub record HasRead (stages : List Stage) (old new : InputState) (before now : SoFar) : Type 0 where
+  pub bytes : SomeBytes old.files stages (λ filled. reads before filled ≡ Ok now)
+  pub inputs : ReadAll (input_count stages) old new
+
+-- the stages were read, after what the program held, and gave what it holds now
+abbrev pub Reads : List Stage → rust.SoFar → (old new : InputState) → rust.SoFar → Type 0
+Reads stages before old new now =
+    (so_far : SoFar) → IsHeld before so_far → (next : SoFar) × IsHeld now next × HasRead stages old new so_far next
+
+-- the stages were read up to a stop
+pub record StopsReading (stages : List Stage) (old new : InputState) (before : SoFar) (stop : Stop) : Type 0 where
+  pub bytes : SomeBytes old.files stages (λ filled. reads before filled ≡ Err stop)
+  pub count : ℕ
+  pub least : stop.least ≤ count
+  pub most : count ≤ stop.most
+  pub opened : OpenedAll count old new
+
+-- the task's inputs were read, and this is what the command is to work on
+pub record ReadsTask (task : Task) (old new : InputState) (material : Material) : Type 0 where
+  pub so_far : SoFar
+  pub value : so_far.material ≡ material
+  pub read : HasRead (stages_of task) old new at_start so_far
+
+-- a status that comes with an answer
+abbrev pub IsVerdict : Status → Type 0
+IsVerdict Done = ⊤
+IsVerdict Usage = ⊥
+IsVerdict (Expressions e) = ⊥
+IsVerdict (Log fault) = ⊥
+IsVerdict (Limit kind) = ⊥
+IsVerdict (ReadFault source) = ⊥
+IsVerdict WriteFault = ⊥
+IsVerdict Memory = ⊥
+
+-- what a command gives is what it is to answer, with a verdict, or the limit that it is to stop at; where memory is wanted nothing is said
+abbrev pub Gives : (Result Answer LimitKind → Type 0) → Result Answer NoAnswer → Type 0
+Gives ToAnswer (Ok a) = ToAnswer (Ok a) × IsVerdict a.status
+Gives ToAnswer (Err (no_answer.Limit kind)) = ToAnswer (Err kind)
+Gives ToAnswer (Err no_answer.Memory) = ⊤

@@ -1,16 +1,22 @@
-//! The command line of the program, as a library: what the words ask, from the bytes of the inputs to the bytes of the output.
+//! The command line of the program, as a library: what the words ask, from the bytes of the inputs to the bytes
+//! of the output.
 //!
-//! `run` is the top call. It reads a log, makes the report of its invariants or of its graph, writes it, and answers a `Status`.
-//! `tell` writes the line of a status where errors go.
+//! `run` is the top call. It reads what the task asks for, stage after stage, has its command answer, writes the
+//! answer, and gives a `Status`. `tell` writes the line of a status where errors go.
 #![tactic(auto)]
 
-mod command;
+mod answer;
+mod commands;
+mod law;
+mod material;
 mod message;
-mod printing;
 mod reading;
+mod stages;
 mod status;
 mod task;
+mod top;
 
-pub use command::run;
+pub use law::runs_end_alike;
 pub use message::tell;
 pub use status::{LimitKind, LogFault, Source, Status};
+pub use top::run;

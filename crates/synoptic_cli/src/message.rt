@@ -3,7 +3,7 @@ ghost use Rattle.std.specs.Prelude.{◌≡◌, ◌++◌, Some, codes, decimal, o
 ghost use Rattle.std.specs.List.{flat_map};
 ghost use Rattle.outside.specs.Sinks.{WholeGives};
 ghost use Rattle.words.specs.Task.{task_held};
-ghost use Rattle.synoptic_cli.specs.Messages.{shown, shown_source, rule_message, line_message, log_message, limit_message, task_message, Tells};
+ghost use Rattle.synoptic_cli.specs.Messages.{shown, shown_source, rule_message, line_message, log_message, limit_message, read_message, task_message, Tells};
 
 use crate::status::{LimitKind, LogFault, Source, Status};
 use crate::task::source_name;
@@ -51,7 +51,8 @@ fn shown_source<'a>(task: Option<&Task<'a>>, source: Source) -> &'a str
 
 /// Writes what is wrong with a line of the file of rules.
 fn write_rule_line<E: Sink>(line: u32, what: &str, err: &mut E) -> Result<(), Failed>
-    ensures { WholeGives (E.state err.old) (codes "synoptic: expressions line " ++ decimal line ++ what.now) result (E.state err.new) }
+    ensures { WholeGives (E.state err.old)
+        (codes "synoptic: expressions line " ++ decimal line ++ what.now) result (E.state err.new) }
 {
     let mut digits = Buffer::new();
     write_texts(
@@ -62,7 +63,8 @@ fn write_rule_line<E: Sink>(line: u32, what: &str, err: &mut E) -> Result<(), Fa
 
 /// Writes what is wrong with the file of rules.
 fn write_rule_error<E: Sink>(error: RuleError, err: &mut E) -> Result<(), Failed>
-    ensures { WholeGives (E.state err.old) (codes "synoptic: expressions" ++ rule_message error) result (E.state err.new) }
+    ensures { WholeGives (E.state err.old)
+        (codes "synoptic: expressions" ++ rule_message error) result (E.state err.new) }
 {
     match error {
         RuleError::TooLong => write_whole(err, b"synoptic: expressions: too long\n"),
@@ -84,7 +86,8 @@ fn write_log_line<E: Sink>(
     what: &str,
     err: &mut E,
 ) -> Result<(), Failed>
-    ensures { WholeGives (E.state err.old) (line_message (option_map (λ t. task_held t.now) task.entry) at what.now) result (E.state err.new) }
+    ensures { WholeGives (E.state err.old)
+        (line_message (option_map (λ t. task_held t.now) task.entry) at what.now) result (E.state err.new) }
 {
     let name = shown_source(task, Source::Log(at.file));
     let mut digits = Buffer::new();
@@ -108,7 +111,8 @@ fn write_log_fault<E: Sink>(
     fault: LogFault,
     err: &mut E,
 ) -> Result<(), Failed>
-    ensures { WholeGives (E.state err.old) (log_message (option_map (λ t. task_held t.now) task.entry) fault) result (E.state err.new) }
+    ensures { WholeGives (E.state err.old)
+        (log_message (option_map (λ t. task_held t.now) task.entry) fault) result (E.state err.new) }
 {
     match fault {
         LogFault::LineTooLong(at) => write_log_line(task, at, "line too long", err),
@@ -136,7 +140,8 @@ fn write_read_fault<E: Sink>(
     source: Source,
     err: &mut E,
 ) -> Result<(), Failed>
-    ensures { WholeGives (E.state err.old) (codes "synoptic: cannot read " ++ shown_source (option_map (λ t. task_held t.now) task.entry) source ++ codes "\n") result (E.state err.new) }
+    ensures { WholeGives (E.state err.old)
+        (read_message (option_map (λ t. task_held t.now) task.entry) source) result (E.state err.new) }
 {
     write_texts(
         &["synoptic: cannot read ", shown_source(task, source), "\n"],
@@ -150,7 +155,8 @@ fn write_message<E: Sink>(
     status: Status,
     err: &mut E,
 ) -> Result<(), Failed>
-    ensures { WholeGives (E.state err.old) (task_message (option_map (λ t. task_held t.now) task.entry) status) result (E.state err.new) }
+    ensures { WholeGives (E.state err.old)
+        (task_message (option_map (λ t. task_held t.now) task.entry) status) result (E.state err.new) }
 {
     match status {
         Status::Done => Ok(()),
@@ -164,11 +170,13 @@ fn write_message<E: Sink>(
     }
 }
 
-/// Writes the status's message where errors go, for a run that was asked for this task, if for one. It takes no memory.
+/// Writes the status's message where errors go, for a run that was asked for this task, if for one. It takes no
+/// memory.
 ///
 /// Where the sink fails, a front of the message was written, and the sink counted the fault.
 pub fn tell<E: Sink>(task: Option<&Task<'_>>, status: Status, err: &mut E)
-    ensures { Tells (task_message (option_map (λ t. task_held t.now) task.entry) status) (E.state err.old) (E.state err.new) }
+    ensures { Tells (task_message (option_map (λ t. task_held t.now) task.entry) status)
+        (E.state err.old) (E.state err.new) }
 {
     let _ = write_message(task, status, err);
 }

@@ -13,12 +13,13 @@ use words::{Form, Task};
 const TOO_MANY_FILES: usize = 4_294_967_296;
 
 /// The name of the file of rules, where lines are read by one.
-fn rules_name<'a>(form: Form<'a>) -> Option<&'a str>
-    ensures { option_map (λ s. s.now) result ≡ rules_name (form_held form.entry) }
+pub fn rules_name<'a>(form: Option<Form<'a>>) -> Option<&'a str>
+    ensures { option_map (λ s. s.now) result ≡ rules_name (option_map form_held form.entry) }
 {
     match form {
-        Form::Plain => None,
-        Form::Rules(name) => Some(name),
+        None => None,
+        Some(Form::Plain) => None,
+        Some(Form::Rules(name)) => Some(name),
     }
 }
 

@@ -1,4 +1,5 @@
 pub mod App
 pub mod Given
 pub mod Lines
+pub mod Table
 pub mod Task

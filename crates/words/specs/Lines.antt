@@ -2,15 +2,15 @@
 use Rattle.std.specs.Prelude.{◌≡◌, Bool, true, false, List, [], ◌∷◌, Option, Some, None, codes}
 use Rattle.clap.specs.Words.{Text}
 use Rattle.words.specs.Task.{Form, Plain, Rules, Task, task_of}
-use Rattle.words.specs.declared.task.Command.TheVariants as commands
+use Rattle.words.specs.declared.table.Command.TheVariants as commands
 
 -- the invariants of a log: the form, whether undecided lines are skipped and files joined, and the files
 abbrev pub invariants_of : Form → Bool → Bool → List Text → Option Task
-invariants_of form ignore join files = Some (record { command = commands.Invariants; form = form; ignore = ignore; join = join; files = files })
+invariants_of form ignore join files = Some (record { command = commands.Invariants; form = Some form; ignore = ignore; join = join; files = files })
 
 -- the same for the graph of a log
 abbrev pub graph_of : Form → Bool → Bool → List Text → Option Task
-graph_of form ignore join files = Some (record { command = commands.Graph; form = form; ignore = ignore; join = join; files = files })
+graph_of form ignore join files = Some (record { command = commands.Graph; form = Some form; ignore = ignore; join = join; files = files })
 
 -- lines that ask for invariants, or for a graph
 pub record TakesLines : Type 0 where

@@ -59,14 +59,16 @@ fn flag_of(matches: &ArgMatches<'_>, id: &str) -> bool
 
 /// All values of an argument; None where it has none.
 fn texts_of<'m, 'a>(matches: &'m ArgMatches<'a>, id: &str) -> Option<&'m [&'a str]>
-    ensures { option_map (λ s. map (λ v. v.now) s.now) result ≡ all_of id.now (rows_of (found_of matches.now)) }
+    ensures { option_map (λ s. map (λ v. v.now) s.now) result
+        ≡ all_of id.now (rows_of (found_of matches.now)) }
 {
     matches.get_strs(id)
 }
 
 /// The files, in their order.
 fn files_of<'a>(alloc: Global, matches: &ArgMatches<'a>) -> Result<Vec<&'a str>, AllocError>
-    ensures { IfOk result (λ files. map (λ s. s.now) files.items ≡ (use_of (rows_of (found_of matches.now))).files) }
+    ensures { IfOk result (λ files.
+        map (λ s. s.now) files.items ≡ (use_of (rows_of (found_of matches.now))).files) }
 {
     match texts_of(matches, "FILE") {
         Some(files) => files.to_vec(alloc),

@@ -6,10 +6,12 @@
 mod command;
 mod given;
 mod law;
+mod table;
 mod task;
 #[cfg(test)]
 mod tests;
 
 pub use crate::given::ParseError;
 pub use crate::law::lines_tell;
-pub use crate::task::{Command, Form, Task, parse};
+pub use crate::table::Command;
+pub use crate::task::{Form, Task, parse};

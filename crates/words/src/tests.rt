@@ -140,7 +140,7 @@ impl<'a> Reader<'a> {
 /// Compares a task with what was read by hand.
 fn assert_same(rt: &impl Abort, line: &[&str], task: &Task<'_>, reader: &Reader<'_>) {
     assert_eq!(rt; Some(task.command), reader.command(), "at {line:?}");
-    assert_eq!(rt; Some(task.form), reader.form(), "at {line:?}");
+    assert_eq!(rt; task.form, reader.form(), "at {line:?}");
     assert_eq!(rt; task.ignore, reader.ignore, "at {line:?}");
     assert_eq!(rt; task.join, reader.join, "at {line:?}");
     let are_same = task.files.as_slice() == reader.files.as_slice();

@@ -1,0 +1,137 @@
+-- The stage of the log: what was read of it, and where its reading stops.
+use Rattle.std.proofs.Common.{◌≡◌, ℕ, suc, ◌+◌, ◌<◌, ◌≤◌, Bool, true, false, nat_lt, List, [], ◌∷◌, length, refl, sym, ap, ◌∙◌, subst, inl, arith, Option, Some, None, Result, Ok, Err}
+use Rattle.std.specs.Prelude.{IfSome, IsSome}
+use Rattle.std.proofs.lemmas.Bool.{cond-true, cond-false}
+use Rattle.std.proofs.lemmas.Bool.Decides.{nat_tests}
+use Rattle.std.proofs.lemmas.Option.{none-some, same_Some}
+use Rattle.outside.specs.Inputs.{Files, InputState, bytes_of}
+use Rattle.traces.specs.Words.{Log, log_of}
+use Rattle.line_rules.specs.Rules.{Rule, AreAlike}
+use Rattle.log_reader.specs.Reading.{Form, Setting, events_of, first_refusal}
+use Rattle.log_reader.specs.Reading as form
+use Rattle.log_reader.specs.Inputs.{IsLacking, ReadsLog, RefusesLog, first_lacking, inputs_of, lacking, refused_input, told_contents, with_content}
+use Rattle.log_reader.specs.declared.refusal.ReadError.{ReadError}
+use Rattle.words.specs.Task.{Task}
+use Rattle.words.specs.Task as ask
+use Rattle.synoptic_cli.specs.declared.status.Status.{Status}
+use Rattle.synoptic_cli.specs.declared.status.Status.TheVariants.{ReadFault}
+use Rattle.synoptic_cli.specs.declared.status.Source.TheVariants as sources
+use Rattle.synoptic_cli.specs.declared.stages.SoFar as rust
+use Rattle.synoptic_cli.specs.Stages.{LogFiles, SoFar, Stage, Stop, and_then, log_stage, log_stages, log_stop, reads, reads_log, setting_by, status_of, stop_after, stop_at, with_log}
+use Rattle.synoptic_cli.specs.Endings.{SomeBytes}
+use Rattle.synoptic_cli.specs.Steps.{AreAlikeForms, HasRead, Reads, StopsReading, held_form, setting_of}
+use Rattle.synoptic_cli.proofs.Bytes.{contents-map}
+
+-- how a log is read by rules
+abbrev pub by_rules : List Rule → (ignore join : Bool) → Setting
+by_rules rules ignore join = record { form = form.Rules rules; ignore = ignore; join = join }
+
+-- the law of rules that are alike
+abbrev pub ReadAlike : Type 0
+ReadAlike =
+    (rs ss : List Rule) (ignore join : Bool) (files : List (List ℕ)) → AreAlike rs ss
+    → (first_refusal (by_rules rs ignore join) files ≡ first_refusal (by_rules ss ignore join) files) × (events_of (by_rules rs ignore join) files ≡ events_of (by_rules ss ignore join) files)
+
+-- the two read each log alike
+abbrev pub AreReadAlike : Setting → Setting → Type 0
+AreReadAlike s t = (files : List (List ℕ)) → (first_refusal s files ≡ first_refusal t files) × (events_of s files ≡ events_of t files)
+
+pub alike-forms : ReadAlike → (f g : Form) (ignore join : Bool) → AreAlikeForms f g → AreReadAlike (record { form = f; ignore = ignore; join = join }) (record { form = g; ignore = ignore; join = join })
+alike-forms law form.Plain form.Plain ignore join alike = λ files. (refl, refl)
+alike-forms law (form.Rules rs) (form.Rules ss) ignore join alike = λ files. law rs ss ignore join files alike
+alike-forms law form.Plain (form.Rules ss) ignore join alike = absurd alike
+alike-forms law (form.Rules rs) form.Plain ignore join alike = absurd alike
+
+-- ---- a log that is read whole
+
+log-value : (so_far : SoFar) (s t : Setting) (count : ℕ) (contents : List (List ℕ)) (log : Log) → AreReadAlike s t → length contents ≡ count → first_refusal s contents ≡ None
+    → log ≡ log_of (events_of s contents) → reads_log so_far t count contents ≡ Ok (record { form = so_far.form; material = record { log = log } })
+log-value so_far s t count contents log alike many none value =
+    let test : nat_lt (length contents) count ≡ false = grind (arith, nat_tests) in
+    ap (with_log so_far t count contents) (sym (alike contents).0 ∙ none)
+    ∙ (cond-false _ _ _ test
+    ∙ ap (λ (l : Log). let r : Result SoFar Stop = Ok (record { form = so_far.form; material = record { log = l } }) in r) (sym (value ∙ ap log_of (alike contents).1)))
+
+pub log-through : (so_far : SoFar) (s : Setting) (names : List (List ℕ)) (ignore join : Bool) (old new : InputState) (log : Log) → AreReadAlike s (setting_by so_far ignore join)
+    → ReadsLog s names old new log → HasRead (LogFiles names ignore join ∷ []) old new so_far (record { form = so_far.form; material = record { log = log } })
+log-through so_far s names ignore join old new log alike read =
+    let next : SoFar = record { form = so_far.form; material = record { log = log } } in
+    record {
+      bytes =
+          contents-map old.files names _ (λ contents. reads so_far ((LogFiles names ignore join, contents) ∷ []) ≡ Ok next)
+          (λ contents p. ap (λ (r : Result SoFar Stop). and_then r (length names) (λ n. Ok n)) (log-value so_far s (setting_by so_far ignore join) (length names) contents log alike p.0 p.1 p.2)) read.words;
+      inputs = let same : length names ≡ length names + 0 = omega arith in inl (record { opens = omega (arith, read.opened.opens); faults = read.opened.faults }, read.at_end);
+    }
+
+-- the stage of a task that reads a log
+pub log-stage-is : (task : Task) → IsSome task.form → log_stages task ≡ LogFiles (inputs_of task.files) task.ignore task.join ∷ []
+log-stage-is task some = stage-is task.form task.files task.ignore task.join some
+  where
+    stage-is : (w : Option ask.Form) (files : List (List ℕ)) (ignore join : Bool) → IsSome w → log_stage w files ignore join ≡ LogFiles (inputs_of files) ignore join ∷ []
+    stage-is None files ignore join some = cc
+    stage-is (Some lines) files ignore join some = refl
+
+pub log-held : ReadAlike → (task : Task) (held : rust.SoFar) (old new : InputState) (log : Log) → IsSome task.form
+    → ReadsLog (setting_of task (held_form held)) (inputs_of task.files) old new log
+    → Reads (log_stages task) held old new (record { rules = held.rules; material = record { log = log } })
+log-held law task held old new log some read = λ so_far is. (
+  record { form = so_far.form; material = record { log = log } },
+  record { form = is.form; material = refl },
+  subst (λ (stages : List Stage). HasRead stages old new so_far (record { form = so_far.form; material = record { log = log } })) (sym (log-stage-is task some))
+      (log-through so_far (setting_of task (held_form held)) (inputs_of task.files) task.ignore task.join old new log (alike-forms law (held_form held) so_far.form task.ignore task.join is.form) read),
+)
+
+-- ---- a log that is refused
+
+least-opened : (o : Option ℕ) (count most : ℕ) (status : Status) → 1 ≤ count → count ≤ most → IfSome o (λ number. count ≡ suc number)
+    → ((stop_at o most status).least ≤ count) × (count ≤ (stop_at o most status).most)
+least-opened None count most status some few last = (some, few)
+least-opened (Some number) count most status some few last = (omega (arith, last), omega (arith, last))
+
+pub log-stops : (so_far : SoFar) (s : Setting) (names : List (List ℕ)) (ignore join : Bool) (old new : InputState) (e : ReadError) → AreReadAlike s (setting_by so_far ignore join)
+    → RefusesLog s names old new e → StopsReading (LogFiles names ignore join ∷ []) old new so_far (log_stop (length names) e)
+log-stops so_far s names ignore join old new e alike refuses =
+    let t = setting_by so_far ignore join in
+    let counts = least-opened (refused_input e) refuses.count (length names) (status_of e) refuses.some refuses.few refuses.last in
+    record {
+      bytes =
+          contents-map old.files names (λ contents. first_refusal s contents ≡ Some e) (λ contents. reads so_far ((LogFiles names ignore join, contents) ∷ []) ≡ Err (log_stop (length names) e))
+          (λ contents p. ap (λ (o : Option ReadError). and_then (with_log so_far t (length names) contents o) (length names) (λ n. Ok n)) (sym (alike contents).0 ∙ p)) refuses.refusal;
+      count = refuses.count;
+      least = counts.0;
+      most = counts.1;
+      opened = inl refuses.opened;
+    }
+
+-- ---- a log of which a file is not there
+
+next-lacks : (o : Option (List ℕ)) (contents : List (List ℕ)) (later : Option ℕ) (most number : ℕ) → ((n : ℕ) → later ≡ Some n → (length contents ≡ n) × (n < most)) → lacking o later ≡ Some number
+    → (length (with_content o contents) ≡ number) × (number < suc most)
+next-lacks None contents later most number step is = let z : 0 ≡ number = same_Some 0 number is in (z, omega (arith, z))
+next-lacks (Some bytes) contents None most number step is = absurd (none-some number is)
+next-lacks (Some bytes) contents (Some n) most number step is =
+    let p = step n refl in
+    let q : n + 1 ≡ number = same_Some (n + 1) number is in
+    (omega (arith, p.0, q), omega (arith, p.1, q))
+
+-- so many files stand before the first that is not there
+lacks-after : (files : Files) (names : List (List ℕ)) (number : ℕ) → first_lacking files names ≡ Some number → (length (told_contents files names) ≡ number) × (number < length names)
+lacks-after files [] number is = absurd (none-some number is)
+lacks-after files (name ∷ names) number is =
+    next-lacks (bytes_of files name) (told_contents files names) (first_lacking files names) (length names) number (lacks-after files names) is
+
+lacks-value : (so_far : SoFar) (t : Setting) (count number : ℕ) (contents : List (List ℕ)) → first_refusal t contents ≡ None → length contents ≡ number → number < count
+    → reads_log so_far t count contents ≡ Err (stop_after number (ReadFault (sources.Log number)))
+lacks-value so_far t count number contents none many below =
+    let test : nat_lt (length contents) count ≡ true = grind (arith, nat_tests) in
+    ap (with_log so_far t count contents) none
+    ∙ (cond-true _ _ _ test ∙ ap (λ (n : ℕ). let r : Result SoFar Stop = Err (stop_after n (ReadFault (sources.Log n))) in r) many)
+
+pub log-lacks : (so_far : SoFar) (s : Setting) (names : List (List ℕ)) (ignore join : Bool) (told : Option Files) (number : ℕ) → AreReadAlike s (setting_by so_far ignore join)
+    → IsLacking s told names number → SomeBytes told (LogFiles names ignore join ∷ []) (λ filled. reads so_far filled ≡ Err (stop_after number (ReadFault (sources.Log number))))
+log-lacks so_far s names ignore join None number alike lacks = absurd lacks
+log-lacks so_far s names ignore join (Some files) number alike lacks =
+    let t = setting_by so_far ignore join in
+    let contents = told_contents files names in
+    let after = lacks-after files names number lacks.0 in
+    ap (λ (r : Result SoFar Stop). and_then r (length names) (λ n. Ok n)) (lacks-value so_far t (length names) number contents (sym (alike contents).0 ∙ lacks.1) after.0 after.1)

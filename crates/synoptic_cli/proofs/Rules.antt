@@ -1,0 +1,193 @@
+-- The file of rules: what was read of it, and how a run ends by its refusal.
+use Rattle.std.proofs.Common.{◌≡◌, ◌≢◌, ℕ, ◌+◌, ◌<◌, ◌≤◌, ◌⊎◌, List, [], ◌∷◌, ◌++◌, length, take, nat_lt, true, sym, ap, ◌∙◌, subst, ⊎_elim, inl, inr, arith, Option, Some, None, Result, Ok, Err, take_all, length-take, refl, IsTrue}
+use Rattle.std.proofs.lemmas.Bool.{cond-true, cases_lt}
+use Rattle.std.proofs.lemmas.Bool.Decides.{nat_tests}
+use Rattle.std.specs.Option.{IsSomeAnd, option_map_or}
+use Rattle.outside.specs.Counts.{Rose}
+use Rattle.outside.specs.Inputs.{Files, InputState, Lacks}
+use Rattle.outside.specs.Reading.{IfTold, ReadsInput}
+use Rattle.line_rules.specs.Rules.{Rule, AreAlike}
+use Rattle.line_rules.specs.Views.{rules_in}
+use Rattle.line_rules.specs.declared.line_rules.LineRules.{LineRules}
+use Rattle.line_rules.specs.Patterns.{PatternsState, NestsTooDeep}
+use Rattle.line_rules.specs.Files.{rules_of, AreRead, IsBuilt, IsRefused}
+use Rattle.line_rules.specs.declared.line_rules.RuleError.{RuleError}
+use Rattle.line_rules.specs.declared.line_rules.RuleError.TheVariants as refused
+use Rattle.log_reader.specs.Reading as form
+use Rattle.words.specs.Task.{Task}
+use Rattle.log_reader.specs.Inputs.{with_content}
+use Rattle.synoptic_cli.specs.Task.{rules_name}
+use Rattle.synoptic_cli.specs.Stages.{RulesFile, SoFar, Stop, and_then, at_start, input_count, log_stages, reads, reads_rules, rules_stage, stages_of, stop_after, with_rules}
+use Rattle.synoptic_cli.specs.Endings.{IsFirstLacking, IsTold, told_stages}
+use Rattle.synoptic_cli.specs.Causes.{RefusesRules, world}
+use Rattle.synoptic_cli.specs.declared.status.Status.TheVariants.{Expressions, ReadFault, Memory}
+use Rattle.synoptic_cli.specs.declared.status.Source.TheVariants as sources
+use Rattle.synoptic_cli.specs.declared.stages.SoFar as rust
+use Rattle.synoptic_cli.specs.Steps.{rules_answer, Ends, EndsByRules, HasRead, Reads, ReadsRules}
+use Rattle.synoptic_cli.proofs.Bytes.{contents-one}
+
+too-long : (bytes : List ℕ) → 65536 < length bytes → rules_of bytes ≡ Err refused.TooLong
+too-long bytes over =
+    let test : nat_lt 65536 (length bytes) ≡ true = grind (arith, nat_tests) in
+    cond-true _ _ _ test
+
+-- the bytes are all, or both are too long
+whole-or-long : (content bytes : List ℕ) → bytes ≡ take 65537 content → (bytes ≡ content) ⊎ ((65536 < length bytes) × (65536 < length content))
+whole-or-long content bytes same =
+    ⊎_elim
+    (λ (over : 65536 < length content). inr (omega (arith, ap length same, length-take 65537 content), over))
+    (λ (short : length content ≤ 65536). inl (same ∙ take_all 65537 content (omega arith)))
+    (cases_lt 65536 (length content))
+
+rules-same : (content bytes : List ℕ) → bytes ≡ take 65537 content → rules_of bytes ≡ rules_of content
+rules-same content bytes same =
+    ⊎_elim (λ (whole : bytes ≡ content). ap rules_of whole) (λ (long : (65536 < length bytes) × (65536 < length content)). too-long bytes long.0 ∙ sym (too-long content long.1)) (whole-or-long content bytes same)
+
+told-part : (files : Option Files) (name : List ℕ) (P Q : List ℕ → Type 0) → IfTold files name (λ content. P content × Q content) → IfTold files name Q
+told-part None name P Q told = tt
+told-part (Some fs) name P Q told = (told.0, told.1, told.2.1)
+
+-- P holds of the bytes of a file, where it does of those that were read of it
+told-bytes : (files : Option Files) (name bytes : List ℕ) (P : List ℕ → Type 0) (Q : List ℕ → Type 0) → IfTold files name (λ content. (bytes ≡ take 65537 content) × Q content)
+    → ((content : List ℕ) → bytes ≡ take 65537 content → P content) → P bytes → (content : List ℕ) × IsTold files name content × P content
+told-bytes None name bytes P Q told step here = (bytes, tt, here)
+told-bytes (Some fs) name bytes P Q told step here = (told.0, told.1, step told.0 told.2.0)
+
+-- a file that was read so was read to its end
+short-read : (bytes : List ℕ) (rules : List Rule) → rules_of bytes ≡ Ok rules → length bytes ≤ 65536
+short-read bytes rules read =
+    ⊎_elim
+    (λ (over : 65536 < length bytes). let e : rules_of bytes ≡ Err refused.TooLong = too-long bytes over in cc)
+    (λ (short : length bytes ≤ 65536). short)
+    (cases_lt 65536 (length bytes))
+
+pub rules-read : (old new : InputState) (name bytes : List ℕ) (rules : List Rule) → ReadsInput old new name 65536 bytes → AreRead bytes rules → ReadsRules old new name rules
+rules-read old new name bytes rules reads read =
+    let found = told-bytes old.files name bytes (λ content. rules_of content ≡ Ok read.0) _ reads.told (λ content same. sym (rules-same content bytes same) ∙ read.1) read.1 in
+    record {
+      bytes = found.0;
+      told = found.1;
+      plain = read.0;
+      read = found.2;
+      alike = read.2;
+      opened = inl (record { opens = reads.opens; faults = reads.faults }, reads.at_end (short-read bytes read.0 read.1));
+    }
+
+-- a file that is too long has no other refusal
+long-refused : (content bytes : List ℕ) (old new : PatternsState) (e : RuleError) → 65536 < length bytes → rules_of bytes ≡ rules_of content → IsRefused bytes old new e → IsRefused content old new e
+long-refused content bytes old new refused.TooLong over same refusal = sym same ∙ refusal
+long-refused content bytes old new (refused.BadLine number) over same refusal = sym same ∙ refusal
+long-refused content bytes old new (refused.TooMany number) over same refusal = sym same ∙ refusal
+long-refused content bytes old new (refused.Syntax number) over same refusal =
+    ⊎_elim
+    (λ (plain : rules_of bytes ≡ Err (refused.Syntax number)). inl (sym same ∙ plain))
+    (λ (deep : (pattern : List ℕ) × IsBuilt bytes number pattern × NestsTooDeep pattern). absurd (omega (arith, deep.1.short)))
+    refusal
+long-refused content bytes old new (refused.TooLarge number) over same refusal = absurd (omega (arith, refusal.1.1.short))
+long-refused content bytes old new (refused.NoType number) over same refusal = sym same ∙ refusal
+long-refused content bytes old new (refused.MixedTime number) over same refusal = sym same ∙ refusal
+long-refused content bytes old new refused.NoEvent over same refusal = sym same ∙ refusal
+long-refused content bytes old new refused.Memory over same refusal = tt
+
+-- the refusal of what was read is that of the file
+pub refused-whole : (content bytes : List ℕ) (old new : PatternsState) (e : RuleError) → bytes ≡ take 65537 content → IsRefused bytes old new e → IsRefused content old new e
+refused-whole content bytes old new e same refusal =
+    ⊎_elim (λ (whole : bytes ≡ content). subst (λ b. IsRefused b old new e) whole refusal)
+    (λ (long : (65536 < length bytes) × (65536 < length content)). long-refused content bytes old new e long.0 (too-long bytes long.0 ∙ sym (too-long content long.1)) refusal) (whole-or-long content bytes same)
+
+-- the run ends by the refusal of its file of rules
+rules-refused : (old new : InputState) (before after : PatternsState) (name bytes : List ℕ) (e : RuleError) → ReadsInput old new name 65536 bytes → e ≢ refused.Memory
+    → IsRefused bytes before after e → EndsByRules (Expressions e) name old new before after
+rules-refused old new before after name bytes e reads other refusal =
+    let found = told-bytes old.files name bytes (λ content. IsRefused content before after e) _ reads.told (λ content same. refused-whole content bytes before after e same refusal) refusal in
+    λ task is words out asks. (
+      task,
+      asks,
+      subst (λ (w : Option (List ℕ)). IsSomeAnd w (RefusesRules e (world old before out) (world new after out))) (sym is)
+          (record { bytes = found.0; told = found.1; refusal = found.2; not_memory = other; opened = record { opens = reads.opens; faults = reads.faults }; stops = told-part old.files name _ _ reads.told; silent = refl }),
+    )
+
+-- memory was wanted, with no more inputs opened than there are
+pub memory-ends : (task : Task) (old new : InputState) (before after : PatternsState) → new.opens ≤ old.opens + input_count (stages_of task) → Ends Memory task old new before after
+memory-ends task old new before after few = λ words out asks. record {
+  opens = subst (λ (asked : Option Task). new.opens ≤ old.opens + option_map_or (λ t. input_count (stages_of t)) asked 0) (sym asks) few;
+  silent = refl;
+}
+
+-- the file of rules is one input of its task
+one-input : (task : Task) (name : List ℕ) → rules_name task.form ≡ Some name → 1 ≤ input_count (stages_of task)
+one-input task name is =
+    subst (λ (w : Option (List ℕ)). 1 ≤ input_count (rules_stage w ++ log_stages task)) (sym is) (omega arith)
+
+pub memory-by-rules : (old new : InputState) (before after : PatternsState) (name : List ℕ) → new.opens ≤ old.opens + 1 → EndsByRules Memory name old new before after
+memory-by-rules old new before after name few = λ task is. memory-ends task old new before after (omega (arith, few, one-input task name is))
+
+-- the file of rules failed
+pub fault-by-rules : (old new : InputState) (before after : PatternsState) (name : List ℕ) → Rose old.faults new.faults → IsTrue (old.may_fail name) → new.opens ≤ old.opens + 1
+    → EndsByRules (ReadFault sources.Expressions) name old new before after
+fault-by-rules old new before after name rose may few = λ task is words out asks. (
+  task,
+  asks,
+  record {
+    why = inl (record { rose = rose; may_fail = subst (λ (w : Option (List ℕ)). IsSomeAnd w (λ name. IsTrue (old.may_fail name))) (sym is) may });
+    opens = omega (arith, few);
+    silent = refl;
+  },
+)
+
+-- the file of rules is not there
+rules-lack : (told : Option Files) (task : Task) (name : List ℕ) → rules_name task.form ≡ Some name → Lacks told name → IsFirstLacking told task sources.Expressions
+rules-lack None task name is lacks = absurd lacks
+rules-lack (Some files) task name is lacks =
+    let next : SoFar → Result SoFar Stop = λ s. reads s (told_stages files (log_stages task)) in
+    let read : reads at_start (told_stages files (stages_of task)) ≡ Err (stop_after 0 (ReadFault sources.Expressions)) =
+    ap (λ (w : Option (List ℕ)). reads at_start (told_stages files (rules_stage w ++ log_stages task))) is
+    ∙ ap (λ (o : Option (List ℕ)). and_then (reads_rules at_start (with_content o [])) 1 next) lacks in
+    (0, read)
+
+pub missing-by-rules : (old new : InputState) (before after : PatternsState) (name : List ℕ) → Lacks old.files name → new.opens ≡ old.opens
+    → EndsByRules (ReadFault sources.Expressions) name old new before after
+missing-by-rules old new before after name lacks none = λ task is words out asks. (
+  task,
+  asks,
+  record { why = inr (rules-lack old.files task name is lacks); opens = omega (arith, none); silent = refl },
+)
+
+-- the same, with want of memory among the refusals
+pub rules-end : (old new : InputState) (before after : PatternsState) (name bytes : List ℕ) (e : RuleError) → ReadsInput old new name 65536 bytes → IsRefused bytes before after e
+    → EndsByRules (rules_answer e) name old new before after
+rules-end old new before after name bytes refused.TooLong reads refusal = rules-refused old new before after name bytes refused.TooLong reads (λ same. cc) refusal
+rules-end old new before after name bytes (refused.BadLine number) reads refusal = rules-refused old new before after name bytes (refused.BadLine number) reads (λ same. cc) refusal
+rules-end old new before after name bytes (refused.TooMany number) reads refusal = rules-refused old new before after name bytes (refused.TooMany number) reads (λ same. cc) refusal
+rules-end old new before after name bytes (refused.Syntax number) reads refusal = rules-refused old new before after name bytes (refused.Syntax number) reads (λ same. cc) refusal
+rules-end old new before after name bytes (refused.TooLarge number) reads refusal = rules-refused old new before after name bytes (refused.TooLarge number) reads (λ same. cc) refusal
+rules-end old new before after name bytes (refused.NoType number) reads refusal = rules-refused old new before after name bytes (refused.NoType number) reads (λ same. cc) refusal
+rules-end old new before after name bytes (refused.MixedTime number) reads refusal = rules-refused old new before after name bytes (refused.MixedTime number) reads (λ same. cc) refusal
+rules-end old new before after name bytes refused.NoEvent reads refusal = rules-refused old new before after name bytes refused.NoEvent reads (λ same. cc) refusal
+rules-end old new before after name bytes refused.Memory reads refusal = memory-by-rules old new before after name (omega (arith, reads.opens))
+
+-- ---- the stage of the rules
+
+-- the rules that were read take what was read before to what is read now
+rules-through : (old new : InputState) (name : List ℕ) (rules : List Rule) (so_far : SoFar) → ReadsRules old new name rules
+    → (plain : List Rule) × AreAlike rules plain × HasRead (RulesFile name ∷ []) old new so_far (record { form = form.Rules plain; material = so_far.material })
+rules-through old new name rules so_far read = (
+  read.plain,
+  read.alike,
+  record {
+    bytes =
+        contents-one old.files name read.bytes (λ contents. reads so_far ((RulesFile name, contents) ∷ []) ≡ Ok (record { form = form.Rules read.plain; material = so_far.material })) read.told
+        (ap (λ (r : Result (List Rule) RuleError). and_then (with_rules so_far r) 1 (λ next. Ok next)) read.read);
+    inputs = read.opened;
+  },
+)
+
+-- no stage leaves all as it was
+pub none-read : (held : rust.SoFar) (now : InputState) → Reads [] held now now held
+none-read held now = λ so_far is. (so_far, is, record { bytes = refl; inputs = inr (refl, refl) })
+
+pub rules-held : (held : rust.SoFar) (old new : InputState) (name : List ℕ) (rules : LineRules) → ReadsRules old new name (rules_in rules)
+    → Reads (RulesFile name ∷ []) held old new (record { rules = Some rules; material = held.material })
+rules-held held old new name rules read = λ so_far is.
+    let through = rules-through old new name (rules_in rules) so_far read in
+    (record { form = form.Rules through.0; material = so_far.material }, record { form = through.1; material = is.material }, through.2)

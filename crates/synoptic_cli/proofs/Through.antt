@@ -1,0 +1,87 @@
+-- Stages that were read one after another.
+use Rattle.std.proofs.Common.{◌≡◌, ℕ, ◌+◌, ◌≤◌, List, ◌++◌, Option, Result, Ok, Err, sym, ap, ◌∙◌, subst, arith, inl, inr, ⊎_elim}
+use Rattle.std.specs.Io.KnownBytes.{IsAtEnd}
+use Rattle.outside.specs.Inputs.{Files, InputState, Stays}
+use Rattle.log_reader.specs.Inputs.{Opened}
+use Rattle.synoptic_cli.specs.Stages.{Stage, SoFar, Stop, input_count, after, reads}
+use Rattle.synoptic_cli.specs.Endings.{SomeBytes, OpenedAll, ReadAll}
+use Rattle.synoptic_cli.specs.Steps.{HasRead, StopsReading}
+use Rattle.synoptic_cli.proofs.Bytes.{bytes-both, bytes-count, filled_count, input_count-append, later, reads-append}
+
+-- the same count by another word
+pub opened-is : (a b : ℕ) (old new : InputState) → a ≡ b → Opened a old new → Opened b old new
+opened-is a b old new same opened = subst (λ n. Opened n old new) same opened
+
+-- some inputs and some more
+pub opened-both : (a b : ℕ) (old mid new : InputState) → Opened a old mid → Opened b mid new → Opened (a + b) old new
+opened-both a b old mid new first second = record { opens = omega (arith, first.opens, second.opens); faults = second.faults ∙ first.faults }
+
+-- what is opened after what was read
+pub opens-both : (a b : ℕ) (old mid new : InputState) → ReadAll a old mid → OpenedAll b mid new → OpenedAll (a + b) old new
+opens-both a b old mid new first second =
+    ⊎_elim
+    (λ (some : Opened a old mid × IsAtEnd mid.rest). ⊎_elim
+    (λ (more : Opened b mid new). inl (opened-both a b old mid new some.0 more))
+    (λ (none : (b ≡ 0) × (new ≡ mid)). inl (subst (λ (s : InputState). Opened (a + b) old s) (sym none.1) (opened-is a (a + b) old mid (omega (arith, none.0)) some.0)))
+    second)
+    (λ (none : (a ≡ 0) × (mid ≡ old)). ⊎_elim
+    (λ (more : Opened b mid new). inl (opened-is b (a + b) old new (omega (arith, none.0)) (subst (λ (s : InputState). Opened b s new) none.1 more)))
+    (λ (both : (b ≡ 0) × (new ≡ mid)). inr (omega (arith, none.0, both.0), both.1 ∙ none.1))
+    second)
+    first
+
+-- what was read after what was read
+pub read-both : (a b : ℕ) (old mid new : InputState) → ReadAll a old mid → ReadAll b mid new → ReadAll (a + b) old new
+read-both a b old mid new first second =
+    ⊎_elim
+    (λ (some : Opened a old mid × IsAtEnd mid.rest). ⊎_elim
+    (λ (more : Opened b mid new × IsAtEnd new.rest). inl (opened-both a b old mid new some.0 more.0, more.1))
+    (λ (none : (b ≡ 0) × (new ≡ mid)). inl (subst (λ (s : InputState). Opened (a + b) old s × IsAtEnd s.rest) (sym none.1) (opened-is a (a + b) old mid (omega (arith, none.0)) some.0, some.1)))
+    second)
+    (λ (none : (a ≡ 0) × (mid ≡ old)). ⊎_elim
+    (λ (more : Opened b mid new × IsAtEnd new.rest). inl (opened-is b (a + b) old new (omega (arith, none.0)) (subst (λ (s : InputState). Opened b s new) none.1 more.0), more.1))
+    (λ (both : (b ≡ 0) × (new ≡ mid)). inr (omega (arith, none.0, both.0), both.1 ∙ none.1))
+    second)
+    first
+
+-- as many inputs were opened as there are
+pub read-opens : (count : ℕ) (old new : InputState) → ReadAll count old new → OpenedAll count old new
+read-opens count old new read = ⊎_elim (λ (some : Opened count old new × IsAtEnd new.rest). inl some.0) (λ (none : (count ≡ 0) × (new ≡ old)). inr none) read
+
+pub read-faults : (count : ℕ) (old new : InputState) → ReadAll count old new → new.faults ≡ old.faults
+read-faults count old new read =
+    ⊎_elim (λ (some : Opened count old new × IsAtEnd new.rest). some.0.faults) (λ (none : (count ≡ 0) × (new ≡ old)). ap (λ (s : InputState). s.faults) none.1) read
+
+pub read-most : (count : ℕ) (old new : InputState) → ReadAll count old new → new.opens ≤ old.opens + count
+read-most count old new read =
+    ⊎_elim (λ (some : Opened count old new × IsAtEnd new.rest). omega (arith, some.0.opens))
+    (λ (none : (count ≡ 0) × (new ≡ old)). let same : new.opens ≡ old.opens = ap (λ (s : InputState). s.opens) none.1 in omega (arith, same)) read
+
+-- stages that were read, and then more
+pub read-more : (first second : List Stage) (old mid new : InputState) (a b c : SoFar) → Stays old mid → HasRead first old mid a b → HasRead second mid new b c
+    → HasRead (first ++ second) old new a c
+read-more first second old mid new a b c stays read more = record {
+  bytes =
+      bytes-both old.files first second (λ f. reads a f ≡ Ok b) (λ g. reads b g ≡ Ok c) (λ f. reads a f ≡ Ok c) (λ f g p q. reads-append f g a b p ∙ ap (after (filled_count f)) q) read.bytes
+      (subst (λ (files : Option Files). SomeBytes files second (λ g. reads b g ≡ Ok c)) stays.files more.bytes);
+  inputs = subst (λ (n : ℕ). ReadAll n old new) (sym (input_count-append first second)) (read-both (input_count first) (input_count second) old mid new read.inputs more.inputs);
+}
+
+-- the bytes of stages that were read, and then of a stop
+pub stop-bytes : (files : Option Files) (first second : List Stage) (a b : SoFar) (stop : Stop) → SomeBytes files first (λ f. reads a f ≡ Ok b) → SomeBytes files second (λ g. reads b g ≡ Err stop)
+    → SomeBytes files (first ++ second) (λ f. reads a f ≡ Err (later (input_count first) stop))
+stop-bytes files first second a b stop read stops =
+    bytes-both files first second (λ f. (filled_count f ≡ input_count first) × (reads a f ≡ Ok b)) (λ g. reads b g ≡ Err stop) (λ f. reads a f ≡ Err (later (input_count first) stop))
+    (λ f g p q. reads-append f g a b p.1 ∙ (ap (after (filled_count f)) q ∙ ap (λ (n : ℕ). let r : Result SoFar Stop = Err (later n stop) in r) p.0))
+    (bytes-count files first (λ f. reads a f ≡ Ok b) read) stops
+
+-- stages that were read, and then a stop
+pub read-stop : (first second : List Stage) (old mid new : InputState) (a b : SoFar) (stop : Stop) → Stays old mid → HasRead first old mid a b → StopsReading second mid new b stop
+    → StopsReading (first ++ second) old new a (later (input_count first) stop)
+read-stop first second old mid new a b stop stays read stops = record {
+  bytes = stop-bytes old.files first second a b stop read.bytes (subst (λ (files : Option Files). SomeBytes files second (λ g. reads b g ≡ Err stop)) stays.files stops.bytes);
+  count = input_count first + stops.count;
+  least = omega (arith, stops.least);
+  most = omega (arith, stops.most);
+  opened = opens-both (input_count first) stops.count old mid new read.inputs stops.opened;
+}

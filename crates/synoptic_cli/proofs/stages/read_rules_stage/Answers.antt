@@ -1,0 +1,18 @@
+use Rattle.std.proofs.Common.{◌∙◌, ℕ, List, Option, Some, ap, subst, sym}
+use Rattle.std.specs.Option.{option_map}
+use Rattle.words.specs.Task.{task_held}
+use Rattle.synoptic_cli.specs.Stages.{rules_stage}
+use Rattle.synoptic_cli.specs.Steps.{Reads}
+use Rattle.synoptic_cli.proofs.Rules.{rules-held}
+use Rattle.synoptic_cli.proofs.stages.read_rules_stage.Goals as goal
+
+pub returns-in-Ok-clause-ok : goal.returns-in-Ok-clause-ok
+returns-in-Ok-clause-ok g c =
+    let old = g.I.Inputs.state c.args.inputs.now in
+    let new = g.I.Inputs.state c.read_rules.new.inputs in
+    let named = sym c.rules_name.ensures ∙ ap (option_map (λ s. s.now)) c.in-Some.is in
+    subst (λ (w : Option (List ℕ)). Reads (rules_stage w) c.args.so_far old new (record { rules = Some c.in-Ok.rules; material = c.args.so_far.material })) (sym named)
+    (rules-held c.args.so_far old new c.in-Some.name.now c.in-Ok.rules c.in-Ok.ensures.ok)
+
+pub returns-in-Err-clause-err : goal.returns-in-Err-clause-err
+returns-in-Err-clause-err g c = c.in-Err.ensures.err (task_held c.args.task.now) (sym c.rules_name.ensures ∙ ap (option_map (λ s. s.now)) c.in-Some.is)

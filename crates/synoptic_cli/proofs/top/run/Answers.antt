@@ -1,0 +1,13 @@
+use Rattle.std.proofs.Common.{Option, map, subst, sym}
+use Rattle.std.specs.String.{string_bytes}
+use Rattle.words.specs.Task.{Task}
+use Rattle.synoptic_cli.specs.Messages.{Tells, task_message}
+use Rattle.synoptic_cli.proofs.Expected.{cause-expected}
+use Rattle.synoptic_cli.proofs.top.run.Goals as goal
+
+pub returns-clause-expected : goal.returns-clause-expected
+returns-clause-expected g c = cause-expected c.answer-status.result (map string_bytes c.args.words.now) _ _ (c.answer-status.ensures.cause (map string_bytes c.args.words.now) c.in-Ok.ensures.ok)
+
+pub returns-clause-told : goal.returns-clause-told
+returns-clause-told g c =
+    subst (λ (asked : Option Task). Tells (task_message asked c.answer-status.result) (g.E.Sink.state c.args.err.now) (g.E.Sink.state c.tell-2.new.err)) (sym c.in-Ok.ensures.ok) c.tell-2.ensures

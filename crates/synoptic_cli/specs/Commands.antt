@@ -1,0 +1,22 @@
+-- The table of the commands: what each answers. Each has a file of its own.
+use Rattle.std.specs.Prelude.{Result}
+use Rattle.words.specs.Task.{Task}
+use Rattle.words.specs.declared.table.Command.{Command}
+use Rattle.words.specs.declared.table.Command.TheVariants.{Invariants, Graph}
+use Rattle.synoptic_cli.specs.declared.answer.Answer.{Answer}
+use Rattle.synoptic_cli.specs.declared.material.Material.{Material}
+use Rattle.synoptic_cli.specs.declared.status.LimitKind.{LimitKind}
+use Rattle.synoptic_cli.specs.Commands.PrintGraph as print_graph
+use Rattle.synoptic_cli.specs.Commands.PrintInvariants as print_invariants
+pub mod PrintGraph
+pub mod PrintInvariants
+pub mod TypeNames
+
+-- this is what the command answers of what was read: an answer, or the limit that it stops at
+abbrev pub AnswersBy : Command → Task → Material → Result Answer LimitKind → Type 0
+AnswersBy Invariants task m r = print_invariants.Answers m r
+AnswersBy Graph task m r = print_graph.Answers m r
+
+-- the same of the task's command
+abbrev pub Answers : Task → Material → Result Answer LimitKind → Type 0
+Answers task m r = AnswersBy task.command task m r

@@ -1,0 +1,43 @@
+-- `graph`: the graph of a log that has one partition for each type.
+use Rattle.std.specs.Prelude.{ℕ, ◌≡◌, ◌≤◌, List, map, Some, Result, Ok}
+use Rattle.std.specs.List.{AllByRecursion}
+use Rattle.traces.specs.Words.{Log, words_of}
+use Rattle.partition_model.specs.Graphs.{Accepts}
+use Rattle.partition_model.specs.Assignments.{AllEvents, G, word_of}
+use Rattle.partition_model.specs.Listings.{ArePartitions, AreEdges, partition_of, partitions_below, edges_below}
+use Rattle.partition_graph.specs.Parts.{Parts, start_of}
+use Rattle.reports.specs.Reports.{graph_report, partition_with}
+use Rattle.synoptic_cli.specs.declared.answer.Answer.{Answer}
+use Rattle.synoptic_cli.specs.declared.material.Material.{Material}
+use Rattle.synoptic_cli.specs.declared.status.LimitKind.{LimitKind}
+use Rattle.synoptic_cli.specs.declared.status.Status.TheVariants.{Done}
+use Rattle.synoptic_cli.specs.Commands.TypeNames.{HasText}
+
+-- the text of a graph: its partitions and its edges, by their ids
+abbrev pub parts_report : List (List ℕ) → Parts → List ℕ
+parts_report types parts =
+    graph_report types (partitions_below parts.used parts.traces) (edges_below parts.used parts.traces)
+
+-- a search of the partitions listed finds the one with this id, its type and its number of events
+abbrev pub IsFound : Log → ℕ → Type 0
+IsFound log id =
+    partition_with (partitions_below (start_of log).used (start_of log).traces) id
+    ≡ Some (partition_of (start_of log).traces id)
+
+-- the partitions and edges listed are exactly those of an assignment of the log's words, where each event has the id
+-- that is its type's number; and the graph accepts each word of the log
+pub record ShowsExactly (log : Log) : Type 0 where
+  pub words : map word_of (start_of log).traces ≡ words_of log
+  pub by_type : AllEvents (λ e. e.id ≡ e.typ) (start_of log).traces
+  pub partitions : ArePartitions (partitions_below (start_of log).used (start_of log).traces) (start_of log).traces
+  pub edges : AreEdges (edges_below (start_of log).used (start_of log).traces) (start_of log).traces
+  pub accepted : AllByRecursion (Accepts (G (start_of log).traces)) (words_of log)
+  -- for each edge listed, the partition that it leaves and the one that it enters are found
+  pub ends : AllByRecursion (λ e. IsFound log e.from × IsFound log e.to) (edges_below (start_of log).used (start_of log).traces)
+  -- the type of each partition listed, but for the two ends, has a text
+  pub named : AllByRecursion (λ p. 2 ≤ p.id → HasText log.types p.typ) (partitions_below (start_of log).used (start_of log).traces)
+
+-- the answer: the graph of the log's first assignment is printed, an edge a line, and shows exactly what there is
+pub record Answers (m : Material) (r : Result Answer LimitKind) : Type 0 where
+  pub value : r ≡ Ok (record { status = Done; text = parts_report m.log.types (start_of m.log) })
+  pub exact : ShowsExactly m.log

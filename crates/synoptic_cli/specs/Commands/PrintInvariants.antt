@@ -1,0 +1,43 @@
+-- `invariants`: the invariants that hold in every trace of a log.
+use Rattle.std.specs.Prelude.{ℕ, ◌≡◌, ◌↔◌, ◌⊎◌, ◌<◌, List, length, Contains, Some, slice_get, Result, Ok}
+use Rattle.std.specs.List.{AllByRecursion}
+use Rattle.traces.specs.Words.{Log, words_of}
+use Rattle.invariants.specs.Candidates.{candidates}
+use Rattle.invariants.specs.Mined.{mined, IsListed}
+use Rattle.invariants.specs.declared.Invariant.{Invariant}
+use Rattle.reports.specs.Reports.{invariant_report}
+use Rattle.synoptic_cli.specs.declared.answer.Answer.{Answer}
+use Rattle.synoptic_cli.specs.declared.material.Material.{Material}
+use Rattle.synoptic_cli.specs.declared.status.LimitKind.{LimitKind}
+use Rattle.synoptic_cli.specs.declared.status.Status.TheVariants.{Done}
+use Rattle.synoptic_cli.specs.Commands.TypeNames.{HasText}
+
+-- the invariants that are listed
+abbrev pub listed : Log → List Invariant
+listed log = mined (length log.types) (words_of log)
+
+-- of two listed invariants the earlier one is the earlier candidate
+abbrev pub AreInOrder : Log → Type 0
+AreInOrder log =
+    (j k m n : ℕ) (first second : Invariant)
+    → slice_get (listed log) j ≡ Some first → slice_get (listed log) k ≡ Some second
+    → slice_get (candidates (length log.types)) m ≡ Some first → slice_get (candidates (length log.types)) n ≡ Some second
+    → j < k → m < n
+
+-- no invariant is listed twice
+abbrev pub AreOnce : Log → Type 0
+AreOnce log =
+    (j k : ℕ) (inv : Invariant) → slice_get (listed log) j ≡ Some inv → slice_get (listed log) k ≡ Some inv → j ≡ k
+
+-- the invariants listed are exactly the candidates that hold, by places, of every word of the log; they stand in the
+-- candidates' order, none twice; and each type that they name is INITIAL, as the first of the two, or has a text
+pub record ListsExactly (log : Log) : Type 0 where
+  pub members : (inv : Invariant) → Contains (listed log) inv ↔ IsListed (length log.types) (words_of log) inv
+  pub order : AreInOrder log
+  pub once : AreOnce log
+  pub named : AllByRecursion (λ inv. ((inv.a ≡ 0) ⊎ HasText log.types inv.a) × HasText log.types inv.b) (listed log)
+
+-- the answer: they are printed, one a line, and are exactly those that hold
+pub record Answers (m : Material) (r : Result Answer LimitKind) : Type 0 where
+  pub value : r ≡ Ok (record { status = Done; text = invariant_report m.log.types (listed m.log) })
+  pub exact : ListsExactly m.log

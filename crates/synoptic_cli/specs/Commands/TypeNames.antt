@@ -1,0 +1,6 @@
+-- Types that an answer names.
+use Rattle.std.specs.Prelude.{ℕ, ◌≤◌, ◌-◌, List, IsSome, slice_get}
+
+-- the number is that of a type which has a text
+abbrev pub HasText : List (List ℕ) → ℕ → Type 0
+HasText types typ = (2 ≤ typ) × IsSome (slice_get types (typ - 2))

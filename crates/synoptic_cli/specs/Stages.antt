@@ -1,0 +1,149 @@
+-- What a run reads before it works: the stages of a task, what each makes of the bytes of its inputs, and where the reading stops.
+use Rattle.std.specs.Prelude.{ℕ, ◌+◌, Bool, List, [], ◌∷◌, ◌++◌, length, nat_lt, Option, Some, None, Result, Ok, Err, if◌then◌else◌}
+use Rattle.traces.specs.Words.{log_of}
+use Rattle.line_rules.specs.Rules.{Rule}
+use Rattle.line_rules.specs.Files.{rules_of}
+use Rattle.line_rules.specs.declared.line_rules.RuleError.{RuleError}
+use Rattle.log_reader.specs.Reading.{Form, Setting, events_of, first_refusal}
+use Rattle.log_reader.specs.Reading as form
+use Rattle.log_reader.specs.Inputs.{inputs_of, refused_input}
+use Rattle.log_reader.specs.declared.refusal.ReadError.{ReadError}
+use Rattle.log_reader.specs.declared.refusal.ReadError.TheVariants as refused
+use Rattle.words.specs.Task.{Task}
+use Rattle.words.specs.Task as ask
+use Rattle.synoptic_cli.specs.Task.{rules_name}
+use Rattle.synoptic_cli.specs.declared.material.Material.{Material}
+use Rattle.synoptic_cli.specs.declared.status.Status.{Status}
+use Rattle.synoptic_cli.specs.declared.status.Status.TheVariants.{Expressions, Log, Limit, ReadFault, Memory}
+use Rattle.synoptic_cli.specs.declared.status.LogFault.TheVariants as faults
+use Rattle.synoptic_cli.specs.declared.status.LimitKind.TheVariants as limits
+use Rattle.synoptic_cli.specs.declared.status.Source.{Source}
+use Rattle.synoptic_cli.specs.declared.status.Source.TheVariants as sources
+
+-- a stage of the reading: the file of rules; or the log in these files, and whether undecided lines are skipped and files are joined
+pub data Stage : Type 0 where
+  RulesFile : (name : List ℕ) → Stage
+  LogFiles : (names : List (List ℕ)) (ignore join : Bool) → Stage
+
+-- the names of a stage's inputs, in their order
+abbrev pub stage_names : Stage → List (List ℕ)
+stage_names (RulesFile name) = name ∷ []
+stage_names (LogFiles names ignore join) = names
+
+-- how many inputs the stages have
+abbrev pub input_count : List Stage → ℕ
+input_count [] = 0
+input_count (stage ∷ stages) = length (stage_names stage) + input_count stages
+
+-- the file of rules, where lines are read by one
+abbrev pub rules_stage : Option (List ℕ) → List Stage
+rules_stage None = []
+rules_stage (Some name) = RulesFile name ∷ []
+
+abbrev pub rules_stages : Task → List Stage
+rules_stages task = rules_stage (rules_name task.form)
+
+-- the log, where one is read
+abbrev pub log_stage : Option ask.Form → List (List ℕ) → (ignore join : Bool) → List Stage
+log_stage None files ignore join = []
+log_stage (Some lines) files ignore join = LogFiles (inputs_of files) ignore join ∷ []
+
+abbrev pub log_stages : Task → List Stage
+log_stages task = log_stage task.form task.files task.ignore task.join
+
+-- the stages of a task, in the order in which they are read
+abbrev pub stages_of : Task → List Stage
+stages_of task = rules_stages task ++ log_stages task
+
+-- how many inputs of a task stand before this one
+abbrev pub inputs_before : Task → Source → ℕ
+inputs_before task sources.Expressions = 0
+inputs_before task (sources.Log number) = input_count (rules_stages task) + number
+
+-- what was read so far: what decides the lines of a log, and what the command is to work on
+pub record SoFar : Type 0 where
+  pub form : Form
+  pub material : Material
+
+-- what is there before the first stage: what no stage reads is empty
+abbrev pub at_start : SoFar
+at_start = record { form = form.Plain; material = record { log = log_of [] } }
+
+-- where the reading stops: the status, and how many inputs were opened by then, at least and at most
+pub record Stop : Type 0 where
+  pub status : Status
+  pub least : ℕ
+  pub most : ℕ
+
+-- it stops after exactly so many inputs
+abbrev pub stop_after : ℕ → Status → Stop
+stop_after count status = record { status = status; least = count; most = count }
+
+-- what the file of rules gives
+abbrev pub with_rules : SoFar → Result (List Rule) RuleError → Result SoFar Stop
+with_rules so_far (Ok rules) = Ok (record { form = form.Rules rules; material = so_far.material })
+with_rules so_far (Err e) = Err (stop_after 1 (Expressions e))
+
+abbrev pub reads_rules : SoFar → List (List ℕ) → Result SoFar Stop
+reads_rules so_far [] = Err (stop_after 0 (ReadFault sources.Expressions))
+reads_rules so_far (bytes ∷ more) = with_rules so_far (rules_of bytes)
+
+-- the status that a refusal of the log is answered by
+abbrev pub status_of : ReadError → Status
+status_of (refused.ReadFault number) = ReadFault (sources.Log number)
+status_of (refused.LineTooLong at) = Log (faults.LineTooLong at)
+status_of (refused.Undecided at) = Log (faults.Undecided at)
+status_of (refused.BadTime at) = Log (faults.BadTime at)
+status_of (refused.TypeTooLong at) = Log (faults.TypeTooLong at)
+status_of (refused.TraceTooLong at) = Log (faults.TraceTooLong at)
+status_of (refused.TypeLimit at) = Limit limits.Types
+status_of (refused.EventLimit at) = Limit limits.Events
+status_of refused.InputLimit = Limit limits.Input
+status_of refused.Memory = Memory
+
+-- a refusal stops at the input with the line that is refused; at the limit on all input, at any of so many
+abbrev pub stop_at : Option ℕ → ℕ → Status → Stop
+stop_at (Some number) count status = stop_after (number + 1) status
+stop_at None count status = record { status = status; least = 1; most = count }
+
+abbrev pub log_stop : ℕ → ReadError → Stop
+log_stop count e = stop_at (refused_input e) count (status_of e)
+
+-- how a log of so many files is read
+abbrev pub setting_by : SoFar → (ignore join : Bool) → Setting
+setting_by so_far ignore join = record { form = so_far.form; ignore = ignore; join = join }
+
+-- what a log of so many files gives, by its first refusal: that comes first, then the first file that is not there
+abbrev pub with_log : SoFar → Setting → ℕ → List (List ℕ) → Option ReadError → Result SoFar Stop
+with_log so_far s count contents (Some e) = Err (log_stop count e)
+with_log so_far s count contents None =
+    if nat_lt (length contents) count then Err (stop_after (length contents) (ReadFault (sources.Log (length contents))))
+    else Ok (record { form = so_far.form; material = record { log = log_of (events_of s contents) } })
+
+abbrev pub reads_log : SoFar → Setting → ℕ → List (List ℕ) → Result SoFar Stop
+reads_log so_far s count contents = with_log so_far s count contents (first_refusal s contents)
+
+-- what a stage makes of the bytes of its inputs, up to the first that is not there, after what was read so far
+abbrev pub stage_reads : Stage → SoFar → List (List ℕ) → Result SoFar Stop
+stage_reads (RulesFile name) so_far contents = reads_rules so_far contents
+stage_reads (LogFiles names ignore join) so_far contents = reads_log so_far (setting_by so_far ignore join) (length names) contents
+
+-- a stage with the bytes of its inputs
+abbrev pub Filled : Type 0
+Filled = Stage × List (List ℕ)
+
+-- a later stop comes after so many inputs more
+abbrev pub after : ℕ → Result SoFar Stop → Result SoFar Stop
+after count (Ok so_far) = Ok so_far
+after count (Err stop) = Err (record { status = stop.status; least = count + stop.least; most = count + stop.most })
+
+-- what comes after a stage of so many inputs, unless that stops
+abbrev pub and_then : Result SoFar Stop → ℕ → (SoFar → Result SoFar Stop) → Result SoFar Stop
+and_then (Ok so_far) count next = after count (next so_far)
+and_then (Err stop) count next = Err stop
+
+-- what the stages read, one after another, or the first stop
+abbrev pub reads : SoFar → List Filled → Result SoFar Stop
+reads so_far [] = Ok so_far
+reads so_far (filled ∷ rest) =
+    and_then (stage_reads filled.0 so_far filled.1) (length (stage_names filled.0)) (λ next. reads next rest)

@@ -1,0 +1,22 @@
+//! The table of the commands: what each answers of what was read. Each has a file of its own.
+ghost use Rattle.words.specs.Task.{task_held};
+ghost use Rattle.synoptic_cli.specs.Commands.{Answers};
+ghost use Rattle.synoptic_cli.specs.Steps.{Gives};
+
+mod print_graph;
+mod print_invariants;
+
+use crate::answer::{Answer, NoAnswer};
+use crate::material::Material;
+use std::alloc::Global;
+use words::{Command, Task};
+
+/// What the task's command answers of what was read.
+pub fn answer(alloc: Global, task: &Task<'_>, material: &Material) -> Result<Answer, NoAnswer>
+    ensures { Gives (Answers (task_held task.now) material.now) result }
+{
+    match task.command {
+        Command::Invariants => print_invariants::answer(alloc, material),
+        Command::Graph => print_graph::answer(alloc, material),
+    }
+}

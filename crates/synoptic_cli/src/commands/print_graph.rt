@@ -1,0 +1,41 @@
+//! `graph`: prints the graph of a log that has one partition for each type.
+ghost use Rattle.std.specs.Prelude.{IfOk, Ok};
+ghost use Rattle.synoptic_cli.specs.Commands.PrintGraph.{Answers};
+ghost use Rattle.synoptic_cli.specs.Steps.{Gives};
+
+use crate::answer::{Answer, NoAnswer};
+use crate::material::Material;
+use crate::status::Status;
+use partition_graph::PartGraph;
+use partition_model::{accepts_traces, graphs_are_formed, listings_tell};
+use reports::graph_report;
+use std::alloc::{AllocError, Global};
+
+/// The answer, where memory is not wanted.
+fn print(alloc: Global, material: &Material) -> Result<Answer, AllocError>
+    ensures { IfOk result (λ a. Answers material.now (Ok a)) }
+{
+    accepts_traces();
+    listings_tell();
+    graphs_are_formed();
+    let graph = PartGraph::open(alloc, &material.log)?;
+    let _used = graph.ids_used();
+    let partitions = graph.partitions(alloc)?;
+    let edges = graph.edges(alloc)?;
+    let types = material.log.types();
+    let text = graph_report(alloc, types, partitions.as_slice(), edges.as_slice())?;
+    Ok(Answer {
+        status: Status::Done,
+        text,
+    })
+}
+
+/// The edges of the graph, one a line. They are exactly those of the log, and each trace is a path of it.
+pub fn answer(alloc: Global, material: &Material) -> Result<Answer, NoAnswer>
+    ensures { Gives (Answers material.now) result }
+{
+    match print(alloc, material) {
+        Ok(answer) => Ok(answer),
+        Err(_) => Err(NoAnswer::Memory),
+    }
+}

@@ -1,0 +1,38 @@
+//! `invariants`: prints the invariants that hold in every trace of a log.
+ghost use Rattle.std.specs.Prelude.{IfOk, Ok};
+ghost use Rattle.synoptic_cli.specs.Commands.PrintInvariants.{Answers};
+ghost use Rattle.synoptic_cli.specs.Steps.{Gives};
+
+use crate::answer::{Answer, NoAnswer};
+use crate::material::Material;
+use crate::status::Status;
+use count_miner::mine;
+use invariants::{candidates_tell, mined_keeps_order, mined_tells};
+use reports::invariant_report;
+use std::alloc::{AllocError, Global};
+
+/// The answer, where memory is not wanted.
+fn print(alloc: Global, material: &Material) -> Result<Answer, AllocError>
+    ensures { IfOk result (λ a. Answers material.now (Ok a)) }
+{
+    mined_tells();
+    mined_keeps_order();
+    candidates_tell();
+    let types = material.log.types();
+    let mined = mine(alloc, &material.log)?;
+    let text = invariant_report(alloc, types, mined.as_slice())?;
+    Ok(Answer {
+        status: Status::Done,
+        text,
+    })
+}
+
+/// The invariants that hold in every trace, one a line. They are exactly the candidates that do.
+pub fn answer(alloc: Global, material: &Material) -> Result<Answer, NoAnswer>
+    ensures { Gives (Answers material.now) result }
+{
+    match print(alloc, material) {
+        Ok(answer) => Ok(answer),
+        Err(_) => Err(NoAnswer::Memory),
+    }
+}

@@ -1,0 +1,174 @@
+//! Reads what a task works on: stage after stage.
+ghost use Rattle.std.specs.Prelude.{◌≡◌, ◌≤◌, ◌+◌, Err, IfOk, IfErr, length, option_map};
+ghost use Rattle.outside.specs.Inputs.{Stays};
+ghost use Rattle.line_rules.specs.Patterns.{Stays as PatternsStay};
+ghost use Rattle.line_rules.specs.Views.{rules_in};
+ghost use Rattle.log_reader.specs.Inputs.{HasReadCause, OpensUpToFault, ReadsLog, inputs_of};
+ghost use Rattle.log_reader.specs.Views.{form_view};
+ghost use Rattle.words.specs.Task.{task_held};
+ghost use Rattle.synoptic_cli.specs.Causes.{KeepsCounts};
+ghost use Rattle.synoptic_cli.specs.Stages.{at_start, log_stages, rules_stages};
+ghost use Rattle.synoptic_cli.specs.Steps.{Ends, IsHeld, LogHalts, Reads, ReadsTask, form_with, held_form, setting_of};
+
+use crate::material::Material;
+use crate::reading::{read_rules, status_of};
+use crate::status::Status;
+use crate::task::{names_of, rules_name};
+use line_rules::{LineRules, Patterns};
+use log_reader::{ReadError, alike_rules_read_alike, read_log};
+use outside::Inputs;
+use std::alloc::{AllocError, Global};
+use traces::{Builder, TraceSet, gathering_in_order_is_the_log};
+use words::Task;
+
+/// What the stages have read so far.
+#[derive(Drop)]
+pub struct SoFar {
+    /// The rules that decide the lines of the log; None where lines are in the plain form.
+    pub rules: Option<LineRules>,
+    /// What the command is to work on.
+    pub material: Material,
+}
+
+/// What is there before the first stage: what no stage reads is empty.
+fn start(alloc: Global) -> Result<SoFar, AllocError>
+    ensures { IfOk result (λ so_far. IsHeld so_far at_start) }
+{
+    gathering_in_order_is_the_log();
+    let log = Builder::new(alloc).finish()?;
+    Ok(SoFar {
+        rules: None,
+        material: Material { log },
+    })
+}
+
+/// The stage of the rules: reads their file, where lines are read by one.
+fn read_rules_stage<I: Inputs, P: Patterns>(
+    alloc: Global,
+    task: &Task<'_>,
+    so_far: SoFar,
+    inputs: &mut I,
+    patterns: &mut P,
+) -> Result<SoFar, Status>
+    ensures stays { Stays (I.state inputs.old) (I.state inputs.new) }
+    ensures kept { PatternsStay (P.state patterns.old) (P.state patterns.new) }
+    ensures memory { result ≡ Err Status.Memory → (I.state inputs.new).faults ≡ (I.state inputs.old).faults }
+    ensures count { KeepsCounts result (P.state patterns.old) (P.state patterns.new) }
+    ensures ok { IfOk result
+        (Reads (rules_stages (task_held task.now)) so_far (I.state inputs.old) (I.state inputs.new)) }
+    ensures err { IfErr result (λ status.
+        Ends status (task_held task.now) (I.state inputs.old) (I.state inputs.new)
+        (P.state patterns.old) (P.state patterns.new)) }
+{
+    let Some(name) = rules_name(task.form) else {
+        return Ok(so_far);
+    };
+    match read_rules(alloc, name, inputs, patterns) {
+        Ok(rules) => Ok(SoFar {
+            rules: Some(rules),
+            material: so_far.material,
+        }),
+        Err(status) => Err(status),
+    }
+}
+
+/// What decides the lines: the rules that were read, where some were.
+fn form_of(rules: &Option<LineRules>) -> log_reader::Form<'_>
+    ensures { form_view result ≡ form_with (option_map rules_in rules.now) }
+{
+    match rules {
+        Some(rules) => log_reader::Form::Rules(rules),
+        None => log_reader::Form::Plain,
+    }
+}
+
+/// The log in the task's files, whose lines these rules decide.
+fn read_files<I: Inputs>(
+    alloc: Global,
+    task: &Task<'_>,
+    rules: &Option<LineRules>,
+    inputs: &mut I,
+) -> Result<TraceSet, ReadError>
+    ensures stays { Stays (I.state inputs.old) (I.state inputs.new) }
+    ensures ok { IfOk result
+        (ReadsLog (setting_of (task_held task.now) (form_with (option_map rules_in rules.now)))
+        (inputs_of (task_held task.now).files) (I.state inputs.old) (I.state inputs.new)) }
+    ensures err { IfErr result
+        (HasReadCause (setting_of (task_held task.now) (form_with (option_map rules_in rules.now)))
+        (inputs_of (task_held task.now).files) (I.state inputs.old) (I.state inputs.new)) }
+    ensures memory { result ≡ Err ReadError.Memory
+        → (I.state inputs.new).faults ≡ (I.state inputs.old).faults }
+    ensures opens { (I.state inputs.new).opens
+        ≤ (I.state inputs.old).opens + length (inputs_of (task_held task.now).files) }
+    ensures fault { OpensUpToFault result (I.state inputs.old) (I.state inputs.new) }
+{
+    let Ok(names) = names_of(alloc, task) else {
+        return Err(ReadError::Memory);
+    };
+    read_log(
+        alloc,
+        inputs,
+        &names,
+        form_of(rules),
+        task.ignore,
+        task.join,
+    )
+}
+
+/// The stage of the log: reads its files, where the task reads one.
+fn read_log_stage<I: Inputs>(
+    alloc: Global,
+    task: &Task<'_>,
+    so_far: SoFar,
+    inputs: &mut I,
+) -> Result<SoFar, ReadError>
+    ensures stays { Stays (I.state inputs.old) (I.state inputs.new) }
+    ensures ok { IfOk result
+        (Reads (log_stages (task_held task.now)) so_far (I.state inputs.old) (I.state inputs.new)) }
+    ensures err { IfErr result
+        (LogHalts (task_held task.now) (held_form so_far) (I.state inputs.old) (I.state inputs.new)) }
+    ensures memory { result ≡ Err ReadError.Memory
+        → (I.state inputs.new).faults ≡ (I.state inputs.old).faults }
+{
+    alike_rules_read_alike();
+    let Some(_) = task.form else {
+        return Ok(so_far);
+    };
+    match read_files(alloc, task, &so_far.rules, inputs) {
+        Ok(log) => Ok(SoFar {
+            rules: so_far.rules,
+            material: Material { log },
+        }),
+        Err(error) => Err(error),
+    }
+}
+
+/// What the task's command is to work on, read from the inputs.
+pub fn read_material<I: Inputs, P: Patterns>(
+    alloc: Global,
+    task: &Task<'_>,
+    inputs: &mut I,
+    patterns: &mut P,
+) -> Result<Material, Status>
+    ensures stays { Stays (I.state inputs.old) (I.state inputs.new) }
+    ensures kept { PatternsStay (P.state patterns.old) (P.state patterns.new) }
+    ensures memory { result ≡ Err Status.Memory → (I.state inputs.new).faults ≡ (I.state inputs.old).faults }
+    ensures count { KeepsCounts result (P.state patterns.old) (P.state patterns.new) }
+    ensures ok { IfOk result (ReadsTask (task_held task.now) (I.state inputs.old) (I.state inputs.new)) }
+    ensures err { IfErr result (λ status.
+        Ends status (task_held task.now) (I.state inputs.old) (I.state inputs.new)
+        (P.state patterns.old) (P.state patterns.new)) }
+{
+    alike_rules_read_alike();
+    let Ok(start) = start(alloc) else {
+        return Err(Status::Memory);
+    };
+    let so_far = match read_rules_stage(alloc, task, start, inputs, patterns) {
+        Ok(so_far) => so_far,
+        Err(status) => return Err(status),
+    };
+    match read_log_stage(alloc, task, so_far, inputs) {
+        Ok(so_far) => Ok(so_far.material),
+        Err(error) => Err(status_of(error)),
+    }
+}

@@ -1,0 +1,139 @@
+//! The top call.
+ghost use Rattle.std.specs.Prelude.{◌≡◌, List, ℕ, Some, map};
+ghost use Rattle.std.specs.String.{string_bytes};
+ghost use Rattle.words.specs.Task.{task_held, task_of};
+ghost use Rattle.synoptic_cli.specs.Causes.{HasCause, IsExpected, KeepsCount, Stays, world};
+ghost use Rattle.synoptic_cli.specs.Messages.{Tells, message_of};
+ghost use Rattle.synoptic_cli.specs.Steps.{status_without_task};
+
+use crate::answer::NoAnswer;
+use crate::commands;
+use crate::message::tell;
+use crate::stages::read_material;
+use crate::status::Status;
+use line_rules::Patterns;
+use outside::{Inputs, Sink, write_whole};
+use std::alloc::Global;
+use words::{ParseError, Task, parse};
+
+/// Does the task, and writes no message.
+fn answer<I: Inputs, P: Patterns, O: Sink>(
+    alloc: Global,
+    task: &Task<'_>,
+    inputs: &mut I,
+    patterns: &mut P,
+    out: &mut O,
+) -> Status
+    ensures cause { (words : List (List ℕ)) → task_of words ≡ Some (task_held task.now)
+        → HasCause result words
+        (world (I.state inputs.old) (P.state patterns.old) (O.state out.old))
+        (world (I.state inputs.new) (P.state patterns.new) (O.state out.new)) }
+    ensures memory { result ≡ Status.Memory → (I.state inputs.new).faults ≡ (I.state inputs.old).faults }
+    ensures count { KeepsCount result (P.state patterns.old) (P.state patterns.new) }
+    ensures stays { Stays
+        (world (I.state inputs.old) (P.state patterns.old) (O.state out.old))
+        (world (I.state inputs.new) (P.state patterns.new) (O.state out.new)) }
+{
+    let material = match read_material(alloc, task, inputs, patterns) {
+        Ok(material) => material,
+        Err(status) => return status,
+    };
+    let answer = match commands::answer(alloc, task, &material) {
+        Ok(answer) => answer,
+        Err(NoAnswer::Limit(kind)) => return Status::Limit(kind),
+        Err(NoAnswer::Memory) => return Status::Memory,
+    };
+    match write_whole(out, answer.text.as_slice()) {
+        Ok(()) => answer.status,
+        Err(_) => Status::WriteFault,
+    }
+}
+
+/// The status of words that give no task.
+fn status_without_task(error: ParseError) -> Status
+    ensures { result ≡ status_without_task error }
+{
+    match error {
+        ParseError::Usage => Status::Usage,
+        ParseError::Memory => Status::Memory,
+    }
+}
+
+/// Does what the words ask: reads the inputs, writes the answer to `out`, and a line to `err` where it
+/// refuses.
+///
+/// The words are those of the command line after the program's name; `words::parse` says what they ask for.
+/// `invariants -p [FILE]...` reads the files as lines `trace type`; `invariants -e RULES [FILE]...` reads
+/// them by the rules of that file. Either writes the invariants that hold in every trace, one a line.
+/// `graph` reads the same log, and writes the edges of the graph that has one partition for each type, one
+/// a line, each with how many of the events that it leaves go along it. Without any FILE the log is
+/// standard input. With `-i` lines that nothing decides are skipped, though not those with a bad time, and
+/// with `-j` the files are one log.
+///
+/// A run reads the inputs of its task stage after stage, the file of rules before the log; then the task's
+/// command answers what was read; then the answer is written.
+///
+/// - `cause`: what each status says of the words, the inputs, the patterns and what was written.
+///   - `Done`: each input was read to its end, and nothing in it is refused. The whole answer stands in
+///     `out`. The invariants that `invariants` lists are exactly the candidates that hold, by places, of
+///     every trace, in the candidates' order, none twice, and each type that they name has a text. The
+///     partitions and edges that `graph` shows are exactly those of the traces where each event has the id
+///     that is its type's number, and each trace is the word of a path of that graph.
+///   - `Usage`: the words ask for nothing that is known, and nothing was opened, built or written.
+///   - `Expressions`: the file of rules has this refusal; it was read to its end, or to one byte past its
+///     limit. A pattern is too deep or too large only at the line that is named, where no line before it is
+///     refused. Too large comes only where the patterns counted a refusal and may refuse this very pattern.
+///   - `Log` and `Limit`: this is the first refusal of the log, in the order of its bytes, and the inputs
+///     up to the one with the line that is refused were opened, and no others; at the limit on all input,
+///     some of the log's.
+///   - `ReadFault`: the inputs counted a fault and may fail the input that is named, or it is the first
+///     that is not there, and nothing before it is refused. No input after it was opened.
+///   - `WriteFault`: `out` counted a fault, and has a front of the answer that `Done` would have written.
+///   - `Memory`: memory was wanted, for the words, the inputs or the answer, or there are 2^32 files or
+///     more; no clause says when. No more inputs were opened than the words ask for.
+///
+///   But for `Done` and `WriteFault`, `out` is untouched. At `Done` and `WriteFault` as many inputs were
+///   opened as were to be read, and at these and at `Expressions`, `Log` and `Limit` no fault of theirs was
+///   counted.
+/// - `expected`: where the inputs tell their files and no fault or refusal was counted, the status is the
+///   one that the words and the files have (`runs_end_alike`: there is one alone), but for want of memory,
+///   and for a pattern that nests too deep at the line named.
+/// - `memory`: want of memory hides no fault of the inputs.
+/// - `count`: no pattern was refused for its size, but where that is the answer.
+/// - `stays`: the inputs' files, the names that they may fail and the patterns that may be refused stay as
+///   they were.
+/// - `told`: `err` has the status's message, or a front of it where `err` failed. It changes no status.
+pub fn run<I: Inputs, P: Patterns, O: Sink, E: Sink>(
+    alloc: Global,
+    words: &[String],
+    inputs: &mut I,
+    patterns: &mut P,
+    out: &mut O,
+    err: &mut E,
+) -> Status
+    ensures cause { HasCause result (map string_bytes words.now)
+        (world (I.state inputs.old) (P.state patterns.old) (O.state out.old))
+        (world (I.state inputs.new) (P.state patterns.new) (O.state out.new)) }
+    ensures expected { IsExpected result (map string_bytes words.now)
+        (world (I.state inputs.old) (P.state patterns.old) (O.state out.old))
+        (world (I.state inputs.new) (P.state patterns.new) (O.state out.new)) }
+    ensures memory { result ≡ Status.Memory → (I.state inputs.new).faults ≡ (I.state inputs.old).faults }
+    ensures count { KeepsCount result (P.state patterns.old) (P.state patterns.new) }
+    ensures stays { Stays
+        (world (I.state inputs.old) (P.state patterns.old) (O.state out.old))
+        (world (I.state inputs.new) (P.state patterns.new) (O.state out.new)) }
+    ensures told { Tells (message_of (map string_bytes words.now) result)
+        (E.state err.old) (E.state err.new) }
+{
+    let task = match parse(alloc, words) {
+        Ok(task) => task,
+        Err(error) => {
+            let status = status_without_task(error);
+            tell(None, status, err);
+            return status;
+        }
+    };
+    let status = answer(alloc, &task, inputs, patterns, out);
+    tell(Some(&task), status, err);
+    status
+}
