@@ -59,4 +59,4 @@ pub use law::{
 };
 pub use monitor::Monitor;
 pub use numbered::{candidate, index_of};
-pub use records::{Block, Edge, Merge, Partition, Split};
+pub use records::{Block, Edge, Listed, Merge, Model, Partition, Split};

@@ -1,5 +1,5 @@
 //! What a model says, as data: its partitions and edges, and the steps that led to it.
-use crate::Seq;
+use crate::{Invariant, Seq, Text};
 
 /// A partition of events.
 #[derive(Clone, Copy, Debug, PartialEq, Eq)]
@@ -21,6 +21,15 @@ pub struct Edge {
     pub to: u32,
     /// At how many places of traces an event of `from` is followed at once by one of `to`.
     pub count: u32,
+}
+
+/// An invariant of a model, with the states in which its monitor stands at the partitions.
+#[derive(Drop)]
+pub struct Listed {
+    /// The invariant.
+    pub inv: Invariant,
+    /// One number from 0 to 7 for each partition of the model, in their order: 1 for the state 0, plus 2 for the state 1, plus 4 for the state 2. It is the number itself, and not the byte of its digit.
+    pub labels: Seq<u8>,
 }
 
 /// A step of refinement: a partition is divided where a path that breaks an invariant leaves the traces.
@@ -54,4 +63,23 @@ pub struct Block {
     pub inv: u32,
     /// The ids of the path.
     pub path: Seq<u32>,
+}
+
+/// What a model file says.
+#[derive(Drop)]
+pub struct Model {
+    /// The texts of the types, of which the first has the number 2.
+    pub types: Seq<Text>,
+    /// The partitions, ascending by their ids.
+    pub partitions: Seq<Partition>,
+    /// The edges, ascending by the ids that they leave and then by those that they enter.
+    pub edges: Seq<Edge>,
+    /// The invariants, in the order of the candidates.
+    pub invariants: Seq<Listed>,
+    /// The steps of refinement, in their order.
+    pub splits: Seq<Split>,
+    /// The steps of coarsening, in their order.
+    pub merges: Seq<Merge>,
+    /// Why two partitions of one type stay apart, ascending by their ids.
+    pub blocks: Seq<Block>,
 }

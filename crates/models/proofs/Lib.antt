@@ -1,0 +1,13 @@
+pub mod Agreeing
+pub mod Deciding
+pub mod Valid
+pub mod Told
+pub mod FirstParts
+pub mod PartsExist
+pub mod FirstSteps
+pub mod Unique
+pub mod Shaped
+pub mod Formed
+pub mod Rows
+pub mod EmptyLog
+pub mod Listed

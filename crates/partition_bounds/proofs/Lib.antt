@@ -1,0 +1,9 @@
+pub mod Pairing
+pub mod Ordered
+pub mod Blocks
+pub mod Short
+pub mod Shorter
+pub mod Steps
+pub mod BlockPairs
+pub mod Merges
+pub mod SplitPaths

@@ -1,0 +1,59 @@
+-- The first splits of a run begin the whole run.
+use Rattle.std.proofs.Common.{◌≡◌, ℕ, zero, suc, ◌+◌, ◌<◌, List, [], ◌∷◌, ◌++◌, length, slice_get, Some, sym, ◌∙◌, refl, ap, ap₂, subst, arith, add-zero, length-append}
+use Rattle.invariants.specs.declared.Invariant.{Invariant}
+use Rattle.invariants.specs.declared.records.Split.{Split}
+use Rattle.partition_model.specs.Graphs.{Graph, Satisfies}
+use Rattle.partition_model.specs.Assignments.{Assignment, G}
+use Rattle.partition_model.specs.Refinement.{Splits, Refines, SatisfiesAll, IsFirstBroken, IsNextSplit, after_split, stitch}
+use Rattle.partition_bounds.specs.Laws.{SplitsBegin, StepsExclude}
+use Rattle.partition_model.proofs.Least.{one_least}
+use Rattle.partition_model.proofs.Runs.{broken}
+use Rattle.partition_model.proofs.Unique.{one-broken}
+
+pub none-broken : (g : Graph) (invs : List Invariant) (k : ℕ) → SatisfiesAll g invs → IsFirstBroken g invs k → ⊥
+none-broken g [] k s b = b
+none-broken g (inv ∷ invs) zero s b = b s.0
+none-broken g (inv ∷ invs) (suc k) s b = none-broken g invs k s.1 b.1
+
+-- there is at most one next split
+one-split : (invs : List Invariant) (h : Assignment) (s t : Split) → IsNextSplit invs h s → IsNextSplit invs h t → s ≡ t
+one-split invs h s t a b =
+    let i : s.inv ≡ t.inv = one-broken (G h) invs s.inv t.inv a.first b.first in
+    let f : (inv : Invariant) × (slice_get invs s.inv ≡ Some inv) × (Satisfies (G h) inv → ⊥) = broken (G h) invs s.inv a.first in
+    let e : slice_get invs t.inv ≡ Some f.0 = ap (λ (k : ℕ). slice_get invs k) (sym i) ∙ f.1 in
+    let p : s.path ≡ t.path = one_least (G h) f.0 s.path t.path (a.least f.0 f.1) (b.least f.0 e) in
+    let q : s.place ≡ t.place = a.place ∙ ap (λ (x : List ℕ). stitch h x) p ∙ sym b.place in
+    same i q p
+  where
+    same : s.inv ≡ t.inv → s.place ≡ t.place → s.path ≡ t.path → s ≡ t
+    same i q p = λ d. record { inv = i d; place = q d; path = p d }
+
+abbrev Rest : List Invariant → Assignment → Assignment → ℕ → List Split → List Split → Type 0
+Rest invs mid end n a b = (rest : List Split) × (a ++ rest ≡ b) × Refines invs mid (n + length a) rest end
+
+begin : (invs : List Invariant) (a b : List Split) (h mid end : Assignment) (n : ℕ) → Splits invs h n a mid → Refines invs h n b end → Rest invs mid end n a b
+begin invs [] b h mid end n x y =
+    let y1 : Refines invs mid n b end = subst (λ (k : Assignment). Refines invs k n b end) (sym x) y in
+    (b, refl, subst (λ (m : ℕ). Refines invs mid m b end) (sym (add-zero n)) y1)
+begin invs (s ∷ ss) [] h mid end n x y = absurd (none-broken (G h) invs s.inv y.0 x.0.first)
+begin invs (s ∷ ss) (t ∷ ts) h mid end n x y =
+    let e : s ≡ t = one-split invs h s t x.0 y.0 in
+    let y1 : Refines invs (after_split n s h) (suc n) ts end = subst (λ (u : Split). Refines invs (after_split n u h) (suc n) ts end) (sym e) y.1 in
+    let r : Rest invs mid end (suc n) ss ts = begin invs ss ts (after_split n s h) mid end (suc n) x.1 y1 in
+    let m : suc n + length ss ≡ n + suc (length ss) = omega arith in
+    (r.0, ap₂ (λ (u : Split) (us : List Split). u ∷ us) e r.1, subst (λ (k : ℕ). Refines invs mid k r.0 end) m r.2)
+
+pub splits_begin : SplitsBegin
+splits_begin invs h mid end n a b x y = begin invs a b h mid end n x y
+
+some-rest : (invs : List Invariant) (mid end : Assignment) (m : ℕ) (rest : List Split) (s : Split) → IsNextSplit invs mid s → Refines invs mid m rest end → 0 < length rest
+some-rest invs mid end m [] s i y = absurd (none-broken (G mid) invs s.inv y.0 i.first)
+some-rest invs mid end m (t ∷ ts) s i y = omega arith
+
+pub steps_exclude : StepsExclude
+steps_exclude invs h mid end n a b s x i y =
+    let r : Rest invs mid end n a b = begin invs a b h mid end n x y in
+    let l : 0 < length r.0 = some-rest invs mid end (n + length a) r.0 s i r.2 in
+    let e : length (a ++ r.0) ≡ length a + length r.0 = length-append a r.0 in
+    let f : length (a ++ r.0) ≡ length b = ap length r.1 in
+    omega arith
