@@ -1,0 +1,249 @@
+-- The numbers of a well-shaped model fit the fields of its records.
+use Rattle.std.proofs.Common.{◌≡◌, ℕ, zero, suc, ◌+◌, ◌*◌, ◌<◌, ◌≤◌, Bool, true, false, cond, not, ◌&&◌, eqb, leb, ◌⊎◌, List, [], ◌∷◌, map, length, Option, Some, None, is_some, nat_lt, refl, sym, subst, arith, inl, inr}
+use Rattle.std.specs.Prelude.{unwrap_or, option_map, find}
+use Rattle.std.specs.List.{AllByRecursion, list_all, slice_get}
+use Rattle.std.proofs.lemmas.Bool.{and_parts, ltb-true, leb-true, eqb-true, cases_Bool, false≢true}
+use Rattle.std.proofs.lemmas.List.{length-map}
+use Rattle.std.proofs.lemmas.List.Sums.{sum_by-cons}
+use Rattle.std.proofs.Math.Nat.{mul-le-mul}
+use Rattle.invariants.specs.Candidates.{candidates, IsFirst, IsPair}
+use Rattle.invariants.specs.declared.Invariant.{Invariant}
+use Rattle.invariants.specs.declared.records.Partition.{Partition}
+use Rattle.invariants.specs.declared.records.Edge.{Edge}
+use Rattle.invariants.specs.declared.records.Listed.{Listed}
+use Rattle.invariants.specs.declared.records.Merge.{Merge}
+use Rattle.invariants.specs.declared.records.Split.{Split}
+use Rattle.invariants.specs.declared.records.Block.{Block}
+use Rattle.invariants.proofs.CandidatePlaces.{length-candidates, candidate-shape}
+use Rattle.model_file.specs.Shape.{types_hold, partition_holds, partitions_hold, type_of, edge_holds, edges_hold, place_of, listed_holds, invariants_hold, merge_holds, merges_hold, path_holds, split_numbers, split_holds, splits_hold, are_one, block_holds, blocks_hold, comes_after, ascends_from}
+use Rattle.model_file.proofs.Places.{place-is}
+use Rattle.model_file.proofs.Back.{IsSmall, FitsPartition, FitsEdge, FitsListed, FitsMerge, FitsSplit, FitsBlock}
+
+-- what each element that passes has, where all pass
+pub all-by : {X : Type 0} (p : X → Bool) (Q : X → Type 0) → ((x : X) → p x ≡ true → Q x) → (xs : List X) → list_all p xs ≡ true → AllByRecursion Q xs
+all-by p Q give [] h = tt
+all-by p Q give (x ∷ xs) h = let e = and_parts (p x) (list_all p xs) h in (give x e.0, all-by p Q give xs e.1)
+
+pub all-weaker : {X : Type 0} (P Q : X → Type 0) → ((x : X) → P x → Q x) → (xs : List X) → AllByRecursion P xs → AllByRecursion Q xs
+all-weaker P Q give [] h = tt
+all-weaker P Q give (x ∷ xs) h = (give x h.0, all-weaker P Q give xs h.1)
+
+-- ---- types
+
+pub few-types : (ts : List (List ℕ)) → types_hold ts ≡ true → length ts ≤ 128
+unfolding types_hold
+few-types ts h = leb-true _ _ (and_parts _ _ h).0
+
+-- ---- partitions
+
+-- an id of at most 1,023, the number of a type, and a count that fits
+pub record IsNumbered (types : ℕ) (p : Partition) : Type 0 where
+  pub id : p.id ≤ 1023
+  pub typ : p.typ ≤ types + 1
+  pub count : p.count ≤ 1000000
+
+numbered-other : (types : ℕ) (p : Partition) → partition_holds types p ≡ true → IsNumbered types p
+numbered-other types p h =
+    let a = and_parts _ _ h in
+    let b = and_parts _ _ a.1 in
+    let c = and_parts _ _ b.1 in
+    let d = and_parts _ _ c.1 in
+    record { id = leb-true _ _ a.0; typ = leb-true _ _ c.0; count = leb-true _ _ d.1 }
+
+pub numbered : (types : ℕ) (ps : List Partition) → partitions_hold types ps ≡ true → AllByRecursion (IsNumbered types) ps
+unfolding partitions_hold
+numbered types [] h = absurd (false≢true h)
+numbered types (p ∷ []) h = absurd (false≢true h)
+numbered types (p ∷ q ∷ ps) h =
+    let a = and_parts _ _ (and_parts _ _ h).1 in
+    let b = and_parts _ _ a.0 in
+    let c = and_parts _ _ b.1 in
+    let d = and_parts _ _ c.1 in
+    let e = and_parts _ _ d.1 in
+    let f = and_parts _ _ e.1 in
+    let p_id : p.id ≡ 0 = eqb-true _ _ b.0 in
+    let p_typ : p.typ ≡ 0 = eqb-true _ _ c.0 in
+    let q_id : q.id ≡ 1 = eqb-true _ _ d.0 in
+    let q_typ : q.typ ≡ 1 = eqb-true _ _ e.0 in
+    let counts : p.count ≡ q.count = eqb-true _ _ f.0 in
+    let few : p.count ≤ 1000000 = leb-true _ _ f.1 in (
+      record { id = omega (arith, p_id); typ = omega (arith, p_typ); count = few },
+      (
+        record { id = omega (arith, q_id); typ = omega (arith, q_typ); count = omega (arith, counts, few) },
+        all-by (partition_holds types) (IsNumbered types) (numbered-other types) ps (and_parts _ _ a.1).0,
+      ),
+    )
+
+pub fits-partitions : (types : ℕ) (ps : List Partition) → types ≤ 128 → partitions_hold types ps ≡ true → AllByRecursion FitsPartition ps
+fits-partitions types ps few h =
+    all-weaker (IsNumbered types) FitsPartition (λ p n. record { id = omega (arith, n.id); typ = omega (arith, n.typ, few); count = omega (arith, n.count) }) ps (numbered types ps h)
+
+-- ---- edges
+
+found-small : (b : Bool) (p : Partition) (o : Option Partition) → b ≡ false → is_some (option_map (λ (q : Partition). q.typ) (cond b (Some p) o)) ≡ true → is_some (option_map (λ (q : Partition). q.typ) o) ≡ true
+found-small true p o e h = absurd (false≢true (sym e))
+found-small false p o e h = h
+
+-- the id of a listed partition
+pub listed-small : (types : ℕ) (ps : List Partition) (id : ℕ) → AllByRecursion (IsNumbered types) ps → is_some (type_of ps id) ≡ true → id ≤ 1023
+listed-small types [] id h some = absurd (false≢true some)
+listed-small types (p ∷ ps) id h some =
+    elim (cases_Bool (eqb p.id id)) [
+      | inl here ↦ let same = eqb-true p.id id here in omega (arith, same, h.0.id)
+      | inr other ↦ listed-small types ps id h.1 (found-small (eqb p.id id) p (find (λ (q : Partition). eqb q.id id) ps) other some)
+    ]
+
+pub six : (a b c d e f : Bool) → (a && (b && (c && (d && (e && f))))) ≡ true → (a ≡ true) × (b ≡ true) × (f ≡ true)
+six true true true true true true h = (refl, refl, refl)
+six true true true true true false h = absurd (false≢true h)
+six true true true true false f h = absurd (false≢true h)
+six true true true false e f h = absurd (false≢true h)
+six true true false d e f h = absurd (false≢true h)
+six true false c d e f h = absurd (false≢true h)
+six false b c d e f h = absurd (false≢true h)
+
+fits-edge : (types : ℕ) (ps : List Partition) → AllByRecursion (IsNumbered types) ps → (e : Edge) → edge_holds (type_of ps) e ≡ true → FitsEdge e
+fits-edge types ps small e x =
+    let parts = six (is_some (type_of ps e.from)) (is_some (type_of ps e.to)) (not (eqb e.from 1)) (not (eqb e.to 0)) (leb 1 e.count) (leb e.count 2000000) x in
+    let count : e.count ≤ 2000000 = leb-true e.count 2000000 parts.2 in
+    let from : e.from ≤ 1023 = listed-small types ps e.from small parts.0 in
+    let to : e.to ≤ 1023 = listed-small types ps e.to small parts.1 in
+    record { from = omega (arith, from); to = omega (arith, to); count = omega (arith, count) }
+
+pub fits-edges : (types : ℕ) (ps : List Partition) (es : List Edge) → partitions_hold types ps ≡ true → edges_hold (type_of ps) es ≡ true → AllByRecursion FitsEdge es
+unfolding edges_hold
+fits-edges types ps es parts h = all-by (edge_holds (type_of ps)) FitsEdge (fits-edge types ps (numbered types ps parts)) es (and_parts (list_all (edge_holds (type_of ps)) es) _ h).0
+
+-- ---- merges
+
+pub fits-merges : (ms : List Merge) → merges_hold ms ≡ true → AllByRecursion FitsMerge ms
+unfolding merges_hold
+fits-merges ms h =
+    all-by merge_holds FitsMerge (λ m x.
+    let a = and_parts _ _ x in
+    let less : m.p < m.q = ltb-true _ _ a.0 in
+    let high : m.q ≤ 1023 = leb-true _ _ a.1 in
+    record { p = omega (arith, less, high); q = omega (arith, high) }) ms (and_parts _ _ h).1
+
+-- ---- paths
+
+pub small-path : (path : List ℕ) → path_holds path ≡ true → AllByRecursion IsSmall path
+small-path path h = all-by (λ id. leb id 1023) IsSmall (λ id x. let high : id ≤ 1023 = leb-true _ _ x in omega (arith, high)) path h
+
+-- ---- invariants
+
+some-place : (o : Option ℕ) → is_some o ≡ true → (k : ℕ) × (o ≡ Some k)
+some-place None h = absurd (false≢true h)
+some-place (Some k) h = (k, refl)
+
+length-at : {X : Type 0} (xs : List X) (k : ℕ) (x : X) → slice_get xs k ≡ Some x → k < length xs
+length-at [] k x h = absurd cc
+length-at (y ∷ xs) zero x h = omega arith
+length-at (y ∷ xs) (suc k) x h = omega (arith, length-at xs k x h)
+
+-- the types of a candidate
+record IsBetween (types : ℕ) (i : Invariant) : Type 0 where
+  a : i.a < types + 2
+  b : i.b < types + 2
+
+between : (types : ℕ) (i : Invariant) (s : IsFirst types i ⊎ IsPair types i) → IsBetween types i
+between types i (inl f) = record { a = omega (arith, f.a); b = f.b_high }
+between types i (inr p) = record { a = p.a_high; b = p.b_high }
+
+-- where an invariant stands among the candidates
+pub record IsPlaced (types : ℕ) (i : Invariant) (k : ℕ) : Type 0 where
+  pub inside : k < types + 3 * (types * types)
+  pub a : i.a < types + 2
+  pub b : i.b < types + 2
+
+placed : (types : ℕ) (i : Invariant) (k : ℕ) → place_of types i ≡ Some k → IsPlaced types i k
+unfolding place_of
+placed types i k h =
+    let found = place-is i (candidates types) k h in
+    let inside = length-at (candidates types) k i found in
+    let shape = between types i (candidate-shape types k i found) in
+    record { inside = omega (arith, inside, length-candidates types); a = shape.a; b = shape.b }
+
+pub place-known : (types : ℕ) (i : Invariant) → is_some (place_of types i) ≡ true → IsPlaced types i (unwrap_or (place_of types i) 0)
+place-known types i h = let k = some-place (place_of types i) h in subst (λ o. IsPlaced types i (unwrap_or o 0)) (sym k.1) (placed types i k.0 k.1)
+
+abbrev after : Option ℕ → ℕ
+after None = 0
+after (Some k) = k + 1
+
+after-le : (before : Option ℕ) (k : ℕ) → comes_after nat_lt before k ≡ true → after before ≤ k
+after-le None k h = omega arith
+after-le (Some b) k h = let less = ltb-true b k h in omega (arith, less)
+
+-- numbers that ascend below a limit are no more than the limit
+few-ascend : (n : ℕ) (ks : List ℕ) (before : Option ℕ) → AllByRecursion (λ k. k < n) ks → after before ≤ n → ascends_from nat_lt before ks ≡ true → length ks + after before ≤ n
+few-ascend n [] before small room h = omega arith
+few-ascend n (k ∷ ks) before small room h =
+    let e = and_parts (comes_after nat_lt before k) (ascends_from nat_lt (Some k) ks) h in
+    let low = after-le before k e.0 in
+    let rest : length ks + (k + 1) ≤ n = few-ascend n ks (Some k) small.1 (omega (arith, small.0)) e.1 in
+    omega (arith, low, rest)
+
+pub all-map : {X Y : Type 0} (f : X → Y) (P : Y → Type 0) (xs : List X) → AllByRecursion (λ x. P (f x)) xs → AllByRecursion P (map f xs)
+all-map f P [] h = tt
+all-map f P (x ∷ xs) h = (h.0, all-map f P xs h.1)
+
+few-candidates : (types : ℕ) → types ≤ 128 → types + 3 * (types * types) ≤ 49280
+few-candidates types few = omega (arith, mul-le-mul few few)
+
+pub few-invariants : (types partitions : ℕ) (ls : List Listed) → types ≤ 128 → invariants_hold types partitions ls ≡ true → length ls ≤ 49280
+unfolding invariants_hold
+few-invariants types partitions ls few h =
+    let e = and_parts _ _ h in
+    let n = types + 3 * (types * types) in
+    let place : Listed → ℕ = λ l. unwrap_or (place_of types l.inv) 0 in
+    let small = all-by (listed_holds types partitions) (λ l. place l < n) (λ l x. (place-known types l.inv (and_parts _ _ x).0).inside) ls e.0 in
+    let count = few-ascend n (map place ls) None (all-map place (λ k. k < n) ls small) (omega arith) e.1 in
+    omega (arith, count, length-map ls place, few-candidates types few)
+
+pub fits-invariants : (types partitions : ℕ) (ls : List Listed) → types ≤ 128 → invariants_hold types partitions ls ≡ true → AllByRecursion FitsListed ls
+unfolding invariants_hold
+fits-invariants types partitions ls few h =
+    all-by (listed_holds types partitions) FitsListed (λ l x.
+    let a = and_parts _ _ x in
+    let b = and_parts _ _ a.1 in
+    let at = place-known types l.inv a.0 in
+    record { a = omega (arith, at.a, few); b = omega (arith, at.b, few); labels = all-by (λ label. leb label 7) (λ label. label ≤ 7) (λ label y. leb-true _ _ y) l.labels b.1 }) ls (and_parts _ _ h).0
+
+-- ---- splits
+
+split-list : (invariants n : ℕ) (ss : List Split) → invariants ≤ 49280 → n ≤ 4000000 → list_all (split_holds invariants) ss ≡ true → split_numbers ss ≤ n → AllByRecursion FitsSplit ss
+split-list invariants n [] few long h room = tt
+split-list invariants n (s ∷ ss) few long h room =
+    let e = and_parts (split_holds invariants s) (list_all (split_holds invariants) ss) h in
+    let a = and_parts _ _ e.0 in
+    let b = and_parts _ _ a.1 in
+    let inv : s.inv < invariants = ltb-true _ _ a.0 in
+    let place : s.place < length s.path = ltb-true _ _ b.0 in
+    let sum = sum_by-cons (λ (t : Split). length t.path) s ss in
+    (record { inv = omega (arith, inv, few); place = omega (arith, place, room, long, sum); path = small-path s.path b.1 }, split-list invariants n ss few long e.1 (omega (arith, room, sum)))
+
+pub fits-splits : (invariants : ℕ) (ss : List Split) → invariants ≤ 49280 → splits_hold invariants ss ≡ true → AllByRecursion FitsSplit ss
+unfolding splits_hold
+fits-splits invariants ss few h = let e = and_parts _ _ (and_parts _ _ h).1 in split-list invariants (split_numbers ss) ss few (leb-true _ _ e.1) e.0 (omega arith)
+
+-- ---- blocks
+
+pub both-some : (s t : Option ℕ) → are_one s t ≡ true → (is_some s ≡ true) × (is_some t ≡ true)
+both-some None t h = absurd (false≢true h)
+both-some (Some x) None h = absurd (false≢true h)
+both-some (Some x) (Some y) h = (refl, refl)
+
+pub fits-blocks : (types invariants : ℕ) (ps : List Partition) (ss : List Split) (bs : List Block) → partitions_hold types ps ≡ true → invariants ≤ 49280 → blocks_hold (type_of ps) invariants ss bs ≡ true → AllByRecursion FitsBlock bs
+unfolding blocks_hold
+fits-blocks types invariants ps ss bs parts few h =
+    let small = numbered types ps parts in
+    all-by (block_holds (type_of ps) invariants) FitsBlock (λ b x.
+    let a = and_parts _ _ x in
+    let c = and_parts _ _ a.1 in
+    let d = and_parts _ _ c.1 in
+    let both = both-some (type_of ps b.p) (type_of ps b.q) c.0 in
+    let p : b.p ≤ 1023 = listed-small types ps b.p small both.0 in
+    let q : b.q ≤ 1023 = listed-small types ps b.q small both.1 in
+    let inv : b.inv < invariants = ltb-true _ _ d.0 in
+    record { p = omega (arith, p); q = omega (arith, q); inv = omega (arith, inv, few); path = small-path b.path d.1 }) bs (and_parts _ _ h).0

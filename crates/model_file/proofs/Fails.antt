@@ -1,0 +1,45 @@
+-- A refusal stays one in whatever comes after, and what a call gave of the value is what it gives of the bytes.
+use Rattle.std.proofs.Common.{◌≡◌, ℕ, ◌≤◌, List, length, Some, Result, Ok, Err, refl, sym, ap, subst, ◌∙◌, le-ltb, lt-ltb, ◌<◌}
+use Rattle.std.specs.Prelude.{IfOk, IfErr}
+use Rattle.serde_json.specs.Data.{Data}
+use Rattle.model_file.specs.declared.refusal.FileError.{FileError}
+use Rattle.model_file.specs.declared.refusal.FileError.TheVariants.{TooLong, NotJson, Shape, Version, Memory}
+use Rattle.model_file.specs.Reading.{◌>>=◌, or_not_json, Fails, Gives, IsNoValue, model_in, value_of, max_bytes, reads}
+
+pub Fails-then : {A B : Type 0} (e : FileError) (r : Result A FileError) (f : A → Result B FileError) → Fails e r → Fails e (r >>= f)
+Fails-then TooLong r f h = ap (λ x. x >>= f) h
+Fails-then NotJson r f h = ap (λ x. x >>= f) h
+Fails-then (Shape field) r f h = ap (λ x. x >>= f) h
+Fails-then (Version n) r f h = ap (λ x. x >>= f) h
+Fails-then Memory r f h = tt
+
+-- the refusal of a step, where what is read comes down to that step
+pub Fails-at : {A B : Type 0} (e : FileError) (whole : Result B FileError) (r : Result A FileError) (f : A → Result B FileError) → whole ≡ (r >>= f) → Fails e r → Fails e whole
+Fails-at e whole r f is h = subst (Fails e) (sym is) (Fails-then e r f h)
+
+pub Gives-ok : {A : Type 0} (r read whole : Result A FileError) → whole ≡ read → Gives r read → IfOk r (λ x. whole ≡ Ok x)
+Gives-ok (Ok x) read whole is h = is ∙ h
+Gives-ok (Err e) read whole is h = tt
+
+pub Gives-err : {A : Type 0} (r read whole : Result A FileError) → whole ≡ read → Gives r read → IfErr r (λ e. Fails e whole)
+Gives-err (Ok x) read whole is h = tt
+Gives-err (Err e) read whole is h = subst (Fails e) (sym is) h
+
+-- bytes that are not too long
+pub reads-short : (bytes : List ℕ) → length bytes ≤ max_bytes → reads bytes ≡ (or_not_json (value_of bytes) >>= model_in)
+unfolding reads
+reads-short bytes short = rw (le-ltb max_bytes (length bytes) short) refl
+
+pub reads-long : (bytes : List ℕ) → max_bytes < length bytes → reads bytes ≡ Err TooLong
+unfolding reads
+reads-long bytes long = rw (lt-ltb max_bytes (length bytes) long) refl
+
+pub reads-value : (bytes : List ℕ) (d : Data) → length bytes ≤ max_bytes → value_of bytes ≡ Some d → reads bytes ≡ model_in d
+reads-value bytes d short is = reads-short bytes short ∙ ap (λ o. or_not_json o >>= model_in) is
+
+pub no-value : (e : FileError) (bytes : List ℕ) → length bytes ≤ max_bytes → IsNoValue e (value_of bytes) → Fails e (reads bytes)
+no-value TooLong bytes short h = absurd h
+no-value NotJson bytes short h = reads-short bytes short ∙ ap (λ o. or_not_json o >>= model_in) h
+no-value (Shape field) bytes short h = absurd h
+no-value (Version n) bytes short h = absurd h
+no-value Memory bytes short h = tt

@@ -1,0 +1,17 @@
+pub mod Turns
+pub mod Rows
+pub mod Each
+pub mod Bounds
+pub mod Back
+pub mod Shapes
+pub mod Texts
+pub mod Trees
+pub mod Tokens
+pub mod Room
+pub mod Places
+pub mod Fails
+pub mod Steps
+pub mod Tables
+pub mod Forth
+pub mod Objects
+pub mod Limit

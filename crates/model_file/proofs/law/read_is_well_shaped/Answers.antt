@@ -1,0 +1,5 @@
+use Rattle.model_file.proofs.Shapes.{read-is-well-shaped}
+use Rattle.model_file.proofs.law.read_is_well_shaped.Goals as goal
+
+pub returns : goal.returns
+returns c = read-is-well-shaped

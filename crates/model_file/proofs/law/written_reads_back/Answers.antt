@@ -1,0 +1,5 @@
+use Rattle.model_file.proofs.Limit.{written-reads-back}
+use Rattle.model_file.proofs.law.written_reads_back.Goals as goal
+
+pub returns : goal.returns
+returns c = written-reads-back

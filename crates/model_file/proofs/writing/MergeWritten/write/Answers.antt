@@ -1,0 +1,20 @@
+use Rattle.std.proofs.Common.{[], ◌∷◌, ◌++◌, ◌∙◌}
+use Rattle.json.specs.Token.{begin_array}
+use Rattle.serde_json.specs.Data.{Data}
+use Rattle.model_file.specs.Tree.{number_data}
+use Rattle.model_file.proofs.Tokens.{row-begin, row-more, row-end}
+use Rattle.model_file.proofs.writing.MergeWritten.write.Goals as goal
+
+pub returns : goal.returns
+returns c =
+    let first = c.args.out.now.tokens in
+    let front = first ++ begin_array ∷ [] in
+    let t0 = row-begin first c.begin_array.new.self.tokens c.in_ok-begin_array.ensures.ok in
+    let d1 : Data = number_data c.args.self.now.p in
+    let t1 = row-more front ([]) d1 c.begin_array.new.self.tokens c.write_number.new.out.tokens t0 c.in_ok-write_number.ensures.ok in
+    let d2 : Data = number_data c.args.self.now.q in
+    let t2 = row-more front (d1 ∷ []) d2 c.write_number.new.out.tokens c.write_number-2.new.out.tokens t1 c.in_ok-write_number-2.ensures.ok in
+    record {
+      ok = row-end c.end_array.result (d1 ∷ d2 ∷ []) first c.write_number-2.new.out.tokens c.end_array.new.self.tokens t2 c.end_array.ensures.ok;
+      before = c.end_array.ensures.room.0 ∙ c.in_ok-write_number-2.ensures.before ∙ c.in_ok-write_number.ensures.before ∙ c.in_ok-begin_array.ensures.room.0;
+    }

@@ -1,0 +1,7 @@
+pub mod Tree
+pub mod Shape
+pub mod Table
+pub mod Entries
+pub mod Reading
+pub mod Writing
+pub mod Laws

@@ -1,0 +1,147 @@
+-- What a model file is read as: the model, or the first refusal.
+use Rattle.std.specs.Prelude.{◌≡◌, ℕ, ◌==◌, ◌&&◌, Bool, true, false, List, [], ◌∷◌, length, codes, nat_lt, if◌then◌else◌, Option, Some, None, Result, Ok, Err}
+use Rattle.std.specs.List.{list_any}
+use Rattle.std.specs.Option.{option_and_then}
+use Rattle.std.specs.Str.{bytes_eq, is_utf8}
+use Rattle.serde_json.specs.Data.{Data, Members, no_members, member}
+use Rattle.serde_json.specs.Find.{get, as_number, as_u64, as_str, as_object}
+use Rattle.serde_json.specs.Read.{read}
+use Rattle.invariants.specs.declared.records.Partition.{Partition}
+use Rattle.invariants.specs.declared.records.Edge.{Edge}
+use Rattle.invariants.specs.declared.records.Listed.{Listed}
+use Rattle.invariants.specs.declared.records.Merge.{Merge}
+use Rattle.invariants.specs.declared.records.Split.{Split}
+use Rattle.invariants.specs.declared.records.Block.{Block}
+use Rattle.invariants.specs.declared.records.Model.{Model}
+use Rattle.model_file.specs.Shape.{types_hold, partitions_hold, type_of, edges_hold, invariants_hold, merges_hold, splits_hold, blocks_hold}
+use Rattle.model_file.specs.Entries.{list_in, partition_in, edge_in, listed_in, merge_in, split_in, block_in}
+use Rattle.model_file.specs.declared.refusal.Field.{Field}
+use Rattle.model_file.specs.declared.refusal.Field.TheVariants.{Root, Version, Extra, Types, Partitions, Edges, Invariants, Merges, Splits, Blocks}
+use Rattle.model_file.specs.declared.refusal.FileError.{FileError}
+use Rattle.model_file.specs.declared.refusal.FileError.TheVariants as refused
+
+-- what comes after a step that was not refused
+infixl 10 ◌>>=◌
+abbrev pub ◌>>=◌ : {A B : Type 0} → Result A FileError → (A → Result B FileError) → Result B FileError
+(Ok x) >>= f = f x
+(Err e) >>= f = Err e
+
+-- what is there, or the refusal of a part
+abbrev pub or_shape : {A : Type 0} → Field → Option A → Result A FileError
+or_shape field None = Err (refused.Shape field)
+or_shape field (Some x) = Ok x
+
+-- what passed the rule of its part, or the refusal of the part
+abbrev pub tested : {A : Type 0} → Field → Bool → A → Result A FileError
+tested field true x = Ok x
+tested field false x = Err (refused.Shape field)
+
+-- ---- the object, its version and its keys
+
+-- the members of the value, which is an object
+unfoldable pub root_in : Data → Result Members FileError
+root_in d = or_shape Root (as_object d)
+
+-- version 1, and no other
+abbrev pub if_first : Option ℕ → Result (Unit {0}) FileError
+if_first None = Err (refused.Shape Version)
+if_first (Some n) = if n == 1 then Ok tt else Err (refused.Version n)
+
+unfoldable pub version_in : Data → Result (Unit {0}) FileError
+version_in d = if_first (option_and_then as_u64 (option_and_then as_number (get (codes "version") d)))
+
+abbrev pub keys : List (List ℕ)
+keys = codes "blocks" ∷ codes "edges" ∷ codes "invariants" ∷ codes "merges" ∷ codes "partitions" ∷ codes "splits" ∷ codes "types" ∷ codes "version" ∷ []
+
+-- one of the eight keys
+unfoldable pub is_key : List ℕ → Bool
+is_key key = list_any (bytes_eq key) keys
+
+-- no key but these
+abbrev pub has_no_extra : Members → Bool
+has_no_extra no_members = true
+has_no_extra (member key d ms) = is_key key && has_no_extra ms
+
+unfoldable pub keys_in : Members → Result (Unit {0}) FileError
+keys_in ms = tested Extra (has_no_extra ms) tt
+
+-- an object of version 1 with none but the eight keys
+unfoldable pub head_in : Data → Result (Unit {0}) FileError
+head_in d = root_in d >>= λ ms. version_in d >>= λ v. keys_in ms
+
+-- ---- the parts
+
+-- the entries under a key, each read by f
+unfoldable pub part_in : {A : Type 0} → (Data → Option A) → List ℕ → Field → Data → Result (List A) FileError
+part_in f key field d = or_shape field (option_and_then (list_in f) (get key d))
+
+unfoldable pub types_in : Data → Result (List (List ℕ)) FileError
+types_in d = part_in as_str (codes "types") Types d >>= λ ts. tested Types (types_hold ts) ts
+
+unfoldable pub partitions_in : ℕ → Data → Result (List Partition) FileError
+partitions_in types d = part_in partition_in (codes "partitions") Partitions d >>= λ ps. tested Partitions (partitions_hold types ps) ps
+
+unfoldable pub edges_in : (ℕ → Option ℕ) → Data → Result (List Edge) FileError
+edges_in type d = part_in edge_in (codes "edges") Edges d >>= λ es. tested Edges (edges_hold type es) es
+
+unfoldable pub invariants_in : ℕ → ℕ → Data → Result (List Listed) FileError
+invariants_in types partitions d = part_in listed_in (codes "invariants") Invariants d >>= λ ls. tested Invariants (invariants_hold types partitions ls) ls
+
+unfoldable pub merges_in : Data → Result (List Merge) FileError
+merges_in d = part_in merge_in (codes "merges") Merges d >>= λ ms. tested Merges (merges_hold ms) ms
+
+unfoldable pub splits_in : ℕ → Data → Result (List Split) FileError
+splits_in invariants d = part_in split_in (codes "splits") Splits d >>= λ ss. tested Splits (splits_hold invariants ss) ss
+
+unfoldable pub blocks_in : (ℕ → Option ℕ) → ℕ → List Split → Data → Result (List Block) FileError
+blocks_in type invariants ss d = part_in block_in (codes "blocks") Blocks d >>= λ bs. tested Blocks (blocks_hold type invariants ss bs) bs
+
+-- ---- the whole
+
+-- the model of the parts
+unfoldable pub parts_in : Data → Result Model FileError
+parts_in d =
+    types_in d >>= λ ts. partitions_in (length ts) d >>= λ ps. edges_in (type_of ps) d >>= λ es. invariants_in (length ts) (length ps) d >>= λ ls. merges_in d >>= λ ms.
+    splits_in (length ls) d >>= λ ss. blocks_in (type_of ps) (length ls) ss d >>= λ bs. Ok (record { types = ts; partitions = ps; edges = es; invariants = ls; splits = ss; merges = ms; blocks = bs })
+
+-- the model of a JSON value, or its first refusal
+unfoldable pub model_in : Data → Result Model FileError
+model_in d = head_in d >>= λ h. parts_in d
+
+-- the JSON value that the bytes are, where they are UTF-8 and `serde_json` reads one
+unfoldable pub value_of : List ℕ → Option Data
+value_of bytes = if is_utf8 bytes then read bytes else None
+
+-- what stands there, or the refusal of bytes without a value
+abbrev pub or_not_json : Option Data → Result Data FileError
+or_not_json None = Err refused.NotJson
+or_not_json (Some d) = Ok d
+
+-- the most bytes of a model file
+abbrev pub max_bytes : ℕ
+max_bytes = 134217728
+
+-- the model of a file's bytes, or the first refusal
+unfoldable pub reads : List ℕ → Result Model FileError
+reads bytes = if nat_lt max_bytes (length bytes) then Err refused.TooLong else (or_not_json (value_of bytes) >>= model_in)
+
+-- ---- for contracts: what a call answered is what was to be read, unless memory was wanted
+
+abbrev pub Fails : {A : Type 0} → FileError → Result A FileError → Type 0
+Fails refused.Memory read = Unit {0}
+Fails refused.TooLong read = read ≡ Err refused.TooLong
+Fails refused.NotJson read = read ≡ Err refused.NotJson
+Fails (refused.Shape field) read = read ≡ Err (refused.Shape field)
+Fails (refused.Version n) read = read ≡ Err (refused.Version n)
+
+abbrev pub Gives : {A : Type 0} → Result A FileError → Result A FileError → Type 0
+Gives (Ok x) read = read ≡ Ok x
+Gives (Err e) read = Fails e read
+
+-- why there is no value
+abbrev pub IsNoValue : FileError → Option Data → Type 0
+IsNoValue refused.Memory value = Unit {0}
+IsNoValue refused.NotJson value = value ≡ None
+IsNoValue refused.TooLong value = ⊥
+IsNoValue (refused.Shape field) value = ⊥
+IsNoValue (refused.Version n) value = ⊥

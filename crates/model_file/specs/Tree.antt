@@ -1,0 +1,80 @@
+-- The JSON value of a model, and its text.
+use Rattle.std.specs.Prelude.{ℕ, ◌+◌, List, [], ◌∷◌, map, codes}
+use Rattle.serde_json.specs.Data.{unsigned, Data, number, string, array, object, Members, no_members, member}
+use Rattle.serde_json.specs.View.{items_of}
+use Rattle.serde_json.specs.Written.{compact_text}
+use Rattle.invariants.specs.declared.Kind.{Kind}
+use Rattle.invariants.specs.declared.Kind.TheVariants.{AF, NF, AP}
+use Rattle.invariants.specs.declared.records.Partition.{Partition}
+use Rattle.invariants.specs.declared.records.Edge.{Edge}
+use Rattle.invariants.specs.declared.records.Listed.{Listed}
+use Rattle.invariants.specs.declared.records.Merge.{Merge}
+use Rattle.invariants.specs.declared.records.Split.{Split}
+use Rattle.invariants.specs.declared.records.Block.{Block}
+use Rattle.invariants.specs.declared.records.Model.{Model}
+
+-- a whole number
+abbrev pub number_data : ℕ → Data
+number_data n = number (unsigned n)
+
+-- an array of these values
+abbrev pub array_of : List Data → Data
+array_of ds = array (items_of ds)
+
+-- a path, as the array of its ids
+abbrev pub path_data : List ℕ → Data
+path_data path = array_of (map number_data path)
+
+-- `[id,type,count]`
+abbrev pub partition_data : Partition → Data
+partition_data p = array_of (number_data p.id ∷ number_data p.typ ∷ number_data p.count ∷ [])
+
+-- `[from,to,count]`
+abbrev pub edge_data : Edge → Data
+edge_data e = array_of (number_data e.from ∷ number_data e.to ∷ number_data e.count ∷ [])
+
+-- the name of a kind
+abbrev pub kind_text : Kind → List ℕ
+kind_text AF = codes "AF"
+kind_text NF = codes "NF"
+kind_text AP = codes "AP"
+
+-- the byte of a label's digit
+abbrev pub digit_of : ℕ → ℕ
+digit_of label = 48 + label
+
+-- `[kind,a,b,labels]`, the labels with a digit each
+abbrev pub listed_data : Listed → Data
+listed_data l = array_of (string (kind_text l.inv.kind) ∷ number_data l.inv.a ∷ number_data l.inv.b ∷ string (map digit_of l.labels) ∷ [])
+
+-- `[p,q]`
+abbrev pub merge_data : Merge → Data
+merge_data m = array_of (number_data m.p ∷ number_data m.q ∷ [])
+
+-- `[inv,place,[path]]`
+abbrev pub split_data : Split → Data
+split_data s = array_of (number_data s.inv ∷ number_data s.place ∷ path_data s.path ∷ [])
+
+-- `[p,q,inv,[path]]`
+abbrev pub block_data : Block → Data
+block_data b = array_of (number_data b.p ∷ number_data b.q ∷ number_data b.inv ∷ path_data b.path ∷ [])
+
+-- the eight keys of a model, in the order of their bytes
+abbrev pub members_in : Model → Members
+members_in m =
+    member (codes "blocks") (array_of (map block_data m.blocks))
+    (member (codes "edges") (array_of (map edge_data m.edges))
+    (member (codes "invariants") (array_of (map listed_data m.invariants))
+    (member (codes "merges") (array_of (map merge_data m.merges))
+    (member (codes "partitions") (array_of (map partition_data m.partitions))
+    (member (codes "splits") (array_of (map split_data m.splits))
+    (member (codes "types") (array_of (map string m.types))
+    (member (codes "version") (number_data 1) no_members)))))))
+
+-- the JSON value of a model
+unfoldable pub tree_of : Model → Data
+tree_of m = object (members_in m)
+
+-- the text of a model file: that of the value, without blanks
+abbrev pub file_text : Model → List ℕ
+file_text m = compact_text (tree_of m)

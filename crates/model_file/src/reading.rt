@@ -1,0 +1,110 @@
+//! Reading a model file.
+ghost use Rattle.std.specs.Prelude.{◌≡◌, Some, Ok, IfOk, IfErr};
+ghost use Rattle.serde_json.specs.View.{view};
+ghost use Rattle.model_file.specs.Shape.{IsWellShaped};
+ghost use Rattle.model_file.specs.Reading.{Gives, Fails, IsNoValue, parts_in, model_in, value_of, reads};
+
+use crate::parts::{
+    blocks_in, edges_in, invariants_in, merges_in, partitions_in, splits_in, test_head, types_in,
+};
+use crate::refusal::FileError;
+use crate::table::types_by_id;
+use invariants::Model;
+use serde_json::Value;
+use std::alloc::Global;
+
+/// The most bytes of a model file.
+const MAX_BYTES: usize = 134_217_728;
+
+/// The model of the parts of a JSON value.
+fn parts_of(alloc: Global, root: &Value) -> Result<Model, FileError>
+    ensures { Gives result (parts_in (view root.now)) }
+{
+    let types = match types_in(alloc, root) {
+        Ok(types) => types,
+        Err(e) => return Err(e),
+    };
+    let partitions = match partitions_in(alloc, root, types.len()) {
+        Ok(partitions) => partitions,
+        Err(e) => return Err(e),
+    };
+    let Ok(table) = types_by_id(alloc, partitions.as_slice()) else {
+        return Err(FileError::Memory);
+    };
+    let edges = match edges_in(alloc, root, &table) {
+        Ok(edges) => edges,
+        Err(e) => return Err(e),
+    };
+    let invariants = match invariants_in(alloc, root, types.len() as u32, partitions.len()) {
+        Ok(invariants) => invariants,
+        Err(e) => return Err(e),
+    };
+    let merges = match merges_in(alloc, root) {
+        Ok(merges) => merges,
+        Err(e) => return Err(e),
+    };
+    let splits = match splits_in(alloc, root, invariants.len()) {
+        Ok(splits) => splits,
+        Err(e) => return Err(e),
+    };
+    let blocks = match blocks_in(alloc, root, &table, invariants.len(), splits.as_slice()) {
+        Ok(blocks) => blocks,
+        Err(e) => return Err(e),
+    };
+    Ok(Model {
+        types,
+        partitions,
+        edges,
+        invariants,
+        splits,
+        merges,
+        blocks,
+    })
+}
+
+/// The model of a JSON value.
+#[tactic(auto, unfolding(crate::specs::Reading::model_in))]
+fn model_of(alloc: Global, root: &Value) -> Result<Model, FileError>
+    ensures { Gives result (model_in (view root.now)) }
+{
+    match test_head(root) {
+        Ok(()) => parts_of(alloc, root),
+        Err(e) => Err(e),
+    }
+}
+
+/// The JSON value that the bytes are.
+fn value_of(alloc: Global, bytes: &[u8]) -> Result<Value, FileError>
+    ensures ok { IfOk result (λ value. value_of bytes.now ≡ Some (view value)) }
+    ensures err { IfErr result (λ e. IsNoValue e (value_of bytes.now)) }
+{
+    match Value::from_slice(alloc, bytes) {
+        Ok(value) => Ok(value),
+        Err(e) => {
+            if e.is_memory() {
+                return Err(FileError::Memory);
+            }
+            Err(FileError::NotJson)
+        }
+    }
+}
+
+/// The model of a file's bytes, or the first refusal.
+///
+/// `TooLong` comes for more than 134,217,728 bytes, `NotJson` for bytes that are no JSON text, `Shape(Root)` for a value
+/// that is no object, `Shape(Version)` and `Version` for any version but 1, `Shape(Extra)` for a key that no model file
+/// has, and `Shape` of the first part that is not there, is not of its form or breaks its rule. `Memory` may come at any
+/// time.
+pub fn read_model(alloc: Global, bytes: &[u8]) -> Result<Model, FileError>
+    ensures ok { IfOk result (λ model. reads bytes.now ≡ Ok model) }
+    ensures shape { IfOk result IsWellShaped }
+    ensures err { IfErr result (λ e. Fails e (reads bytes.now)) }
+{
+    if bytes.len() > MAX_BYTES {
+        return Err(FileError::TooLong);
+    }
+    match value_of(alloc, bytes) {
+        Ok(root) => model_of(alloc, &root),
+        Err(e) => Err(e),
+    }
+}

@@ -1,0 +1,49 @@
+//! Why a model file is refused.
+
+use thiserror::Error;
+
+/// A part of a model file.
+#[derive(Clone, Copy, Debug, PartialEq, Eq)]
+pub enum Field {
+    /// The whole, which is to be an object.
+    Root,
+    /// The number of the form of the file.
+    Version,
+    /// A key that no model file has.
+    Extra,
+    /// The texts of the types.
+    Types,
+    /// The partitions.
+    Partitions,
+    /// The edges.
+    Edges,
+    /// The invariants with their labels.
+    Invariants,
+    /// The steps of coarsening.
+    Merges,
+    /// The steps of refinement.
+    Splits,
+    /// Why partitions of one type stay apart.
+    Blocks,
+}
+
+/// Why a model file is refused. Of several refusals, the first in the order below is answered; of several parts, the
+/// first in the order of `Field`.
+#[derive(Clone, Copy, Debug, PartialEq, Eq, Error)]
+pub enum FileError {
+    /// The file has more than 134,217,728 bytes.
+    #[error("the model file has more than 134217728 bytes")]
+    TooLong,
+    /// The bytes are no JSON text.
+    #[error("the model file is not JSON")]
+    NotJson,
+    /// The part is not there, is not of its form or breaks its rule.
+    #[error("the model file has a bad part {0:?}")]
+    Shape(Field),
+    /// The file is of this version, which is not 1.
+    #[error("the model file is of version {0}")]
+    Version(u64),
+    /// Memory was wanted.
+    #[error("out of memory")]
+    Memory,
+}

@@ -1,0 +1,355 @@
+//! The rules of a well-shaped model.
+ghost use Rattle.std.specs.Prelude.{◌≡◌, ◌≤◌, ◌+◌, map, unwrap_or, nat_lt, nat_le};
+ghost use Rattle.std.specs.List.{list_any, list_all};
+ghost use Rattle.std.specs.Str.{bytes_eq};
+ghost use Rattle.model_file.specs.Table.{type_at};
+ghost use Rattle.model_file.specs.Shape.{ascends, pair_less, are_distinct, type_holds, types_hold, ends_hold, partition_holds, partitions_hold, edge_holds, edges_hold, place_of, listed_holds, invariants_hold, merge_holds, merges_hold, path_holds, split_holds, split_numbers, block_numbers, room_left, splits_hold, are_one, block_holds, blocks_hold};
+
+use crate::table::type_at;
+use invariants::{Block, Edge, Invariant, Listed, Merge, Partition, Split, Text, index_of};
+
+/// How many numbers the paths of splits and blocks may have together.
+const MAX_NUMBERS: usize = 4_000_000;
+
+fn stands_in(text: &str, types: &[Text]) -> bool
+    ensures { result ≡ list_any (bytes_eq text.now) types.now }
+{
+    'later: for other in types {
+        if text == other.as_str() {
+            return true;
+        }
+    }
+    false
+}
+
+fn are_distinct(types: &[Text]) -> bool
+    ensures { result ≡ are_distinct types.now }
+{
+    'texts: for (i, text) in types.iter().enumerate() {
+        if stands_in(text.as_str(), &types[i + 1..]) {
+            return false;
+        }
+    }
+    true
+}
+
+fn type_holds(text: &Text) -> bool
+    ensures { result ≡ type_holds text.now }
+{
+    1 <= text.len() && text.len() <= 256
+}
+
+/// At most 128 types, each of 1 to 256 bytes, no two equal.
+#[tactic(auto, unfolding(crate::specs::Shape::types_hold))]
+pub(crate) fn types_hold(types: &[Text]) -> bool
+    ensures { result ≡ types_hold types.now }
+{
+    if types.len() > 128 {
+        return false;
+    }
+    'types: for text in types {
+        if !type_holds(text) {
+            return false;
+        }
+    }
+    are_distinct(types)
+}
+
+fn ends_hold(partitions: &[Partition]) -> bool
+    ensures { result ≡ ends_hold partitions.now }
+{
+    match partitions {
+        [first, second, ..] => {
+            first.id == 0
+                && first.typ == 0
+                && second.id == 1
+                && second.typ == 1
+                && first.count == second.count
+                && first.count <= 1_000_000
+        }
+        _ => false,
+    }
+}
+
+fn partition_holds(types: usize, partition: Partition) -> bool
+    requires { types ≤ 128 }
+    ensures { result ≡ partition_holds types partition }
+{
+    partition.id <= 1_023
+        && 2 <= partition.typ
+        && partition.typ as usize <= types + 1
+        && 1 <= partition.count
+        && partition.count <= 1_000_000
+}
+
+fn partitions_ascend(partitions: &[Partition]) -> bool
+    ensures { result ≡ ascends nat_lt (map (λ p. p.id) partitions.now) }
+{
+    let mut before = None;
+    'partitions: for partition in partitions {
+        if let Some(id) = before {
+            if partition.id <= id {
+                return false;
+            }
+        }
+        before = Some(partition.id);
+    }
+    true
+}
+
+/// The two ends first, then others of the types there are, by ascending ids.
+#[tactic(auto, unfolding(crate::specs::Shape::partitions_hold))]
+pub(crate) fn partitions_hold(types: usize, partitions: &[Partition]) -> bool
+    requires { types ≤ 128 }
+    ensures { result ≡ partitions_hold types partitions.now }
+{
+    if partitions.len() > 1_024 || !ends_hold(partitions) {
+        return false;
+    }
+    'others: for partition in &partitions[2..] {
+        if !partition_holds(types, *partition) {
+            return false;
+        }
+    }
+    partitions_ascend(partitions)
+}
+
+fn edge_holds(table: &[Option<u16>], edge: Edge) -> bool
+    ensures { result ≡ edge_holds (type_at table.now) edge }
+{
+    type_at(table, edge.from).is_some()
+        && type_at(table, edge.to).is_some()
+        && edge.from != 1
+        && edge.to != 0
+        && 1 <= edge.count
+        && edge.count <= 2_000_000
+}
+
+fn is_less(x: (u32, u32), y: (u32, u32)) -> bool
+    ensures { result ≡ pair_less x y }
+{
+    x.0 < y.0 || x.0 == y.0 && x.1 < y.1
+}
+
+fn edges_ascend(edges: &[Edge]) -> bool
+    ensures { result ≡ ascends pair_less (map (λ e. (e.from, e.to)) edges.now) }
+{
+    let mut before = None;
+    'edges: for edge in edges {
+        let here = (edge.from, edge.to);
+        if let Some(earlier) = before {
+            if !is_less(earlier, here) {
+                return false;
+            }
+        }
+        before = Some(here);
+    }
+    true
+}
+
+/// Ascending edges between partitions of the table.
+#[tactic(auto, unfolding(crate::specs::Shape::edges_hold))]
+pub(crate) fn edges_hold(table: &[Option<u16>], edges: &[Edge]) -> bool
+    ensures { result ≡ edges_hold (type_at table.now) edges.now }
+{
+    'edges: for edge in edges {
+        if !edge_holds(table, *edge) {
+            return false;
+        }
+    }
+    edges_ascend(edges)
+}
+
+fn place_of(types: u32, inv: Invariant) -> Option<u32>
+    requires { types ≤ 128 }
+    ensures { result ≡ place_of types inv }
+{
+    index_of(types, inv)
+}
+
+fn labels_hold(labels: &[u8]) -> bool
+    ensures { result ≡ list_all (λ label. nat_le label 7) labels.now }
+{
+    labels.iter().all(|label| *label <= 7)
+}
+
+fn listed_holds(types: u32, partitions: usize, listed: &Listed) -> bool
+    requires { types ≤ 128 }
+    ensures { result ≡ listed_holds types partitions listed.now }
+{
+    place_of(types, listed.inv).is_some()
+        && listed.labels.len() == partitions
+        && labels_hold(listed.labels.as_slice())
+}
+
+fn invariants_ascend(types: u32, invariants: &[Listed]) -> bool
+    requires { types ≤ 128 }
+    ensures { result ≡ ascends nat_lt (map (λ l. unwrap_or (place_of types l.inv) 0) invariants.now) }
+{
+    let mut before = None;
+    'invariants: for listed in invariants {
+        let place = place_of(types, listed.inv).unwrap_or(0);
+        if let Some(earlier) = before {
+            if place <= earlier {
+                return false;
+            }
+        }
+        before = Some(place);
+    }
+    true
+}
+
+/// Candidates in their order, each with a label for each partition.
+#[tactic(auto, unfolding(crate::specs::Shape::invariants_hold))]
+pub(crate) fn invariants_hold(types: u32, partitions: usize, invariants: &[Listed]) -> bool
+    requires { types ≤ 128 }
+    ensures { result ≡ invariants_hold types partitions invariants.now }
+{
+    'invariants: for listed in invariants {
+        if !listed_holds(types, partitions, listed) {
+            return false;
+        }
+    }
+    invariants_ascend(types, invariants)
+}
+
+fn merge_holds(merge: Merge) -> bool
+    ensures { result ≡ merge_holds merge }
+{
+    merge.p < merge.q && merge.q <= 1_023
+}
+
+/// At most 1,022 merges, each of a lower id and a higher one.
+#[tactic(auto, unfolding(crate::specs::Shape::merges_hold))]
+pub(crate) fn merges_hold(merges: &[Merge]) -> bool
+    ensures { result ≡ merges_hold merges.now }
+{
+    if merges.len() > 1_022 {
+        return false;
+    }
+    'merges: for merge in merges {
+        if !merge_holds(*merge) {
+            return false;
+        }
+    }
+    true
+}
+
+fn path_holds(path: &[u32]) -> bool
+    ensures { result ≡ path_holds path.now }
+{
+    path.iter().all(|id| *id <= 1_023)
+}
+
+fn split_holds(invariants: usize, split: &Split) -> bool
+    ensures { result ≡ split_holds invariants split.now }
+{
+    (split.inv as usize) < invariants
+        && (split.place as usize) < split.path.len()
+        && path_holds(split.path.as_slice())
+}
+
+/// How many more numbers paths may have after those of the splits, where these have not too many.
+fn room_after_splits(splits: &[Split]) -> Option<usize>
+    ensures { result ≡ room_left 4000000 (split_numbers splits.now) }
+{
+    let mut room = MAX_NUMBERS;
+    'splits: for split in splits {
+        if split.path.len() > room {
+            return None;
+        }
+        room -= split.path.len();
+    }
+    Some(room)
+}
+
+/// At most 1,022 splits with the numbers of listed invariants and places in their paths.
+#[tactic(auto, unfolding(crate::specs::Shape::splits_hold))]
+pub(crate) fn splits_hold(invariants: usize, splits: &[Split]) -> bool
+    ensures { result ≡ splits_hold invariants splits.now }
+{
+    if splits.len() > 1_022 {
+        return false;
+    }
+    'splits: for split in splits {
+        if !split_holds(invariants, split) {
+            return false;
+        }
+    }
+    room_after_splits(splits).is_some()
+}
+
+fn are_one(x: Option<u16>, y: Option<u16>) -> bool
+    ensures { result ≡ are_one x y }
+{
+    match (x, y) {
+        (Some(x), Some(y)) => x == y,
+        _ => false,
+    }
+}
+
+fn block_holds(table: &[Option<u16>], invariants: usize, block: &Block) -> bool
+    ensures { result ≡ block_holds (type_at table.now) invariants block.now }
+{
+    block.p < block.q
+        && are_one(type_at(table, block.p), type_at(table, block.q))
+        && (block.inv as usize) < invariants
+        && path_holds(block.path.as_slice())
+}
+
+fn blocks_ascend(blocks: &[Block]) -> bool
+    ensures { result ≡ ascends pair_less (map (λ b. (b.p, b.q)) blocks.now) }
+{
+    let mut before = None;
+    'each_block: for block in blocks {
+        let here = (block.p, block.q);
+        if let Some(earlier) = before {
+            if !is_less(earlier, here) {
+                return false;
+            }
+        }
+        before = Some(here);
+    }
+    true
+}
+
+/// Whether the paths of the blocks have no more numbers than this.
+fn blocks_fit(blocks: &[Block], room: usize) -> bool
+    ensures { result ≡ nat_le (block_numbers blocks.now) room }
+{
+    let mut room = room;
+    'each_block: for block in blocks {
+        if block.path.len() > room {
+            return false;
+        }
+        room -= block.path.len();
+    }
+    true
+}
+
+fn numbers_fit(splits: &[Split], blocks: &[Block]) -> bool
+    ensures { result ≡ nat_le (split_numbers splits.now + block_numbers blocks.now) 4000000 }
+{
+    match room_after_splits(splits) {
+        Some(room) => blocks_fit(blocks, room),
+        None => false,
+    }
+}
+
+/// Ascending blocks of two partitions of one type, with the numbers of listed invariants.
+#[tactic(auto, unfolding(crate::specs::Shape::blocks_hold))]
+pub(crate) fn blocks_hold(
+    table: &[Option<u16>],
+    invariants: usize,
+    splits: &[Split],
+    blocks: &[Block],
+) -> bool
+    ensures { result ≡ blocks_hold (type_at table.now) invariants splits.now blocks.now }
+{
+    'each_block: for block in blocks {
+        if !block_holds(table, invariants, block) {
+            return false;
+        }
+    }
+    blocks_ascend(blocks) && numbers_fit(splits, blocks)
+}
