@@ -1,0 +1,5 @@
+pub mod Bitwise
+pub mod Blocks
+pub mod Done
+pub mod Tabled
+pub mod Writing

@@ -1,0 +1,37 @@
+use Rattle.std.proofs.Common.{length, sym, ap, ◌∙◌, arith}
+use Rattle.std.proofs.lemmas.List.{with_items_is}
+use Rattle.bit_rows.proofs.Tabled.{rows_apart}
+use Rattle.bit_rows.proofs.Done.{row_room, and_not_done}
+use Rattle.bit_rows.proofs.rows.Rows.and_not_into.Goals as goal
+
+pub overflow_mul-to : goal.overflow_mul-to
+overflow_mul-to c =
+    let room = row_room _ c.self.inside.words.items c.self.inside.width c.self.inside.rows c.self.inside.bits c.args.to (sym c.self.view_is) c.self.invariant c.requires.to_row in
+    record { fits = omega (arith, room, c.self.inside.words.ok, c.self.inside.words.small) }
+
+pub and_not_words-requires-clause-to_in : goal.and_not_words-requires-clause-to_in
+and_not_words-requires-clause-to_in c =
+    let room = row_room _ c.self.inside.words.items c.self.inside.width c.self.inside.rows c.self.inside.bits c.args.to (sym c.self.view_is) c.self.invariant c.requires.to_row in
+    omega (arith, room, ap length c.as_mut_slice.ensures.value)
+
+pub overflow_mul-from : goal.overflow_mul-from
+overflow_mul-from c =
+    let room = row_room _ c.self.inside.words.items c.self.inside.width c.self.inside.rows c.self.inside.bits c.args.from (sym c.self.view_is) c.self.invariant c.requires.from_row in
+    record { fits = omega (arith, room, c.self.inside.words.ok, c.self.inside.words.small) }
+
+pub and_not_words-requires-clause-from_in : goal.and_not_words-requires-clause-from_in
+and_not_words-requires-clause-from_in c =
+    let room = row_room _ c.self.inside.words.items c.self.inside.width c.self.inside.rows c.self.inside.bits c.args.from (sym c.self.view_is) c.self.invariant c.requires.from_row in
+    omega (arith, room, ap length c.as_mut_slice.ensures.value)
+
+pub and_not_words-requires-clause-apart : goal.and_not_words-requires-clause-apart
+and_not_words-requires-clause-apart c = rows_apart c.args.to c.args.from c.self.inside.width c.requires.apart
+
+pub invariant_of-self : goal.invariant_of-self
+invariant_of-self c = (and_not_done c.args.self.now c.self.inside.words.items c.as_mut_slice.result.now c.and_not_words.new.words _ c.self.inside.width c.self.inside.rows c.self.inside.bits c.args.to (sym c.self.view_is) c.self.invariant c.as_mut_slice.ensures.value (with_items_is c.self.inside.words c.and_not_words.new.words (c.and_not_words.ensures.written.size ∙ ap length c.as_mut_slice.ensures.value ∙ sym c.self.inside.words.ok.0)) c.requires.to_row c.args.from c.requires.from_row c.and_not_words.ensures.fits c.and_not_words.ensures.written).laid
+
+pub returns-clause-rows : goal.returns-clause-rows
+returns-clause-rows c = (and_not_done c.args.self.now c.self.inside.words.items c.as_mut_slice.result.now c.and_not_words.new.words _ c.self.inside.width c.self.inside.rows c.self.inside.bits c.args.to (sym c.self.view_is) c.self.invariant c.as_mut_slice.ensures.value (with_items_is c.self.inside.words c.and_not_words.new.words (c.and_not_words.ensures.written.size ∙ ap length c.as_mut_slice.ensures.value ∙ sym c.self.inside.words.ok.0)) c.requires.to_row c.args.from c.requires.from_row c.and_not_words.ensures.fits c.and_not_words.ensures.written).table
+
+pub returns-clause-shape : goal.returns-clause-shape
+returns-clause-shape c = (and_not_done c.args.self.now c.self.inside.words.items c.as_mut_slice.result.now c.and_not_words.new.words _ c.self.inside.width c.self.inside.rows c.self.inside.bits c.args.to (sym c.self.view_is) c.self.invariant c.as_mut_slice.ensures.value (with_items_is c.self.inside.words c.and_not_words.new.words (c.and_not_words.ensures.written.size ∙ ap length c.as_mut_slice.ensures.value ∙ sym c.self.inside.words.ok.0)) c.requires.to_row c.args.from c.requires.from_row c.and_not_words.ensures.fits c.and_not_words.ensures.written).shape

@@ -1,0 +1,57 @@
+-- Rows of truth values, and how they lie in words of 64 bits.
+use Rattle.std.specs.Prelude.{ℕ, ◌≡◌, ◌+◌, ◌*◌, ◌/◌, ◌%◌, ◌^◌, ◌<◌, ◌≤◌, ◌==◌, Bool, true, false, not, ◌&&◌, ◌||◌, List, [], length, map, slice_index, slice_index_or}
+use Rattle.std.specs.Int.{bit_at}
+use Rattle.std.specs.List.{range_with_len}
+use Rattle.std.specs.Simd.Lanes.{zip2}
+
+-- the row at an index; past the last it has no truth value
+abbrev pub row_at : List (List Bool) → ℕ → List Bool
+row_at rows r = slice_index_or rows r []
+
+-- the truth value at a place of a row; past its end it is false
+abbrev pub is_set : List Bool → ℕ → Bool
+is_set row i = slice_index_or row i false
+
+-- there are this many rows, each with this many truth values
+pub record HasShape (table : List (List Bool)) (rows bits : ℕ) : Type 0 where
+  pub count : length table ≡ rows
+  pub long : (r : ℕ) → r < rows → length (row_at table r) ≡ bits
+
+-- each truth value of a row is false
+abbrev pub IsBlank : List Bool → Type 0
+IsBlank row = (i : ℕ) → is_set row i ≡ false
+
+-- this truth value of a row is true, and those before it are false
+pub record IsFirstSet (row : List Bool) (i : ℕ) : Type 0 where
+  pub within : i < length row
+  pub set : is_set row i ≡ true
+  pub first : (k : ℕ) → k < i → is_set row k ≡ false
+
+-- place by place: in one of two rows, in both, in the first alone
+abbrev pub either : List Bool → List Bool → List Bool
+either = zip2 (λ x y. x || y)
+
+abbrev pub both : List Bool → List Bool → List Bool
+both = zip2 (λ x y. x && y)
+
+abbrev pub without : List Bool → List Bool → List Bool
+without = zip2 (λ x y. x && not y)
+
+-- place i of row r, where a row takes this many words
+abbrev pub bit_of : List ℕ → ℕ → ℕ → ℕ → Bool
+bit_of words width r i = bit_at (slice_index words (r * width + i / 64)) (i % 64) == 1
+
+-- the first truth values of row r
+abbrev pub row_of : List ℕ → ℕ → ℕ → ℕ → List Bool
+row_of words width bits r = map (bit_of words width r) (range_with_len 0 bits)
+
+-- the rows that lie in the words
+abbrev pub table_of : List ℕ → ℕ → ℕ → ℕ → List (List Bool)
+table_of words width rows bits = map (row_of words width bits) (range_with_len 0 rows)
+
+-- each row has room for its bits, and no bit behind them is set
+pub record IsLaidOut (words : List ℕ) (width rows bits : ℕ) : Type 0 where
+  pub size : length words ≡ rows * width
+  pub room : bits ≤ width * 64
+  pub limit : bits < 2 ^ 64
+  pub blank : (r i : ℕ) → r < rows → bits ≤ i → i < width * 64 → bit_of words width r i ≡ false
