@@ -1,12 +1,14 @@
 //! Temporal invariants between event types: what they are, which of them a log is asked for, and how a machine reads a word for one.
 //!
 //! The invariants are those of Beschastnikh, Brun, Schneider, Sloan and Ernst (ESEC/FSE 2011).
-//! A trace is read as a word of type numbers: 0 is INITIAL, 1 is TERMINAL, and a log with T types has the numbers 2 to T + 1 for them.
+//! A trace is read as a word of type numbers: 0 is INITIAL, 1 is TERMINAL, and a log with T types has the numbers 2 to T + 1 for them (crate `limits` names the three numbers).
 //! `Seq` and `Text` are the lists and the texts of public data, and the records are what a model says. No call here takes memory.
 #![tactic(auto)]
 
 ghost use Rattle.std.specs.Prelude.{◌≡◌, ◌+◌, ◌*◌, ◌≤◌, length};
 ghost use Rattle.invariants.specs.Candidates.{candidates};
+
+use limits::MAX_TYPES;
 
 mod seq;
 
@@ -34,12 +36,9 @@ pub struct Invariant {
     pub b: u16,
 }
 
-/// The number of the first type, after INITIAL and TERMINAL.
-const FIRST_TYPE: u32 = 2;
-
-/// How many candidates a log with this many types has, at most 128: one for each type, and three for each two types in order, of which both may be the same.
+/// How many candidates a log with this many types has, at most `MAX_TYPES`: one for each type, and three for each two types in order, of which both may be the same.
 pub fn candidate_count(types: u32) -> u32
-    requires { types ≤ 128 }
+    requires { types ≤ MAX_TYPES }
     ensures count { result ≡ types + 3 * (types * types) }
     ensures listed { result ≡ length (candidates types) }
 {

@@ -1,9 +1,9 @@
 -- A run over told files ends in one way alone.
 use Rattle.std.proofs.Common.{◌≡◌, Option, Some, None, Result, Ok, Err, sym, ap, ◌∙◌}
 use Rattle.outside.specs.Inputs.{Files}
-use Rattle.words.specs.Task.{Task, task_of}
-use Rattle.words.specs.declared.table.Command.{Command}
-use Rattle.words.specs.declared.table.Command.TheVariants.{Invariants, Graph}
+use Rattle.command_line.specs.Task.{Task, task_of}
+use Rattle.command_line.specs.declared.table.Command.{Command}
+use Rattle.command_line.specs.declared.table.Command.TheVariants.{Invariants, Graph}
 use Rattle.synoptic_cli.specs.declared.answer.Answer.{Answer}
 use Rattle.synoptic_cli.specs.declared.material.Material.{Material}
 use Rattle.synoptic_cli.specs.declared.status.LimitKind.{LimitKind}

@@ -8,7 +8,7 @@ use Rattle.log_reader.specs.Reading.{Setting}
 use Rattle.log_reader.specs.Inputs.{RefusesLog, MayFail as LogMayFail, IsLacking, HasReadCause, inputs_of, refused_input}
 use Rattle.log_reader.specs.declared.refusal.ReadError.{ReadError}
 use Rattle.log_reader.specs.declared.refusal.ReadError.TheVariants as refused
-use Rattle.words.specs.Task.{Task, task_of}
+use Rattle.command_line.specs.Task.{Task, task_of}
 use Rattle.synoptic_cli.specs.declared.status.Status.{Status}
 use Rattle.synoptic_cli.specs.declared.status.Status.TheVariants.{Memory, ReadFault}
 use Rattle.synoptic_cli.specs.declared.status.Source.{Source}

@@ -11,8 +11,8 @@ use Rattle.log_reader.specs.Reading.{Form, Setting, events_of, first_refusal}
 use Rattle.log_reader.specs.Reading as form
 use Rattle.log_reader.specs.Inputs.{IsLacking, ReadsLog, RefusesLog, first_lacking, inputs_of, lacking, refused_input, told_contents, with_content}
 use Rattle.log_reader.specs.declared.refusal.ReadError.{ReadError}
-use Rattle.words.specs.Task.{Task}
-use Rattle.words.specs.Task as ask
+use Rattle.command_line.specs.Task.{Task}
+use Rattle.command_line.specs.Task as ask
 use Rattle.synoptic_cli.specs.declared.status.Status.{Status}
 use Rattle.synoptic_cli.specs.declared.status.Status.TheVariants.{ReadFault}
 use Rattle.synoptic_cli.specs.declared.status.Source.TheVariants as sources

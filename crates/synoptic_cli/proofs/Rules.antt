@@ -14,7 +14,7 @@ use Rattle.line_rules.specs.Files.{rules_of, AreRead, IsBuilt, IsRefused}
 use Rattle.line_rules.specs.declared.line_rules.RuleError.{RuleError}
 use Rattle.line_rules.specs.declared.line_rules.RuleError.TheVariants as refused
 use Rattle.log_reader.specs.Reading as form
-use Rattle.words.specs.Task.{Task}
+use Rattle.command_line.specs.Task.{Task}
 use Rattle.log_reader.specs.Inputs.{with_content}
 use Rattle.synoptic_cli.specs.Task.{rules_name}
 use Rattle.synoptic_cli.specs.Stages.{RulesFile, SoFar, Stop, and_then, at_start, input_count, log_stages, reads, reads_rules, rules_stage, stages_of, stop_after, with_rules}

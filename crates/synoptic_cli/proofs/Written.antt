@@ -8,7 +8,7 @@ use Rattle.line_rules.specs.Patterns.{PatternsState}
 use Rattle.line_rules.specs.Files.{KeepsAt}
 use Rattle.line_rules.specs.declared.line_rules.RuleError.{RuleError}
 use Rattle.line_rules.specs.declared.line_rules.RuleError.TheVariants as rule_error
-use Rattle.words.specs.Task.{Task, task_of}
+use Rattle.command_line.specs.Task.{Task, task_of}
 use Rattle.synoptic_cli.specs.declared.answer.Answer.{Answer}
 use Rattle.synoptic_cli.specs.declared.material.Material.{Material}
 use Rattle.synoptic_cli.specs.declared.status.LimitKind.{LimitKind}

@@ -1,8 +1,8 @@
 -- The table of the commands: what each answers. Each has a file of its own.
 use Rattle.std.specs.Prelude.{Result}
-use Rattle.words.specs.Task.{Task}
-use Rattle.words.specs.declared.table.Command.{Command}
-use Rattle.words.specs.declared.table.Command.TheVariants.{Invariants, Graph}
+use Rattle.command_line.specs.Task.{Task}
+use Rattle.command_line.specs.declared.table.Command.{Command}
+use Rattle.command_line.specs.declared.table.Command.TheVariants.{Invariants, Graph}
 use Rattle.synoptic_cli.specs.declared.answer.Answer.{Answer}
 use Rattle.synoptic_cli.specs.declared.material.Material.{Material}
 use Rattle.synoptic_cli.specs.declared.status.LimitKind.{LimitKind}

@@ -3,7 +3,7 @@ use Rattle.std.specs.Prelude.{ℕ, ◌≡◌, ◌⊎◌, List, [], ◌∷◌, ma
 use Rattle.std.specs.Io.KnownBytes.{IsAtEnd}
 use Rattle.outside.specs.Inputs.{Files, InputState, bytes_of}
 use Rattle.log_reader.specs.Inputs.{Opened, SomeContents, told_contents}
-use Rattle.words.specs.Task.{Task, task_of}
+use Rattle.command_line.specs.Task.{Task, task_of}
 use Rattle.synoptic_cli.specs.declared.answer.Answer.{Answer}
 use Rattle.synoptic_cli.specs.declared.status.LimitKind.{LimitKind}
 use Rattle.synoptic_cli.specs.declared.status.Status.{Status}

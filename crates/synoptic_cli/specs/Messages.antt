@@ -6,7 +6,7 @@ use Rattle.outside.specs.Sinks.{SinkState, AppendsFront}
 use Rattle.line_rules.specs.declared.line_rules.RuleError.{RuleError}
 use Rattle.line_rules.specs.declared.line_rules.RuleError.TheVariants as rule_error
 use Rattle.log_reader.specs.declared.refusal.At.{At}
-use Rattle.words.specs.Task.{Task, task_of}
+use Rattle.command_line.specs.Task.{Task, task_of}
 use Rattle.synoptic_cli.specs.declared.status.Status.{Status}
 use Rattle.synoptic_cli.specs.declared.status.Status.TheVariants.{Done, Usage, Expressions, Log, Limit, ReadFault, WriteFault, Memory}
 use Rattle.synoptic_cli.specs.declared.status.LogFault.{LogFault}

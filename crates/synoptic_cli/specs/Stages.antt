@@ -9,8 +9,8 @@ use Rattle.log_reader.specs.Reading as form
 use Rattle.log_reader.specs.Inputs.{inputs_of, refused_input}
 use Rattle.log_reader.specs.declared.refusal.ReadError.{ReadError}
 use Rattle.log_reader.specs.declared.refusal.ReadError.TheVariants as refused
-use Rattle.words.specs.Task.{Task}
-use Rattle.words.specs.Task as ask
+use Rattle.command_line.specs.Task.{Task}
+use Rattle.command_line.specs.Task as ask
 use Rattle.synoptic_cli.specs.Task.{rules_name}
 use Rattle.synoptic_cli.specs.declared.material.Material.{Material}
 use Rattle.synoptic_cli.specs.declared.status.Status.{Status}

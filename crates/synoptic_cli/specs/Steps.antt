@@ -13,9 +13,9 @@ use Rattle.log_reader.specs.Reading as form
 use Rattle.log_reader.specs.Inputs.{HasReadCause, inputs_of}
 use Rattle.log_reader.specs.declared.refusal.ReadError.{ReadError}
 use Rattle.log_reader.specs.declared.refusal.ReadError.TheVariants as refused
-use Rattle.words.specs.Task.{Task, task_of}
-use Rattle.words.specs.declared.given.ParseError.{ParseError}
-use Rattle.words.specs.declared.given.ParseError.TheVariants as parse_error
+use Rattle.command_line.specs.Task.{Task, task_of}
+use Rattle.command_line.specs.declared.given.ParseError.{ParseError}
+use Rattle.command_line.specs.declared.given.ParseError.TheVariants as parse_error
 use Rattle.synoptic_cli.specs.declared.answer.Answer.{Answer}
 use Rattle.synoptic_cli.specs.declared.answer.NoAnswer.{NoAnswer}
 use Rattle.synoptic_cli.specs.declared.answer.NoAnswer.TheVariants as no_answer

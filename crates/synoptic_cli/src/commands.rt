@@ -1,5 +1,5 @@
 //! The table of the commands: what each answers of what was read. Each has a file of its own.
-ghost use Rattle.words.specs.Task.{task_held};
+ghost use Rattle.command_line.specs.Task.{task_held};
 ghost use Rattle.synoptic_cli.specs.Commands.{Answers};
 ghost use Rattle.synoptic_cli.specs.Steps.{Gives};
 
@@ -9,7 +9,7 @@ mod print_invariants;
 use crate::answer::{Answer, NoAnswer};
 use crate::material::Material;
 use std::alloc::Global;
-use words::{Command, Task};
+use command_line::{Command, Task};
 
 /// What the task's command answers of what was read.
 pub fn answer(alloc: Global, task: &Task<'_>, material: &Material) -> Result<Answer, NoAnswer>

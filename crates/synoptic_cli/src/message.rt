@@ -2,7 +2,7 @@
 ghost use Rattle.std.specs.Prelude.{◌≡◌, ◌++◌, Some, codes, decimal, option_map};
 ghost use Rattle.std.specs.List.{flat_map};
 ghost use Rattle.outside.specs.Sinks.{WholeGives};
-ghost use Rattle.words.specs.Task.{task_held};
+ghost use Rattle.command_line.specs.Task.{task_held};
 ghost use Rattle.synoptic_cli.specs.Messages.{shown, shown_source, rule_message, line_message, log_message, limit_message, read_message, task_message, Tells};
 
 use crate::status::{LimitKind, LogFault, Source, Status};
@@ -11,7 +11,7 @@ use itoa::Buffer;
 use line_rules::RuleError;
 use log_reader::At;
 use outside::{Failed, Sink, write_whole};
-use words::Task;
+use command_line::Task;
 
 const USAGE: &[u8] =
     b"usage: synoptic infer|check|replay|invariants|graph|paths|bench [-e FILE] [-p] [-m FILE] [-i] [-j] [-n N] [--] [FILE]...\n";

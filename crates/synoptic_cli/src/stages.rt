@@ -5,7 +5,7 @@ ghost use Rattle.line_rules.specs.Patterns.{Stays as PatternsStay};
 ghost use Rattle.line_rules.specs.Views.{rules_in};
 ghost use Rattle.log_reader.specs.Inputs.{HasReadCause, OpensUpToFault, ReadsLog, inputs_of};
 ghost use Rattle.log_reader.specs.Views.{form_view};
-ghost use Rattle.words.specs.Task.{task_held};
+ghost use Rattle.command_line.specs.Task.{task_held};
 ghost use Rattle.synoptic_cli.specs.Causes.{KeepsCounts};
 ghost use Rattle.synoptic_cli.specs.Stages.{at_start, log_stages, rules_stages};
 ghost use Rattle.synoptic_cli.specs.Steps.{Ends, IsHeld, LogHalts, Reads, ReadsTask, form_with, held_form, setting_of};
@@ -19,7 +19,7 @@ use log_reader::{ReadError, alike_rules_read_alike, read_log};
 use outside::Inputs;
 use std::alloc::{AllocError, Global};
 use traces::{Builder, TraceSet, gathering_in_order_is_the_log};
-use words::Task;
+use command_line::Task;
 
 /// What the stages have read so far.
 #[derive(Drop)]

@@ -2,12 +2,12 @@
 ghost use Rattle.std.specs.Prelude.{◌≡◌, ◌<◌, ◌^◌, IfOk, length, map, option_map, slice_get};
 ghost use Rattle.std.specs.String.{string_bytes};
 ghost use Rattle.log_reader.specs.Inputs.{inputs_of};
-ghost use Rattle.words.specs.Task.{form_held, task_held};
+ghost use Rattle.command_line.specs.Task.{form_held, task_held};
 ghost use Rattle.synoptic_cli.specs.Task.{rules_name, source_name};
 
 use crate::status::Source;
 use std::alloc::{AllocError, Global};
-use words::{Form, Task};
+use command_line::{Form, Task};
 
 /// So many files are more than a log has.
 const TOO_MANY_FILES: usize = 4_294_967_296;

@@ -1,7 +1,7 @@
 //! The top call.
 ghost use Rattle.std.specs.Prelude.{◌≡◌, List, ℕ, Some, map};
 ghost use Rattle.std.specs.String.{string_bytes};
-ghost use Rattle.words.specs.Task.{task_held, task_of};
+ghost use Rattle.command_line.specs.Task.{task_held, task_of};
 ghost use Rattle.synoptic_cli.specs.Causes.{HasCause, IsExpected, KeepsCount, Stays, world};
 ghost use Rattle.synoptic_cli.specs.Messages.{Tells, message_of};
 ghost use Rattle.synoptic_cli.specs.Steps.{status_without_task};
@@ -14,7 +14,7 @@ use crate::status::Status;
 use line_rules::Patterns;
 use outside::{Inputs, Sink, write_whole};
 use std::alloc::Global;
-use words::{ParseError, Task, parse};
+use command_line::{ParseError, Task, parse};
 
 /// Does the task, and writes no message.
 fn answer<I: Inputs, P: Patterns, O: Sink>(
@@ -62,7 +62,7 @@ fn status_without_task(error: ParseError) -> Status
 /// Does what the words ask: reads the inputs, writes the answer to `out`, and a line to `err` where it
 /// refuses.
 ///
-/// The words are those of the command line after the program's name; `words::parse` says what they ask for.
+/// The words are those of the command line after the program's name; `command_line::parse` says what they ask for.
 /// `invariants -p [FILE]...` reads the files as lines `trace type`; `invariants -e RULES [FILE]...` reads
 /// them by the rules of that file. Either writes the invariants that hold in every trace, one a line.
 /// `graph` reads the same log, and writes the edges of the graph that has one partition for each type, one

@@ -1,7 +1,7 @@
 use Rattle.std.proofs.Common.{refl, subst, sym}
 use Rattle.std.specs.Prelude.{IsSome}
 use Rattle.std.specs.Option.{option_map}
-use Rattle.words.specs.Task.{form_held, task_held}
+use Rattle.command_line.specs.Task.{form_held, task_held}
 use Rattle.synoptic_cli.proofs.LogStage.{ReadAlike, log-held}
 use Rattle.synoptic_cli.proofs.stages.read_log_stage.Goals as goal
 

@@ -1,6 +1,6 @@
 use Rattle.std.proofs.Common.{◌≡◌, ◌∙◌, Err, ap, subst, sym}
 use Rattle.log_reader.specs.declared.refusal.ReadError.TheVariants as refused
-use Rattle.words.specs.Task.{task_held}
+use Rattle.command_line.specs.Task.{task_held}
 use Rattle.synoptic_cli.specs.declared.status.Status.{Status}
 use Rattle.synoptic_cli.specs.Steps.{Ends}
 use Rattle.synoptic_cli.proofs.LogStage.{ReadAlike}

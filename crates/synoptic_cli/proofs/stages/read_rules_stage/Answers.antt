@@ -1,6 +1,6 @@
 use Rattle.std.proofs.Common.{◌∙◌, ℕ, List, Option, Some, ap, subst, sym}
 use Rattle.std.specs.Option.{option_map}
-use Rattle.words.specs.Task.{task_held}
+use Rattle.command_line.specs.Task.{task_held}
 use Rattle.synoptic_cli.specs.Stages.{rules_stage}
 use Rattle.synoptic_cli.specs.Steps.{Reads}
 use Rattle.synoptic_cli.proofs.Rules.{rules-held}

@@ -1,7 +1,7 @@
 use Rattle.std.proofs.Common.{List, ℕ, subst}
 use Rattle.std.specs.Io.KnownBytes.{Appends}
 use Rattle.outside.specs.Sinks.{AppendsFront}
-use Rattle.words.specs.Task.{task_held}
+use Rattle.command_line.specs.Task.{task_held}
 use Rattle.synoptic_cli.specs.Causes.{world}
 use Rattle.synoptic_cli.proofs.Written.{written-in-part, written-whole}
 use Rattle.synoptic_cli.proofs.top.answer.Goals as goal

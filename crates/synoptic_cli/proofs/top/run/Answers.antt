@@ -1,6 +1,6 @@
 use Rattle.std.proofs.Common.{Option, map, subst, sym}
 use Rattle.std.specs.String.{string_bytes}
-use Rattle.words.specs.Task.{Task}
+use Rattle.command_line.specs.Task.{Task}
 use Rattle.synoptic_cli.specs.Messages.{Tells, task_message}
 use Rattle.synoptic_cli.proofs.Expected.{cause-expected}
 use Rattle.synoptic_cli.proofs.top.run.Goals as goal

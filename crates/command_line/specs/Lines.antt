@@ -1,0 +1,53 @@
+-- Telling command lines.
+use Rattle.std.specs.Prelude.{◌≡◌, Bool, true, false, List, [], ◌∷◌, Option, Some, None, codes}
+use Rattle.clap.specs.Words.{Text}
+use Rattle.command_line.specs.Task.{Form, Plain, Rules, Task, task_of}
+use Rattle.command_line.specs.declared.table.Command.TheVariants as commands
+
+-- the invariants of a log: the form, whether undecided lines are skipped and files joined, and the files
+abbrev pub invariants_of : Form → Bool → Bool → List Text → Option Task
+invariants_of form ignore join files = Some (record { command = commands.Invariants; form = Some form; ignore = ignore; join = join; files = files })
+
+-- the same for the graph of a log
+abbrev pub graph_of : Form → Bool → Bool → List Text → Option Task
+graph_of form ignore join files = Some (record { command = commands.Graph; form = Some form; ignore = ignore; join = join; files = files })
+
+-- lines that ask for invariants, or for a graph
+pub record TakesLines : Type 0 where
+  pub plain : task_of (codes "invariants" ∷ codes "-p" ∷ []) ≡ invariants_of Plain false false []
+  pub rules : task_of (codes "invariants" ∷ codes "-e" ∷ codes "x" ∷ []) ≡ invariants_of (Rules (codes "x")) false false []
+  pub attached : task_of (codes "invariants" ∷ codes "-e=x" ∷ []) ≡ invariants_of (Rules (codes "x")) false false []
+  pub option_first : task_of (codes "-p" ∷ codes "invariants" ∷ []) ≡ invariants_of Plain false false []
+  pub bundle : task_of (codes "invariants" ∷ codes "-pij" ∷ codes "a" ∷ codes "b" ∷ []) ≡ invariants_of Plain true true (codes "a" ∷ codes "b" ∷ [])
+  pub ends_options : task_of (codes "invariants" ∷ codes "-ie" ∷ codes "x" ∷ codes "a" ∷ codes "-j" ∷ codes "--" ∷ codes "-p" ∷ [])
+      ≡ invariants_of (Rules (codes "x")) true true (codes "a" ∷ codes "-p" ∷ [])
+  pub hyphen : task_of (codes "invariants" ∷ codes "-p" ∷ codes "-" ∷ []) ≡ invariants_of Plain false false (codes "-" ∷ [])
+  pub graph : task_of (codes "graph" ∷ codes "-p" ∷ []) ≡ graph_of Plain false false []
+  pub graph_of_files : task_of (codes "-ij" ∷ codes "graph" ∷ codes "-e" ∷ codes "x" ∷ codes "a" ∷ codes "b" ∷ []) ≡ graph_of (Rules (codes "x")) true true (codes "a" ∷ codes "b" ∷ [])
+
+-- lines that ask for nothing
+pub record RefusesLines : Type 0 where
+  pub no_words : task_of [] ≡ None
+  pub no_form : task_of (codes "invariants" ∷ []) ≡ None
+  pub both_forms : task_of (codes "invariants" ∷ codes "-p" ∷ codes "-e" ∷ codes "x" ∷ []) ≡ None
+  pub twice : task_of (codes "invariants" ∷ codes "-p" ∷ codes "-p" ∷ []) ≡ None
+  pub two_names : task_of (codes "invariants" ∷ codes "-e" ∷ codes "x" ∷ codes "-e" ∷ codes "x" ∷ []) ≡ None
+  pub no_name : task_of (codes "invariants" ∷ codes "-e" ∷ []) ≡ None
+  pub option_for_name : task_of (codes "invariants" ∷ codes "-e" ∷ codes "-p" ∷ []) ≡ None
+  pub empty_name : task_of (codes "invariants" ∷ codes "-e" ∷ codes "" ∷ []) ≡ None
+  pub empty_file : task_of (codes "invariants" ∷ codes "-p" ∷ codes "" ∷ []) ≡ None
+  pub model : task_of (codes "invariants" ∷ codes "-m" ∷ codes "m" ∷ codes "-p" ∷ []) ≡ None
+  pub number : task_of (codes "invariants" ∷ codes "-n" ∷ codes "3" ∷ codes "-p" ∷ []) ≡ None
+  pub unknown_option : task_of (codes "invariants" ∷ codes "-px" ∷ []) ≡ None
+  pub help : task_of (codes "--help" ∷ []) ≡ None
+  pub help_letter : task_of (codes "invariants" ∷ codes "-p" ∷ codes "-h" ∷ []) ≡ None
+  pub version : task_of (codes "invariants" ∷ codes "-p" ∷ codes "--version" ∷ []) ≡ None
+  pub unknown_command : task_of (codes "guess" ∷ codes "-p" ∷ []) ≡ None
+  pub not_built : task_of (codes "infer" ∷ codes "-p" ∷ []) ≡ None
+  pub other_command : task_of (codes "bench" ∷ []) ≡ None
+  pub graph_no_form : task_of (codes "graph" ∷ []) ≡ None
+  pub graph_both_forms : task_of (codes "graph" ∷ codes "-p" ∷ codes "-e" ∷ codes "x" ∷ []) ≡ None
+  pub graph_model : task_of (codes "graph" ∷ codes "-m" ∷ codes "m" ∷ []) ≡ None
+  pub graph_model_and_form : task_of (codes "graph" ∷ codes "-m" ∷ codes "m" ∷ codes "-p" ∷ []) ≡ None
+  pub graph_number : task_of (codes "graph" ∷ codes "-n" ∷ codes "3" ∷ codes "-p" ∷ []) ≡ None
+  pub form_alone : task_of (codes "-p" ∷ []) ≡ None

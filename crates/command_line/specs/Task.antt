@@ -1,0 +1,67 @@
+-- The task of the words.
+use Rattle.std.specs.Prelude.{Bool, true, false, ◌&&◌, List, Option, Some, None, option_and_then, option_map, map, if◌then◌else◌}
+use Rattle.clap.specs.Words.{Text}
+use Rattle.command_line.specs.App.{is_taken, rows_for}
+use Rattle.command_line.specs.Given.{Use, use_of}
+use Rattle.command_line.specs.Table.{is_sound, passes, row_of}
+use Rattle.command_line.specs.declared.table.Command.{Command}
+use Rattle.command_line.specs.declared.table.Row.{Row}
+use Rattle.command_line.specs.declared.task.Form as rust_form
+use Rattle.command_line.specs.declared.task.Form.TheVariants as forms
+use Rattle.command_line.specs.declared.task.Task as rust
+
+-- how the lines of a log are read: in the plain form, or by the rules of a file
+pub data Form : Type 0 where
+  Plain : Form
+  Rules : (name : Text) → Form
+
+-- what to do; how lines are read, if a log is; whether undecided lines are skipped and files are joined; and the log's files
+pub record Task : Type 0 where
+  pub command : Command
+  pub form : Option Form
+  pub ignore : Bool
+  pub join : Bool
+  pub files : List Text
+
+-- how lines are read: plainly where -p is given, else by the rules of -e, where that is given
+abbrev pub form_by : Option Text → Bool → Option Form
+form_by rules true = Some Plain
+form_by (Some name) false = Some (Rules name)
+form_by None false = None
+
+-- the task of a use
+abbrev pub asked : Command → Use → Task
+asked command u = record {
+  command = command;
+  form = form_by u.rules u.plain;
+  ignore = u.ignore;
+  join = u.join;
+  files = u.files;
+}
+
+-- the task that a row allows
+abbrev pub allowed : Row → Use → Option Task
+allowed row u = if passes row u && is_sound u then Some (asked row.command u) else None
+
+-- the task that the table allows
+abbrev pub task_of_use : Use → Option Task
+task_of_use u = option_and_then (λ row. allowed row u) (option_and_then row_of u.command)
+
+-- the task of the words: clap takes them, and the table allows what they give
+abbrev pub task_of : List Text → Option Task
+task_of words = if is_taken words then task_of_use (use_of (rows_for words)) else None
+
+-- the form that the program holds
+abbrev pub form_held : rust_form.Form → Form
+form_held forms.Plain = Plain
+form_held (forms.Rules name) = Rules name.now
+
+-- the task that the program holds
+abbrev pub task_held : rust.Task → Task
+task_held t = record {
+  command = t.command;
+  form = option_map form_held t.form;
+  ignore = t.ignore;
+  join = t.join;
+  files = map (λ s. s.now) t.files.items;
+}

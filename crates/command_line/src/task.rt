@@ -1,0 +1,81 @@
+//! What the words ask for.
+ghost use Rattle.std.specs.Prelude.{◌≡◌, IfOk, Err, Some, None, map, option_map, string_bytes};
+ghost use Rattle.command_line.specs.Given.{given_held};
+ghost use Rattle.command_line.specs.Task.{allowed, form_by, form_held, task_held, task_of, task_of_use};
+
+use crate::given::{Given, ParseError, read};
+use crate::table::{Command, Row, is_sound, passes, row_of};
+use std::alloc::Global;
+
+/// How the lines of a log are read.
+#[derive(Clone, Copy, Debug, PartialEq, Eq)]
+pub enum Form<'a> {
+    /// As a trace's name, a space and a type (`-p`).
+    Plain,
+    /// By the rules of the file with this name, which is not empty (`-e`).
+    Rules(&'a str),
+}
+
+/// What the words ask for.
+#[derive(Debug, Drop)]
+pub struct Task<'a> {
+    /// What to do.
+    pub command: Command,
+    /// How the lines of the log are read; None where no log is read.
+    pub form: Option<Form<'a>>,
+    /// Lines that nothing decides are skipped (`-i`).
+    pub ignore: bool,
+    /// The files are one log: a trace may go on in the next file (`-j`).
+    pub join: bool,
+    /// The names of the log's files in their order, none of them empty; no names stand for standard input.
+    pub files: Vec<&'a str>,
+}
+
+/// How lines are read: plainly, else by the rules of a file, where one is given.
+fn form_by<'a>(rules: Option<&'a str>, plain: bool) -> Option<Form<'a>>
+    ensures { option_map form_held result ≡ form_by (option_map (λ s. s.now) rules.entry) plain }
+{
+    match (rules, plain) {
+        (_, true) => Some(Form::Plain),
+        (Some(name), false) => Some(Form::Rules(name)),
+        (None, false) => None,
+    }
+}
+
+/// The task that the row allows.
+fn allowed<'a>(row: Row, given: Given<'a>) -> Option<Task<'a>>
+    ensures { option_map task_held result ≡ allowed row (given_held given.entry) }
+{
+    if !(passes(row, &given) && is_sound(&given)) {
+        return None;
+    }
+    Some(Task {
+        command: row.command,
+        form: form_by(given.rules, given.plain),
+        ignore: given.ignore,
+        join: given.join,
+        files: given.files,
+    })
+}
+
+/// The task that the table allows.
+fn by_table<'a>(given: Given<'a>) -> Option<Task<'a>>
+    ensures { option_map task_held result ≡ task_of_use (given_held given.entry) }
+{
+    let word = given.command?;
+    let row = row_of(word)?;
+    allowed(row, given)
+}
+
+/// The task that the words of the command line, without the program's name, ask for.
+///
+/// `Usage` comes exactly where they ask for none, `Memory` only where memory was wanted.
+pub fn parse<'a>(alloc: Global, words: &'a [String]) -> Result<Task<'a>, ParseError>
+    ensures ok { IfOk result (λ t. task_of (map string_bytes words.entry.now) ≡ Some (task_held t)) }
+    ensures usage { result ≡ Err ParseError.Usage → task_of (map string_bytes words.entry.now) ≡ None }
+{
+    match by_table(read(alloc, words)?) {
+        Some(task) => Ok(task),
+        None => Err(ParseError::Usage),
+    }
+}

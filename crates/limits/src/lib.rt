@@ -1,0 +1,46 @@
+//! The numbers that are fixed for every run, each named once: the limits of what is read, kept and written, and the numbers of the two ends of a trace.
+//!
+//! Contracts, definitions and code cite them by these names. A text that tells a limit to the user spells the number out.
+#![tactic(auto)]
+
+/// The number of INITIAL, which stands before each trace: as a type, and as the id of its partition.
+pub const INITIAL: u32 = 0;
+
+/// The number of TERMINAL, which stands behind each trace: as a type, and as the id of its partition.
+pub const TERMINAL: u32 = 1;
+
+/// The number of the first type of events that a log has, and the lowest id of a partition of events.
+pub const FIRST_TYPE: u32 = 2;
+
+/// How many types of events a log has at most.
+pub const MAX_TYPES: u32 = 128;
+
+/// How many events a log has at most, over all its traces.
+pub const MAX_EVENTS: u32 = 1_000_000;
+
+/// How many bytes of UTF-8 the text of a type has at most, also a name that a rule gives.
+pub const MAX_TYPE_BYTES: usize = 256;
+
+/// How many bytes of UTF-8 the text that names a trace has at most.
+pub const MAX_TRACE_BYTES: usize = 1024;
+
+/// How many bytes a line of a log has at most, a carriage return at its end among them and its line feed not.
+pub const MAX_LINE_BYTES: usize = 65_536;
+
+/// How many bytes all inputs of a log have together at most.
+pub const MAX_INPUT_BYTES: usize = 268_435_456;
+
+/// How many bytes a file of rules has at most.
+pub const MAX_RULES_BYTES: usize = 65_536;
+
+/// How many rules a file of rules has at most.
+pub const MAX_RULES: usize = 32;
+
+/// How many partitions a graph has at most, the two ends among them, so that ids end below it.
+pub const MAX_PARTITIONS: u32 = 1024;
+
+/// How many numbers the paths of all splits and blocks of a model have together at most.
+pub const MAX_PATH_NUMBERS: u32 = 4_000_000;
+
+/// How many bytes a model file has at most.
+pub const MAX_MODEL_BYTES: usize = 134_217_728;
