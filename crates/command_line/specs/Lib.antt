@@ -1,5 +1,6 @@
 pub mod App
 pub mod Given
 pub mod Lines
+pub mod Numbers
 pub mod Table
 pub mod Task

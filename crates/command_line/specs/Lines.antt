@@ -2,15 +2,25 @@
 use Rattle.std.specs.Prelude.{◌≡◌, Bool, true, false, List, [], ◌∷◌, Option, Some, None, codes}
 use Rattle.clap.specs.Words.{Text}
 use Rattle.command_line.specs.Task.{Form, Plain, Rules, Task, task_of}
+use Rattle.command_line.specs.declared.table.Command.{Command}
 use Rattle.command_line.specs.declared.table.Command.TheVariants as commands
 
--- the invariants of a log: the form, whether undecided lines are skipped and files joined, and the files
-abbrev pub invariants_of : Form → Bool → Bool → List Text → Option Task
-invariants_of form ignore join files = Some (record { command = commands.Invariants; form = Some form; ignore = ignore; join = join; files = files })
+-- a task on a log: the form, whether undecided lines are skipped and files joined, and the files
+abbrev pub on_log : Command → Form → Bool → Bool → List Text → Option Task
+on_log command form ignore join files =
+    Some (record { command = command; form = Some form; model = None; ignore = ignore; join = join; number = None; files = files })
 
--- the same for the graph of a log
+-- the invariants of a log, and its graph
+abbrev pub invariants_of : Form → Bool → Bool → List Text → Option Task
+invariants_of form ignore join files = on_log commands.Invariants form ignore join files
+
 abbrev pub graph_of : Form → Bool → Bool → List Text → Option Task
-graph_of form ignore join files = Some (record { command = commands.Graph; form = Some form; ignore = ignore; join = join; files = files })
+graph_of form ignore join files = on_log commands.Graph form ignore join files
+
+-- the graph of the model in a file
+abbrev pub graph_of_model : Text → Option Task
+graph_of_model name =
+    Some (record { command = commands.GraphOfModel; form = None; model = Some name; ignore = false; join = false; number = None; files = [] })
 
 -- lines that ask for invariants, or for a graph
 pub record TakesLines : Type 0 where
@@ -24,6 +34,7 @@ pub record TakesLines : Type 0 where
   pub hyphen : task_of (codes "invariants" ∷ codes "-p" ∷ codes "-" ∷ []) ≡ invariants_of Plain false false (codes "-" ∷ [])
   pub graph : task_of (codes "graph" ∷ codes "-p" ∷ []) ≡ graph_of Plain false false []
   pub graph_of_files : task_of (codes "-ij" ∷ codes "graph" ∷ codes "-e" ∷ codes "x" ∷ codes "a" ∷ codes "b" ∷ []) ≡ graph_of (Rules (codes "x")) true true (codes "a" ∷ codes "b" ∷ [])
+  pub graph_model : task_of (codes "graph" ∷ codes "-m" ∷ codes "m" ∷ []) ≡ graph_of_model (codes "m")
 
 -- lines that ask for nothing
 pub record RefusesLines : Type 0 where
@@ -47,7 +58,9 @@ pub record RefusesLines : Type 0 where
   pub other_command : task_of (codes "bench" ∷ []) ≡ None
   pub graph_no_form : task_of (codes "graph" ∷ []) ≡ None
   pub graph_both_forms : task_of (codes "graph" ∷ codes "-p" ∷ codes "-e" ∷ codes "x" ∷ []) ≡ None
-  pub graph_model : task_of (codes "graph" ∷ codes "-m" ∷ codes "m" ∷ []) ≡ None
+  pub graph_model_and_file : task_of (codes "graph" ∷ codes "-m" ∷ codes "m" ∷ codes "a" ∷ []) ≡ None
+  pub graph_no_model_name : task_of (codes "graph" ∷ codes "-m" ∷ codes "" ∷ []) ≡ None
+  pub graph_model_skips : task_of (codes "graph" ∷ codes "-m" ∷ codes "m" ∷ codes "-i" ∷ []) ≡ None
   pub graph_model_and_form : task_of (codes "graph" ∷ codes "-m" ∷ codes "m" ∷ codes "-p" ∷ []) ≡ None
   pub graph_number : task_of (codes "graph" ∷ codes "-n" ∷ codes "3" ∷ codes "-p" ∷ []) ≡ None
   pub form_alone : task_of (codes "-p" ∷ []) ≡ None

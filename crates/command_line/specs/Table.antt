@@ -1,26 +1,40 @@
 -- The table of the commands.
-use Rattle.std.specs.Prelude.{Bool, true, ◌&&◌, ◌||◌, not, List, length, nat_lt, Option, Some, None, codes, is_some, if◌then◌else◌}
+use Rattle.std.specs.Prelude.{Bool, true, false, ◌&&◌, ◌||◌, not, List, length, nat_lt, Option, Some, None, codes, is_some, if◌then◌else◌}
 use Rattle.std.specs.Option.{option_map_or}
 use Rattle.std.specs.List.{list_all}
 use Rattle.std.specs.Str.{bytes_eq}
 use Rattle.clap.specs.Words.{Text}
 use Rattle.clap.specs.Walk.{is_empty}
 use Rattle.command_line.specs.Given.{Use}
+use Rattle.command_line.specs.Numbers.{number_of}
 use Rattle.command_line.specs.declared.table.Command.{Command}
 use Rattle.command_line.specs.declared.table.Command.TheVariants as commands
 use Rattle.command_line.specs.declared.table.Want.{Want}
 use Rattle.command_line.specs.declared.table.Want.TheVariants.{Needs, May, Never}
+use Rattle.command_line.specs.declared.table.FormWant.{FormWant}
+use Rattle.command_line.specs.declared.table.FormWant.TheVariants as wants_form
 use Rattle.command_line.specs.declared.table.Row.{Row}
 
 -- a command that reads a log, and takes nothing else
 abbrev pub log_row : Command → Row
-log_row command = record { command = command; form = Needs; flags = May; files = May; model = Never; number = Never }
+log_row command =
+    record { command = command; form = wants_form.One; flags = May; files = May; model = Never; number = Never }
 
--- the table: the row of a word
-abbrev pub row_of : Text → Option Row
-row_of text =
+-- a command that reads a model's file, and takes nothing else
+abbrev pub model_row : Command → Row
+model_row command =
+    record { command = command; form = wants_form.Never; flags = Never; files = Never; model = Needs; number = Never }
+
+-- the row of `graph`: with a model's file it is a command of its own
+abbrev pub graph_row : Bool → Row
+graph_row true = model_row commands.GraphOfModel
+graph_row false = log_row commands.Graph
+
+-- the table: the row of a word, where a model's file is given or not
+abbrev pub row_of : Text → Bool → Option Row
+row_of text has_model =
     if bytes_eq text (codes "invariants") then Some (log_row commands.Invariants)
-    else if bytes_eq text (codes "graph") then Some (log_row commands.Graph)
+    else if bytes_eq text (codes "graph") then Some (graph_row has_model)
     else None
 
 -- what is given, or is not, is what the row says of it
@@ -29,9 +43,11 @@ fits Needs is_given = is_given
 fits May is_given = true
 fits Never is_given = not is_given
 
--- -e or -p
-abbrev pub has_form : Use → Bool
-has_form u = is_some u.rules || u.plain
+-- -e and -p are given as the command wants them
+abbrev pub fits_form : FormWant → Use → Bool
+fits_form wants_form.One u = if u.plain then not (is_some u.rules) else is_some u.rules
+fits_form wants_form.Rules u = is_some u.rules && not u.plain
+fits_form wants_form.Never u = not (is_some u.rules) && not u.plain
 
 -- -i or -j
 abbrev pub has_flags : Use → Bool
@@ -52,7 +68,7 @@ has_number u = is_some u.number
 -- all that is given is what the row says
 abbrev pub passes : Row → Use → Bool
 passes row u =
-    fits row.form (has_form u) && fits row.flags (has_flags u) && fits row.files (has_files u)
+    fits_form row.form u && fits row.flags (has_flags u) && fits row.files (has_files u)
     && fits row.model (has_model u) && fits row.number (has_number u)
 
 -- the text is not empty
@@ -67,6 +83,11 @@ are_words texts = list_all is_word texts
 abbrev pub option_is_word : Option Text → Bool
 option_is_word text = option_map_or is_word text true
 
--- no name is empty, and at most one form is given
+-- the text says a number, where there is one
+abbrev pub option_is_number : Option Text → Bool
+option_is_number text = option_map_or (λ t. is_some (number_of t)) text true
+
+-- no name is empty, and the number is one
 abbrev pub is_sound : Use → Bool
-is_sound u = option_is_word u.rules && option_is_word u.model && are_words u.files && not (is_some u.rules && u.plain)
+is_sound u =
+    option_is_word u.rules && option_is_word u.model && are_words u.files && option_is_number u.number

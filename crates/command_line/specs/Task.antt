@@ -1,9 +1,10 @@
 -- The task of the words.
-use Rattle.std.specs.Prelude.{Bool, true, false, ◌&&◌, List, Option, Some, None, option_and_then, option_map, map, if◌then◌else◌}
+use Rattle.std.specs.Prelude.{ℕ, Bool, true, false, ◌&&◌, List, Option, Some, None, option_and_then, option_map, map, if◌then◌else◌}
 use Rattle.clap.specs.Words.{Text}
 use Rattle.command_line.specs.App.{is_taken, rows_for}
 use Rattle.command_line.specs.Given.{Use, use_of}
-use Rattle.command_line.specs.Table.{is_sound, passes, row_of}
+use Rattle.command_line.specs.Numbers.{number_of}
+use Rattle.command_line.specs.Table.{has_model, is_sound, passes, row_of}
 use Rattle.command_line.specs.declared.table.Command.{Command}
 use Rattle.command_line.specs.declared.table.Row.{Row}
 use Rattle.command_line.specs.declared.task.Form as rust_form
@@ -15,12 +16,15 @@ pub data Form : Type 0 where
   Plain : Form
   Rules : (name : Text) → Form
 
--- what to do; how lines are read, if a log is; whether undecided lines are skipped and files are joined; and the log's files
+-- what to do; how lines are read, if a log is; the model's file, if one is read; whether undecided lines are skipped and
+-- files are joined; the number, if one is asked for; and the log's files
 pub record Task : Type 0 where
   pub command : Command
   pub form : Option Form
+  pub model : Option Text
   pub ignore : Bool
   pub join : Bool
+  pub number : Option ℕ
   pub files : List Text
 
 -- how lines are read: plainly where -p is given, else by the rules of -e, where that is given
@@ -34,8 +38,10 @@ abbrev pub asked : Command → Use → Task
 asked command u = record {
   command = command;
   form = form_by u.rules u.plain;
+  model = u.model;
   ignore = u.ignore;
   join = u.join;
+  number = option_and_then number_of u.number;
   files = u.files;
 }
 
@@ -45,7 +51,8 @@ allowed row u = if passes row u && is_sound u then Some (asked row.command u) el
 
 -- the task that the table allows
 abbrev pub task_of_use : Use → Option Task
-task_of_use u = option_and_then (λ row. allowed row u) (option_and_then row_of u.command)
+task_of_use u =
+    option_and_then (λ row. allowed row u) (option_and_then (λ word. row_of word (has_model u)) u.command)
 
 -- the task of the words: clap takes them, and the table allows what they give
 abbrev pub task_of : List Text → Option Task
@@ -61,7 +68,9 @@ abbrev pub task_held : rust.Task → Task
 task_held t = record {
   command = t.command;
   form = option_map form_held t.form;
+  model = option_map (λ s. s.now) t.model;
   ignore = t.ignore;
   join = t.join;
+  number = t.number;
   files = map (λ s. s.now) t.files.items;
 }

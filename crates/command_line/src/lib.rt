@@ -6,6 +6,7 @@
 mod command;
 mod given;
 mod law;
+mod number;
 mod table;
 mod task;
 #[cfg(test)]

@@ -2,9 +2,10 @@
 ghost use Rattle.std.specs.Prelude.{◌≡◌, map, option_map};
 ghost use Rattle.std.specs.List.{list_all};
 ghost use Rattle.command_line.specs.Given.{given_held};
-ghost use Rattle.command_line.specs.Table.{are_words, fits, has_files, has_flags, has_form, has_model, has_number, is_sound, is_word, log_row, option_is_word, passes, row_of};
+ghost use Rattle.command_line.specs.Table.{are_words, fits, fits_form, graph_row, has_files, has_flags, has_model, has_number, is_sound, is_word, log_row, model_row, option_is_number, option_is_word, passes, row_of};
 
 use crate::given::Given;
+use crate::number::number_of;
 
 /// A command of the program.
 #[derive(Clone, Copy, Debug, PartialEq, Eq)]
@@ -13,6 +14,8 @@ pub enum Command {
     Invariants,
     /// Print the graph of a log that has one partition for each type.
     Graph,
+    /// Print the graph of a model that stands in a file.
+    GraphOfModel,
 }
 
 /// What a command says of something that may be given.
@@ -26,13 +29,24 @@ pub enum Want {
     Never,
 }
 
+/// What a command says of the form of a log's lines.
+#[derive(Clone, Copy, Debug, PartialEq, Eq)]
+pub enum FormWant {
+    /// One of `-p` and `-e` must be given, and not both.
+    One,
+    /// `-e` must be given, and `-p` must not.
+    Rules,
+    /// Neither must be given: no log is read.
+    Never,
+}
+
 /// A row of the table: a command, and what it says of all that may be given beside it.
 #[derive(Clone, Copy, Debug, PartialEq, Eq)]
 pub struct Row {
     /// The command.
     pub command: Command,
     /// The form of a log's lines (`-p`, or `-e` with a file of rules).
-    pub form: Want,
+    pub form: FormWant,
     /// How a log is read (`-i`, `-j`).
     pub flags: Want,
     /// The files of a log.
@@ -49,7 +63,7 @@ fn log_row(command: Command) -> Row
 {
     Row {
         command,
-        form: Want::Needs,
+        form: FormWant::One,
         flags: Want::May,
         files: Want::May,
         model: Want::Never,
@@ -57,13 +71,37 @@ fn log_row(command: Command) -> Row
     }
 }
 
-/// The row of a word.
-pub fn row_of(text: &str) -> Option<Row>
-    ensures { result ≡ row_of text.now }
+/// The row of a command that reads the file of a model, and takes nothing else.
+fn model_row(command: Command) -> Row
+    ensures { result ≡ model_row command }
+{
+    Row {
+        command,
+        form: FormWant::Never,
+        flags: Want::Never,
+        files: Want::Never,
+        model: Want::Needs,
+        number: Want::Never,
+    }
+}
+
+/// The row of `graph`, which is a command of its own where the file of a model is given.
+fn graph_row(has_model: bool) -> Row
+    ensures { result ≡ graph_row has_model }
+{
+    match has_model {
+        true => model_row(Command::GraphOfModel),
+        false => log_row(Command::Graph),
+    }
+}
+
+/// The row of a word, where the file of a model is given or not.
+pub fn row_of(text: &str, has_model: bool) -> Option<Row>
+    ensures { result ≡ row_of text.now has_model }
 {
     match text {
         "invariants" => Some(log_row(Command::Invariants)),
-        "graph" => Some(log_row(Command::Graph)),
+        "graph" => Some(graph_row(has_model)),
         _ => None,
     }
 }
@@ -79,11 +117,15 @@ fn fits(want: Want, is_given: bool) -> bool
     }
 }
 
-/// Whether a form is given.
-fn has_form(given: &Given<'_>) -> bool
-    ensures { result ≡ has_form (given_held given.now) }
+/// Whether `-p` and `-e` are given as the row wants them.
+fn fits_form(want: FormWant, given: &Given<'_>) -> bool
+    ensures { result ≡ fits_form want (given_held given.now) }
 {
-    given.rules.is_some() || given.plain
+    match want {
+        FormWant::One => given.rules.is_some() != given.plain,
+        FormWant::Rules => given.rules.is_some() && !given.plain,
+        FormWant::Never => given.rules.is_none() && !given.plain,
+    }
 }
 
 /// Whether it is said how a log is read.
@@ -100,8 +142,8 @@ fn has_files(given: &Given<'_>) -> bool
     given.files.len() > 0
 }
 
-/// Whether a model is given.
-fn has_model(given: &Given<'_>) -> bool
+/// Whether the file of a model is given.
+pub fn has_model(given: &Given<'_>) -> bool
     ensures { result ≡ has_model (given_held given.now) }
 {
     given.model.is_some()
@@ -118,7 +160,7 @@ fn has_number(given: &Given<'_>) -> bool
 pub fn passes(row: Row, given: &Given<'_>) -> bool
     ensures { result ≡ passes row (given_held given.now) }
 {
-    fits(row.form, has_form(given))
+    fits_form(row.form, given)
         && fits(row.flags, has_flags(given))
         && fits(row.files, has_files(given))
         && fits(row.model, has_model(given))
@@ -149,12 +191,22 @@ fn option_is_word(text: Option<&str>) -> bool
     }
 }
 
-/// Whether no name is empty, and at most one form is given.
+/// Whether the text says a number, where there is one.
+fn option_is_number(text: Option<&str>) -> bool
+    ensures { result ≡ option_is_number (option_map (λ s. s.now) text.entry) }
+{
+    match text {
+        Some(text) => number_of(text).is_some(),
+        None => true,
+    }
+}
+
+/// Whether no name is empty, and the number is one.
 pub fn is_sound(given: &Given<'_>) -> bool
     ensures { result ≡ is_sound (given_held given.now) }
 {
     option_is_word(given.rules)
         && option_is_word(given.model)
         && are_words(&given.files)
-        && !(given.rules.is_some() && given.plain)
+        && option_is_number(given.number)
 }

@@ -1,10 +1,12 @@
 //! What the words ask for.
-ghost use Rattle.std.specs.Prelude.{◌≡◌, IfOk, Err, Some, None, map, option_map, string_bytes};
+ghost use Rattle.std.specs.Prelude.{◌≡◌, IfOk, Err, Some, None, map, option_and_then, option_map, string_bytes};
 ghost use Rattle.command_line.specs.Given.{given_held};
+ghost use Rattle.command_line.specs.Numbers.{number_of};
 ghost use Rattle.command_line.specs.Task.{allowed, form_by, form_held, task_held, task_of, task_of_use};
 
 use crate::given::{Given, ParseError, read};
-use crate::table::{Command, Row, is_sound, passes, row_of};
+use crate::number::number_of;
+use crate::table::{Command, Row, has_model, is_sound, passes, row_of};
 use std::alloc::Global;
 
 /// How the lines of a log are read.
@@ -23,10 +25,14 @@ pub struct Task<'a> {
     pub command: Command,
     /// How the lines of the log are read; None where no log is read.
     pub form: Option<Form<'a>>,
+    /// The name of the file of a model (`-m`), which is not empty; None where none is read.
+    pub model: Option<&'a str>,
     /// Lines that nothing decides are skipped (`-i`).
     pub ignore: bool,
     /// The files are one log: a trace may go on in the next file (`-j`).
     pub join: bool,
+    /// The number (`-n`), from 1 to `MAX_SESSIONS`; None where the command asks for none.
+    pub number: Option<u32>,
     /// The names of the log's files in their order, none of them empty; no names stand for standard input.
     pub files: Vec<&'a str>,
 }
@@ -42,6 +48,16 @@ fn form_by<'a>(rules: Option<&'a str>, plain: bool) -> Option<Form<'a>>
     }
 }
 
+/// The number that the value says, where there is one.
+fn number_by(value: Option<&str>) -> Option<u32>
+    ensures { result ≡ option_and_then number_of (option_map (λ s. s.now) value.entry) }
+{
+    match value {
+        Some(text) => number_of(text),
+        None => None,
+    }
+}
+
 /// The task that the row allows.
 fn allowed<'a>(row: Row, given: Given<'a>) -> Option<Task<'a>>
     ensures { option_map task_held result ≡ allowed row (given_held given.entry) }
@@ -52,8 +68,10 @@ fn allowed<'a>(row: Row, given: Given<'a>) -> Option<Task<'a>>
     Some(Task {
         command: row.command,
         form: form_by(given.rules, given.plain),
+        model: given.model,
         ignore: given.ignore,
         join: given.join,
+        number: number_by(given.number),
         files: given.files,
     })
 }
@@ -63,7 +81,7 @@ fn by_table<'a>(given: Given<'a>) -> Option<Task<'a>>
     ensures { option_map task_held result ≡ task_of_use (given_held given.entry) }
 {
     let word = given.command?;
-    let row = row_of(word)?;
+    let row = row_of(word, has_model(&given))?;
     allowed(row, given)
 }
 

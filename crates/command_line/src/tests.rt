@@ -31,8 +31,9 @@ struct Reader<'a> {
     plain: bool,
     ignore: bool,
     join: bool,
-    /// A model or a number was given, which no command takes yet.
-    has_more: bool,
+    model: Option<&'a str>,
+    /// A number was given, which no command takes yet.
+    has_number: bool,
     /// The option that waits for its value.
     waiting: Option<&'a str>,
     /// `--` was read.
@@ -49,7 +50,8 @@ impl<'a> Reader<'a> {
             plain: false,
             ignore: false,
             join: false,
-            has_more: false,
+            model: None,
+            has_number: false,
             waiting: None,
             is_past_options: false,
             is_faulty: false,
@@ -86,7 +88,8 @@ impl<'a> Reader<'a> {
         self.waiting = None;
         match option {
             "-e" => self.rules = Some(word),
-            _ => self.has_more = true,
+            "-m" => self.model = Some(word),
+            _ => self.has_number = true,
         }
     }
 
@@ -115,31 +118,46 @@ impl<'a> Reader<'a> {
     fn command(&self) -> Option<Command> {
         match self.command {
             Some("invariants") => Some(Command::Invariants),
+            Some("graph") if self.model.is_some() => Some(Command::GraphOfModel),
             Some("graph") => Some(Command::Graph),
             _ => None,
         }
     }
 
-    /// The form of a log, where the words ask for its invariants or its graph.
+    /// Whether nothing was given that no command takes, or that says nothing.
+    fn is_sound(&self) -> bool {
+        let is_whole = !self.is_faulty && self.waiting.is_none() && !self.has_number;
+        let is_named = self.rules != Some("") && self.model != Some("");
+        is_whole && is_named && !self.files.iter().any(|file| file.is_empty())
+    }
+
+    /// Whether the words ask for something.
+    fn is_task(&self) -> bool {
+        let is_alone = !self.ignore && !self.join && self.files.is_empty();
+        self.is_sound()
+            && match self.command() {
+                Some(Command::GraphOfModel) => self.rules.is_none() && !self.plain && is_alone,
+                Some(_) => self.model.is_none() && self.rules.is_some() != self.plain,
+                None => false,
+            }
+    }
+
+    /// The form of a log, where one is read.
     fn form(&self) -> Option<Form<'a>> {
-        if self.is_faulty || self.waiting.is_some() || self.has_more {
-            return None;
-        }
-        if self.command().is_none() || self.files.iter().any(|file| file.is_empty()) {
-            return None;
-        }
         match (self.rules, self.plain) {
-            (None, true) => Some(Form::Plain),
-            (Some(""), _) => None,
+            (_, true) => Some(Form::Plain),
             (Some(name), false) => Some(Form::Rules(name)),
-            _ => None,
+            (None, false) => None,
         }
     }
 }
 
 /// Compares a task with what was read by hand.
 fn assert_same(rt: &impl Abort, line: &[&str], task: &Task<'_>, reader: &Reader<'_>) {
+    assert!(rt; reader.is_task(), "at {line:?}");
     assert_eq!(rt; Some(task.command), reader.command(), "at {line:?}");
+    assert_eq!(rt; task.model, reader.model, "at {line:?}");
+    assert_eq!(rt; task.number, None, "at {line:?}");
     assert_eq!(rt; task.form, reader.form(), "at {line:?}");
     assert_eq!(rt; task.ignore, reader.ignore, "at {line:?}");
     assert_eq!(rt; task.join, reader.join, "at {line:?}");
@@ -157,7 +175,7 @@ fn compare(rt: &impl Abort, alloc: Global, line: &[&str]) -> Result<(), Fail> {
     }
     match parse(alloc, &words) {
         Ok(task) => assert_same(rt, line, &task, &reader),
-        Err(ParseError::Usage) => assert_eq!(rt; reader.form(), None, "at {line:?}"),
+        Err(ParseError::Usage) => assert!(rt; !reader.is_task(), "at {line:?}"),
         Err(ParseError::Memory) => return Err(AllocError.into()),
     }
     Ok(())
