@@ -3,7 +3,7 @@ use Rattle.std.proofs.Common.{◌≡◌, Option, Some, None, Result, Ok, Err, sy
 use Rattle.outside.specs.Inputs.{Files}
 use Rattle.command_line.specs.Task.{Task, task_of}
 use Rattle.command_line.specs.declared.table.Command.{Command}
-use Rattle.command_line.specs.declared.table.Command.TheVariants.{Invariants, Graph}
+use Rattle.command_line.specs.declared.table.Command.TheVariants.{Invariants, Graph, GraphOfModel}
 use Rattle.synoptic_cli.specs.declared.answer.Answer.{Answer}
 use Rattle.synoptic_cli.specs.declared.material.Material.{Material}
 use Rattle.synoptic_cli.specs.declared.status.LimitKind.{LimitKind}
@@ -17,6 +17,7 @@ use Rattle.synoptic_cli.specs.Endings.{EndsAfter, EndsAreOne, HasStatus, Statuse
 one-answer : (command : Command) (task : Task) (m : Material) (r s : Result Answer LimitKind) → AnswersBy command task m r → AnswersBy command task m s → r ≡ s
 one-answer Invariants task m r s a b = a.value ∙ sym b.value
 one-answer Graph task m r s a b = a.value ∙ sym b.value
+one-answer GraphOfModel task m r s a b = a.value ∙ sym b.value
 
 -- so a run ends in one way alone after a reading
 one-end : (task : Task) (read : Result SoFar Stop) (a b : Result Answer Stop) → EndsAfter task read a → EndsAfter task read b → a ≡ b

@@ -30,6 +30,22 @@ bytes-both files (stage ∷ first) second P Q R step p q =
     contents-map files (stage_names stage) (λ contents. SomeBytes files first (λ rest. P ((stage, contents) ∷ rest))) (λ contents. SomeBytes files (first ++ second) (λ rest. R ((stage, contents) ∷ rest)))
     (λ contents here. bytes-both files first second (λ rest. P ((stage, contents) ∷ rest)) Q (λ rest. R ((stage, contents) ∷ rest)) (λ f s. step ((stage, contents) ∷ f) s) here q) p
 
+-- what holds of any bytes holds of some
+contents-any : (files : Option Files) (names : List (List ℕ)) (P : List (List ℕ) → Type 0) → ((contents : List (List ℕ)) → P contents) → SomeContents files names P
+contents-any None names P any = ([], omega arith, any [])
+contents-any (Some fs) names P any = any (told_contents fs names)
+
+bytes-any : (files : Option Files) (stages : List Stage) (P : List Filled → Type 0) → ((filled : List Filled) → P filled) → SomeBytes files stages P
+bytes-any files [] P any = any []
+bytes-any files (stage ∷ stages) P any =
+    contents-any files (stage_names stage) (λ contents. SomeBytes files stages (λ rest. P ((stage, contents) ∷ rest)))
+    (λ contents. bytes-any files stages (λ rest. P ((stage, contents) ∷ rest)) (λ rest. any ((stage, contents) ∷ rest)))
+
+-- first stages, whatever the bytes of those after them
+pub bytes-first : (files : Option Files) (first second : List Stage) (P R : List Filled → Type 0) → ((f s : List Filled) → P f → R (f ++ s)) → SomeBytes files first P
+    → SomeBytes files (first ++ second) R
+bytes-first files first second P R step p = bytes-both files first second P (λ s. Unit {0}) R (λ f s here any. step f s here) p (bytes-any files second (λ s. Unit {0}) (λ s. tt))
+
 -- where files are told, what holds of the bytes holds of those that are told
 pub bytes-told : (files : Files) (stages : List Stage) (P : List Filled → Type 0) → SomeBytes (Some files) stages P → P (told_stages files stages)
 bytes-told files [] P some = some
@@ -86,3 +102,19 @@ pub reads-append : (f g : List Filled) (a b : SoFar) → reads a f ≡ Ok b → 
 reads-append [] g a b is = let same : a ≡ b = cc in ap (λ (s : SoFar). reads s g) same ∙ sym (after-zero (reads b g))
 reads-append (x ∷ f) g a b is =
     then-more (stage_reads x.0 a x.1) (length (stage_names x.0)) (filled_count f) (λ t. reads t f) (λ t. reads t (f ++ g)) (reads b g) b (λ t. reads-append f g t b) is
+
+after-err : (n : ℕ) (r : Result SoFar Stop) (stop : Stop) → after n r ≡ Err stop → (s : Stop) × (r ≡ Err s)
+after-err n (Ok t) stop is = cc
+after-err n (Err s) stop is = (s, refl)
+
+then-stop : (r : Result SoFar Stop) (n : ℕ) (f g : SoFar → Result SoFar Stop) (stop : Stop) → ((t : SoFar) (s : Stop) → f t ≡ Err s → g t ≡ Err s) → and_then r n f ≡ Err stop → and_then r n g ≡ Err stop
+then-stop (Err s) n f g stop step is = is
+then-stop (Ok t) n f g stop step is =
+    let inner = after-err n (f t) stop is in
+    ap (after n) (step t inner.0 inner.1 ∙ sym inner.1) ∙ is
+
+-- what stages stop at is what they and more stop at
+pub reads-stop : (f g : List Filled) (a : SoFar) (stop : Stop) → reads a f ≡ Err stop → reads a (f ++ g) ≡ Err stop
+reads-stop [] g a stop is = cc
+reads-stop (x ∷ f) g a stop is =
+    then-stop (stage_reads x.0 a x.1) (length (stage_names x.0)) (λ t. reads t f) (λ t. reads t (f ++ g)) stop (λ t s. reads-stop f g t s) is

@@ -14,7 +14,7 @@ use Rattle.synoptic_cli.specs.declared.status.Status.TheVariants.{Memory, ReadFa
 use Rattle.synoptic_cli.specs.declared.status.Source.{Source}
 use Rattle.synoptic_cli.specs.declared.status.Source.TheVariants as sources
 use Rattle.synoptic_cli.specs.declared.stages.SoFar as rust
-use Rattle.synoptic_cli.specs.Stages.{Filled, LogFiles, SoFar, Stage, Stop, at_start, input_count, log_stages, log_stop, reads, rules_stages, setting_by, stages_of, status_of, stop_after, stop_at}
+use Rattle.synoptic_cli.specs.Stages.{Filled, LogFiles, SoFar, Stage, Stop, at_start, input_count, log_stages, log_stop, reads, first_stages, setting_by, stages_of, status_of, stop_after, stop_at}
 use Rattle.synoptic_cli.specs.Endings.{EndsAfter, EndsOver, IsFirstLacking, SomeBytes}
 use Rattle.synoptic_cli.specs.Causes.{World, FailsToRead, HasCause, Stops, world}
 use Rattle.synoptic_cli.specs.Steps.{Ends, HasRead, IsHeld, LogHalts, Reads, ReadsTask, StopsReading, held_form, setting_of}
@@ -22,31 +22,28 @@ use Rattle.synoptic_cli.proofs.Texts.{rose-since}
 use Rattle.synoptic_cli.proofs.Bytes.{bytes-map, bytes-told, input_count-append, later}
 use Rattle.synoptic_cli.proofs.Through.{read-faults, read-more, read-most, read-stop, stop-bytes}
 use Rattle.synoptic_cli.proofs.Rules.{memory-ends}
+use Rattle.synoptic_cli.proofs.ModelStage.{first-lacking, stopped}
 use Rattle.synoptic_cli.proofs.LogStage.{AreReadAlike, ReadAlike, alike-forms, log-lacks, log-stage-is, log-stops}
 
 -- all stages of a task were read
-pub task-read : (task : Task) (start held : rust.SoFar) (old mid new : InputState) (last : rust.SoFar) → IsHeld start at_start → Stays old mid → Reads (rules_stages task) start old mid held
+pub task-read : (task : Task) (start held : rust.SoFar) (old mid new : InputState) (last : rust.SoFar) → IsHeld start at_start → Stays old mid → Reads (first_stages task) start old mid held
     → Reads (log_stages task) held mid new last → ReadsTask task old new last.material
 task-read task start held old mid new last is stays first second =
     let a = first at_start is in
     let b = second a.0 a.1 in
-    record { so_far = b.0; value = b.1.material; read = read-more (rules_stages task) (log_stages task) old mid new at_start a.0 b.0 stays a.2 b.2 }
+    record { so_far = b.0; value = b.1.material; read = read-more (first_stages task) (log_stages task) old mid new at_start a.0 b.0 stays a.2 b.2 }
 
 -- what stands before the stage of the log, which is read with this setting
 pub record Before (task : Task) (s : Setting) (old mid : InputState) : Type 0 where
   pub so_far : SoFar
   pub stays : Stays old mid
-  pub read : HasRead (rules_stages task) old mid at_start so_far
+  pub read : HasRead (first_stages task) old mid at_start so_far
   pub alike : AreReadAlike s (setting_by so_far task.ignore task.join)
   pub log : log_stages task ≡ LogFiles (inputs_of task.files) task.ignore task.join ∷ []
 
 stop-status : (o : Option ℕ) (most : ℕ) (status : Status) → (stop_at o most status).status ≡ status
 stop-status None most status = refl
 stop-status (Some number) most status = refl
-
--- a reading that stops ends the run
-stopped : (task : Task) (filled : List Filled) (stop : Stop) → reads at_start filled ≡ Err stop → EndsOver task filled (Err stop)
-stopped task filled stop is = subst (λ (r : Result SoFar Stop). EndsAfter task r (Err stop)) (sym is) refl
 
 -- the log is refused
 refuses : (task : Task) (s : Setting) (old new : World) (mid : InputState) (e : ReadError) → Before task s old.inputs mid → new.out ≡ old.out
@@ -55,12 +52,12 @@ refuses task s old new mid e before silent refusal =
     let stop = log_stop (length (inputs_of task.files)) e in
     let here = log-stops before.so_far s (inputs_of task.files) task.ignore task.join mid new.inputs e before.alike refusal in
     let there =
-    read-stop (rules_stages task) (log_stages task) old.inputs mid new.inputs at_start before.so_far stop before.stays before.read
+    read-stop (first_stages task) (log_stages task) old.inputs mid new.inputs at_start before.so_far stop before.stays before.read
     (subst (λ (stages : List Stage). StopsReading stages mid new.inputs before.so_far stop) (sym before.log) here) in
     record {
-      stop = later (input_count (rules_stages task)) stop;
+      stop = later (input_count (first_stages task)) stop;
       answered = stop-status (refused_input e) (length (inputs_of task.files)) (status_of e);
-      ends = bytes-map old.inputs.files (stages_of task) _ (λ filled. EndsOver task filled (Err (later (input_count (rules_stages task)) stop))) (λ filled is. stopped task filled (later (input_count (rules_stages task)) stop) is) there.bytes;
+      ends = bytes-map old.inputs.files (stages_of task) _ (λ filled. EndsOver task filled (Err (later (input_count (first_stages task)) stop))) (λ filled is. stopped task filled (later (input_count (first_stages task)) stop) is) there.bytes;
       count = there.count;
       least = there.least;
       most = there.most;
@@ -73,19 +70,14 @@ lacks-told : (s : Setting) (told : Option Files) (names : List (List ℕ)) (numb
 lacks-told s None names number lacks = absurd lacks
 lacks-told s (Some files) names number lacks = refl
 
-first-lacking : (told : Option Files) (task : Task) (source : Source) (count : ℕ) → IsSome told → SomeBytes told (stages_of task) (λ filled. reads at_start filled ≡ Err (stop_after count (ReadFault source)))
-    → IsFirstLacking told task source
-first-lacking None task source count some bytes = cc
-first-lacking (Some files) task source count some bytes = (count, bytes-told files (stages_of task) (λ filled. reads at_start filled ≡ Err (stop_after count (ReadFault source))) bytes)
-
 lacks : (task : Task) (s : Setting) (old mid : InputState) (number : ℕ) → Before task s old mid → IsLacking s mid.files (inputs_of task.files) number → IsFirstLacking old.files task (sources.Log number)
 lacks task s old mid number before lacking =
     let stop : Stop = stop_after number (ReadFault (sources.Log number)) in
     let here : SomeBytes mid.files (log_stages task) (λ filled. reads before.so_far filled ≡ Err stop) =
     subst (λ (stages : List Stage). SomeBytes mid.files stages (λ filled. reads before.so_far filled ≡ Err stop)) (sym before.log)
     (log-lacks before.so_far s (inputs_of task.files) task.ignore task.join mid.files number before.alike lacking) in
-    first-lacking old.files task (sources.Log number) (input_count (rules_stages task) + number) (subst (λ (files : Option Files). IsSome files) before.stays.files (lacks-told s mid.files (inputs_of task.files) number lacking))
-    (stop-bytes old.files (rules_stages task) (log_stages task) at_start before.so_far stop before.read.bytes
+    first-lacking old.files task (sources.Log number) (input_count (first_stages task) + number) (subst (λ (files : Option Files). IsSome files) before.stays.files (lacks-told s mid.files (inputs_of task.files) number lacking))
+    (stop-bytes old.files (first_stages task) (log_stages task) at_start before.so_far stop before.read.bytes
     (subst (λ (files : Option Files). SomeBytes files (log_stages task) (λ filled. reads before.so_far filled ≡ Err stop)) before.stays.files here))
 
 -- a file of the log could not be read
@@ -101,15 +93,15 @@ fails task s old new mid number before silent opens cause = record {
       }))
       (λ (lacking : IsLacking s mid.files (inputs_of task.files) number). inr (lacks task s old.inputs mid number before lacking))
       cause;
-  opens = omega (arith, opens, read-most (input_count (rules_stages task)) old.inputs mid before.read.inputs);
+  opens = omega (arith, opens, read-most (input_count (first_stages task)) old.inputs mid before.read.inputs);
   silent = silent;
 }
 
 -- the task has as many inputs as its file of rules and its log
-inputs-are : (task : Task) (s : Setting) (old mid : InputState) → Before task s old mid → input_count (stages_of task) ≡ input_count (rules_stages task) + length (inputs_of task.files)
+inputs-are : (task : Task) (s : Setting) (old mid : InputState) → Before task s old mid → input_count (stages_of task) ≡ input_count (first_stages task) + length (inputs_of task.files)
 inputs-are task s old mid before =
     let log : input_count (log_stages task) ≡ length (inputs_of task.files) + 0 = ap input_count before.log in
-    omega (arith, log, input_count-append (rules_stages task) (log_stages task))
+    omega (arith, log, input_count-append (first_stages task) (log_stages task))
 
 -- the run ends by the refusal of its log
 log-ends : (task : Task) (s : Setting) (words : List (List ℕ)) (old new : World) (mid : InputState) (e : ReadError) → Before task s old.inputs mid → new.out ≡ old.out → task_of words ≡ Some task
@@ -125,12 +117,12 @@ log-ends task s words old new mid (refused.TypeLimit at) before silent asks few 
 log-ends task s words old new mid (refused.EventLimit at) before silent asks few fault cause = (task, asks, refuses task s old new mid (refused.EventLimit at) before silent cause)
 log-ends task s words old new mid refused.InputLimit before silent asks few fault cause = (task, asks, refuses task s old new mid refused.InputLimit before silent cause)
 log-ends task s words old new mid refused.Memory before silent asks few fault cause =
-    let most = read-most (input_count (rules_stages task)) old.inputs mid before.read.inputs in
+    let most = read-most (input_count (first_stages task)) old.inputs mid before.read.inputs in
     record { opens = (memory-ends task old.inputs new.inputs old.patterns old.patterns (omega (arith, few, most, inputs-are task s old.inputs mid before)) words old.out asks).opens; silent = silent }
 
 -- the same for what the program holds
 pub log-stage-ends : ReadAlike → (task : Task) (start held : rust.SoFar) (old mid new : InputState) (before after : PatternsState) (e : ReadError) → IsHeld start at_start → Stays old mid
-    → Reads (rules_stages task) start old mid held → LogHalts task (held_form held) mid new e → Ends (status_of e) task old new before after
+    → Reads (first_stages task) start old mid held → LogHalts task (held_form held) mid new e → Ends (status_of e) task old new before after
 log-stage-ends law task start held old mid new before after e is stays first halts = λ words out asks.
     let a = first at_start is in
     log-ends task (setting_of task (held_form held)) words (world old before out) (world new after out) mid e
@@ -151,5 +143,5 @@ log-memory refused.InputLimit is = cc
 log-memory refused.Memory is = refl
 
 -- no fault was counted before the stage of the log
-pub stage-faults : (task : Task) (start held : rust.SoFar) (old mid : InputState) → IsHeld start at_start → Reads (rules_stages task) start old mid held → mid.faults ≡ old.faults
-stage-faults task start held old mid is first = read-faults (input_count (rules_stages task)) old mid (first at_start is).2.inputs
+pub stage-faults : (task : Task) (start held : rust.SoFar) (old mid : InputState) → IsHeld start at_start → Reads (first_stages task) start old mid held → mid.faults ≡ old.faults
+stage-faults task start held old mid is first = read-faults (input_count (first_stages task)) old mid (first at_start is).2.inputs

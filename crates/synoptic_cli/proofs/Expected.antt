@@ -12,10 +12,10 @@ use Rattle.log_reader.specs.Inputs.{with_content}
 use Rattle.command_line.specs.Task.{Task, task_of}
 use Rattle.synoptic_cli.specs.declared.answer.Answer.{Answer}
 use Rattle.synoptic_cli.specs.declared.status.Status.{Status}
-use Rattle.synoptic_cli.specs.declared.status.Status.TheVariants.{Done, Usage, Expressions, Log, Limit, ReadFault, WriteFault, Memory}
+use Rattle.synoptic_cli.specs.declared.status.Status.TheVariants.{Done, Usage, Expressions, Log, Limit, ReadFault, WriteFault, Memory, ModelFile}
 use Rattle.synoptic_cli.specs.declared.status.Source.{Source}
 use Rattle.synoptic_cli.specs.Task.{rules_name}
-use Rattle.synoptic_cli.specs.Stages.{RulesFile, SoFar, Stage, Stop, and_then, at_start, log_stages, reads, reads_rules, rules_stage, stages_of, stop_after, with_rules}
+use Rattle.synoptic_cli.specs.Stages.{RulesFile, SoFar, Stage, Stop, and_then, at_start, log_stages, model_stages, reads, reads_rules, rules_stage, stages_of, stop_after, with_rules}
 use Rattle.synoptic_cli.specs.Endings.{EndsAfter, EndsOver, EndsTold, HasStatus, IsFirstLacking, IsStatusOf, IsTold, SomeBytes, end_status, told_stages}
 use Rattle.synoptic_cli.specs.Causes.{World, FailsToRead, HasCause, IsExpected, IsTooDeep, MayFail, RefusesRules, Stops, WritesAll}
 use Rattle.synoptic_cli.proofs.Bytes.{bytes-told}
@@ -74,7 +74,7 @@ plainly : (words : List (List ℕ)) (task : Task) (name bytes : List ℕ) (files
     → rules_of bytes ≡ Err e → IsStatusOf words files (Expressions e)
 plainly words task name bytes files e asks is told refusal =
     let read : reads at_start (told_stages files (stages_of task)) ≡ Err (stop_after 1 (Expressions e)) =
-    ap (λ (w : Option (List ℕ)). reads at_start (told_stages files (rules_stage w ++ log_stages task))) is ∙ rules-status files name bytes e (log_stages task) told refusal in
+    ap (λ (w : Option (List ℕ)). reads at_start (told_stages files ((rules_stage w ++ model_stages task) ++ log_stages task))) is ∙ rules-status files name bytes e (model_stages task ++ log_stages task) told refusal in
     task-status words task files (Expressions e) asks (told-stop task files (stop_after 1 (Expressions e)) read)
 
 -- the cause of a refusal of the file of rules, where no pattern's refusal was counted
@@ -116,3 +116,4 @@ cause-expected (Limit kind) words old new cause = if-some old.inputs.files _ (λ
 cause-expected (ReadFault source) words old new cause = if-some old.inputs.files _ (λ files some calm-in calm-patterns calm-out. inl (read-fault words cause.0 files source old new some cause.1 calm-in cause.2))
 cause-expected WriteFault words old new cause = if-some old.inputs.files _ (λ files some calm-in calm-patterns calm-out. absurd (calm-out cause.2.rose))
 cause-expected Memory words old new cause = if-some old.inputs.files _ (λ files some calm-in calm-patterns calm-out. inr (inl refl))
+cause-expected (ModelFile e) words old new cause = if-some old.inputs.files _ (λ files some calm-in calm-patterns calm-out. inl (stops-task words cause.0 files (ModelFile e) old new some cause.1 cause.2.stops))

@@ -45,17 +45,17 @@ alike-forms law (form.Rules rs) form.Plain ignore join alike = absurd alike
 -- ---- a log that is read whole
 
 log-value : (so_far : SoFar) (s t : Setting) (count : ℕ) (contents : List (List ℕ)) (log : Log) → AreReadAlike s t → length contents ≡ count → first_refusal s contents ≡ None
-    → log ≡ log_of (events_of s contents) → reads_log so_far t count contents ≡ Ok (record { form = so_far.form; material = record { log = log } })
+    → log ≡ log_of (events_of s contents) → reads_log so_far t count contents ≡ Ok (record { form = so_far.form; material = record { log = log; model = so_far.material.model } })
 log-value so_far s t count contents log alike many none value =
     let test : nat_lt (length contents) count ≡ false = grind (arith, nat_tests) in
     ap (with_log so_far t count contents) (sym (alike contents).0 ∙ none)
     ∙ (cond-false _ _ _ test
-    ∙ ap (λ (l : Log). let r : Result SoFar Stop = Ok (record { form = so_far.form; material = record { log = l } }) in r) (sym (value ∙ ap log_of (alike contents).1)))
+    ∙ ap (λ (l : Log). let r : Result SoFar Stop = Ok (record { form = so_far.form; material = record { log = l; model = so_far.material.model } }) in r) (sym (value ∙ ap log_of (alike contents).1)))
 
 pub log-through : (so_far : SoFar) (s : Setting) (names : List (List ℕ)) (ignore join : Bool) (old new : InputState) (log : Log) → AreReadAlike s (setting_by so_far ignore join)
-    → ReadsLog s names old new log → HasRead (LogFiles names ignore join ∷ []) old new so_far (record { form = so_far.form; material = record { log = log } })
+    → ReadsLog s names old new log → HasRead (LogFiles names ignore join ∷ []) old new so_far (record { form = so_far.form; material = record { log = log; model = so_far.material.model } })
 log-through so_far s names ignore join old new log alike read =
-    let next : SoFar = record { form = so_far.form; material = record { log = log } } in
+    let next : SoFar = record { form = so_far.form; material = record { log = log; model = so_far.material.model } } in
     record {
       bytes =
           contents-map old.files names _ (λ contents. reads so_far ((LogFiles names ignore join, contents) ∷ []) ≡ Ok next)
@@ -73,11 +73,11 @@ log-stage-is task some = stage-is task.form task.files task.ignore task.join som
 
 pub log-held : ReadAlike → (task : Task) (held : rust.SoFar) (old new : InputState) (log : Log) → IsSome task.form
     → ReadsLog (setting_of task (held_form held)) (inputs_of task.files) old new log
-    → Reads (log_stages task) held old new (record { rules = held.rules; material = record { log = log } })
+    → Reads (log_stages task) held old new (record { rules = held.rules; material = record { log = log; model = held.material.model } })
 log-held law task held old new log some read = λ so_far is. (
-  record { form = so_far.form; material = record { log = log } },
+  record { form = so_far.form; material = record { log = log; model = so_far.material.model } },
   record { form = is.form; material = refl },
-  subst (λ (stages : List Stage). HasRead stages old new so_far (record { form = so_far.form; material = record { log = log } })) (sym (log-stage-is task some))
+  subst (λ (stages : List Stage). HasRead stages old new so_far (record { form = so_far.form; material = record { log = log; model = so_far.material.model } })) (sym (log-stage-is task some))
       (log-through so_far (setting_of task (held_form held)) (inputs_of task.files) task.ignore task.join old new log (alike-forms law (held_form held) so_far.form task.ignore task.join is.form) read),
 )
 

@@ -17,7 +17,7 @@ use Rattle.log_reader.specs.Reading as form
 use Rattle.command_line.specs.Task.{Task}
 use Rattle.log_reader.specs.Inputs.{with_content}
 use Rattle.synoptic_cli.specs.Task.{rules_name}
-use Rattle.synoptic_cli.specs.Stages.{RulesFile, SoFar, Stop, and_then, at_start, input_count, log_stages, reads, reads_rules, rules_stage, stages_of, stop_after, with_rules}
+use Rattle.synoptic_cli.specs.Stages.{RulesFile, SoFar, Stop, and_then, at_start, input_count, log_stages, model_stages, reads, reads_rules, rules_stage, stages_of, stop_after, with_rules}
 use Rattle.synoptic_cli.specs.Endings.{IsFirstLacking, IsTold, told_stages}
 use Rattle.synoptic_cli.specs.Causes.{RefusesRules, world}
 use Rattle.synoptic_cli.specs.declared.status.Status.TheVariants.{Expressions, ReadFault, Memory}
@@ -32,26 +32,27 @@ too-long bytes over =
     cond-true _ _ _ test
 
 -- the bytes are all, or both are too long
-whole-or-long : (content bytes : List ℕ) → bytes ≡ take 65537 content → (bytes ≡ content) ⊎ ((65536 < length bytes) × (65536 < length content))
-whole-or-long content bytes same =
+pub whole-or-long : (limit : ℕ) (content bytes : List ℕ) → bytes ≡ take (limit + 1) content → (bytes ≡ content) ⊎ ((limit < length bytes) × (limit < length content))
+whole-or-long limit content bytes same =
     ⊎_elim
-    (λ (over : 65536 < length content). inr (omega (arith, ap length same, length-take 65537 content), over))
-    (λ (short : length content ≤ 65536). inl (same ∙ take_all 65537 content (omega arith)))
-    (cases_lt 65536 (length content))
+    (λ (over : limit < length content). inr (omega (arith, ap length same, length-take (limit + 1) content), over))
+    (λ (short : length content ≤ limit). inl (same ∙ take_all (limit + 1) content (omega arith)))
+    (cases_lt limit (length content))
 
 rules-same : (content bytes : List ℕ) → bytes ≡ take 65537 content → rules_of bytes ≡ rules_of content
 rules-same content bytes same =
-    ⊎_elim (λ (whole : bytes ≡ content). ap rules_of whole) (λ (long : (65536 < length bytes) × (65536 < length content)). too-long bytes long.0 ∙ sym (too-long content long.1)) (whole-or-long content bytes same)
+    ⊎_elim (λ (whole : bytes ≡ content). ap rules_of whole) (λ (long : (65536 < length bytes) × (65536 < length content)). too-long bytes long.0 ∙ sym (too-long content long.1)) (whole-or-long 65536 content bytes same)
 
-told-part : (files : Option Files) (name : List ℕ) (P Q : List ℕ → Type 0) → IfTold files name (λ content. P content × Q content) → IfTold files name Q
+-- a part of what holds of a told file
+pub told-part : (files : Option Files) (name : List ℕ) (P Q : List ℕ → Type 0) → IfTold files name (λ content. P content × Q content) → IfTold files name Q
 told-part None name P Q told = tt
 told-part (Some fs) name P Q told = (told.0, told.1, told.2.1)
 
 -- P holds of the bytes of a file, where it does of those that were read of it
-told-bytes : (files : Option Files) (name bytes : List ℕ) (P : List ℕ → Type 0) (Q : List ℕ → Type 0) → IfTold files name (λ content. (bytes ≡ take 65537 content) × Q content)
-    → ((content : List ℕ) → bytes ≡ take 65537 content → P content) → P bytes → (content : List ℕ) × IsTold files name content × P content
-told-bytes None name bytes P Q told step here = (bytes, tt, here)
-told-bytes (Some fs) name bytes P Q told step here = (told.0, told.1, step told.0 told.2.0)
+pub told-bytes : (limit : ℕ) (files : Option Files) (name bytes : List ℕ) (P : List ℕ → Type 0) (Q : List ℕ → Type 0) → IfTold files name (λ content. (bytes ≡ take (limit + 1) content) × Q content)
+    → ((content : List ℕ) → bytes ≡ take (limit + 1) content → P content) → P bytes → (content : List ℕ) × IsTold files name content × P content
+told-bytes limit None name bytes P Q told step here = (bytes, tt, here)
+told-bytes limit (Some fs) name bytes P Q told step here = (told.0, told.1, step told.0 told.2.0)
 
 -- a file that was read so was read to its end
 short-read : (bytes : List ℕ) (rules : List Rule) → rules_of bytes ≡ Ok rules → length bytes ≤ 65536
@@ -63,7 +64,7 @@ short-read bytes rules read =
 
 pub rules-read : (old new : InputState) (name bytes : List ℕ) (rules : List Rule) → ReadsInput old new name 65536 bytes → AreRead bytes rules → ReadsRules old new name rules
 rules-read old new name bytes rules reads read =
-    let found = told-bytes old.files name bytes (λ content. rules_of content ≡ Ok read.0) _ reads.told (λ content same. sym (rules-same content bytes same) ∙ read.1) read.1 in
+    let found = told-bytes 65536 old.files name bytes (λ content. rules_of content ≡ Ok read.0) _ reads.told (λ content same. sym (rules-same content bytes same) ∙ read.1) read.1 in
     record {
       bytes = found.0;
       told = found.1;
@@ -93,13 +94,13 @@ long-refused content bytes old new refused.Memory over same refusal = tt
 pub refused-whole : (content bytes : List ℕ) (old new : PatternsState) (e : RuleError) → bytes ≡ take 65537 content → IsRefused bytes old new e → IsRefused content old new e
 refused-whole content bytes old new e same refusal =
     ⊎_elim (λ (whole : bytes ≡ content). subst (λ b. IsRefused b old new e) whole refusal)
-    (λ (long : (65536 < length bytes) × (65536 < length content)). long-refused content bytes old new e long.0 (too-long bytes long.0 ∙ sym (too-long content long.1)) refusal) (whole-or-long content bytes same)
+    (λ (long : (65536 < length bytes) × (65536 < length content)). long-refused content bytes old new e long.0 (too-long bytes long.0 ∙ sym (too-long content long.1)) refusal) (whole-or-long 65536 content bytes same)
 
 -- the run ends by the refusal of its file of rules
 rules-refused : (old new : InputState) (before after : PatternsState) (name bytes : List ℕ) (e : RuleError) → ReadsInput old new name 65536 bytes → e ≢ refused.Memory
     → IsRefused bytes before after e → EndsByRules (Expressions e) name old new before after
 rules-refused old new before after name bytes e reads other refusal =
-    let found = told-bytes old.files name bytes (λ content. IsRefused content before after e) _ reads.told (λ content same. refused-whole content bytes before after e same refusal) refusal in
+    let found = told-bytes 65536 old.files name bytes (λ content. IsRefused content before after e) _ reads.told (λ content same. refused-whole content bytes before after e same refusal) refusal in
     λ task is words out asks. (
       task,
       asks,
@@ -117,7 +118,7 @@ memory-ends task old new before after few = λ words out asks. record {
 -- the file of rules is one input of its task
 one-input : (task : Task) (name : List ℕ) → rules_name task.form ≡ Some name → 1 ≤ input_count (stages_of task)
 one-input task name is =
-    subst (λ (w : Option (List ℕ)). 1 ≤ input_count (rules_stage w ++ log_stages task)) (sym is) (omega arith)
+    subst (λ (w : Option (List ℕ)). 1 ≤ input_count ((rules_stage w ++ model_stages task) ++ log_stages task)) (sym is) (omega arith)
 
 pub memory-by-rules : (old new : InputState) (before after : PatternsState) (name : List ℕ) → new.opens ≤ old.opens + 1 → EndsByRules Memory name old new before after
 memory-by-rules old new before after name few = λ task is. memory-ends task old new before after (omega (arith, few, one-input task name is))
@@ -139,9 +140,9 @@ fault-by-rules old new before after name rose may few = λ task is words out ask
 rules-lack : (told : Option Files) (task : Task) (name : List ℕ) → rules_name task.form ≡ Some name → Lacks told name → IsFirstLacking told task sources.Expressions
 rules-lack None task name is lacks = absurd lacks
 rules-lack (Some files) task name is lacks =
-    let next : SoFar → Result SoFar Stop = λ s. reads s (told_stages files (log_stages task)) in
+    let next : SoFar → Result SoFar Stop = λ s. reads s (told_stages files (model_stages task ++ log_stages task)) in
     let read : reads at_start (told_stages files (stages_of task)) ≡ Err (stop_after 0 (ReadFault sources.Expressions)) =
-    ap (λ (w : Option (List ℕ)). reads at_start (told_stages files (rules_stage w ++ log_stages task))) is
+    ap (λ (w : Option (List ℕ)). reads at_start (told_stages files ((rules_stage w ++ model_stages task) ++ log_stages task))) is
     ∙ ap (λ (o : Option (List ℕ)). and_then (reads_rules at_start (with_content o [])) 1 next) lacks in
     (0, read)
 

@@ -5,8 +5,9 @@ use Rattle.outside.specs.Inputs.{Files, InputState, Stays}
 use Rattle.log_reader.specs.Inputs.{Opened}
 use Rattle.synoptic_cli.specs.Stages.{Stage, SoFar, Stop, input_count, after, reads}
 use Rattle.synoptic_cli.specs.Endings.{SomeBytes, OpenedAll, ReadAll}
-use Rattle.synoptic_cli.specs.Steps.{HasRead, StopsReading}
-use Rattle.synoptic_cli.proofs.Bytes.{bytes-both, bytes-count, filled_count, input_count-append, later, reads-append}
+use Rattle.synoptic_cli.specs.declared.stages.SoFar as rust
+use Rattle.synoptic_cli.specs.Steps.{HasRead, IsHeld, Reads, StopsReading}
+use Rattle.synoptic_cli.proofs.Bytes.{bytes-both, bytes-count, bytes-first, filled_count, input_count-append, later, reads-append, reads-stop}
 
 -- the same count by another word
 pub opened-is : (a b : ℕ) (old new : InputState) → a ≡ b → Opened a old new → Opened b old new
@@ -85,3 +86,21 @@ read-stop first second old mid new a b stop stays read stops = record {
   most = omega (arith, stops.most);
   opened = opens-both (input_count first) stops.count old mid new read.inputs stops.opened;
 }
+
+-- a stop of first stages is a stop of these and more
+pub stop-first : (first second : List Stage) (old new : InputState) (a : SoFar) (stop : Stop) → StopsReading first old new a stop → StopsReading (first ++ second) old new a stop
+stop-first first second old new a stop stops = record {
+  bytes = bytes-first old.files first second (λ f. reads a f ≡ Err stop) (λ f. reads a f ≡ Err stop) (λ f s. reads-stop f s a stop) stops.bytes;
+  count = stops.count;
+  least = stops.least;
+  most = stops.most;
+  opened = stops.opened;
+}
+
+-- stages that were read one after another, for what the program holds
+pub reads-both : (first second : List Stage) (start held last : rust.SoFar) (old mid new : InputState) → Stays old mid → Reads first start old mid held → Reads second held mid new last
+    → Reads (first ++ second) start old new last
+reads-both first second start held last old mid new stays one two = λ so_far is.
+    let a = one so_far is in
+    let b = two a.0 a.1 in
+    (b.0, b.1, read-more first second old mid new so_far a.0 b.0 stays a.2 b.2)

@@ -13,7 +13,7 @@ use Rattle.synoptic_cli.specs.declared.answer.Answer.{Answer}
 use Rattle.synoptic_cli.specs.declared.material.Material.{Material}
 use Rattle.synoptic_cli.specs.declared.status.LimitKind.{LimitKind}
 use Rattle.synoptic_cli.specs.declared.status.Status.{Status}
-use Rattle.synoptic_cli.specs.declared.status.Status.TheVariants.{Done, Usage, Expressions, Log, Limit, ReadFault, WriteFault, Memory}
+use Rattle.synoptic_cli.specs.declared.status.Status.TheVariants.{Done, Usage, Expressions, Log, Limit, ReadFault, WriteFault, Memory, ModelFile}
 use Rattle.synoptic_cli.specs.Stages.{SoFar, Stop, at_start, input_count, reads, stages_of, stop_after}
 use Rattle.synoptic_cli.specs.Commands.{Answers}
 use Rattle.synoptic_cli.specs.Endings.{EndsAfter, EndsOver}
@@ -42,6 +42,7 @@ answer-cause (Limit kind) words task old new is asks written = absurd is
 answer-cause (ReadFault source) words task old new is asks written = absurd is
 answer-cause WriteFault words task old new is asks written = absurd is
 answer-cause Memory words task old new is asks written = absurd is
+answer-cause (ModelFile e) words task old new is asks written = absurd is
 
 pub written-whole : (task : Task) (words : List (List ℕ)) (old new : World) (m : Material) (a : Answer) → ReadsTask task old.inputs new.inputs m → Answers task m (Ok a) → IsVerdict a.status
     → Appends old.out.written new.out.written a.text → task_of words ≡ Some task → HasCause a.status words old new
@@ -101,3 +102,4 @@ keeps-count (Limit kind) before after same = same
 keeps-count (ReadFault source) before after same = same
 keeps-count WriteFault before after same = same
 keeps-count Memory before after same = same
+keeps-count (ModelFile e) before after same = same

@@ -2,13 +2,15 @@
 use Rattle.std.specs.Prelude.{Result}
 use Rattle.command_line.specs.Task.{Task}
 use Rattle.command_line.specs.declared.table.Command.{Command}
-use Rattle.command_line.specs.declared.table.Command.TheVariants.{Invariants, Graph}
+use Rattle.command_line.specs.declared.table.Command.TheVariants.{Invariants, Graph, GraphOfModel}
 use Rattle.synoptic_cli.specs.declared.answer.Answer.{Answer}
 use Rattle.synoptic_cli.specs.declared.material.Material.{Material}
 use Rattle.synoptic_cli.specs.declared.status.LimitKind.{LimitKind}
 use Rattle.synoptic_cli.specs.Commands.PrintGraph as print_graph
+use Rattle.synoptic_cli.specs.Commands.PrintGraphOfModel as print_graph_of_model
 use Rattle.synoptic_cli.specs.Commands.PrintInvariants as print_invariants
 pub mod PrintGraph
+pub mod PrintGraphOfModel
 pub mod PrintInvariants
 pub mod TypeNames
 
@@ -16,6 +18,7 @@ pub mod TypeNames
 abbrev pub AnswersBy : Command → Task → Material → Result Answer LimitKind → Type 0
 AnswersBy Invariants task m r = print_invariants.Answers m r
 AnswersBy Graph task m r = print_graph.Answers m r
+AnswersBy GraphOfModel task m r = print_graph_of_model.Answers m r
 
 -- the same of the task's command
 abbrev pub Answers : Task → Material → Result Answer LimitKind → Type 0

@@ -6,9 +6,13 @@ use Rattle.outside.specs.Sinks.{SinkState, AppendsFront}
 use Rattle.line_rules.specs.declared.line_rules.RuleError.{RuleError}
 use Rattle.line_rules.specs.declared.line_rules.RuleError.TheVariants as rule_error
 use Rattle.log_reader.specs.declared.refusal.At.{At}
+use Rattle.model_file.specs.declared.refusal.FileError.{FileError}
+use Rattle.model_file.specs.declared.refusal.FileError.TheVariants as file_error
+use Rattle.model_file.specs.declared.refusal.Field.{Field}
+use Rattle.model_file.specs.declared.refusal.Field.TheVariants as fields
 use Rattle.command_line.specs.Task.{Task, task_of}
 use Rattle.synoptic_cli.specs.declared.status.Status.{Status}
-use Rattle.synoptic_cli.specs.declared.status.Status.TheVariants.{Done, Usage, Expressions, Log, Limit, ReadFault, WriteFault, Memory}
+use Rattle.synoptic_cli.specs.declared.status.Status.TheVariants.{Done, Usage, Expressions, Log, Limit, ReadFault, WriteFault, Memory, ModelFile}
 use Rattle.synoptic_cli.specs.declared.status.LogFault.{LogFault}
 use Rattle.synoptic_cli.specs.declared.status.LogFault.TheVariants as faults
 use Rattle.synoptic_cli.specs.declared.status.LimitKind.{LimitKind}
@@ -54,6 +58,27 @@ limit_message limits.Types = codes "synoptic: limit: types 128\n"
 limit_message limits.Events = codes "synoptic: limit: events 1000000\n"
 limit_message limits.Input = codes "synoptic: limit: input 268435456\n"
 
+-- the part of a model's file that is bad
+abbrev pub field_name : Field → List ℕ
+field_name fields.Root = codes "root"
+field_name fields.Version = codes "version"
+field_name fields.Extra = codes "extra"
+field_name fields.Types = codes "types"
+field_name fields.Partitions = codes "partitions"
+field_name fields.Edges = codes "edges"
+field_name fields.Invariants = codes "invariants"
+field_name fields.Merges = codes "merges"
+field_name fields.Splits = codes "splits"
+field_name fields.Blocks = codes "blocks"
+
+-- what is wrong with a model's file
+abbrev pub file_fault : FileError → List ℕ
+file_fault file_error.TooLong = codes "too long"
+file_fault file_error.NotJson = codes "not JSON"
+file_fault (file_error.Shape field) = codes "bad " ++ field_name field
+file_fault (file_error.Version number) = codes "version " ++ decimal number
+file_fault file_error.Memory = codes "out of memory"
+
 -- the input that could not be read
 abbrev pub read_message : Option Task → Source → List ℕ
 read_message task source = codes "synoptic: cannot read " ++ shown_source task source ++ codes "\n"
@@ -68,6 +93,7 @@ task_message task (Limit kind) = limit_message kind
 task_message task (ReadFault source) = read_message task source
 task_message task WriteFault = codes "synoptic: cannot write\n"
 task_message task Memory = codes "synoptic: out of memory\n"
+task_message task (ModelFile e) = codes "synoptic: model file: " ++ file_fault e ++ codes "\n"
 
 -- the same for the words of the command line
 abbrev pub message_of : List (List ℕ) → Status → List ℕ
@@ -87,3 +113,4 @@ code_of (Limit kind) = 5
 code_of (ReadFault source) = 6
 code_of WriteFault = 7
 code_of Memory = 8
+code_of (ModelFile e) = 9

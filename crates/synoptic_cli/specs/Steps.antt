@@ -1,6 +1,8 @@
 -- What the steps of a run leave before it writes.
-use Rattle.std.specs.Prelude.{ℕ, ◌≡◌, ◌≤◌, List, ◌+◌, length, Option, Some, None, IsSome, option_map, Result, Ok, Err, ⊤}
-use Rattle.outside.specs.Inputs.{InputState}
+use Rattle.std.specs.Prelude.{ℕ, ◌≡◌, ◌≤◌, List, ◌+◌, drop, length, IsTrue, Option, Some, None, IsSome, option_map, Result, Ok, Err, ⊤}
+use Rattle.outside.specs.Counts.{Rose}
+use Rattle.outside.specs.Inputs.{InputState, Lacks}
+use Rattle.outside.specs.Reading.{IfTold, OpensNone}
 use Rattle.outside.specs.Sinks.{SinkState}
 use Rattle.line_rules.specs.Rules.{Rule, AreAlike}
 use Rattle.line_rules.specs.Patterns.{PatternsState}
@@ -8,9 +10,14 @@ use Rattle.line_rules.specs.Files.{rules_of}
 use Rattle.line_rules.specs.Views.{rules_in}
 use Rattle.line_rules.specs.declared.line_rules.RuleError.{RuleError}
 use Rattle.line_rules.specs.declared.line_rules.RuleError.TheVariants as rule_error
+use Rattle.limits.specs.declared.TheConstants.{MAX_MODEL_BYTES}
+use Rattle.invariants.specs.declared.records.Model.{Model}
+use Rattle.model_file.specs.Reading as model_file
+use Rattle.model_file.specs.declared.refusal.FileError.{FileError}
+use Rattle.model_file.specs.declared.refusal.FileError.TheVariants as file_error
 use Rattle.log_reader.specs.Reading.{Form, Setting}
 use Rattle.log_reader.specs.Reading as form
-use Rattle.log_reader.specs.Inputs.{HasReadCause, inputs_of}
+use Rattle.log_reader.specs.Inputs.{HasReadCause, Opened, inputs_of}
 use Rattle.log_reader.specs.declared.refusal.ReadError.{ReadError}
 use Rattle.log_reader.specs.declared.refusal.ReadError.TheVariants as refused
 use Rattle.command_line.specs.Task.{Task, task_of}
@@ -23,7 +30,10 @@ use Rattle.synoptic_cli.specs.declared.material.Material.{Material}
 use Rattle.synoptic_cli.specs.declared.stages.SoFar as rust
 use Rattle.synoptic_cli.specs.declared.status.LimitKind.{LimitKind}
 use Rattle.synoptic_cli.specs.declared.status.Status.{Status}
-use Rattle.synoptic_cli.specs.declared.status.Status.TheVariants.{Done, Usage, Expressions, Log, Limit, ReadFault, WriteFault, Memory}
+use Rattle.synoptic_cli.specs.declared.status.Status.TheVariants.{Done, Usage, Expressions, Log, Limit, ReadFault, WriteFault, Memory, ModelFile}
+use Rattle.synoptic_cli.specs.declared.status.Source.TheVariants as sources
+use Rattle.synoptic_cli.specs.declared.model_stage.ModelHalt.{ModelHalt}
+use Rattle.synoptic_cli.specs.declared.model_stage.ModelHalt.TheVariants as halts
 use Rattle.synoptic_cli.specs.Task.{rules_name}
 use Rattle.synoptic_cli.specs.Stages.{Stage, SoFar, Stop, at_start, input_count, reads, stages_of}
 use Rattle.synoptic_cli.specs.Endings.{IsTold, SomeBytes, OpenedAll, ReadAll}
@@ -58,6 +68,41 @@ pub record ReadsRules (old new : InputState) (name : List ℕ) (rules : List Rul
   pub read : rules_of bytes ≡ Ok plain
   pub alike : AreAlike rules plain
   pub opened : ReadAll 1 old new
+
+-- the named file was read to its end, and this is its model
+pub record ReadsModel (old new : InputState) (name : List ℕ) (model : Model) : Type 0 where
+  pub bytes : List ℕ
+  pub told : IsTold old.files name bytes
+  pub read : model_file.reads bytes ≡ Ok model
+  pub opened : ReadAll 1 old new
+
+-- the named file was read to its end, or to one byte past its limit, and is refused so
+pub record RefusesFile (old new : InputState) (name : List ℕ) (e : FileError) : Type 0 where
+  pub bytes : List ℕ
+  pub told : IsTold old.files name bytes
+  pub read : model_file.reads bytes ≡ Err e
+  pub opened : Opened 1 old new
+  pub rest : IfTold old.files name (λ content. new.rest ≡ Some (drop (MAX_MODEL_BYTES + 1) content))
+
+-- why the named file gives no model
+abbrev pub ModelHalts : (old new : InputState) → List ℕ → ModelHalt → Type 0
+ModelHalts old new name halts.Missing = Lacks old.files name × OpensNone old new
+ModelHalts old new name halts.Fault =
+    Rose old.faults new.faults × IsTrue (old.may_fail name) × (new.opens ≤ old.opens + 1)
+ModelHalts old new name (halts.Refused e) = RefusesFile old new name e
+ModelHalts old new name halts.Memory = new.opens ≤ old.opens + 1
+
+-- what a refusal of the file is: want of memory is no fault of the file
+abbrev pub halt_of : FileError → ModelHalt
+halt_of file_error.Memory = halts.Memory
+halt_of e = halts.Refused e
+
+-- the status that it is answered by
+abbrev pub halt_status : ModelHalt → Status
+halt_status halts.Missing = ReadFault sources.ModelFile
+halt_status halts.Fault = ReadFault sources.ModelFile
+halt_status (halts.Refused e) = ModelFile e
+halt_status halts.Memory = Memory
 
 -- what decides the lines of a log: the rules that were read, where some were
 abbrev pub form_with : Option (List Rule) → Form
@@ -125,6 +170,7 @@ IsVerdict (Limit kind) = ⊥
 IsVerdict (ReadFault source) = ⊥
 IsVerdict WriteFault = ⊥
 IsVerdict Memory = ⊥
+IsVerdict (ModelFile e) = ⊥
 
 -- what a command gives is what it is to answer, with a verdict, or the limit that it is to stop at; where memory is wanted nothing is said
 abbrev pub Gives : (Result Answer LimitKind → Type 0) → Result Answer NoAnswer → Type 0

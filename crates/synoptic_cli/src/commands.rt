@@ -4,6 +4,7 @@ ghost use Rattle.synoptic_cli.specs.Commands.{Answers};
 ghost use Rattle.synoptic_cli.specs.Steps.{Gives};
 
 mod print_graph;
+mod print_graph_of_model;
 mod print_invariants;
 
 use crate::answer::{Answer, NoAnswer};
@@ -18,5 +19,6 @@ pub fn answer(alloc: Global, task: &Task<'_>, material: &Material) -> Result<Ans
     match task.command {
         Command::Invariants => print_invariants::answer(alloc, material),
         Command::Graph => print_graph::answer(alloc, material),
+        Command::GraphOfModel => print_graph_of_model::answer(alloc, material),
     }
 }

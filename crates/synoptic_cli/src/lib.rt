@@ -10,6 +10,7 @@ mod commands;
 mod law;
 mod material;
 mod message;
+mod model_stage;
 mod reading;
 mod stages;
 mod status;

@@ -1,5 +1,6 @@
 //! What a command works on.
 
+use invariants::Model;
 use traces::TraceSet;
 
 /// What a command works on: what was read of the inputs. What its task does not read is empty.
@@ -7,4 +8,6 @@ use traces::TraceSet;
 pub struct Material {
     /// The log.
     pub log: TraceSet,
+    /// The model of a file.
+    pub model: Model,
 }

@@ -3,13 +3,14 @@ ghost use Rattle.std.specs.Prelude.{◌≡◌, ◌++◌, Some, codes, decimal, o
 ghost use Rattle.std.specs.List.{flat_map};
 ghost use Rattle.outside.specs.Sinks.{WholeGives};
 ghost use Rattle.command_line.specs.Task.{task_held};
-ghost use Rattle.synoptic_cli.specs.Messages.{shown, shown_source, rule_message, line_message, log_message, limit_message, read_message, task_message, Tells};
+ghost use Rattle.synoptic_cli.specs.Messages.{shown, shown_source, rule_message, line_message, log_message, limit_message, field_name, file_fault, read_message, task_message, Tells};
 
 use crate::status::{LimitKind, LogFault, Source, Status};
 use crate::task::source_name;
 use itoa::Buffer;
 use line_rules::RuleError;
 use log_reader::At;
+use model_file::{Field, FileError};
 use outside::{Failed, Sink, write_whole};
 use command_line::Task;
 
@@ -134,6 +135,40 @@ fn write_limit<E: Sink>(kind: LimitKind, err: &mut E) -> Result<(), Failed>
     }
 }
 
+/// The name of a part of a model's file.
+fn field_name(field: Field) -> &'static str
+    ensures { result.now ≡ field_name field }
+{
+    match field {
+        Field::Root => "root",
+        Field::Version => "version",
+        Field::Extra => "extra",
+        Field::Types => "types",
+        Field::Partitions => "partitions",
+        Field::Edges => "edges",
+        Field::Invariants => "invariants",
+        Field::Merges => "merges",
+        Field::Splits => "splits",
+        Field::Blocks => "blocks",
+    }
+}
+
+/// Writes what is wrong with a model's file.
+fn write_file_error<E: Sink>(error: FileError, err: &mut E) -> Result<(), Failed>
+    ensures { WholeGives (E.state err.old)
+        (codes "synoptic: model file: " ++ file_fault error ++ codes "\n") result (E.state err.new) }
+{
+    let mut digits = Buffer::new();
+    let (what, which) = match error {
+        FileError::TooLong => ("too long", ""),
+        FileError::NotJson => ("not JSON", ""),
+        FileError::Shape(field) => ("bad ", field_name(field)),
+        FileError::Version(number) => ("version ", digits.format(number)),
+        FileError::Memory => ("out of memory", ""),
+    };
+    write_texts(&["synoptic: model file: ", what, which, "\n"], err)
+}
+
 /// Writes which input could not be read.
 fn write_read_fault<E: Sink>(
     task: Option<&Task<'_>>,
@@ -167,6 +202,7 @@ fn write_message<E: Sink>(
         Status::ReadFault(source) => write_read_fault(task, source, err),
         Status::WriteFault => write_whole(err, b"synoptic: cannot write\n"),
         Status::Memory => write_whole(err, b"synoptic: out of memory\n"),
+        Status::ModelFile(error) => write_file_error(error, err),
     }
 }
 

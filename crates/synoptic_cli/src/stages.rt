@@ -1,5 +1,6 @@
 //! Reads what a task works on: stage after stage.
 ghost use Rattle.std.specs.Prelude.{◌≡◌, ◌≤◌, ◌+◌, Err, IfOk, IfErr, length, option_map};
+ghost use Rattle.std.specs.Option.{IsSomeAnd};
 ghost use Rattle.outside.specs.Inputs.{Stays};
 ghost use Rattle.line_rules.specs.Patterns.{Stays as PatternsStay};
 ghost use Rattle.line_rules.specs.Views.{rules_in};
@@ -7,14 +8,16 @@ ghost use Rattle.log_reader.specs.Inputs.{HasReadCause, OpensUpToFault, ReadsLog
 ghost use Rattle.log_reader.specs.Views.{form_view};
 ghost use Rattle.command_line.specs.Task.{task_held};
 ghost use Rattle.synoptic_cli.specs.Causes.{KeepsCounts};
-ghost use Rattle.synoptic_cli.specs.Stages.{at_start, log_stages, rules_stages};
-ghost use Rattle.synoptic_cli.specs.Steps.{Ends, IsHeld, LogHalts, Reads, ReadsTask, form_with, held_form, setting_of};
+ghost use Rattle.synoptic_cli.specs.Stages.{at_start, log_stages, model_stages, no_model, rules_stages};
+ghost use Rattle.synoptic_cli.specs.Steps.{Ends, IsHeld, LogHalts, ModelHalts, Reads, ReadsTask, form_with, held_form, setting_of};
 
 use crate::material::Material;
+use crate::model_stage::{ModelHalt, halt_status, read_model_file};
 use crate::reading::{read_rules, status_of};
 use crate::status::Status;
 use crate::task::{names_of, rules_name};
 use line_rules::{LineRules, Patterns};
+use invariants::{Model, Seq};
 use log_reader::{ReadError, alike_rules_read_alike, read_log};
 use outside::Inputs;
 use std::alloc::{AllocError, Global};
@@ -30,15 +33,31 @@ pub struct SoFar {
     pub material: Material,
 }
 
+/// A model that says nothing.
+fn no_model(alloc: Global) -> Model
+    ensures { result ≡ no_model }
+{
+    Model {
+        types: Seq::from_vec(Vec::new(alloc)),
+        partitions: Seq::from_vec(Vec::new(alloc)),
+        edges: Seq::from_vec(Vec::new(alloc)),
+        invariants: Seq::from_vec(Vec::new(alloc)),
+        splits: Seq::from_vec(Vec::new(alloc)),
+        merges: Seq::from_vec(Vec::new(alloc)),
+        blocks: Seq::from_vec(Vec::new(alloc)),
+    }
+}
+
 /// What is there before the first stage: what no stage reads is empty.
 fn start(alloc: Global) -> Result<SoFar, AllocError>
     ensures { IfOk result (λ so_far. IsHeld so_far at_start) }
 {
     gathering_in_order_is_the_log();
     let log = Builder::new(alloc).finish()?;
+    let model = no_model(alloc);
     Ok(SoFar {
         rules: None,
-        material: Material { log },
+        material: Material { log, model },
     })
 }
 
@@ -69,6 +88,36 @@ fn read_rules_stage<I: Inputs, P: Patterns>(
             material: so_far.material,
         }),
         Err(status) => Err(status),
+    }
+}
+
+/// The stage of the model: reads its file, where the task has one.
+fn read_model_stage<I: Inputs>(
+    alloc: Global,
+    task: &Task<'_>,
+    so_far: SoFar,
+    inputs: &mut I,
+) -> Result<SoFar, ModelHalt>
+    ensures stays { Stays (I.state inputs.old) (I.state inputs.new) }
+    ensures ok { IfOk result
+        (Reads (model_stages (task_held task.now)) so_far (I.state inputs.old) (I.state inputs.new)) }
+    ensures err { IfErr result (λ halt. IsSomeAnd (task_held task.now).model
+        (λ name. ModelHalts (I.state inputs.old) (I.state inputs.new) name halt)) }
+    ensures memory { result ≡ Err ModelHalt.Memory
+        → (I.state inputs.new).faults ≡ (I.state inputs.old).faults }
+{
+    let Some(name) = task.model else {
+        return Ok(so_far);
+    };
+    match read_model_file(alloc, name, inputs) {
+        Ok(model) => Ok(SoFar {
+            rules: so_far.rules,
+            material: Material {
+                log: so_far.material.log,
+                model,
+            },
+        }),
+        Err(halt) => Err(halt),
     }
 }
 
@@ -137,7 +186,10 @@ fn read_log_stage<I: Inputs>(
     match read_files(alloc, task, &so_far.rules, inputs) {
         Ok(log) => Ok(SoFar {
             rules: so_far.rules,
-            material: Material { log },
+            material: Material {
+                log,
+                model: so_far.material.model,
+            },
         }),
         Err(error) => Err(error),
     }
@@ -166,6 +218,10 @@ pub fn read_material<I: Inputs, P: Patterns>(
     let so_far = match read_rules_stage(alloc, task, start, inputs, patterns) {
         Ok(so_far) => so_far,
         Err(status) => return Err(status),
+    };
+    let so_far = match read_model_stage(alloc, task, so_far, inputs) {
+        Ok(so_far) => so_far,
+        Err(halt) => return Err(halt_status(halt)),
     };
     match read_log_stage(alloc, task, so_far, inputs) {
         Ok(so_far) => Ok(so_far.material),

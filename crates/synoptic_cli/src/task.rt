@@ -39,6 +39,7 @@ pub fn source_name<'a>(task: &Task<'a>, source: Source) -> Option<&'a str>
 {
     match source {
         Source::Expressions => rules_name(task.form),
+        Source::ModelFile => task.model,
         Source::Log(number) => input_name(&task.files, number),
     }
 }

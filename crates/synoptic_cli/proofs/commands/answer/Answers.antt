@@ -12,3 +12,7 @@ returns-in-Invariants c =
 pub returns-in-Graph : goal.returns-in-Graph
 returns-in-Graph c =
     subst (λ (command : Command). Gives (AnswersBy command (task_held c.args.task.now) c.args.material.now) c.answer-in-Graph.result) (sym c.in-Graph.is) c.answer-in-Graph.ensures
+
+pub returns-in-GraphOfModel : goal.returns-in-GraphOfModel
+returns-in-GraphOfModel c =
+    subst (λ (command : Command). Gives (AnswersBy command (task_held c.args.task.now) c.args.material.now) c.answer-in-GraphOfModel.result) (sym c.in-GraphOfModel.is) c.answer-in-GraphOfModel.ensures

@@ -1,0 +1,37 @@
+//! `graph` with a model's file: prints the graph of that model.
+ghost use Rattle.std.specs.Prelude.{IfOk, Ok};
+ghost use Rattle.synoptic_cli.specs.Commands.PrintGraphOfModel.{Answers};
+ghost use Rattle.synoptic_cli.specs.Steps.{Gives};
+
+use crate::answer::{Answer, NoAnswer};
+use crate::material::Material;
+use crate::status::Status;
+use reports::graph_report;
+use std::alloc::{AllocError, Global};
+
+/// The answer, where memory is not wanted.
+fn print(alloc: Global, material: &Material) -> Result<Answer, AllocError>
+    ensures { IfOk result (λ a. Answers material.now (Ok a)) }
+{
+    let model = &material.model;
+    let text = graph_report(
+        alloc,
+        &model.types,
+        model.partitions.as_slice(),
+        model.edges.as_slice(),
+    )?;
+    Ok(Answer {
+        status: Status::Done,
+        text,
+    })
+}
+
+/// The edges of the file's graph, one a line.
+pub fn answer(alloc: Global, material: &Material) -> Result<Answer, NoAnswer>
+    ensures { Gives (Answers material.now) result }
+{
+    match print(alloc, material) {
+        Ok(answer) => Ok(answer),
+        Err(_) => Err(NoAnswer::Memory),
+    }
+}
