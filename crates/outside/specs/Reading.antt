@@ -1,5 +1,6 @@
 -- An input that is read to its end, or to one byte past a limit.
-use Rattle.std.specs.Prelude.{ℕ, ◌≡◌, ◌⊎◌, ◌≤◌, ◌+◌, List, [], length, take, drop, IsTrue, Option, Some, None, Result, Ok, Err, Vec, ⊤}
+use Rattle.std.specs.Prelude.{ℕ, ◌≡◌, ◌⊎◌, ◌≤◌, ◌+◌, List, [], length, take, drop, IsTrue, ⊤}
+use Rattle.std.specs.Prelude.{Option, Some, None, Result, Ok, Err, Vec}
 use Rattle.std.specs.Io.KnownBytes.{Consumes, IsAtEnd}
 use Rattle.std.specs.declared.alloc.Global.{Global}
 use Rattle.outside.specs.declared.reading.InputError.{InputError}
@@ -19,7 +20,8 @@ pub record ReadsInput (old new : InputState) (name : List ℕ) (limit : ℕ) (by
   pub mark : new.mark ≡ old.may_fail name
   pub faults : new.faults ≡ old.faults
   pub short : length bytes ≤ limit + 1
-  pub told : IfTold old.files name (λ content. (bytes ≡ take (limit + 1) content) × (new.rest ≡ Some (drop (limit + 1) content)))
+  pub told : IfTold old.files name
+      (λ content. (bytes ≡ take (limit + 1) content) × (new.rest ≡ Some (drop (limit + 1) content)))
   pub at_end : length bytes ≤ limit → IsAtEnd new.rest
 
 -- no input was opened, and nothing is open: what is left to read is known to be empty

@@ -38,7 +38,8 @@ fn read_rest<I: Inputs>(alloc: Global, inputs: &mut I, limit: usize) -> Result<V
 
     // Each error has its cause.
     ensures fault { result ≡ Err InputError.Fault
-        → Rose (I.state inputs.old).faults (I.state inputs.new).faults × IsTrue (I.state inputs.old).mark }
+        → Rose (I.state inputs.old).faults (I.state inputs.new).faults
+        × IsTrue (I.state inputs.old).mark }
     ensures missing { result ≢ Err InputError.Missing }
     ensures memory { result ≡ Err InputError.Memory
         → (I.state inputs.new).faults ≡ (I.state inputs.old).faults }
@@ -63,17 +64,17 @@ fn read_rest<I: Inputs>(alloc: Global, inputs: &mut I, limit: usize) -> Result<V
 
 /// Reads the named input to its end, or to one byte past the limit, which is below 2^32 bytes.
 ///
-/// No other input is ever opened, and none twice.
+/// No other input is opened, and none twice. No call that failed is made good by another.
 ///
-/// - `Ok`: the input was opened, no fault was counted, and the bytes are those of the input, or its first
-///   `limit + 1`. It stays open, with what stands behind them.
-/// - `Missing`: the inputs tell their files, and this name is not among them. Nothing was opened, nothing
-///   is open, and no fault was counted.
-/// - `Fault`: the inputs counted a fault, and may fail this name. Either its opening failed, and then
-///   nothing is open; or a read failed, and then the input stays open, with what stands behind the front
-///   that was read. No failed call is made good by another.
-/// - `Memory`: memory was wanted. The input was opened and stays open, as after a read that failed, and no
-///   fault was counted.
+/// - `Ok`: the input was opened, no fault was counted, and the bytes are those of the input, or its
+///   first `limit + 1`. It stays open, with what stands behind them.
+/// - `Missing`: the inputs tell their files, and this name is not among them. Nothing was opened,
+///   nothing is open, and no fault was counted.
+/// - `Fault`: the inputs counted a fault, and may fail this name. Either its opening failed, and
+///   then nothing was opened and nothing is open; or a read failed, and then the input stays open,
+///   with what stands behind the front that was read.
+/// - `Memory`: memory was wanted. The input was opened and stays open, as after a read that failed,
+///   and no fault was counted.
 pub fn read_input<I: Inputs>(
     alloc: Global,
     inputs: &mut I,
