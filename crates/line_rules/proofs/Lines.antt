@@ -4,7 +4,7 @@ use Rattle.std.specs.Prelude.{IsTrue, Bool, Option, Some, None, is_some, codes, 
 use Rattle.std.specs.Option.{option_map_or}
 use Rattle.std.proofs.lemmas.Bool.{le-ltb}
 use Rattle.std.specs.List.{list_any}
-use Rattle.traces.specs.Lines.{pieces, line_of}
+use Rattle.lines.specs.Lines.{pieces, line_of}
 use Rattle.line_rules.specs.Patterns.{PatternsState, Stays, Rose, NestsTooDeep}
 use Rattle.line_rules.specs.Rules as spec
 use Rattle.line_rules.specs.Rules.{Alike, AreAlike, group_named, rule_of}

@@ -3,7 +3,7 @@ use Rattle.std.specs.Prelude.{◌≡◌, ◌≤◌, ◌<◌, ◌⊎◌, ℕ, ◌
 use Rattle.std.specs.Option.{option_map_or}
 use Rattle.std.specs.List.{list_any, before_first, after_first}
 use Rattle.std.specs.Str.{bytes_eq, is_utf8}
-use Rattle.traces.specs.Lines.{pieces, line_of}
+use Rattle.lines.specs.Lines.{pieces, line_of}
 use Rattle.line_rules.specs.Patterns.{PatternsState, Rose, NestsTooDeep}
 use Rattle.line_rules.specs.Rules.{Form, Skip, Separator, Event, EventOf, Rule, rule_of, group_named, AreAlike}
 use Rattle.line_rules.specs.declared.line_rules.RuleError.{RuleError}

@@ -12,7 +12,7 @@ use crate::patterns::Patterns;
 use crate::rule::Rule;
 use crate::spelling::is_comment;
 use std::alloc::Global;
-use traces::{next_piece, without_return};
+use lines::{next_piece, without_return};
 
 /// Adds the rule of the line with this number, if the line is not skipped.
 fn add_line<P: Patterns>(

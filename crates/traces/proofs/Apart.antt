@@ -6,7 +6,7 @@ use Rattle.std.proofs.lemmas.Option.{same_Some, none-some}
 use Rattle.std.specs.Bool.{Decides}
 use Rattle.std.specs.List.{slice_get, list_any, position_or_len}
 use Rattle.traces.specs.Words.{AreApart}
-use Rattle.traces.proofs.Places.{position-hit, position-miss}
+use Rattle.traces.proofs.Positions.{position-hit, position-miss}
 
 pub apart-push : {X : Type 0} (same : X → X → Bool) (xs : List X) (x : X) → ((a b : X) → same a b ≡ false → same b a ≡ false)
     → AreApart same xs → list_any (same x) xs ≡ false → AreApart same (xs ++ x ∷ [])

@@ -8,7 +8,7 @@ use Rattle.std.specs.List.{All, list_any, position_or_len}
 use Rattle.traces.specs.Columns.{times_beside, at_place, traces_from, columned, AreColumns}
 use Rattle.traces.specs.Words.{Trace, same_key, with_event, with_new}
 use Rattle.traces.specs.declared.key.Key.{Key}
-use Rattle.traces.proofs.Places.{position-hit, position-miss}
+use Rattle.traces.proofs.Positions.{position-hit, position-miss}
 
 -- what stands at a place after one item more
 

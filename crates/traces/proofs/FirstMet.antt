@@ -11,7 +11,7 @@ use Rattle.std.specs.Str.{bytes_eq}
 use Rattle.traces.specs.Words.{same_key, with_new, first_met, AreApart, TellsFirstMet}
 use Rattle.traces.specs.declared.key.Key.{Key}
 use Rattle.traces.proofs.Apart.{apart-push}
-use Rattle.traces.proofs.Placed.{same_key-Decides}
+use Rattle.traces.proofs.PlaceMaps.{same_key-Decides}
 
 or-false : (a : Bool) → (a || false) ≡ a
 or-false true = refl

@@ -1,4 +1,4 @@
-use crate::{AddError, Builder, TraceSet, plain_fields};
+use crate::{AddError, Builder, TraceSet};
 use std::process::Abort;
 use std::test::Fail;
 
@@ -143,20 +143,4 @@ fn refuses_at_the_limits(rt: HostRuntime) -> Result<(), Fail> {
     assert_eq!(rt; set.trace_count(), 1);
     assert_eq!(rt; set.event_count(), 1_000_000);
     Ok(())
-}
-
-#[test]
-fn cuts_lines_at_their_first_space(rt: HostRuntime) {
-    for (line, fields) in [
-        ("1 a", Some(("1", "a"))),
-        (" a", Some(("", "a"))),
-        ("1 a b", Some(("1", "a b"))),
-        ("1  a", Some(("1", " a"))),
-        ("", None),
-        ("1a", None),
-        ("1 ", None),
-        (" ", None),
-    ] {
-        assert_eq!(rt; plain_fields(line), fields, "at {line}");
-    }
 }

@@ -1,6 +1,6 @@
 //! Pieces of a log between line feeds.
 ghost use Rattle.std.specs.Prelude.{◌≡◌, ◌<◌, ◌≤◌, ◌+◌, ◌∷◌, length};
-ghost use Rattle.traces.specs.Lines.{pieces, line_of};
+ghost use Rattle.lines.specs.Lines.{pieces, line_of};
 
 use memchr::memchr;
 

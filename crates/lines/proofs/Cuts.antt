@@ -1,14 +1,16 @@
 -- The first piece of some bytes.
-use Rattle.std.proofs.Common.{◌≡◌, ℕ, Some, None, sym, zero, suc, ◌+◌, ◌-◌, ◌<◌, ◌≤◌, Bool, List, [], ◌∷◌, ◌==◌, length, take, drop, ap, ◌∙◌, ⊎_elim, arith, take_all, length-drop}
-use Rattle.std.proofs.lemmas.Bool.{cases_Bool, cond-true, cond-false, false_from_ne_true}
+use Rattle.std.proofs.Common.{◌≡◌, ℕ, Some, None, sym, zero, suc, ◌+◌, ◌-◌, ◌<◌, ◌≤◌, true, false, List, [], ◌∷◌, ◌==◌, length, take, drop, ap, ◌∙◌, ⊎_elim, arith, take_all, length-drop}
+use Rattle.std.proofs.lemmas.Bool.{cases_Bool, cond-true, cond-false, false_from_ne_true, not_from_true, not_from_false}
 use Rattle.std.proofs.lemmas.List.Sums.{position_or_len_is}
 use Rattle.memchr.specs.Find.{IsFirstByte, is_byte}
 use Rattle.std.specs.List.{position_or_len}
-use Rattle.traces.specs.Lines.{pieces, on_first}
-use Rattle.traces.proofs.Places.{position-hit, position-miss}
+use Rattle.lines.specs.Lines.{pieces, on_first, is_feed}
 
-abbrev is_feed : ℕ → Bool
-is_feed b = b == 10
+position-hit : (b : ℕ) (bytes : List ℕ) → is_feed b ≡ true → position_or_len is_feed (b ∷ bytes) ≡ 0
+position-hit b bytes feed = cond-false _ _ _ (not_from_true _ feed)
+
+position-miss : (b : ℕ) (bytes : List ℕ) → is_feed b ≡ false → position_or_len is_feed (b ∷ bytes) ≡ position_or_len is_feed bytes + 1
+position-miss b bytes other = cond-true _ _ _ (not_from_false _ other) ∙ omega arith
 
 same : (n : ℕ) → suc (n + 1) ≡ suc n + 1
 same n = omega arith
@@ -18,23 +20,23 @@ pub pieces-cut : (bytes : List ℕ) (n : ℕ) → n ≡ position_or_len is_feed 
 pieces-cut [] n at inside = absurd (omega arith)
 pieces-cut (b ∷ bytes) zero at inside = ⊎_elim
     (λ feed. cond-true _ _ _ feed)
-    (λ other. absurd (omega (arith, position-miss is_feed b bytes other)))
+    (λ other. absurd (omega (arith, position-miss b bytes other)))
     (cases_Bool (b == 10))
 pieces-cut (b ∷ bytes) (suc n) at inside = ⊎_elim
-    (λ feed. absurd (omega (arith, position-hit is_feed b bytes feed)))
-    (λ other. cond-false _ _ _ other ∙ (ap (on_first b) (pieces-cut bytes n (omega (arith, position-miss is_feed b bytes other)) (omega arith)) ∙ ap (λ k. (b ∷ take n bytes) ∷ pieces (drop k (b ∷ bytes))) (same n)))
+    (λ feed. absurd (omega (arith, position-hit b bytes feed)))
+    (λ other. cond-false _ _ _ other ∙ (ap (on_first b) (pieces-cut bytes n (omega (arith, position-miss b bytes other)) (omega arith)) ∙ ap (λ k. (b ∷ take n bytes) ∷ pieces (drop k (b ∷ bytes))) (same n)))
     (cases_Bool (b == 10))
 
 -- with none
 pub pieces-last : (bytes : List ℕ) → length bytes ≤ position_or_len is_feed bytes → 0 < length bytes → pieces bytes ≡ bytes ∷ []
 pieces-last [] past some = absurd (omega arith)
 pieces-last (b ∷ []) past some = ⊎_elim
-    (λ feed. absurd (omega (arith, position-hit is_feed b [] feed)))
+    (λ feed. absurd (omega (arith, position-hit b [] feed)))
     (λ other. cond-false _ _ _ other)
     (cases_Bool (b == 10))
 pieces-last (b ∷ a ∷ bytes) past some = ⊎_elim
-    (λ feed. absurd (omega (arith, position-hit is_feed b (a ∷ bytes) feed)))
-    (λ other. cond-false (b == 10) _ _ other ∙ ap (on_first b) (pieces-last (a ∷ bytes) (omega (arith, position-miss is_feed b (a ∷ bytes) other)) (omega arith)))
+    (λ feed. absurd (omega (arith, position-hit b (a ∷ bytes) feed)))
+    (λ other. cond-false (b == 10) _ _ other ∙ ap (on_first b) (pieces-last (a ∷ bytes) (omega (arith, position-miss b (a ∷ bytes) other)) (omega arith)))
     (cases_Bool (b == 10))
 
 pub rest_is : (n : ℕ) (t : List ℕ) → take (length t - n) (drop n t) ≡ drop n t

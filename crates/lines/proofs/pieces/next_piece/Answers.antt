@@ -1,7 +1,7 @@
 use Rattle.std.proofs.Common.{◌+◌, ℕ, List, ◌∷◌, arith, sym, ap, ◌∙◌, take}
-use Rattle.traces.specs.Lines.{pieces}
-use Rattle.traces.proofs.Cuts.{pieces-cut, pieces-last, rest_is, first-feed, no-feed}
-use Rattle.traces.proofs.pieces.next_piece.Goals as goal
+use Rattle.lines.specs.Lines.{pieces}
+use Rattle.lines.proofs.Cuts.{pieces-cut, pieces-last, rest_is, first-feed, no-feed}
+use Rattle.lines.proofs.pieces.next_piece.Goals as goal
 
 pub returns-in-Some-clause-pieces : goal.returns-in-Some-clause-pieces
 returns-in-Some-clause-pieces c =

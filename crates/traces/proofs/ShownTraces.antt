@@ -8,7 +8,7 @@ use Rattle.traces.specs.declared.key.Key.{Key}
 use Rattle.std.proofs.lemmas.List.{length-take-le, length-drop, length-replicate, take-map, drop-map}
 use Rattle.traces.proofs.Columned.{length-traces_from}
 use Rattle.traces.proofs.Numbered.{numbers-at, begun-at}
-use Rattle.traces.proofs.Ordered.{times-kept}
+use Rattle.traces.proofs.TracesInTime.{times-kept}
 use Rattle.traces.proofs.Zeros.{take-zeros}
 
 traces-at : (e s : ℕ → List ℕ) (i t : ℕ) (keys : List Key) (d : Key) → t < length keys → slice_get (traces_from e s i keys) t ≡ Some (record { key = get_or keys t d; events = e (i + t); times = s (i + t) })
