@@ -146,3 +146,34 @@ fn inputs_that_are_not_there(rt: HostRuntime) -> Result<(), Fail> {
     }
     Ok(())
 }
+
+#[test]
+fn an_output_of_little_room(rt: HostRuntime) -> Result<(), Fail> {
+    let alloc = rt.alloc();
+    // The report has 178 bytes.
+    for room in [0usize, 10, 177, 178] {
+        let words = words_of(alloc, &PLAIN)?;
+        let mut log = Vec::new(alloc);
+        log.push((String::new(alloc), TWO.to_vec(alloc)?))?;
+        let mut inputs = MemInputs::new(log, 9, Vec::new(alloc));
+        let mut patterns = RegexPatterns::new(alloc);
+        let mut out = MemSink::make(alloc, room, 7, Vec::new(alloc))?;
+        let mut err = MemSink::make(alloc, 100, 7, Vec::new(alloc))?;
+        let status = run(
+            alloc,
+            &words,
+            &mut inputs,
+            &mut patterns,
+            &mut out,
+            &mut err,
+        );
+        let (ends, message) = match room {
+            178 => (Status::Done, ""),
+            _ => (Status::WriteFault, "synoptic: cannot write\n"),
+        };
+        assert_eq!(rt; status, ends, "at {room}");
+        assert_eq!(rt; out.bytes(), front(TWO_REPORT, room), "at {room}");
+        assert_eq!(rt; err.bytes(), message.as_bytes(), "at {room}");
+    }
+    Ok(())
+}

@@ -100,10 +100,15 @@ fn reports_by_rules(rt: HostRuntime) -> Result<(), Fail> {
 
 #[test]
 fn other_words_are_refused(rt: HostRuntime) -> Result<(), Fail> {
-    let usages: [&[&str]; 13] = [
+    let usages: [&[&str]; 18] = [
         &[],
         &["guess", "-p"],
+        &["infer"],
         &["infer", "-p"],
+        &["infer", "-p", ""],
+        &["infer", "-p", "-e", "x.rules"],
+        &["check", "-p"],
+        &["check", "-p", "-m", "x.rules"],
         &["invariants"],
         &["invariants", "-p", ""],
         &["invariants", "-e"],

@@ -182,13 +182,17 @@ fn lines_at_their_limit(rt: HostRuntime) -> Result<(), Fail> {
     let mut line = String::from_str(rt.alloc(), "a ")?;
     line.push_str(repeated(rt.alloc(), "x", 65_534)?.as_str())?;
     let rules = b"event ^(?<TYPE>[a-z]+) ";
-    let ended = run_in(rt.alloc(), &by_rules(rules, line.as_bytes()))?;
-    assert_eq!(rt; ended.status, Status::Done);
-    assert_eq!(rt;
-        ended.out.as_str(),
-        "INITIAL AlwaysFollowedBy \"a\"\n\"a\" NeverFollowedBy \"a\"\n"
-    );
-    for end in ["x", "\r"] {
+    for end in ["", "\n"] {
+        let mut whole = line.clone()?;
+        whole.push_str(end)?;
+        let ended = run_in(rt.alloc(), &by_rules(rules, whole.as_bytes()))?;
+        assert_eq!(rt; ended.status, Status::Done);
+        assert_eq!(rt;
+            ended.out.as_str(),
+            "INITIAL AlwaysFollowedBy \"a\"\n\"a\" NeverFollowedBy \"a\"\n"
+        );
+    }
+    for end in ["x", "\r", "x\n"] {
         let mut long = line.clone()?;
         long.push_str(end)?;
         is_refused(

@@ -133,6 +133,7 @@ fn the_second_file_fails(rt: HostRuntime) -> Result<(), Fail> {
         };
         assert_eq!(rt; ended.status, status, "at {k}");
         assert_eq!(rt; ended.err.as_str(), message, "at {k}");
+        assert_eq!(rt; ended.out.len() > 0, k == 7, "at {k}");
     }
     Ok(())
 }

@@ -5,3 +5,5 @@
 mod faults;
 #[cfg(test)]
 mod graphs;
+#[cfg(test)]
+mod models;

@@ -1,8 +1,8 @@
 -- What the steps of a run leave before it writes.
-use Rattle.std.specs.Prelude.{ℕ, ◌≡◌, ◌≤◌, List, ◌+◌, drop, length, IsTrue, Option, Some, None, IsSome, option_map, Result, Ok, Err, ⊤}
-use Rattle.outside.specs.Counts.{Rose}
+use Rattle.std.specs.Prelude.{ℕ, ◌≡◌, ◌≤◌, ◌⊎◌, List, ◌+◌, drop, length, IsTrue, Option, Some, None, IsSome, option_map, Result, Ok, Err, ⊤}
+use Rattle.outside.specs.Counts.{Rose, next_call}
 use Rattle.outside.specs.Inputs.{InputState, Lacks}
-use Rattle.outside.specs.Reading.{IfTold, OpensNone}
+use Rattle.outside.specs.Reading.{IfTold, OpensNone, OpensNamed}
 use Rattle.outside.specs.Sinks.{SinkState}
 use Rattle.line_rules.specs.Rules.{Rule, AreAlike}
 use Rattle.line_rules.specs.Patterns.{PatternsState}
@@ -88,9 +88,10 @@ pub record RefusesFile (old new : InputState) (name : List ℕ) (e : FileError) 
 abbrev pub ModelHalts : (old new : InputState) → List ℕ → ModelHalt → Type 0
 ModelHalts old new name halts.Missing = Lacks old.files name × OpensNone old new
 ModelHalts old new name halts.Fault =
-    Rose old.faults new.faults × IsTrue (old.may_fail name) × (new.opens ≤ old.opens + 1)
+    Rose old.faults new.faults × IsTrue (old.may_fail name)
+    × (OpensNone old new ⊎ OpensNamed old new name MAX_MODEL_BYTES)
 ModelHalts old new name (halts.Refused e) = RefusesFile old new name e
-ModelHalts old new name halts.Memory = new.opens ≤ old.opens + 1
+ModelHalts old new name halts.Memory = new.opens ≡ next_call old.opens
 
 -- what a refusal of the file is: want of memory is no fault of the file
 abbrev pub halt_of : FileError → ModelHalt

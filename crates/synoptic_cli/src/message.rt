@@ -153,20 +153,27 @@ fn field_name(field: Field) -> &'static str
     }
 }
 
+/// Writes what is wrong with a model's file, by two words.
+fn write_file_fault<E: Sink>(what: &str, which: &str, err: &mut E) -> Result<(), Failed>
+    ensures { WholeGives (E.state err.old)
+        (codes "synoptic: model file: " ++ (what.now ++ which.now) ++ codes "\n") result (E.state err.new) }
+{
+    write_texts(&["synoptic: model file: ", what, which, "\n"], err)
+}
+
 /// Writes what is wrong with a model's file.
 fn write_file_error<E: Sink>(error: FileError, err: &mut E) -> Result<(), Failed>
     ensures { WholeGives (E.state err.old)
         (codes "synoptic: model file: " ++ file_fault error ++ codes "\n") result (E.state err.new) }
 {
     let mut digits = Buffer::new();
-    let (what, which) = match error {
-        FileError::TooLong => ("too long", ""),
-        FileError::NotJson => ("not JSON", ""),
-        FileError::Shape(field) => ("bad ", field_name(field)),
-        FileError::Version(number) => ("version ", digits.format(number)),
-        FileError::Memory => ("out of memory", ""),
-    };
-    write_texts(&["synoptic: model file: ", what, which, "\n"], err)
+    match error {
+        FileError::TooLong => write_file_fault("too long", "", err),
+        FileError::NotJson => write_file_fault("not JSON", "", err),
+        FileError::Shape(field) => write_file_fault("bad ", field_name(field), err),
+        FileError::Version(number) => write_file_fault("version ", digits.format(number), err),
+        FileError::Memory => write_file_fault("out of memory", "", err),
+    }
 }
 
 /// Writes which input could not be read.

@@ -6,7 +6,7 @@ use Rattle.synoptic_cli.proofs.model_stage.read_model_file.Goals as goal
 
 pub returns-in-Ok-read_model-clause-ok : goal.returns-in-Ok-read_model-clause-ok
 returns-in-Ok-read_model-clause-ok g c =
-    model-read (g.I.Inputs.state c.args.inputs.now) (g.I.Inputs.state c.read_input.new.inputs) c.args.name.now c.in-Ok.bytes.items c.in-Ok-read_model.model c.in-Ok.ensures.ok
+    model-read (g.I.Inputs.state c.args.inputs.now) (g.I.Inputs.state c.read_input.new.inputs) c.args.name.now c.in-Ok.bytes.items c.in-Ok-read_model.model c.in-Ok.ensures.gives
     (ap reads (sym c.deref.ensures.value) ∙ c.in-Ok-read_model.ensures.ok)
 
 pub returns-clause-err : goal.returns-clause-err
@@ -14,4 +14,4 @@ returns-clause-err g c =
     let old = g.I.Inputs.state c.args.inputs.now in
     let new = g.I.Inputs.state c.read_input.new.inputs in
     subst (ModelHalts old new c.args.name.now) (sym c.halt_of.ensures)
-    (model-halts old new c.args.name.now c.in-Ok.bytes.items c.in-Err.error c.in-Ok.ensures.ok (subst (λ (bytes : List ℕ). Fails c.in-Err.error (reads bytes)) c.deref.ensures.value c.in-Err.ensures.err))
+    (model-halts old new c.args.name.now c.in-Ok.bytes.items c.in-Err.error c.in-Ok.ensures.gives (subst (λ (bytes : List ℕ). Fails c.in-Err.error (reads bytes)) c.deref.ensures.value c.in-Err.ensures.err))
