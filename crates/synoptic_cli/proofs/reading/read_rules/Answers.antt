@@ -11,7 +11,7 @@ returns-in-Ok-read-clause-ok g c =
     let old = g.I.Inputs.state c.args.inputs.now in
     let new = g.I.Inputs.state c.read_input.new.inputs in
     let rules = rules_in c.in-Ok-read.rules in
-    rules-read old new c.args.name.now c.in-Ok.bytes.items rules c.in-Ok.ensures.ok (subst (λ (bytes : List ℕ). AreRead bytes rules) c.deref.ensures.value c.in-Ok-read.ensures.ok)
+    rules-read old new c.args.name.now c.in-Ok.bytes.items rules c.in-Ok.ensures.gives (subst (λ (bytes : List ℕ). AreRead bytes rules) c.deref.ensures.value c.in-Ok-read.ensures.ok)
 
 pub returns-clause-err : goal.returns-clause-err
 returns-clause-err g c =
@@ -21,5 +21,5 @@ returns-clause-err g c =
     let after = g.P.Patterns.state c.read.new.patterns in
     let name = c.args.name.now in
     subst (λ (status : Status). EndsByRules status name old new before after) (sym c.rules_answer.ensures)
-    (rules-end old new before after name c.in-Ok.bytes.items c.in-Err.error c.in-Ok.ensures.ok
+    (rules-end old new before after name c.in-Ok.bytes.items c.in-Err.error c.in-Ok.ensures.gives
     (subst (λ (bytes : List ℕ). IsRefused bytes before after c.in-Err.error) c.deref.ensures.value c.in-Err.ensures.err))
