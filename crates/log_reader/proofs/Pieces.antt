@@ -7,6 +7,7 @@ use Rattle.std.proofs.lemmas.Str.{utf8_lossy-IsUtf8}
 use Rattle.std.specs.Str.Lossy.{utf8_lossy}
 use Rattle.bstr.specs.Utf8.{lossy_chars}
 use Rattle.bstr.proofs.lemmas.LossyLemmas.{lossy_chars-utf8_lossy}
+use Rattle.limits.specs.declared.TheConstants.{MAX_LINE_BYTES}
 use Rattle.lines.specs.Lines.{pieces, on_first, line_of, text_of}
 use Rattle.traces.specs.Words.{Event as KeyedEvent, Gathering, event_count_of}
 use Rattle.traces.proofs.Grown.{count-gathered_of}
@@ -20,7 +21,7 @@ use Rattle.log_reader.specs.SoFar.{decider_view, setting_of, IsGatheredOf, IsRea
 
 -- one piece
 
-short : (n : ℕ) → n ≤ 65536 → nat_lt 65536 n ≡ false
+short : (n : ℕ) → n ≤ MAX_LINE_BYTES → nat_lt MAX_LINE_BYTES n ≡ false
 short n h = grind (arith, nat_tests)
 
 -- a line that is UTF-8 is its own text
@@ -36,10 +37,10 @@ pub piece-decided : (form : Form) (piece line text : List ℕ) → line ≡ line
 piece-decided form piece line text same some is =
     ap (decided form) is ∙ sym (cond-false _ _ _ (subst (λ l. (length l == 0) ≡ false) same some))
 
-pub piece-in : (s : Setting) (at : At) (log : Gathering) (piece : List ℕ) (d : Decided) → length piece ≤ 65536 → d ≡ decided_piece s.form piece → refusal_in s.ignore at log d ≡ piece_refusal_in s at log piece
+pub piece-in : (s : Setting) (at : At) (log : Gathering) (piece : List ℕ) (d : Decided) → length piece ≤ MAX_LINE_BYTES → d ≡ decided_piece s.form piece → refusal_in s.ignore at log d ≡ piece_refusal_in s at log piece
 piece-in s at log piece d few is = ap (refusal_in s.ignore at log) is ∙ sym (cond-false _ _ _ (short (length piece) few))
 
-pub reads-piece : (at : At) (piece : List ℕ) (old new : LogReader) (d : Decided) → length piece ≤ 65536 → d ≡ decided_piece (decider_view old.decider) piece → ReadsText at d old new → ReadsPiece at piece old new
+pub reads-piece : (at : At) (piece : List ℕ) (old new : LogReader) (d : Decided) → length piece ≤ MAX_LINE_BYTES → d ≡ decided_piece (decider_view old.decider) piece → ReadsText at d old new → ReadsPiece at piece old new
 reads-piece at piece old new d few is reads = record {
   refusal = sym (piece-in (setting_of old) at old.log.builder piece d few is) ∙ reads.takes.refusal;
   reads = subst (λ d. ReadsText at d old new) is reads;
@@ -59,7 +60,7 @@ same-refusal ignore at log events so_far spec.BadTime = refl
 
 same-piece_refusal : (s : Setting) (at : At) (log : Gathering) (events : List KeyedEvent) → IsGatheredOf log events → (piece : List ℕ) → piece_refusal s at events piece ≡ piece_refusal_in s at log piece
 same-piece_refusal s at log events so_far piece =
-    ap (λ o. cond (nat_lt 65536 (length piece)) (Some (refused.LineTooLong at)) o) (same-refusal s.ignore at log events so_far (decided_piece s.form piece))
+    ap (λ o. cond (nat_lt MAX_LINE_BYTES (length piece)) (Some (refused.LineTooLong at)) o) (same-refusal s.ignore at log events so_far (decided_piece s.form piece))
 
 section-few : (section : ℕ) (d : Decided) → section_after section d ≤ section + 1
 section-few section (spec.Event typ trace time) = omega arith

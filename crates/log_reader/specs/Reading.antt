@@ -2,6 +2,7 @@
 use Rattle.std.specs.Prelude.{ℕ, ◌+◌, ◌-◌, ◌==◌, ◌&&◌, Bool, not, List, [], ◌∷◌, ◌++◌, length, take, nat_lt, nat_le, Option, Some, None, Result, Ok, Err, if◌then◌else◌}
 use Rattle.std.specs.List.{list_any}
 use Rattle.std.specs.Str.{bytes_eq}
+use Rattle.limits.specs.declared.TheConstants.{MAX_EVENTS, MAX_INPUT_BYTES, MAX_LINE_BYTES, MAX_TRACE_BYTES, MAX_TYPE_BYTES, MAX_TYPES}
 use Rattle.lines.specs.Lines.{pieces, line_of, text_of, plain_fields_of}
 use Rattle.traces.specs.Words.{Event as KeyedEvent, event_of, types_of}
 use Rattle.line_rules.specs.Rules.{Rule, decision_of, type_text, part}
@@ -22,6 +23,10 @@ pub record Setting : Type 0 where
   pub form : Form
   pub ignore : Bool
   pub join : Bool
+
+-- a setting of its parts
+abbrev pub setting : Form → Bool → Bool → Setting
+setting form ignore join = record { form = form; ignore = ignore; join = join }
 
 -- what a line is, by its text
 pub data Decided : Type 0 where
@@ -80,10 +85,11 @@ abbrev pub section_at_end : Form → ℕ → List (List ℕ) → ℕ
 section_at_end form section [] = section
 section_at_end form section (piece ∷ rest) = section_at_end form (section_after section (decided_piece form piece)) rest
 
--- the number of a file in keys, and the section in which the next file begins: files that are joined are one, and their separators count over all
+-- the number of a file in keys: files that are joined are one
 abbrev pub key_file : Setting → ℕ → ℕ
 key_file s number = if s.join then 0 else number
 
+-- the section in which the next file begins: separators count over all files that are joined
 abbrev pub next_section : Setting → ℕ → ℕ
 next_section s section = if s.join then section else 0
 
@@ -106,10 +112,10 @@ first_of (Some e) next = Some e
 -- the refusal of an event with these texts, after these types and so many events
 abbrev pub event_refusal : At → List (List ℕ) → ℕ → List ℕ → List ℕ → Option ReadError
 event_refusal at types count typ trace =
-    if nat_lt 256 (length typ) then Some (refused.TypeTooLong at)
-    else if nat_lt 1024 (length trace) then Some (refused.TraceTooLong at)
-    else if not (list_any (bytes_eq typ) types) && nat_le 128 (length types) then Some (refused.TypeLimit at)
-    else if nat_le 1000000 count then Some (refused.EventLimit at)
+    if nat_lt MAX_TYPE_BYTES (length typ) then Some (refused.TypeTooLong at)
+    else if nat_lt MAX_TRACE_BYTES (length trace) then Some (refused.TraceTooLong at)
+    else if not (list_any (bytes_eq typ) types) && nat_le MAX_TYPES (length types) then Some (refused.TypeLimit at)
+    else if nat_le MAX_EVENTS count then Some (refused.EventLimit at)
     else None
 
 -- the refusal of a line, after these events
@@ -120,15 +126,17 @@ line_refusal ignore at before Separator = None
 line_refusal ignore at before Undecided = if ignore then None else Some (refused.Undecided at)
 line_refusal ignore at before BadTime = Some (refused.BadTime at)
 
--- the refusal of a piece with more than 65,536 bytes comes before all others of its line
+-- the refusal of a piece that is too long comes before all others of its line
 abbrev pub piece_refusal : Setting → At → List KeyedEvent → List ℕ → Option ReadError
 piece_refusal s at before piece =
-    if nat_lt 65536 (length piece) then Some (refused.LineTooLong at) else line_refusal s.ignore at before (decided_piece s.form piece)
+    if nat_lt MAX_LINE_BYTES (length piece) then Some (refused.LineTooLong at)
+    else line_refusal s.ignore at before (decided_piece s.form piece)
 
 -- the refusal of the piece in which the byte past the limit on all input stands
 abbrev pub limit_refusal : At → List ℕ → ReadError
-limit_refusal at piece = if nat_lt 65536 (length piece) then refused.LineTooLong at else refused.InputLimit
+limit_refusal at piece = if nat_lt MAX_LINE_BYTES (length piece) then refused.LineTooLong at else refused.InputLimit
 
+-- a line of a file, by their numbers
 abbrev pub at_line : ℕ → ℕ → At
 at_line file line = record { file = file; line = line }
 
@@ -154,4 +162,4 @@ files_refusal s number section before room (bytes ∷ files) =
 
 -- the first refusal of a log, in the order of its bytes
 abbrev pub first_refusal : Setting → List (List ℕ) → Option ReadError
-first_refusal s files = files_refusal s 0 0 [] 268435456 files
+first_refusal s files = files_refusal s 0 0 [] MAX_INPUT_BYTES files

@@ -1,5 +1,6 @@
 -- A log that is read line by line: its events so far, and what one line more makes of them.
 use Rattle.std.specs.Prelude.{ℕ, ◌≡◌, ◌≤◌, ◌⊎◌, Bool, List, ◌++◌, length, nat_lt, Option, Some, None, if◌then◌else◌}
+use Rattle.limits.specs.declared.TheConstants.{MAX_EVENTS, MAX_LINE_BYTES, MAX_TYPES}
 use Rattle.traces.specs.Words.{Event as KeyedEvent, Gathering, gathered_of, event_count_of}
 use Rattle.line_rules.specs.Views.{rules_in, matched_rules}
 use Rattle.log_reader.specs.Reading as spec
@@ -24,8 +25,8 @@ HasMatchers (Rules kept) = matched_rules kept.matchers ≡ rules_in kept.rules.n
 
 -- within the limits on types and events
 pub record IsWithin (gathering : Gathering) : Type 0 where
-  pub types : length gathering.types ≤ 128
-  pub events : event_count_of gathering.traces ≤ 1000000
+  pub types : length gathering.types ≤ MAX_TYPES
+  pub events : event_count_of gathering.traces ≤ MAX_EVENTS
 
 -- what was gathered is that of these events
 abbrev pub IsGatheredOf : Gathering → List KeyedEvent → Type 0
@@ -68,7 +69,8 @@ pub record IsReady (reader : LogReader) : Type 0 where
 -- the refusal of a piece after what was gathered
 abbrev pub piece_refusal_in : Setting → At → Gathering → List ℕ → Option ReadError
 piece_refusal_in s at gathering piece =
-    if nat_lt 65536 (length piece) then Some (refused.LineTooLong at) else refusal_in s.ignore at gathering (decided_piece s.form piece)
+    if nat_lt MAX_LINE_BYTES (length piece) then Some (refused.LineTooLong at)
+    else refusal_in s.ignore at gathering (decided_piece s.form piece)
 
 -- a line that is decided so is taken in, and the reader reads on as before
 pub record ReadsText (at : At) (d : Decided) (old new : LogReader) : Type 0 where

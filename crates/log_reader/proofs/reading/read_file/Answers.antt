@@ -10,6 +10,6 @@ returns-in-Err-clause-err g c =
     let old = c.args.reader.now in
     let e = c.in-Err.error in
     let whole : c.len.result ≡ length bytes = omega (arith, c.deref.ensures.len, ap length c.deref.ensures.value) in
-    file-refused (g.I.Inputs.state c.args.inputs.now) (g.I.Inputs.state c.read_input.new.inputs) c.args.name.now c.args.number c.args.room bytes old e c.in-Ok.ensures.ok
+    file-refused (g.I.Inputs.state c.args.inputs.now) (g.I.Inputs.state c.read_input.new.inputs) c.args.name.now c.args.number c.args.room bytes old e c.in-Ok.ensures.gives
     (subst (λ n. IsPiecesRefusal c.args.number (nat_lt c.args.room n) (pieces bytes) old e) whole
     (subst (λ bs. IsPiecesRefusal c.args.number (nat_lt c.args.room c.len.result) (pieces bs) old e) c.deref.ensures.value c.in-Err.ensures.err))

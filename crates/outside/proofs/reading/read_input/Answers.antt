@@ -1,4 +1,4 @@
-use Rattle.std.proofs.Common.{◌≡◌, ◌∙◌}
+use Rattle.std.proofs.Common.{◌∙◌}
 use Rattle.outside.proofs.Fronts.{told-read}
 use Rattle.outside.proofs.reading.read_input.Goals as goal
 

@@ -1,4 +1,4 @@
-use Rattle.std.proofs.Common.{◌++◌, length, take, arith, length-append, length-take}
+use Rattle.std.proofs.Common.{◌++◌, take, arith, length-append, length-take}
 use Rattle.std.proofs.KnownBytes.{Consumes-trans}
 use Rattle.outside.proofs.reading.read_rest.Goals as goal
 
