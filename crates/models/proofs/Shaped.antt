@@ -26,7 +26,7 @@ use Rattle.partition_model.proofs.Passes.{live-member}
 use Rattle.partition_model.proofs.Forming.{graphs_are_formed, merged_are_formed}
 use Rattle.partition_model.proofs.Stitching.{stitch_divides}
 use Rattle.partition_model.proofs.Runs.{broken, traces-hold, fresh-run, next-run, start-run, runs_keep}
-use Rattle.partition_bounds.specs.Numbers.{split_numbers, block_numbers}
+use Rattle.model_shape.specs.Numbers.{split_numbers, block_numbers}
 use Rattle.partition_bounds.proofs.Ordered.{In-get}
 use Rattle.partition_bounds.proofs.Pairing.{range-count}
 use Rattle.partition_bounds.proofs.Merges.{In-range, live-below, merge-below, merges-below, merges_are_few}

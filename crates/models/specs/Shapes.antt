@@ -11,7 +11,7 @@ use Rattle.invariants.specs.declared.records.Model.{Model}
 use Rattle.invariants.specs.Candidates.{candidates}
 use Rattle.partition_model.specs.Listings.{AscendIds, AscendEdges}
 use Rattle.partition_model.specs.Coarsening.{AscendFrom}
-use Rattle.partition_bounds.specs.Numbers.{split_numbers, block_numbers}
+use Rattle.model_shape.specs.Numbers.{split_numbers, block_numbers}
 use Rattle.models.specs.Models.{TypedWords, IsLabel, listing_of, is_listed, listed_type}
 
 -- a text of 1 to 256 bytes
