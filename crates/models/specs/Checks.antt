@@ -14,7 +14,8 @@ use Rattle.partition_model.specs.Refinement.{SatisfiesAll}
 use Rattle.partition_model.specs.Coarsening.{IsPair, PairBefore}
 use Rattle.models.specs.declared.parts.Part.{Part}
 use Rattle.models.specs.declared.parts.Part.TheVariants as part
-use Rattle.models.specs.Models.{TypedWords, mined_of, listing_of, graph_of, IsLabelled}
+use Rattle.models.specs.Models.{TypedWords, mined_of, graph_of, IsLabelled}
+use Rattle.model_shape.specs.Shapes.{listing_of}
 
 -- a block of the pair names a listed invariant, and a path of the merged graph that breaks it
 pub record KeepsApart (m : Model) (p q : ℕ) (b : Block) (l : Listed) : Type 0 where

@@ -1,5 +1,6 @@
 -- When the steps that a model names lead from a log to its graph, and the first step that does not.
 use Rattle.std.specs.Prelude.{◌≡◌, ◌≢◌, ℕ, zero, suc, ◌+◌, ◌<◌, ◌≤◌, List, [], ◌∷◌, length, slice_get, Some}
+use Rattle.limits.specs.declared.TheConstants.{FIRST_TYPE, MAX_PARTITIONS}
 use Rattle.invariants.specs.declared.records.Listed.{Listed}
 use Rattle.invariants.specs.declared.records.Model.{Model}
 use Rattle.invariants.specs.declared.records.Split.{Split}
@@ -21,7 +22,7 @@ pub record IsJustifiedSplit (m : Model) (h : Assignment) (n : ℕ) (s : Split) :
   pub breaks : Breaks (G h) listed.inv s.path
   pub place : s.place ≡ stitch h s.path
   pub inside : s.place + 1 < length s.path
-  pub room : n ≤ 1023
+  pub room : n < MAX_PARTITIONS
 
 -- each split is right in its turn
 abbrev pub SplitInTurn : Model → Assignment → ℕ → List Split → Type 0
@@ -35,7 +36,7 @@ split_by n (s ∷ ss) h = split_by (suc n) ss (after_split n s h)
 
 -- the first new id
 abbrev pub first_new : TypedWords → ℕ
-first_new log = length log.types + 2
+first_new log = length log.types + FIRST_TYPE
 
 -- each event of the log in the partition that the splits of the model give
 abbrev pub refined_by : Model → TypedWords → Assignment
