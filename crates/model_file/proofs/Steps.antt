@@ -13,7 +13,7 @@ use Rattle.std.specs.Prelude.{codes}
 use Rattle.model_file.specs.declared.refusal.Field.{Field}
 use Rattle.model_file.specs.declared.refusal.Field.TheVariants.{Edges, Blocks}
 use Rattle.model_file.specs.declared.refusal.FileError.{FileError}
-use Rattle.model_file.specs.Shape.{type_of, edge_holds, edges_hold, block_holds, blocks_hold}
+use Rattle.model_file.specs.Rules.{type_of, edge_holds, edges_hold, block_holds, blocks_hold}
 use Rattle.model_file.specs.Entries.{edge_in, block_in}
 use Rattle.model_file.specs.Reading.{◌>>=◌, tested, part_in, types_in, partitions_in, edges_in, invariants_in, merges_in, splits_in, blocks_in, parts_in}
 

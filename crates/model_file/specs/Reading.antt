@@ -6,6 +6,7 @@ use Rattle.std.specs.Str.{bytes_eq, is_utf8}
 use Rattle.serde_json.specs.Data.{Data, Members, no_members, member}
 use Rattle.serde_json.specs.Find.{get, as_number, as_u64, as_str, as_object}
 use Rattle.serde_json.specs.Read.{read}
+use Rattle.limits.specs.declared.TheConstants.{MAX_MODEL_BYTES}
 use Rattle.invariants.specs.declared.records.Partition.{Partition}
 use Rattle.invariants.specs.declared.records.Edge.{Edge}
 use Rattle.invariants.specs.declared.records.Listed.{Listed}
@@ -13,7 +14,7 @@ use Rattle.invariants.specs.declared.records.Merge.{Merge}
 use Rattle.invariants.specs.declared.records.Split.{Split}
 use Rattle.invariants.specs.declared.records.Block.{Block}
 use Rattle.invariants.specs.declared.records.Model.{Model}
-use Rattle.model_file.specs.Shape.{types_hold, partitions_hold, type_of, edges_hold, invariants_hold, merges_hold, splits_hold, blocks_hold}
+use Rattle.model_file.specs.Rules.{types_hold, partitions_hold, type_of, edges_hold, invariants_hold, merges_hold, splits_hold, blocks_hold}
 use Rattle.model_file.specs.Entries.{list_in, partition_in, edge_in, listed_in, merge_in, split_in, block_in}
 use Rattle.model_file.specs.declared.refusal.Field.{Field}
 use Rattle.model_file.specs.declared.refusal.Field.TheVariants.{Root, Version, Extra, Types, Partitions, Edges, Invariants, Merges, Splits, Blocks}
@@ -117,13 +118,9 @@ abbrev pub or_not_json : Option Data → Result Data FileError
 or_not_json None = Err refused.NotJson
 or_not_json (Some d) = Ok d
 
--- the most bytes of a model file
-abbrev pub max_bytes : ℕ
-max_bytes = 134217728
-
 -- the model of a file's bytes, or the first refusal
 unfoldable pub reads : List ℕ → Result Model FileError
-reads bytes = if nat_lt max_bytes (length bytes) then Err refused.TooLong else (or_not_json (value_of bytes) >>= model_in)
+reads bytes = if nat_lt MAX_MODEL_BYTES (length bytes) then Err refused.TooLong else (or_not_json (value_of bytes) >>= model_in)
 
 -- ---- for contracts: what a call answered is what was to be read, unless memory was wanted
 

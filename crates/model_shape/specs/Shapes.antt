@@ -96,9 +96,9 @@ pub record IsShapedListed (types partitions : ℕ) (x : Listed) : Type 0 where
   pub labels : AllByRecursion IsLabel x.labels
 
 -- such invariants, in the order of the candidates
-pub record AreShapedInvariants (m : Model) : Type 0 where
-  pub order : Ascends (CandidateBefore (length m.types)) (listing_of m)
-  pub each : AllByRecursion (IsShapedListed (length m.types) (length m.partitions)) m.invariants
+pub record AreShapedInvariants (types partitions : ℕ) (xs : List Listed) : Type 0 where
+  pub order : Ascends (CandidateBefore types) (map (λ l. l.inv) xs)
+  pub each : AllByRecursion (IsShapedListed types partitions) xs
 
 -- ---- merges
 
@@ -142,10 +142,11 @@ pub record IsShapedBlock (invariants : ℕ) (partitions : List Partition) (x : B
   pub path : AreIds x.path
 
 -- such blocks, ascending by their two ids, and not too many numbers in the paths of splits and blocks
-pub record AreShapedBlocks (m : Model) : Type 0 where
-  pub order : Ascends BlockBefore m.blocks
-  pub each : AllByRecursion (IsShapedBlock (length m.invariants) m.partitions) m.blocks
-  pub numbers : split_numbers m.splits + block_numbers m.blocks ≤ MAX_PATH_NUMBERS
+pub record AreShapedBlocks (invariants : ℕ) (partitions : List Partition) (splits : List Split) (xs : List Block)
+    : Type 0 where
+  pub order : Ascends BlockBefore xs
+  pub each : AllByRecursion (IsShapedBlock invariants partitions) xs
+  pub numbers : split_numbers splits + block_numbers xs ≤ MAX_PATH_NUMBERS
 
 -- ---- models
 
@@ -154,7 +155,7 @@ pub record IsWellShaped (m : Model) : Type 0 where
   pub types : AreTypes m.types
   pub partitions : AreShapedPartitions (length m.types) m.partitions
   pub edges : AreShapedEdges m.partitions m.edges
-  pub invariants : AreShapedInvariants m
+  pub invariants : AreShapedInvariants (length m.types) (length m.partitions) m.invariants
   pub merges : AreShapedMerges m.merges
   pub splits : AreShapedSplits (length m.invariants) m.splits
-  pub blocks : AreShapedBlocks m
+  pub blocks : AreShapedBlocks (length m.invariants) m.partitions m.splits m.blocks

@@ -216,7 +216,7 @@ shaped-listed m log k l i =
       labels = r.each;
     }
 
-shaped-invariants : (m : Model) (log : TypedWords) → IsModelOf m log → AreShapedInvariants m
+shaped-invariants : (m : Model) (log : TypedWords) → IsModelOf m log → AreShapedInvariants (length m.types) (length m.partitions) m.invariants
 shaped-invariants m log k =
     let a : AscendAmong (candidates (length log.types)) 0 (listing_of m) = subst (λ (xs : List Invariant). AscendAmong (candidates (length log.types)) 0 xs) (sym k.listing) (mined-ascends log) in
     let b : Ascends (CandidateBefore (length log.types)) (listing_of m) = candidates-ascend (length log.types) 0 (listing_of m) a in

@@ -1,7 +1,8 @@
--- When a model is well shaped: seven rules, one for each of its lists.
-use Rattle.std.specs.Prelude.{ℕ, ◌+◌, ◌-◌, ◌==◌, ◌&&◌, ◌||◌, Bool, true, false, not, List, [], ◌∷◌, drop, length, map, sum_by, find, nat_lt, nat_le, IsTrue, Option, Some, None, is_some, option_map, unwrap_or, if◌then◌else◌}
+-- The seven rules of a well-shaped model as tests, one for each of its lists.
+use Rattle.std.specs.Prelude.{◌↔◌, ℕ, ◌+◌, ◌-◌, ◌*◌, ◌==◌, ◌&&◌, ◌||◌, Bool, true, false, not, List, [], ◌∷◌, drop, length, map, find, nat_lt, nat_le, IsTrue, Option, Some, None, is_some, option_map, unwrap_or, if◌then◌else◌}
 use Rattle.std.specs.List.{list_all, list_any}
 use Rattle.std.specs.Str.{bytes_eq}
+use Rattle.limits.specs.declared.TheConstants.{INITIAL, TERMINAL, FIRST_TYPE, MAX_TYPES, MAX_EVENTS, MAX_TYPE_BYTES, MAX_PARTITIONS, MAX_PATH_NUMBERS}
 use Rattle.invariants.specs.Candidates.{candidates}
 use Rattle.invariants.specs.declared.Kind.{Kind}
 use Rattle.invariants.specs.declared.Kind.TheVariants.{AF, NF, AP}
@@ -13,6 +14,8 @@ use Rattle.invariants.specs.declared.records.Merge.{Merge}
 use Rattle.invariants.specs.declared.records.Split.{Split}
 use Rattle.invariants.specs.declared.records.Block.{Block}
 use Rattle.invariants.specs.declared.records.Model.{Model}
+use Rattle.model_shape.specs.Numbers.{split_numbers, block_numbers}
+use Rattle.model_shape.specs.Shapes.{AreTypes, AreShapedPartitions, AreShapedEdges, AreShapedInvariants, AreShapedMerges, AreShapedSplits, AreShapedBlocks}
 
 -- ---- lists that ascend
 
@@ -41,29 +44,35 @@ abbrev pub are_distinct : List (List ℕ) → Bool
 are_distinct [] = true
 are_distinct (text ∷ texts) = not (list_any (bytes_eq text) texts) && are_distinct texts
 
--- a text of 1 to 256 bytes
+-- a text of 1 to so many bytes as a type may have
 abbrev pub type_holds : List ℕ → Bool
-type_holds text = nat_le 1 (length text) && nat_le (length text) 256
+type_holds text = nat_le 1 (length text) && nat_le (length text) MAX_TYPE_BYTES
 
--- at most 128 types, each of 1 to 256 bytes, no two equal
+-- no more such types than a log may have, no two equal
 unfoldable pub types_hold : List (List ℕ) → Bool
-types_hold types = nat_le (length types) 128 && (list_all type_holds types && are_distinct types)
+types_hold types = nat_le (length types) MAX_TYPES && (list_all type_holds types && are_distinct types)
 
 -- ---- partitions
 
--- `[0,0,n]` and `[1,1,n]` come first, with one n of at most 1,000,000
+-- `[0,0,n]` and `[1,1,n]` come first, with one n within the limit on traces
 abbrev pub ends_hold : List Partition → Bool
 ends_hold [] = false
 ends_hold (p ∷ []) = false
-ends_hold (p ∷ q ∷ ps) = (p.id == 0) && ((p.typ == 0) && ((q.id == 1) && ((q.typ == 1) && ((p.count == q.count) && nat_le p.count 1000000))))
+ends_hold (p ∷ q ∷ ps) =
+    (p.id == INITIAL) && ((p.typ == INITIAL) && ((q.id == TERMINAL) && ((q.typ == TERMINAL)
+    && ((p.count == q.count) && nat_le p.count MAX_EVENTS))))
 
--- of the others: an id of at most 1,023, the number of a type, and a count of 1 to 1,000,000
+-- of the others: an id that a partition may have, the number of a type, and a count within the limit on events, and not 0
 abbrev pub partition_holds : ℕ → Partition → Bool
-partition_holds types p = nat_le p.id 1023 && (nat_le 2 p.typ && (nat_le p.typ (types + 1) && (nat_le 1 p.count && nat_le p.count 1000000)))
+partition_holds types p =
+    nat_lt p.id MAX_PARTITIONS && (nat_le FIRST_TYPE p.typ && (nat_lt p.typ (types + FIRST_TYPE)
+    && (nat_le 1 p.count && nat_le p.count MAX_EVENTS)))
 
--- 2 to 1,024 partitions: the two ends first, then others; the ids ascend
+-- no more partitions than may be: the two ends first, then others; the ids ascend
 unfoldable pub partitions_hold : ℕ → List Partition → Bool
-partitions_hold types ps = nat_le (length ps) 1024 && (ends_hold ps && (list_all (partition_holds types) (drop 2 ps) && ascends nat_lt (map (λ p. p.id) ps)))
+partitions_hold types ps =
+    nat_le (length ps) MAX_PARTITIONS && (ends_hold ps
+    && (list_all (partition_holds types) (drop 2 ps) && ascends nat_lt (map (λ p. p.id) ps)))
 
 -- the type of a listed partition
 abbrev pub type_of : List Partition → ℕ → Option ℕ
@@ -71,9 +80,11 @@ type_of ps id = option_map (λ p. p.typ) (find (λ p. p.id == id) ps)
 
 -- ---- edges
 
--- both ids are listed, nothing leaves TERMINAL and nothing enters INITIAL, and the count is 1 to 2,000,000
+-- both ids are listed, nothing leaves TERMINAL and nothing enters INITIAL, and the count is within twice the limit on events, and not 0
 abbrev pub edge_holds : (ℕ → Option ℕ) → Edge → Bool
-edge_holds type e = is_some (type e.from) && (is_some (type e.to) && (not (e.from == 1) && (not (e.to == 0) && (nat_le 1 e.count && nat_le e.count 2000000))))
+edge_holds type e =
+    is_some (type e.from) && (is_some (type e.to) && (not (e.from == TERMINAL) && (not (e.to == INITIAL)
+    && (nat_le 1 e.count && nat_le e.count (2 * MAX_EVENTS)))))
 
 -- such edges, which ascend by where they come from and where they go to; `type` gives the type of a listed partition
 unfoldable pub edges_hold : (ℕ → Option ℕ) → List Edge → Bool
@@ -81,12 +92,14 @@ edges_hold type es = list_all (edge_holds type) es && ascends pair_less (map (λ
 
 -- ---- invariants
 
+-- whether two kinds are the same
 abbrev pub same_kind : Kind → Kind → Bool
 same_kind AF AF = true
 same_kind NF NF = true
 same_kind AP AP = true
 same_kind _ _ = false
 
+-- whether two invariants are the same
 abbrev pub same_invariant : Invariant → Invariant → Bool
 same_invariant i j = same_kind i.kind j.kind && ((i.a == j.a) && (i.b == j.b))
 
@@ -101,33 +114,31 @@ place_of types i = place_in i (candidates types)
 
 -- a candidate, with a label of 0 to 7 for each partition
 abbrev pub listed_holds : ℕ → ℕ → Listed → Bool
-listed_holds types partitions l = is_some (place_of types l.inv) && ((length l.labels == partitions) && list_all (λ label. nat_le label 7) l.labels)
+listed_holds types partitions l =
+    is_some (place_of types l.inv)
+    && ((length l.labels == partitions) && list_all (λ label. nat_le label 7) l.labels)
 
 -- such invariants, in the order of the candidates
 unfoldable pub invariants_hold : ℕ → ℕ → List Listed → Bool
-invariants_hold types partitions ls = list_all (listed_holds types partitions) ls && ascends nat_lt (map (λ l. unwrap_or (place_of types l.inv) 0) ls)
+invariants_hold types partitions ls =
+    list_all (listed_holds types partitions) ls
+    && ascends nat_lt (map (λ l. unwrap_or (place_of types l.inv) 0) ls)
 
 -- ---- merges
 
+-- a lower and a higher id, which a partition may have
 abbrev pub merge_holds : Merge → Bool
-merge_holds m = nat_lt m.p m.q && nat_le m.q 1023
+merge_holds m = nat_lt m.p m.q && nat_lt m.q MAX_PARTITIONS
 
--- at most 1,022 merges, each of a lower id and a higher one of at most 1,023
+-- no more such merges than there are ids beside the two ends
 unfoldable pub merges_hold : List Merge → Bool
-merges_hold ms = nat_le (length ms) 1022 && list_all merge_holds ms
+merges_hold ms = nat_le (length ms + FIRST_TYPE) MAX_PARTITIONS && list_all merge_holds ms
 
 -- ---- paths
 
--- ids of at most 1,023
+-- ids that a partition may have
 abbrev pub path_holds : List ℕ → Bool
-path_holds path = list_all (λ id. nat_le id 1023) path
-
--- how many numbers the paths of splits have together, and those of blocks
-abbrev pub split_numbers : List Split → ℕ
-split_numbers ss = sum_by (λ s. length s.path) ss
-
-abbrev pub block_numbers : List Block → ℕ
-block_numbers bs = sum_by (λ b. length b.path) bs
+path_holds path = list_all (λ id. nat_lt id MAX_PARTITIONS) path
 
 -- how much room is left after so many numbers, where there is room for them
 abbrev pub room_left : ℕ → ℕ → Option ℕ
@@ -139,9 +150,11 @@ room_left room n = if nat_le n room then Some (room - n) else None
 abbrev pub split_holds : ℕ → Split → Bool
 split_holds invariants s = nat_lt s.inv invariants && (nat_lt s.place (length s.path) && path_holds s.path)
 
--- at most 1,022 such splits, whose paths have at most 4,000,000 numbers together
+-- no more such splits than there are ids beside the two ends, and not too many numbers in their paths
 unfoldable pub splits_hold : ℕ → List Split → Bool
-splits_hold invariants ss = nat_le (length ss) 1022 && (list_all (split_holds invariants) ss && nat_le (split_numbers ss) 4000000)
+splits_hold invariants ss =
+    nat_le (length ss + FIRST_TYPE) MAX_PARTITIONS
+    && (list_all (split_holds invariants) ss && nat_le (split_numbers ss) MAX_PATH_NUMBERS)
 
 -- ---- blocks
 
@@ -153,17 +166,20 @@ are_one (Some s) (Some t) = s == t
 
 -- a lower and a higher id of listed partitions of one type, the number of a listed invariant, and a path of ids
 abbrev pub block_holds : (ℕ → Option ℕ) → ℕ → Block → Bool
-block_holds type invariants b = nat_lt b.p b.q && (are_one (type b.p) (type b.q) && (nat_lt b.inv invariants && path_holds b.path))
+block_holds type invariants b =
+    nat_lt b.p b.q && (are_one (type b.p) (type b.q) && (nat_lt b.inv invariants && path_holds b.path))
 
--- such blocks, which ascend by their two ids; the paths of splits and blocks have at most 4,000,000 numbers together
+-- such blocks, which ascend by their two ids, and not too many numbers in the paths of splits and blocks
 unfoldable pub blocks_hold : (ℕ → Option ℕ) → ℕ → List Split → List Block → Bool
 blocks_hold type invariants ss bs =
-    list_all (block_holds type invariants) bs && (ascends pair_less (map (λ b. (b.p, b.q)) bs) && nat_le (split_numbers ss + block_numbers bs) 4000000)
+    list_all (block_holds type invariants) bs
+    && (ascends pair_less (map (λ b. (b.p, b.q)) bs)
+    && nat_le (split_numbers ss + block_numbers bs) MAX_PATH_NUMBERS)
 
 -- ---- models
 
--- the seven rules
-pub record IsWellShaped (m : Model) : Type 0 where
+-- all seven tests are passed
+pub record PassesRules (m : Model) : Type 0 where
   pub types : IsTrue (types_hold m.types)
   pub partitions : IsTrue (partitions_hold (length m.types) m.partitions)
   pub edges : IsTrue (edges_hold (type_of m.partitions) m.edges)
@@ -171,3 +187,18 @@ pub record IsWellShaped (m : Model) : Type 0 where
   pub merges : IsTrue (merges_hold m.merges)
   pub splits : IsTrue (splits_hold (length m.invariants) m.splits)
   pub blocks : IsTrue (blocks_hold (type_of m.partitions) (length m.invariants) m.splits m.blocks)
+
+-- each test is passed exactly where the rule of a well-shaped model holds
+pub record RulesTell : Type 0 where
+  pub types : (ts : List (List ℕ)) → IsTrue (types_hold ts) ↔ AreTypes ts
+  pub partitions : (types : ℕ) (ps : List Partition)
+      → IsTrue (partitions_hold types ps) ↔ AreShapedPartitions types ps
+  pub edges : (ps : List Partition) (es : List Edge)
+      → IsTrue (edges_hold (type_of ps) es) ↔ AreShapedEdges ps es
+  pub invariants : (types partitions : ℕ) (ls : List Listed)
+      → IsTrue (invariants_hold types partitions ls) ↔ AreShapedInvariants types partitions ls
+  pub merges : (ms : List Merge) → IsTrue (merges_hold ms) ↔ AreShapedMerges ms
+  pub splits : (invariants : ℕ) (ss : List Split)
+      → IsTrue (splits_hold invariants ss) ↔ AreShapedSplits invariants ss
+  pub blocks : (invariants : ℕ) (ps : List Partition) (ss : List Split) (bs : List Block)
+      → IsTrue (blocks_hold (type_of ps) invariants ss bs) ↔ AreShapedBlocks invariants ps ss bs
