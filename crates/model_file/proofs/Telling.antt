@@ -19,12 +19,13 @@ use Rattle.invariants.proofs.Members.{Contains-from_place, place-from_Contains}
 use Rattle.model_shape.specs.Numbers.{split_numbers, block_numbers}
 use Rattle.model_shape.specs.Ascending.{LeadsTo, Ascends, EdgeBefore, BlockBefore, CandidateBefore}
 use Rattle.model_shape.specs.Shapes.{is_listed, listed_type, IsLabel, IsShapedEdge, AreShapedEdges, IsShapedListed, AreShapedInvariants, IsShapedMerge, AreShapedMerges, AreIds, IsShapedSplit, AreShapedSplits, IsShapedBlock, AreShapedBlocks, IsWellShaped}
-use Rattle.model_file.specs.Rules.{ascends_from, pair_less, type_of, edge_holds, edges_hold, place_of, listed_holds, invariants_hold, merge_holds, merges_hold, path_holds, split_holds, splits_hold, are_one, block_holds, blocks_hold, PassesRules, RulesTell}
+use Rattle.model_file.specs.Rules.{types_hold, partitions_hold, ascends_from, pair_less, type_of, edge_holds, edges_hold, place_of, listed_holds, invariants_hold, merge_holds, merges_hold, path_holds, split_holds, splits_hold, are_one, block_holds, blocks_hold, PassesRules, RulesTell, others_hold}
 use Rattle.model_file.specs.Laws.{ReadIsWellShaped}
 use Rattle.model_file.proofs.Places.{place-is, place-some}
 use Rattle.model_file.proofs.Bounds.{all-by, some-place, both-some}
 use Rattle.model_file.proofs.Shapes.{read-passes}
 use Rattle.model_file.proofs.Passing.{all-of, differs, differ, any, Gives, ascends-tell, Takes, ascends-told, pairs-give, pairs-take, types-tell, partitions-tell}
+use Rattle.model_file.proofs.Steps.{edges-rule-same, blocks-rule-same}
 
 -- ---- listed partitions
 
@@ -334,3 +335,35 @@ shaped m h =
 
 pub read-is-well-shaped : ReadIsWellShaped
 read-is-well-shaped bytes m e = shaped m (read-passes bytes m e)
+
+-- ---- the test of a whole model
+
+no-rule : (P : Type 0) → (P → ⊥) → (false ≡ true) ↔ P
+no-rule P not_so = (λ t. absurd (false≢true t), λ p. absurd (not_so p))
+
+pub no-types : (m : Model) → types_hold m.types ≡ false → (false ≡ true) ↔ IsWellShaped m
+no-types m fails = no-rule (IsWellShaped m) (λ w. false≢true (sym fails ∙ (passes m w).types))
+
+pub no-partitions : (m : Model) → partitions_hold (length m.types) m.partitions ≡ false → (false ≡ true) ↔ IsWellShaped m
+no-partitions m fails = no-rule (IsWellShaped m) (λ w. false≢true (sym fails ∙ (passes m w).partitions))
+
+others-same : (type : ℕ → Option ℕ) (m : Model) → ((id : ℕ) → type id ≡ type_of m.partitions id) → others_hold type m ≡ others_hold (type_of m.partitions) m
+others-same type m h =
+    rw (edges-rule-same type (type_of m.partitions) h m.edges, blocks-rule-same type (type_of m.partitions) h (length m.invariants) m.splits m.blocks) refl
+
+others-pass : (m : Model) → types_hold m.types ≡ true → partitions_hold (length m.types) m.partitions ≡ true → others_hold (type_of m.partitions) m ≡ true → PassesRules m
+others-pass m types partitions h =
+    let a = and_parts _ _ h in
+    let b = and_parts _ _ a.1 in
+    let c = and_parts _ _ b.1 in
+    let d = and_parts _ _ c.1 in
+    record { types = types; partitions = partitions; edges = a.0; invariants = b.0; merges = c.0; splits = d.0; blocks = d.1 }
+
+pass-others : (m : Model) → PassesRules m → others_hold (type_of m.partitions) m ≡ true
+pass-others m p = and_from _ _ p.edges (and_from _ _ p.invariants (and_from _ _ p.merges (and_from _ _ p.splits p.blocks)))
+
+pub others-tell : (m : Model) (type : ℕ → Option ℕ) (b : Bool) → types_hold m.types ≡ true → partitions_hold (length m.types) m.partitions ≡ true
+    → ((id : ℕ) → type id ≡ type_of m.partitions id) → b ≡ others_hold type m → (b ≡ true) ↔ IsWellShaped m
+others-tell m type b types partitions agree is =
+    let same = is ∙ others-same type m agree in
+    (λ t. shaped m (others-pass m types partitions (sym same ∙ t)), λ w. same ∙ pass-others m (passes m w))

@@ -178,6 +178,14 @@ blocks_hold type invariants ss bs =
 
 -- ---- models
 
+-- the rules that come after those of types and partitions; `type` gives the type of a listed partition
+abbrev pub others_hold : (ℕ → Option ℕ) → Model → Bool
+others_hold type m =
+    edges_hold type m.edges
+    && (invariants_hold (length m.types) (length m.partitions) m.invariants
+    && (merges_hold m.merges
+    && (splits_hold (length m.invariants) m.splits && blocks_hold type (length m.invariants) m.splits m.blocks)))
+
 -- all seven tests are passed
 pub record PassesRules (m : Model) : Type 0 where
   pub types : IsTrue (types_hold m.types)

@@ -23,4 +23,5 @@ pub use law::{
 };
 pub use reading::read_model;
 pub use refusal::{Field, FileError};
+pub use shape::is_well_shaped;
 pub use writing::write_model;

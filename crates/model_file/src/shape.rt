@@ -1,18 +1,20 @@
 //! The rules of a well-shaped model.
-ghost use Rattle.std.specs.Prelude.{◌≡◌, ◌≤◌, ◌+◌, map, unwrap_or, nat_lt, nat_le};
+ghost use Rattle.std.specs.Prelude.{◌↔◌, IsTrue, IfOk, length, ◌≡◌, ◌≤◌, ◌+◌, map, unwrap_or, nat_lt, nat_le};
 ghost use Rattle.limits.specs.declared.TheConstants.{MAX_TYPES, MAX_PATH_NUMBERS};
 ghost use Rattle.std.specs.List.{list_any, list_all};
 ghost use Rattle.std.specs.Str.{bytes_eq};
 ghost use Rattle.model_file.specs.Table.{type_at};
-ghost use Rattle.model_file.specs.Rules.{ascends, pair_less, are_distinct, type_holds, types_hold, ends_hold, partition_holds, partitions_hold, edge_holds, edges_hold, place_of, listed_holds, invariants_hold, merge_holds, merges_hold, path_holds, split_holds, room_left, splits_hold, are_one, block_holds, blocks_hold};
+ghost use Rattle.model_file.specs.Rules.{ascends, pair_less, are_distinct, type_holds, types_hold, ends_hold, partition_holds, partitions_hold, edge_holds, edges_hold, place_of, listed_holds, invariants_hold, merge_holds, merges_hold, path_holds, split_holds, room_left, splits_hold, are_one, block_holds, blocks_hold, others_hold};
+ghost use Rattle.model_shape.specs.Shapes.{IsWellShaped};
 ghost use Rattle.model_shape.specs.Numbers.{split_numbers, block_numbers};
 
-use crate::table::type_at;
-use invariants::{Block, Edge, Invariant, Listed, Merge, Partition, Split, Text, index_of};
+use crate::table::{type_at, types_by_id};
+use invariants::{Block, Edge, Invariant, Listed, Merge, Model, Partition, Split, Text, index_of};
 use limits::{
     FIRST_TYPE, INITIAL, MAX_EVENTS, MAX_PARTITIONS, MAX_PATH_NUMBERS, MAX_TYPE_BYTES, MAX_TYPES,
     TERMINAL,
 };
+use std::alloc::{AllocError, Global};
 
 fn stands_in(text: &str, types: &[Text]) -> bool
     ensures { result ≡ list_any (bytes_eq text.now) types.now }
@@ -355,4 +357,41 @@ pub(crate) fn blocks_hold(
         }
     }
     blocks_ascend(blocks) && numbers_fit(splits, blocks)
+}
+
+/// The lists whose rules come after those of the types and the partitions.
+fn others_hold(table: &[Option<u16>], model: &Model) -> bool
+    requires { length model.now.types ≤ MAX_TYPES }
+    ensures { result ≡ others_hold (type_at table.now) model.now }
+{
+    let listed = model.invariants.len();
+    edges_hold(table, model.edges.as_slice())
+        && invariants_hold(
+            model.types.len() as u32,
+            model.partitions.len(),
+            model.invariants.as_slice(),
+        )
+        && merges_hold(model.merges.as_slice())
+        && splits_hold(listed, model.splits.as_slice())
+        && blocks_hold(
+            table,
+            listed,
+            model.splits.as_slice(),
+            model.blocks.as_slice(),
+        )
+}
+
+/// Whether a model is well shaped, which `write_model` asks of it and `read_model` gives: for a caller who made the model
+/// and cannot know it.
+pub fn is_well_shaped(alloc: Global, model: &Model) -> Result<bool, AllocError>
+    ensures { IfOk result (λ shaped. IsTrue shaped ↔ IsWellShaped model.now) }
+{
+    if !types_hold(model.types.as_slice()) {
+        return Ok(false);
+    }
+    if !partitions_hold(model.types.len(), model.partitions.as_slice()) {
+        return Ok(false);
+    }
+    let table = types_by_id(alloc, model.partitions.as_slice())?;
+    Ok(others_hold(&table, model))
 }
