@@ -25,7 +25,8 @@ Fore inv g p = Reached inv g p (critical inv)
 -- some walk from p to TERMINAL brings it from its critical state to its bad one
 abbrev pub Back : Invariant → Graph → ℕ → Type 0
 Back inv g p =
-    (walk : List ℕ) × Walk g p walk TERMINAL × (is_bad inv (run inv (critical inv) (word g walk)) ≡ true)
+    (walk : List ℕ) × Walk g p walk TERMINAL
+    × (is_bad inv (run inv (critical inv) (word g walk)) ≡ true)
 
 -- one of the two is met by the critical state, and the bad end is ahead of the other
 abbrev pub Clash : Invariant → Graph → ℕ → ℕ → Type 0

@@ -26,7 +26,8 @@ MergeKeeps =
 
 -- each partition of an assignment's graph is on a path
 abbrev pub AllOnPaths : Type 0
-AllOnPaths = (h : Assignment) (p : ℕ) → IsTyped h → FIRST_TYPE ≤ p → (G h).listed p ≡ true → IsOnPath (G h) p
+AllOnPaths =
+    (h : Assignment) (p : ℕ) → IsTyped h → FIRST_TYPE ≤ p → (G h).listed p ≡ true → IsOnPath (G h) p
 
 -- what is met, ahead or on a path stays so in the merged graph
 abbrev pub MergedHasMore : Type 0
@@ -56,14 +57,16 @@ abbrev pub ForeFollows : Type 0
 ForeFollows =
     (g : Graph) (inv : Invariant) → Satisfies g inv
     → (step inv 0 (g.typ INITIAL) ≡ critical inv → Fore inv g INITIAL)
-    × ((u v : ℕ) → IsOnPath g u → IsOnPath g v → g.edge u v ≡ true → Enters inv (g.typ v) ⊎ (Stays inv (g.typ v) × Fore inv g u) → Fore inv g v)
+    × ((u v : ℕ) → IsOnPath g u → IsOnPath g v → g.edge u v ≡ true
+        → Enters inv (g.typ v) ⊎ (Stays inv (g.typ v) × Fore inv g u) → Fore inv g v)
 
 -- and they find all of it
 abbrev pub ForeIsLeast : Type 0
 ForeIsLeast =
     (g : Graph) (inv : Invariant) (found : ℕ → Bool)
     → (step inv 0 (g.typ INITIAL) ≡ critical inv → found INITIAL ≡ true)
-    → ((u v : ℕ) → g.edge u v ≡ true → Enters inv (g.typ v) ⊎ (Stays inv (g.typ v) × (found u ≡ true)) → found v ≡ true)
+    → ((u v : ℕ) → g.edge u v ≡ true
+        → Enters inv (g.typ v) ⊎ (Stays inv (g.typ v) × (found u ≡ true)) → found v ≡ true)
     → (p : ℕ) → Fore inv g p → found p ≡ true
 
 -- rules that find where the bad end is ahead: at TERMINAL if the critical state is bad, and against an edge to a type that falls into the bad state or leaves the monitor where it is
@@ -71,12 +74,14 @@ abbrev pub BackFollows : Type 0
 BackFollows =
     (g : Graph) (inv : Invariant)
     → (critical inv ≡ bad_of inv.kind → Back inv g TERMINAL)
-    × ((u v : ℕ) → IsOnPath g v → g.edge u v ≡ true → Falls inv (g.typ v) ⊎ (Stays inv (g.typ v) × Back inv g v) → Back inv g u)
+    × ((u v : ℕ) → IsOnPath g v → g.edge u v ≡ true
+        → Falls inv (g.typ v) ⊎ (Stays inv (g.typ v) × Back inv g v) → Back inv g u)
 
 -- and they find all of it on paths
 abbrev pub BackIsLeast : Type 0
 BackIsLeast =
     (g : Graph) (inv : Invariant) (found : ℕ → Bool) → Satisfies g inv
     → (critical inv ≡ bad_of inv.kind → found TERMINAL ≡ true)
-    → ((u v : ℕ) → g.edge u v ≡ true → Falls inv (g.typ v) ⊎ (Stays inv (g.typ v) × (found v ≡ true)) → found u ≡ true)
+    → ((u v : ℕ) → g.edge u v ≡ true
+        → Falls inv (g.typ v) ⊎ (Stays inv (g.typ v) × (found v ≡ true)) → found u ≡ true)
     → (p : ℕ) → IsOnPath g p → Back inv g p → found p ≡ true

@@ -10,7 +10,9 @@ use Rattle.limits.specs.declared.TheConstants.{MAX_MODEL_BYTES}
 
 -- bytes from which the value of a well-shaped model is read are read as that model
 abbrev pub TreesAreRead : Type 0
-TreesAreRead = (bytes : List ℕ) (m : Model) → length bytes ≤ MAX_MODEL_BYTES → value_of bytes ≡ Some (tree_of m) → IsWellShaped m → reads bytes ≡ Ok m
+TreesAreRead =
+    (bytes : List ℕ) (m : Model) → length bytes ≤ MAX_MODEL_BYTES
+    → value_of bytes ≡ Some (tree_of m) → IsWellShaped m → reads bytes ≡ Ok m
 
 -- what is written of a well-shaped model, whose types are texts, is read back as that model
 abbrev pub WrittenReadsBack : Type 0
@@ -22,7 +24,10 @@ ReadIsWellShaped = (bytes : List ℕ) (m : Model) → reads bytes ≡ Ok m → I
 
 -- A model that is read is that of an object which has just the keys of the model's value, each with the same value.
 abbrev pub ReadIsTree : Type 0
-ReadIsTree = (bytes : List ℕ) (m : Model) → reads bytes ≡ Ok m → (ms : Members) × (value_of bytes ≡ Some (object ms)) × ((key : List ℕ) → get_member key ms ≡ get_member key (members_in m))
+ReadIsTree =
+    (bytes : List ℕ) (m : Model) → reads bytes ≡ Ok m → (ms : Members)
+    × (value_of bytes ≡ Some (object ms))
+    × ((key : List ℕ) → get_member key ms ≡ get_member key (members_in m))
 
 -- the text of a well-shaped model is within the limit of a model file
 abbrev pub TextsAreShort : Type 0

@@ -50,7 +50,8 @@ type_holds text = nat_le 1 (length text) && nat_le (length text) MAX_TYPE_BYTES
 
 -- no more such types than a log may have, no two equal
 unfoldable pub types_hold : List (List ℕ) → Bool
-types_hold types = nat_le (length types) MAX_TYPES && (list_all type_holds types && are_distinct types)
+types_hold types =
+    nat_le (length types) MAX_TYPES && (list_all type_holds types && are_distinct types)
 
 -- ---- partitions
 
@@ -83,12 +84,14 @@ type_of ps id = option_map (λ p. p.typ) (find (λ p. p.id == id) ps)
 -- both ids are listed, nothing leaves TERMINAL and nothing enters INITIAL, and the count is within twice the limit on events, and not 0
 abbrev pub edge_holds : (ℕ → Option ℕ) → Edge → Bool
 edge_holds type e =
-    is_some (type e.from) && (is_some (type e.to) && (not (e.from == TERMINAL) && (not (e.to == INITIAL)
+    is_some (type e.from)
+    && (is_some (type e.to) && (not (e.from == TERMINAL) && (not (e.to == INITIAL)
     && (nat_le 1 e.count && nat_le e.count (2 * MAX_EVENTS)))))
 
 -- such edges, which ascend by where they come from and where they go to; `type` gives the type of a listed partition
 unfoldable pub edges_hold : (ℕ → Option ℕ) → List Edge → Bool
-edges_hold type es = list_all (edge_holds type) es && ascends pair_less (map (λ e. (e.from, e.to)) es)
+edges_hold type es =
+    list_all (edge_holds type) es && ascends pair_less (map (λ e. (e.from, e.to)) es)
 
 -- ---- invariants
 
@@ -148,7 +151,8 @@ room_left room n = if nat_le n room then Some (room - n) else None
 
 -- the number of a listed invariant, a path of ids, and a place in it
 abbrev pub split_holds : ℕ → Split → Bool
-split_holds invariants s = nat_lt s.inv invariants && (nat_lt s.place (length s.path) && path_holds s.path)
+split_holds invariants s =
+    nat_lt s.inv invariants && (nat_lt s.place (length s.path) && path_holds s.path)
 
 -- no more such splits than there are ids beside the two ends, and not too many numbers in their paths
 unfoldable pub splits_hold : ℕ → List Split → Bool
@@ -167,7 +171,8 @@ are_one (Some s) (Some t) = s == t
 -- a lower and a higher id of listed partitions of one type, the number of a listed invariant, and a path of ids
 abbrev pub block_holds : (ℕ → Option ℕ) → ℕ → Block → Bool
 block_holds type invariants b =
-    nat_lt b.p b.q && (are_one (type b.p) (type b.q) && (nat_lt b.inv invariants && path_holds b.path))
+    nat_lt b.p b.q
+    && (are_one (type b.p) (type b.q) && (nat_lt b.inv invariants && path_holds b.path))
 
 -- such blocks, which ascend by their two ids, and not too many numbers in the paths of splits and blocks
 unfoldable pub blocks_hold : (ℕ → Option ℕ) → ℕ → List Split → List Block → Bool
@@ -184,7 +189,8 @@ others_hold type m =
     edges_hold type m.edges
     && (invariants_hold (length m.types) (length m.partitions) m.invariants
     && (merges_hold m.merges
-    && (splits_hold (length m.invariants) m.splits && blocks_hold type (length m.invariants) m.splits m.blocks)))
+    && (splits_hold (length m.invariants) m.splits
+    && blocks_hold type (length m.invariants) m.splits m.blocks)))
 
 -- all seven tests are passed
 pub record PassesRules (m : Model) : Type 0 where

@@ -189,7 +189,8 @@ fn listed_holds(types: u32, partitions: usize, listed: &Listed) -> bool
 
 fn invariants_ascend(types: u32, invariants: &[Listed]) -> bool
     requires { types ≤ MAX_TYPES }
-    ensures { result ≡ ascends nat_lt (map (λ l. unwrap_or (place_of types l.inv) 0) invariants.now) }
+    ensures { result
+        ≡ ascends nat_lt (map (λ l. unwrap_or (place_of types l.inv) 0) invariants.now) }
 {
     let mut before = None;
     'invariants: for listed in invariants {
@@ -333,7 +334,8 @@ fn blocks_fit(blocks: &[Block], room: usize) -> bool
 }
 
 fn numbers_fit(splits: &[Split], blocks: &[Block]) -> bool
-    ensures { result ≡ nat_le (split_numbers splits.now + block_numbers blocks.now) MAX_PATH_NUMBERS }
+    ensures { result
+        ≡ nat_le (split_numbers splits.now + block_numbers blocks.now) MAX_PATH_NUMBERS }
 {
     match room_after_splits(splits) {
         Some(room) => blocks_fit(blocks, room),

@@ -23,7 +23,9 @@ pub(crate) fn type_at(table: &[Option<u16>], id: u32) -> Option<u16>
 /// Notes the type of a partition, unless one is noted for its id.
 fn note(table: &mut [Option<u16>], partition: Partition)
     requires { partition.id < length table.old }
-    ensures { (id : ℕ) → type_at table.new id ≡ option_or (type_at table.old id) (if partition.id == id then Some partition.typ else None) }
+    ensures { (id : ℕ)
+        → type_at table.new id
+        ≡ option_or (type_at table.old id) (if partition.id == id then Some partition.typ else None) }
 {
     let id = partition.id as usize;
     if table[id].is_none() {

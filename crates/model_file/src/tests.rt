@@ -1,3 +1,5 @@
+ghost use Rattle.std.specs.Prelude.{◌<◌, ◌≤◌};
+
 use super::*;
 use invariants::{
     Block, Edge, Invariant, Kind, Listed, Merge, Model, Partition, Seq, Split, Text, candidate,
@@ -18,37 +20,35 @@ const TWO: &str =
 const FIVE: &str =
     "{\"blocks\":[[3,7,3,[0,2,3,6,1]]],\"edges\":[[0,2,1],[0,5,1],[2,3,1],[3,4,1],[4,1,1],[5,7,1],[6,1,1],[7,6,1]],\"invariants\":[[\"AF\",0,3,\"21211211\"],[\"NF\",2,2,\"13222111\"],[\"AF\",2,3,\"11211111\"],[\"AF\",2,4,\"11221111\"],[\"AP\",2,4,\"13222111\"],[\"NF\",2,5,\"13222111\"],[\"NF\",2,6,\"13222111\"],[\"NF\",3,2,\"12122122\"],[\"NF\",3,3,\"12122122\"],[\"AP\",3,4,\"12122122\"],[\"NF\",3,5,\"12122122\"],[\"AP\",3,6,\"12122122\"],[\"NF\",4,2,\"13112111\"],[\"NF\",4,3,\"13112111\"],[\"NF\",4,4,\"13112111\"],[\"NF\",4,5,\"13112111\"],[\"NF\",4,6,\"13112111\"],[\"NF\",5,2,\"13111222\"],[\"AF\",5,3,\"11111211\"],[\"NF\",5,4,\"13111222\"],[\"NF\",5,5,\"13111222\"],[\"AF\",5,6,\"11111212\"],[\"AP\",5,6,\"13111222\"],[\"NF\",6,2,\"13111121\"],[\"NF\",6,3,\"13111121\"],[\"NF\",6,4,\"13111121\"],[\"NF\",6,5,\"13111121\"],[\"NF\",6,6,\"13111121\"]],\"merges\":[],\"partitions\":[[0,0,2],[1,1,2],[2,2,1],[3,3,1],[4,4,1],[5,5,1],[6,6,1],[7,3,1]],\"splits\":[[3,2,[0,2,3,6,1]]],\"types\":[\"a\",\"c\",\"d\",\"b\",\"e\"],\"version\":1}";
 
-/// The invariants of that model, with the digits of their labels.
-const INVARIANTS: [(Kind, u16, u16, &str); 28] = [
-    (Kind::AF, 0, 3, "21211211"),
-    (Kind::NF, 2, 2, "13222111"),
-    (Kind::AF, 2, 3, "11211111"),
-    (Kind::AF, 2, 4, "11221111"),
-    (Kind::AP, 2, 4, "13222111"),
-    (Kind::NF, 2, 5, "13222111"),
-    (Kind::NF, 2, 6, "13222111"),
-    (Kind::NF, 3, 2, "12122122"),
-    (Kind::NF, 3, 3, "12122122"),
-    (Kind::AP, 3, 4, "12122122"),
-    (Kind::NF, 3, 5, "12122122"),
-    (Kind::AP, 3, 6, "12122122"),
-    (Kind::NF, 4, 2, "13112111"),
-    (Kind::NF, 4, 3, "13112111"),
-    (Kind::NF, 4, 4, "13112111"),
-    (Kind::NF, 4, 5, "13112111"),
-    (Kind::NF, 4, 6, "13112111"),
-    (Kind::NF, 5, 2, "13111222"),
-    (Kind::AF, 5, 3, "11111211"),
-    (Kind::NF, 5, 4, "13111222"),
-    (Kind::NF, 5, 5, "13111222"),
-    (Kind::AF, 5, 6, "11111212"),
-    (Kind::AP, 5, 6, "13111222"),
-    (Kind::NF, 6, 2, "13111121"),
-    (Kind::NF, 6, 3, "13111121"),
-    (Kind::NF, 6, 4, "13111121"),
-    (Kind::NF, 6, 5, "13111121"),
-    (Kind::NF, 6, 6, "13111121"),
-];
+/// The invariants of that model, one a line: kind, two types, and the digits of the labels.
+const INVARIANTS: &str = "AF 0 3 21211211\n\
+NF 2 2 13222111\n\
+AF 2 3 11211111\n\
+AF 2 4 11221111\n\
+AP 2 4 13222111\n\
+NF 2 5 13222111\n\
+NF 2 6 13222111\n\
+NF 3 2 12122122\n\
+NF 3 3 12122122\n\
+AP 3 4 12122122\n\
+NF 3 5 12122122\n\
+AP 3 6 12122122\n\
+NF 4 2 13112111\n\
+NF 4 3 13112111\n\
+NF 4 4 13112111\n\
+NF 4 5 13112111\n\
+NF 4 6 13112111\n\
+NF 5 2 13111222\n\
+AF 5 3 11111211\n\
+NF 5 4 13111222\n\
+NF 5 5 13111222\n\
+AF 5 6 11111212\n\
+AP 5 6 13111222\n\
+NF 6 2 13111121\n\
+NF 6 3 13111121\n\
+NF 6 4 13111121\n\
+NF 6 5 13111121\n\
+NF 6 6 13111121";
 
 fn text_of(alloc: Global, text: &str) -> Result<Text, AllocError> {
     Ok(Text::from_string(String::from_str(alloc, text)?))
@@ -69,63 +69,100 @@ fn path_of(alloc: Global, ids: &[u32]) -> Result<Seq<u32>, AllocError> {
     Ok(Seq::from_vec(path))
 }
 
+/// The number of a decimal digit.
+fn digit(text: &str) -> u8 {
+    match text.as_bytes().first() {
+        Some(byte) => byte.wrapping_sub(b'0'),
+        None => 0,
+    }
+}
+
+fn kind_of(name: &str) -> Kind {
+    match name {
+        "AF" => Kind::AF,
+        "NF" => Kind::NF,
+        _ => Kind::AP,
+    }
+}
+
+fn labels_of(alloc: Global, digits: &str) -> Result<Seq<u8>, AllocError> {
+    let mut labels = Vec::new(alloc);
+    for byte in digits.as_bytes() {
+        labels.push(byte.wrapping_sub(b'0'))?;
+    }
+    Ok(Seq::from_vec(labels))
+}
+
+/// An invariant of a line of `INVARIANTS`.
+fn listed_of(alloc: Global, line: &str) -> Result<Listed, AllocError> {
+    let mut words = line.split(' ');
+    let kind = kind_of(words.next().unwrap_or(""));
+    let a = u16::from(digit(words.next().unwrap_or("")));
+    let b = u16::from(digit(words.next().unwrap_or("")));
+    let labels = labels_of(alloc, words.next().unwrap_or(""))?;
+    Ok(Listed {
+        inv: Invariant { kind, a, b },
+        labels,
+    })
+}
+
 /// The invariants of the log of two traces a c d and b c e.
 fn invariants_of(alloc: Global) -> Result<Seq<Listed>, AllocError> {
     let mut invariants = Vec::new(alloc);
-    for (kind, a, b, digits) in INVARIANTS {
-        let mut labels = Vec::new(alloc);
-        for digit in digits.as_bytes() {
-            labels.push(digit.wrapping_sub(b'0'))?;
-        }
-        invariants.push(Listed {
-            inv: Invariant { kind, a, b },
-            labels: Seq::from_vec(labels),
-        })?;
+    for line in INVARIANTS.split('\n') {
+        invariants.push(listed_of(alloc, line)?)?;
     }
     Ok(Seq::from_vec(invariants))
 }
 
+/// Partitions in a line of id and type; each of events has one.
+fn partitions_of(alloc: Global, pairs: &str) -> Result<Seq<Partition>, AllocError> {
+    let mut partitions = Vec::new(alloc);
+    for pair in pairs.split(' ') {
+        let (id, typ) = pair.split_once(':').unwrap_or(("", ""));
+        let id = u32::from(digit(id));
+        let typ = u16::from(digit(typ));
+        let count = if id < 2 { 2 } else { 1 };
+        partitions.push(Partition { id, typ, count })?;
+    }
+    Ok(Seq::from_vec(partitions))
+}
+
+/// Edges in a line, each passed once.
+fn edges_of(alloc: Global, pairs: &str) -> Result<Seq<Edge>, AllocError> {
+    let mut edges = Vec::new(alloc);
+    for pair in pairs.split(' ') {
+        let (from, to) = pair.split_once(':').unwrap_or(("", ""));
+        let from = u32::from(digit(from));
+        let to = u32::from(digit(to));
+        edges.push(Edge { from, to, count: 1 })?;
+    }
+    Ok(Seq::from_vec(edges))
+}
+
 /// The model of that log, by hand.
 fn model_by_hand(alloc: Global) -> Result<Model, AllocError> {
-    let part = |id, typ, count| Partition { id, typ, count };
-    let edge = |from, to, count| Edge { from, to, count };
-    let split = Split {
+    let mut splits = Vec::new(alloc);
+    splits.push(Split {
         inv: 3,
         place: 2,
         path: path_of(alloc, &[0, 2, 3, 6, 1])?,
-    };
-    let block = Block {
+    })?;
+    let mut blocks = Vec::new(alloc);
+    blocks.push(Block {
         p: 3,
         q: 7,
         inv: 3,
         path: path_of(alloc, &[0, 2, 3, 6, 1])?,
-    };
+    })?;
     Ok(Model {
         types: types_of(alloc, "a c d b e")?,
-        partitions: Seq::from_vec(vec![in alloc;
-            part(0, 0, 2),
-            part(1, 1, 2),
-            part(2, 2, 1),
-            part(3, 3, 1),
-            part(4, 4, 1),
-            part(5, 5, 1),
-            part(6, 6, 1),
-            part(7, 3, 1),
-        ]?),
-        edges: Seq::from_vec(vec![in alloc;
-            edge(0, 2, 1),
-            edge(0, 5, 1),
-            edge(2, 3, 1),
-            edge(3, 4, 1),
-            edge(4, 1, 1),
-            edge(5, 7, 1),
-            edge(6, 1, 1),
-            edge(7, 6, 1),
-        ]?),
+        partitions: partitions_of(alloc, "0:0 1:1 2:2 3:3 4:4 5:5 6:6 7:3")?,
+        edges: edges_of(alloc, "0:2 0:5 2:3 3:4 4:1 5:7 6:1 7:6")?,
         invariants: invariants_of(alloc)?,
-        splits: Seq::from_vec(vec![in alloc; split]?),
+        splits: Seq::from_vec(splits),
         merges: Seq::from_vec(Vec::new(alloc)),
-        blocks: Seq::from_vec(vec![in alloc; block]?),
+        blocks: Seq::from_vec(blocks),
     })
 }
 
@@ -225,32 +262,151 @@ fn the_worked_text_is_written_and_read(rt: HostRuntime) -> Result<(), Fail> {
     Ok(())
 }
 
+/// What is refused, one a line: how, and the text.
+const SMALL: &str = "NotJson | \n\
+NotJson |  \n\
+NotJson | {\"version\":1}x\n\
+Root | []\n\
+Root | 1\n\
+Root | \"version\"\n\
+Version | {}\n\
+Version | {\"x\":0}\n\
+Version | {\"version\":-1}\n\
+Version | {\"version\":1.5}\n\
+0 | {\"version\":0}\n\
+2 | {\"version\":2}\n\
+2 | {\"x\":0,\"version\":2}\n\
+18446744073709551615 | {\"version\":18446744073709551615}\n\
+Extra | {\"version\":1,\"x\":0}\n\
+Types | {\"version\":1}";
+
+/// Changes of the text `FIVE`, one a line, of which each breaks a rule: the part that is refused, what stands there, and what comes in its place.
+const CHANGES: &str = "Types | \"a\",\"c\" | \"a\",\"a\"\n\
+Types | \"types\":[\"a\" | \"types\":[\"\"\n\
+Types | \"types\":[\"a\" | \"types\":[2\n\
+Types | \"types\":[\"a\",\"c\",\"d\",\"b\",\"e\"] | \"types\":\"acdbe\"\n\
+Types | ,\"types\":[\"a\",\"c\",\"d\",\"b\",\"e\"] | \n\
+Partitions | [[0,0,2],[1,1,2], | [[0,0,2],\n\
+Partitions | [[0,0,2],[1,1,2] | [[0,0,2],[1,1,3]\n\
+Partitions | [[0,0,2],[1,1,2] | [[1,1,2],[0,0,2]\n\
+Partitions | [[0,0,2],[1,1,2] | [[0,0,1000001],[1,1,1000001]\n\
+Partitions | [2,2,1],[3,3,1] | [3,3,1],[2,2,1]\n\
+Partitions | [2,2,1],[3,3,1] | [2,2,1],[2,2,1]\n\
+Partitions | [7,3,1] | [1024,3,1]\n\
+Partitions | [7,3,1] | [7,1,1]\n\
+Partitions | [7,3,1] | [7,7,1]\n\
+Partitions | [7,3,1] | [7,9,1]\n\
+Partitions | [7,3,1] | [7,3,0]\n\
+Partitions | [7,3,1] | [7,3,1000001]\n\
+Partitions | [7,3,1] | [7,3]\n\
+Partitions | [7,3,1] | [7,3,-1]\n\
+Partitions | [7,3,1] | [7,3,1,1]\n\
+Partitions | [7,3,1] | [7,3,\"1\"]\n\
+Partitions | [7,3,1] | [7,65539,1]\n\
+Partitions | [7,3,1] | [7,3,4294967297]\n\
+Edges | [0,2,1],[0,5,1] | [0,5,1],[0,2,1]\n\
+Edges | [0,2,1] | [0,2,1],[0,2,1]\n\
+Edges | [2,3,1],[3,4,1] | [3,4,1],[2,3,1]\n\
+Edges | [0,2,1] | [0,2,0]\n\
+Edges | [0,2,1] | [0,2,2000001]\n\
+Edges | [7,6,1]] | [7,8,1]]\n\
+Edges | [7,6,1]] | [7,6,1],[8,6,1]]\n\
+Edges | [0,2,1] | [0,0,1],[0,2,1]\n\
+Edges | [2,3,1] | [1,3,1],[2,3,1]\n\
+Edges | [0,2,1] | [0,2]\n\
+Edges | [0,2,1] | {\"0\":2}\n\
+Invariants | [\"AF\",0,3,\"21211211\"],[\"NF\",2,2,\"13222111\"] | [\"NF\",2,2,\"13222111\"],[\"AF\",0,3,\"21211211\"]\n\
+Invariants | [\"AF\",0,3,\"21211211\"] | [\"AF\",0,3,\"21211211\"],[\"AF\",0,3,\"21211211\"]\n\
+Invariants | [\"NF\",2,2, | [\"NF\",0,2,\n\
+Invariants | [\"NF\",2,2, | [\"NF\",2,7,\n\
+Invariants | [\"NF\",2,2, | [\"AC\",2,2,\n\
+Invariants | [\"NF\",2,2, | [2,2,2,\n\
+Invariants | \"21211211\" | \"2121121\"\n\
+Invariants | \"21211211\" | \"212112111\"\n\
+Invariants | \"21211211\" | \"21211218\"\n\
+Invariants | \"21211211\" | \"2121121/\"\n\
+Invariants | \"21211211\" | 21211211\n\
+Merges | \"merges\":[] | \"merges\":[[3,1024]]\n\
+Merges | \"merges\":[] | \"merges\":[[3,3]]\n\
+Merges | \"merges\":[] | \"merges\":[[7,3]]\n\
+Merges | \"merges\":[] | \"merges\":[[3]]\n\
+Merges | \"merges\":[], | \n\
+Merges | \"merges\":[] | \"merges\":{}\n\
+Splits | \"splits\":[[3,2 | \"splits\":[[28,2\n\
+Splits | \"splits\":[[3,2 | \"splits\":[[3,5\n\
+Splits | \"splits\":[[3,2,[0,2,3,6,1]]] | \"splits\":[[3,2,[0,2,1024,6,1]]]\n\
+Splits | \"splits\":[[3,2,[0,2,3,6,1]]] | \"splits\":[[3,2]]\n\
+Blocks | [[3,7,3, | [[7,3,3,\n\
+Blocks | [[3,7,3, | [[3,3,3,\n\
+Blocks | [[3,7,3, | [[3,4,3,\n\
+Blocks | [[3,7,3, | [[3,8,3,\n\
+Blocks | [[3,7,3, | [[3,7,28,\n\
+Blocks | [[3,7,3,[0,2,3,6,1]]] | [[3,7,3,[0,2,1024,6,1]]]\n\
+Blocks | [[3,7,3,[0,2,3,6,1]]] | [[3,7,3,[0,2,3,6,1]],[3,7,3,[0,2,3,6,1]]]\n\
+Blocks | [[3,7,3,[0,2,3,6,1]]] | [[3,7,3,7]]\n\
+Version | ,\"version\":1 | \n\
+Version | \"version\":1 | \"version\":\"1\"\n\
+Version | \"version\":1 | \"version\":null\n\
+Version | \"version\":1 | \"version\":[1]\n\
+Extra | \"version\":1 | \"version\":1,\"kinds\":[]";
+
+fn field_named(name: &str) -> Field {
+    match name {
+        "Root" => Field::Root,
+        "Version" => Field::Version,
+        "Extra" => Field::Extra,
+        "Types" => Field::Types,
+        "Partitions" => Field::Partitions,
+        "Edges" => Field::Edges,
+        "Invariants" => Field::Invariants,
+        "Merges" => Field::Merges,
+        "Splits" => Field::Splits,
+        _ => Field::Blocks,
+    }
+}
+
+/// A refusal by its name: of a part, of a text that is not JSON, or of the version with this number.
+fn refusal_named(name: &str) -> FileError {
+    if name == "NotJson" {
+        return FileError::NotJson;
+    }
+    let mut version = 0u64;
+    for byte in name.as_bytes() {
+        if !byte.is_ascii_digit() {
+            return FileError::Shape(field_named(name));
+        }
+        version = version
+            .wrapping_mul(10)
+            .wrapping_add(u64::from(byte.wrapping_sub(b'0')));
+    }
+    FileError::Version(version)
+}
+
+/// The text `FIVE` after a change of `CHANGES`, or nothing where it does not fit.
+fn changed_by(alloc: Global, text: &str, change: &str) -> Result<String, AllocError> {
+    let Some((_, change)) = change.split_once(" | ") else {
+        return Ok(String::new(alloc));
+    };
+    let Some((old, new)) = change.split_once(" | ") else {
+        return Ok(String::new(alloc));
+    };
+    changed(alloc, text, old, new)
+}
+
+/// How a line of a table is refused.
+fn refusal_of(line: &str) -> FileError {
+    match line.split_once(" | ") {
+        Some((name, _)) => refusal_named(name),
+        None => FileError::TooLong,
+    }
+}
+
 #[test]
 fn small_files_are_refused(rt: HostRuntime) -> Result<(), Fail> {
     let alloc = rt.alloc();
-    let whole = [
-        ("", FileError::NotJson),
-        (" ", FileError::NotJson),
-        ("{\"version\":1}x", FileError::NotJson),
-        ("[]", FileError::Shape(Field::Root)),
-        ("1", FileError::Shape(Field::Root)),
-        ("\"version\"", FileError::Shape(Field::Root)),
-        ("{}", FileError::Shape(Field::Version)),
-        ("{\"x\":0}", FileError::Shape(Field::Version)),
-        ("{\"version\":-1}", FileError::Shape(Field::Version)),
-        ("{\"version\":1.5}", FileError::Shape(Field::Version)),
-        ("{\"version\":0}", FileError::Version(0)),
-        ("{\"version\":2}", FileError::Version(2)),
-        ("{\"x\":0,\"version\":2}", FileError::Version(2)),
-        (
-            "{\"version\":18446744073709551615}",
-            FileError::Version(18446744073709551615),
-        ),
-        ("{\"version\":1,\"x\":0}", FileError::Shape(Field::Extra)),
-        ("{\"version\":1}", FileError::Shape(Field::Types)),
-    ];
-    for (text, wanted) in whole {
-        assert!(rt; refusal(alloc, text) == Some(wanted), "{text}");
+    for line in SMALL.split('\n') {
+        let (_, text) = line.split_once(" | ").unwrap_or(("", "x"));
+        assert!(rt; refusal(alloc, text) == Some(refusal_of(line)), "{line}");
     }
     assert!(rt; matches!(read_model(alloc, b"\"\xff\""), Err(FileError::NotJson)));
     for length in 0..FIVE.len() {
@@ -263,117 +419,11 @@ fn small_files_are_refused(rt: HostRuntime) -> Result<(), Fail> {
 #[test]
 fn each_rule_is_broken_by_one_change(rt: HostRuntime) -> Result<(), Fail> {
     let alloc = rt.alloc();
-    let changes = [
-        ("\"a\",\"c\"", "\"a\",\"a\"", Field::Types),
-        ("\"types\":[\"a\"", "\"types\":[\"\"", Field::Types),
-        ("\"types\":[\"a\"", "\"types\":[2", Field::Types),
-        (
-            "\"types\":[\"a\",\"c\",\"d\",\"b\",\"e\"]",
-            "\"types\":\"acdbe\"",
-            Field::Types,
-        ),
-        (
-            ",\"types\":[\"a\",\"c\",\"d\",\"b\",\"e\"]",
-            "",
-            Field::Types,
-        ),
-        ("[[0,0,2],[1,1,2],", "[[0,0,2],", Field::Partitions),
-        ("[[0,0,2],[1,1,2]", "[[0,0,2],[1,1,3]", Field::Partitions),
-        ("[[0,0,2],[1,1,2]", "[[1,1,2],[0,0,2]", Field::Partitions),
-        (
-            "[[0,0,2],[1,1,2]",
-            "[[0,0,1000001],[1,1,1000001]",
-            Field::Partitions,
-        ),
-        ("[2,2,1],[3,3,1]", "[3,3,1],[2,2,1]", Field::Partitions),
-        ("[2,2,1],[3,3,1]", "[2,2,1],[2,2,1]", Field::Partitions),
-        ("[7,3,1]", "[1024,3,1]", Field::Partitions),
-        ("[7,3,1]", "[7,1,1]", Field::Partitions),
-        ("[7,3,1]", "[7,7,1]", Field::Partitions),
-        ("[7,3,1]", "[7,9,1]", Field::Partitions),
-        ("[7,3,1]", "[7,3,0]", Field::Partitions),
-        ("[7,3,1]", "[7,3,1000001]", Field::Partitions),
-        ("[7,3,1]", "[7,3]", Field::Partitions),
-        ("[7,3,1]", "[7,3,-1]", Field::Partitions),
-        ("[7,3,1]", "[7,3,1,1]", Field::Partitions),
-        ("[7,3,1]", "[7,3,\"1\"]", Field::Partitions),
-        ("[7,3,1]", "[7,65539,1]", Field::Partitions),
-        ("[7,3,1]", "[7,3,4294967297]", Field::Partitions),
-        ("[0,2,1],[0,5,1]", "[0,5,1],[0,2,1]", Field::Edges),
-        ("[0,2,1]", "[0,2,1],[0,2,1]", Field::Edges),
-        ("[2,3,1],[3,4,1]", "[3,4,1],[2,3,1]", Field::Edges),
-        ("[0,2,1]", "[0,2,0]", Field::Edges),
-        ("[0,2,1]", "[0,2,2000001]", Field::Edges),
-        ("[7,6,1]]", "[7,8,1]]", Field::Edges),
-        ("[7,6,1]]", "[7,6,1],[8,6,1]]", Field::Edges),
-        ("[0,2,1]", "[0,0,1],[0,2,1]", Field::Edges),
-        ("[2,3,1]", "[1,3,1],[2,3,1]", Field::Edges),
-        ("[0,2,1]", "[0,2]", Field::Edges),
-        ("[0,2,1]", "{\"0\":2}", Field::Edges),
-        (
-            "[\"AF\",0,3,\"21211211\"],[\"NF\",2,2,\"13222111\"]",
-            "[\"NF\",2,2,\"13222111\"],[\"AF\",0,3,\"21211211\"]",
-            Field::Invariants,
-        ),
-        (
-            "[\"AF\",0,3,\"21211211\"]",
-            "[\"AF\",0,3,\"21211211\"],[\"AF\",0,3,\"21211211\"]",
-            Field::Invariants,
-        ),
-        ("[\"NF\",2,2,", "[\"NF\",0,2,", Field::Invariants),
-        ("[\"NF\",2,2,", "[\"NF\",2,7,", Field::Invariants),
-        ("[\"NF\",2,2,", "[\"AC\",2,2,", Field::Invariants),
-        ("[\"NF\",2,2,", "[2,2,2,", Field::Invariants),
-        ("\"21211211\"", "\"2121121\"", Field::Invariants),
-        ("\"21211211\"", "\"212112111\"", Field::Invariants),
-        ("\"21211211\"", "\"21211218\"", Field::Invariants),
-        ("\"21211211\"", "\"2121121/\"", Field::Invariants),
-        ("\"21211211\"", "21211211", Field::Invariants),
-        ("\"merges\":[]", "\"merges\":[[3,1024]]", Field::Merges),
-        ("\"merges\":[]", "\"merges\":[[3,3]]", Field::Merges),
-        ("\"merges\":[]", "\"merges\":[[7,3]]", Field::Merges),
-        ("\"merges\":[]", "\"merges\":[[3]]", Field::Merges),
-        ("\"merges\":[],", "", Field::Merges),
-        ("\"merges\":[]", "\"merges\":{}", Field::Merges),
-        ("\"splits\":[[3,2", "\"splits\":[[28,2", Field::Splits),
-        ("\"splits\":[[3,2", "\"splits\":[[3,5", Field::Splits),
-        (
-            "\"splits\":[[3,2,[0,2,3,6,1]]]",
-            "\"splits\":[[3,2,[0,2,1024,6,1]]]",
-            Field::Splits,
-        ),
-        (
-            "\"splits\":[[3,2,[0,2,3,6,1]]]",
-            "\"splits\":[[3,2]]",
-            Field::Splits,
-        ),
-        ("[[3,7,3,", "[[7,3,3,", Field::Blocks),
-        ("[[3,7,3,", "[[3,3,3,", Field::Blocks),
-        ("[[3,7,3,", "[[3,4,3,", Field::Blocks),
-        ("[[3,7,3,", "[[3,8,3,", Field::Blocks),
-        ("[[3,7,3,", "[[3,7,28,", Field::Blocks),
-        (
-            "[[3,7,3,[0,2,3,6,1]]]",
-            "[[3,7,3,[0,2,1024,6,1]]]",
-            Field::Blocks,
-        ),
-        (
-            "[[3,7,3,[0,2,3,6,1]]]",
-            "[[3,7,3,[0,2,3,6,1]],[3,7,3,[0,2,3,6,1]]]",
-            Field::Blocks,
-        ),
-        ("[[3,7,3,[0,2,3,6,1]]]", "[[3,7,3,7]]", Field::Blocks),
-        (",\"version\":1", "", Field::Version),
-        ("\"version\":1", "\"version\":\"1\"", Field::Version),
-        ("\"version\":1", "\"version\":null", Field::Version),
-        ("\"version\":1", "\"version\":[1]", Field::Version),
-        ("\"version\":1", "\"version\":1,\"kinds\":[]", Field::Extra),
-    ];
-    for (old, new, field) in changes {
-        let text = changed(alloc, FIVE, old, new)?;
+    for change in CHANGES.split('\n') {
+        let text = changed_by(alloc, FIVE, change)?;
         assert!(rt;
-            refusal(alloc, &text) == Some(FileError::Shape(field)),
-            "{old} {new}"
+            refusal(alloc, &text) == Some(refusal_of(change)),
+            "{change}"
         );
     }
     Ok(())
@@ -417,38 +467,42 @@ fn types_keep_their_limits(rt: HostRuntime) -> Result<(), Fail> {
     Ok(())
 }
 
+/// A change for each part, in the order in which parts are refused.
+const PARTS: &str = "Types | \"types\":[\"a\",\"c\" | \"types\":[\"a\",\"a\"\n\
+Partitions | [7,3,1] | [7,9,1]\n\
+Edges | [0,2,1] | [0,2,1],[0,2,1]\n\
+Invariants | \"21211211\" | \"21211218\"\n\
+Merges | \"merges\":[] | \"merges\":[[3,1024]]\n\
+Splits | \"splits\":[[3, | \"splits\":[[28,\n\
+Blocks | \"blocks\":[[3,7,3, | \"blocks\":[[7,3,3,";
+
 #[test]
 fn the_first_refusal_is_answered(rt: HostRuntime) -> Result<(), Fail> {
     let alloc = rt.alloc();
-    let changes = [
-        (
-            Field::Types,
-            "\"types\":[\"a\",\"c\"",
-            "\"types\":[\"a\",\"a\"",
-        ),
-        (Field::Partitions, "[7,3,1]", "[7,9,1]"),
-        (Field::Edges, "[0,2,1]", "[0,2,1],[0,2,1]"),
-        (Field::Invariants, "\"21211211\"", "\"21211218\""),
-        (Field::Merges, "\"merges\":[]", "\"merges\":[[3,1024]]"),
-        (Field::Splits, "\"splits\":[[3,", "\"splits\":[[28,"),
-        (Field::Blocks, "\"blocks\":[[3,7,3,", "\"blocks\":[[7,3,3,"),
-    ];
-    for (i, (field, old, new)) in changes.iter().enumerate() {
-        let first = changed(alloc, FIVE, old, new)?;
+    for (i, change) in PARTS.split('\n').enumerate() {
+        let first = changed_by(alloc, FIVE, change)?;
         assert!(rt;
-            refusal(alloc, &first) == Some(FileError::Shape(*field)),
-            "{old}"
+            refusal(alloc, &first) == Some(refusal_of(change)),
+            "{change}"
         );
-        for (_, later, changed_to) in &changes[i + 1..] {
-            let both = changed(alloc, &first, later, changed_to)?;
-            assert!(rt;
-                refusal(alloc, &both) == Some(FileError::Shape(*field)),
-                "{old} {later}"
-            );
+        for (j, later) in PARTS.split('\n').enumerate() {
+            if j > i {
+                let both = changed_by(alloc, &first, later)?;
+                assert!(rt;
+                    refusal(alloc, &both) == Some(refusal_of(change)),
+                    "{change} {later}"
+                );
+            }
         }
     }
     Ok(())
 }
+
+/// Changes of the text `NONE` that change nothing of what it says: a key twice, of which the last counts, and a letter of a key by its number.
+const DOUBLES: &str = "Same | \"types\":[] | \"types\":[\"x\"],\"types\":[]\n\
+Same | \"blocks\":[] | \"version\":7,\"blocks\":[]\n\
+Same | \"edges\":[] | \"edges\":null,\"edges\":[]\n\
+Same | \"version\" | \"vers\\u0069on\"";
 
 #[test]
 fn other_orders_blanks_and_doubles_are_read(rt: HostRuntime) -> Result<(), Fail> {
@@ -457,71 +511,95 @@ fn other_orders_blanks_and_doubles_are_read(rt: HostRuntime) -> Result<(), Fail>
         "{ \"version\" : 1,\n \"types\":[], \"splits\": [ ],\t\"partitions\":[[0,0,0] , [1,1,0]],\"merges\":[],\r\n\"invariants\":[],\"edges\":[],\"blocks\":[]}\n";
     let model = read_model(alloc, blanks.as_bytes())?;
     assert!(rt; stands_for(alloc, &model, NONE)?);
-    let doubles = [
-        ("\"types\":[]", "\"types\":[\"x\"],\"types\":[]"),
-        ("\"blocks\":[]", "\"version\":7,\"blocks\":[]"),
-        ("\"edges\":[]", "\"edges\":null,\"edges\":[]"),
-        ("\"version\"", "\"vers\\u0069on\""),
-    ];
-    for (old, new) in doubles {
-        let text = changed(alloc, NONE, old, new)?;
+    for change in DOUBLES.split('\n') {
+        let text = changed_by(alloc, NONE, change)?;
         let model = read_model(alloc, text.as_bytes())?;
-        assert!(rt; stands_for(alloc, &model, NONE)?, "{new}");
+        assert!(rt; stands_for(alloc, &model, NONE)?, "{change}");
     }
     Ok(())
+}
+
+/// Characters by their numbers in hexadecimal, and how a text of one is quoted; where nothing is said, as it stands.
+const QUOTED: &str = "22 \"\\\"\"\n\
+5c \"\\\\\"\n\
+2f \"/\"\n\
+8 \"\\b\"\n\
+9 \"\\t\"\n\
+a \"\\n\"\n\
+c \"\\f\"\n\
+d \"\\r\"\n\
+0 \"\\u0000\"\n\
+1 \"\\u0001\"\n\
+1f \"\\u001f\"\n\
+20 \" \"\n\
+61 \"a\"\n\
+7f\n\
+e9\n\
+7ff\n\
+800\n\
+20ac\n\
+2028\n\
+ffff\n\
+1f600\n\
+10ffff";
+
+/// Other spellings that are read as these characters.
+const SPELLINGS: &str = "2f \"\\/\"\n\
+e9 \"\\u00e9\"\n\
+1f600 \"\\uD83D\\uDE00\"\n\
+a \"\\u000a\"\n\
+22 \"\\u0022\"";
+
+/// A text of the character with this number in hexadecimal.
+fn character(alloc: Global, number: &str) -> Result<String, AllocError> {
+    let mut value = 0u32;
+    for byte in number.as_bytes() {
+        let digit = if byte.is_ascii_digit() {
+            byte.wrapping_sub(b'0')
+        } else {
+            byte.wrapping_sub(b'a').wrapping_add(10)
+        };
+        value = value.wrapping_mul(16).wrapping_add(u32::from(digit));
+    }
+    let mut text = String::new(alloc);
+    if let Some(character) = char::from_u32(value) {
+        text.push(character)?;
+    }
+    Ok(text)
+}
+
+/// The model of a log of no events, with one type.
+fn model_with(alloc: Global, text: &str) -> Result<Model, Fail> {
+    let mut types = Vec::new(alloc);
+    types.push(text_of(alloc, text)?)?;
+    let mut model = read_model(alloc, NONE.as_bytes())?;
+    model.types = Seq::from_vec(types);
+    Ok(model)
+}
+
+/// Its file, where the text of the type is quoted so.
+fn file_with(alloc: Global, quoted: &str) -> Result<String, AllocError> {
+    let new = format!(in alloc; "\"types\":[{quoted}]")?;
+    changed(alloc, NONE, "\"types\":[]", &new)
 }
 
 #[test]
 fn texts_of_every_kind(rt: HostRuntime) -> Result<(), Fail> {
     let alloc = rt.alloc();
-    let texts = [
-        ("\"", "\"\\\"\""),
-        ("\\", "\"\\\\\""),
-        ("/", "\"/\""),
-        ("\u{8}", "\"\\b\""),
-        ("\t", "\"\\t\""),
-        ("\n", "\"\\n\""),
-        ("\u{c}", "\"\\f\""),
-        ("\r", "\"\\r\""),
-        ("\u{0}", "\"\\u0000\""),
-        ("\u{1}", "\"\\u0001\""),
-        ("\u{1f}", "\"\\u001f\""),
-        ("\u{7f}", "\"\u{7f}\""),
-        (" ", "\" \""),
-        ("a", "\"a\""),
-        ("é", "\"é\""),
-        ("\u{7ff}", "\"\u{7ff}\""),
-        ("\u{800}", "\"\u{800}\""),
-        ("€", "\"€\""),
-        ("\u{2028}", "\"\u{2028}\""),
-        ("\u{ffff}", "\"\u{ffff}\""),
-        ("😀", "\"😀\""),
-        ("\u{10ffff}", "\"\u{10ffff}\""),
-    ];
-    for (text, quoted) in texts {
-        let mut types = Vec::new(alloc);
-        types.push(text_of(alloc, text)?)?;
-        let mut model = read_model(alloc, NONE.as_bytes())?;
-        model.types = Seq::from_vec(types);
-        let new = format!(in alloc; "\"types\":[{quoted}]")?;
-        let file = changed(alloc, NONE, "\"types\":[]", &new)?;
-        assert!(rt; stands_for(alloc, &model, &file)?, "{quoted}");
+    for line in QUOTED.split('\n') {
+        let (number, quoted) = line.split_once(' ').unwrap_or((line, ""));
+        let text = character(alloc, number)?;
+        let model = model_with(alloc, &text)?;
+        let raw = format!(in alloc; "\"{text}\"")?;
+        let file = file_with(alloc, if quoted.is_empty() { &raw } else { quoted })?;
+        assert!(rt; stands_for(alloc, &model, &file)?, "{line}");
     }
-    let spellings = [
-        ("\"\\/\"", "\"/\""),
-        ("\"\\u00e9\"", "\"é\""),
-        ("\"\\uD83D\\uDE00\"", "\"😀\""),
-        ("\"\\u000a\"", "\"\\n\""),
-    ];
-    for (other, quoted) in spellings {
-        let new = format!(in alloc; "\"types\":[{other}]")?;
-        let model = read_model(
-            alloc,
-            changed(alloc, NONE, "\"types\":[]", &new)?.as_bytes(),
-        )?;
-        let new = format!(in alloc; "\"types\":[{quoted}]")?;
-        let file = changed(alloc, NONE, "\"types\":[]", &new)?;
-        assert!(rt; stands_for(alloc, &model, &file)?, "{other}");
+    for line in SPELLINGS.split('\n') {
+        let (number, spelling) = line.split_once(' ').unwrap_or((line, ""));
+        let model = model_with(alloc, &character(alloc, number)?)?;
+        let file = file_with(alloc, spelling)?;
+        let read = read_model(alloc, file.as_bytes())?;
+        assert!(rt; same_models(&model, &read), "{line}");
     }
     Ok(())
 }

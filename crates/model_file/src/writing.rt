@@ -215,7 +215,8 @@ fn write_part<T: Written>(
     out: &mut Writer,
 ) -> Result<(), AllocError>
     requires { All T.can_write entries.now }
-    ensures { Appends result out.old out.new (key name.now ∷ tokens_of (array_of (map T.written_as entries.now))) }
+    ensures { Appends result out.old out.new (key name.now
+        ∷ tokens_of (array_of (map T.written_as entries.now))) }
 {
     out.key(name)?;
     write_list(alloc, entries.as_slice(), out)

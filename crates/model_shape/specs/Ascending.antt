@@ -38,7 +38,8 @@ pub record CandidateBefore (types : ℕ) (x y : Invariant) : Type 0 where
 
 -- each is before all that come later
 abbrev pub IsInOrder : {K : Type 0} → (K → K → Type 0) → List K → Type 0
-IsInOrder {K} Before ks = (i j : ℕ) (x y : K) → slice_get ks i ≡ Some x → slice_get ks j ≡ Some y → i < j → Before x y
+IsInOrder {K} Before ks =
+    (i j : ℕ) (x y : K) → slice_get ks i ≡ Some x → slice_get ks j ≡ Some y → i < j → Before x y
 
 -- a list of a model that ascends is in order throughout
 pub record AscendingTells : Type 0 where

@@ -45,7 +45,8 @@ pub record IsTypeText (text : List ℕ) : Type 0 where
 pub record AreTypes (types : List (List ℕ)) : Type 0 where
   pub few : length types ≤ MAX_TYPES
   pub each : AllByRecursion IsTypeText types
-  pub apart : (j k : ℕ) (text : List ℕ) → slice_get types j ≡ Some text → slice_get types k ≡ Some text → j ≡ k
+  pub apart : (j k : ℕ) (text : List ℕ) → slice_get types j ≡ Some text
+      → slice_get types k ≡ Some text → j ≡ k
 
 -- ---- partitions
 

@@ -62,20 +62,25 @@ pub record IsJustified (m : Model) (log : TypedWords) : Type 0 where
 abbrev pub IsFirstWrongSplit : Model → Assignment → ℕ → List Split → ℕ → Type 0
 IsFirstWrongSplit m h n [] k = ⊥
 IsFirstWrongSplit m h n (s ∷ ss) zero = IsJustifiedSplit m h n s → ⊥
-IsFirstWrongSplit m h n (s ∷ ss) (suc k) = IsJustifiedSplit m h n s × IsFirstWrongSplit m (after_split n s h) (suc n) ss k
+IsFirstWrongSplit m h n (s ∷ ss) (suc k) =
+    IsJustifiedSplit m h n s × IsFirstWrongSplit m (after_split n s h) (suc n) ss k
 
 -- the merge with the number k is the first that is not right in its turn
 abbrev pub IsFirstWrongMerge : Assignment → List Merge → ℕ → Type 0
 IsFirstWrongMerge h [] k = ⊥
 IsFirstWrongMerge h (x ∷ xs) zero = IsPair (G h) x.p x.q → ⊥
-IsFirstWrongMerge h (x ∷ xs) (suc k) = IsPair (G h) x.p x.q × IsFirstWrongMerge (merge x.p x.q h) xs k
+IsFirstWrongMerge h (x ∷ xs) (suc k) =
+    IsPair (G h) x.p x.q × IsFirstWrongMerge (merge x.p x.q h) xs k
 
 -- the steps before it are right, and this one is not
 abbrev pub IsFirstStep : Model → TypedWords → ReplayPart → Type 0
 IsFirstStep m log step.Types = m.types ≢ log.types
-IsFirstStep m log (step.Split k) = (m.types ≡ log.types) × IsFirstWrongSplit m (by_type log.words) (first_new log) m.splits k
+IsFirstStep m log (step.Split k) =
+    (m.types ≡ log.types) × IsFirstWrongSplit m (by_type log.words) (first_new log) m.splits k
 IsFirstStep m log (step.Merge k) =
-    (m.types ≡ log.types) × SplitInTurn m (by_type log.words) (first_new log) m.splits × IsFirstWrongMerge (refined_by m log) m.merges k
+    (m.types ≡ log.types) × SplitInTurn m (by_type log.words) (first_new log) m.splits
+    × IsFirstWrongMerge (refined_by m log) m.merges k
 IsFirstStep m log step.Graph =
-    (m.types ≡ log.types) × SplitInTurn m (by_type log.words) (first_new log) m.splits × MergeInTurn (refined_by m log) m.merges
+    (m.types ≡ log.types) × SplitInTurn m (by_type log.words) (first_new log) m.splits
+    × MergeInTurn (refined_by m log) m.merges
     × (IsGraphOf m (replayed m log) → ⊥)

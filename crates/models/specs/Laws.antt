@@ -49,18 +49,21 @@ GraphIsListed =
 pub record AreReachedNumbers (inv : Invariant) (h : Assignment) (partitions : List Partition) (numbers : List ℕ) : Type 0 where
   pub count : length numbers ≡ length partitions
   pub each : AllByRecursion IsLabel numbers
-  pub states : (k : ℕ) (x : Partition) (number s : ℕ) → slice_get partitions k ≡ Some x → slice_get numbers k ≡ Some number → s < 3
+  pub states : (k : ℕ) (x : Partition) (number s : ℕ) → slice_get partitions k ≡ Some x
+      → slice_get numbers k ≡ Some number → s < 3
       → (has_state number s ≡ true) ↔ Reached inv (G h) x.id s
 
 -- these are the labels
 abbrev pub NumbersGiveLabels : Type 0
 NumbersGiveLabels =
-    (inv : Invariant) (h : Assignment) (partitions : List Partition) (numbers : List ℕ) → ArePartitions partitions h
+    (inv : Invariant) (h : Assignment) (partitions : List Partition) (numbers : List ℕ)
+    → ArePartitions partitions h
     → AreReachedNumbers inv h partitions numbers → AreReached inv h partitions numbers
 
 -- whatever is valid for a log satisfies each invariant that it lists
 abbrev pub ValidSatisfies : Type 0
-ValidSatisfies = (m : Model) (log : TypedWords) → IsValid m log → SatisfiesAll (graph_of m) (listing_of m)
+ValidSatisfies =
+    (m : Model) (log : TypedWords) → IsValid m log → SatisfiesAll (graph_of m) (listing_of m)
 
 -- and this is what it promises
 abbrev pub ValidTells : Type 0
@@ -68,33 +71,44 @@ ValidTells = (m : Model) (log : TypedWords) → IsValid m log → Promises m log
 
 -- a model is valid, or some part of it fails first
 abbrev pub FirstPartExists : Type 0
-FirstPartExists = (m : Model) (log : TypedWords) → IsValid m log ⊎ ((part : Part) × IsFirstPart m log part)
+FirstPartExists =
+    (m : Model) (log : TypedWords) → IsValid m log ⊎ ((part : Part) × IsFirstPart m log part)
 
 -- a part that fails first does fail
 abbrev pub FirstPartFails : Type 0
-FirstPartFails = (m : Model) (log : TypedWords) (part : Part) → IsFirstPart m log part → IsValid m log → ⊥
+FirstPartFails =
+    (m : Model) (log : TypedWords) (part : Part) → IsFirstPart m log part → IsValid m log → ⊥
 
 -- and no other part fails first
 abbrev pub OneFirstPart : Type 0
-OneFirstPart = (m : Model) (log : TypedWords) (a b : Part) → IsFirstPart m log a → IsFirstPart m log b → a ≡ b
+OneFirstPart =
+    (m : Model) (log : TypedWords) (a b : Part) → IsFirstPart m log a → IsFirstPart m log b → a ≡ b
 
 -- a history is justified, or some step of it fails first
 abbrev pub FirstStepExists : Type 0
-FirstStepExists = (m : Model) (log : TypedWords) → IsJustified m log ⊎ ((step : ReplayPart) × IsFirstStep m log step)
+FirstStepExists =
+    (m : Model) (log : TypedWords)
+    → IsJustified m log ⊎ ((step : ReplayPart) × IsFirstStep m log step)
 
 -- a step that fails first does fail
 abbrev pub FirstStepFails : Type 0
-FirstStepFails = (m : Model) (log : TypedWords) (step : ReplayPart) → IsFirstStep m log step → IsJustified m log → ⊥
+FirstStepFails =
+    (m : Model) (log : TypedWords) (step : ReplayPart)
+    → IsFirstStep m log step → IsJustified m log → ⊥
 
 -- and no other step fails first
 abbrev pub OneFirstStep : Type 0
-OneFirstStep = (m : Model) (log : TypedWords) (a b : ReplayPart) → IsFirstStep m log a → IsFirstStep m log b → a ≡ b
+OneFirstStep =
+    (m : Model) (log : TypedWords) (a b : ReplayPart)
+    → IsFirstStep m log a → IsFirstStep m log b → a ≡ b
 
 -- the graph of a well-shaped model is formed, and its ids keep the limit
 abbrev pub ShapedAreFormed : Type 0
-ShapedAreFormed = (m : Model) → IsWellShaped m → IsFormed (graph_of m) × IsBelow MAX_PARTITIONS (graph_of m)
+ShapedAreFormed =
+    (m : Model) → IsWellShaped m → IsFormed (graph_of m) × IsBelow MAX_PARTITIONS (graph_of m)
 
 -- the model of a log is well shaped, where the log and the run keep the limits
 abbrev pub ModelsAreShaped : Type 0
 ModelsAreShaped =
-    (m : Model) (log : TypedWords) → IsTypedLog log → IsWithinLimits log → KeepsLimits m → IsModelOf m log → IsWellShaped m
+    (m : Model) (log : TypedWords) → IsTypedLog log → IsWithinLimits log → KeepsLimits m
+    → IsModelOf m log → IsWellShaped m

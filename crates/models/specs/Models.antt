@@ -32,7 +32,11 @@ has_edge p q (x ∷ xs) = (x.from == p && x.to == q) || has_edge p q xs
 -- the graph of the model: its partitions with its edges
 abbrev pub graph_of : Model → Graph
 graph_of m =
-    record { typ = λ p. listed_type p m.partitions; edge = λ p q. has_edge p q m.edges; listed = λ p. is_listed p m.partitions }
+    record {
+      typ = λ p. listed_type p m.partitions;
+      edge = λ p q. has_edge p q m.edges;
+      listed = λ p. is_listed p m.partitions;
+    }
 
 -- whether the state is in the set of this number: 1 is for the state 0, 2 for the state 1, and 4 for the state 2
 abbrev pub has_state : ℕ → ℕ → Bool
@@ -59,7 +63,8 @@ IsLabelled m l = IsInductive l.inv (graph_of m) (IsInLabel m.partitions l.labels
 pub record AreReached (inv : Invariant) (h : Assignment) (partitions : List Partition) (labels : List ℕ) : Type 0 where
   pub count : length labels ≡ length partitions
   pub each : AllByRecursion IsLabel labels
-  pub states : (p s : ℕ) → is_live h p ≡ true → s < 3 → IsInLabel partitions labels p s ↔ Reached inv (G h) p s
+  pub states : (p s : ℕ) → is_live h p ≡ true → s < 3
+      → IsInLabel partitions labels p s ↔ Reached inv (G h) p s
 
 -- the model of a log: the run of refinement and then that of coarsening, the graph at their end with the reached states, and why no further merge is made
 pub record IsModelOf (m : Model) (log : TypedWords) : Type 0 where

@@ -70,7 +70,8 @@ PairsGiveBlocks =
 -- a graph has one list of blocks
 abbrev pub OneBlocks : Type 0
 OneBlocks =
-    (invs : List Invariant) (g : Graph) (a b : List Block) → AreBlocks invs g a → AreBlocks invs g b → a ≡ b
+    (invs : List Invariant) (g : Graph) (a b : List Block)
+    → AreBlocks invs g a → AreBlocks invs g b → a ≡ b
 
 -- the graph of the merged assignment satisfies the invariants exactly where the merged graph does
 abbrev pub MergeSatisfies : Type 0
@@ -103,7 +104,8 @@ LeastIsShorter =
 -- so at most so many where there are no more ids than may be
 abbrev pub LeastWithinLimit : Type 0
 LeastWithinLimit =
-    (g : Graph) (inv : Invariant) (path : List ℕ) (n : ℕ) → IsFormed g → IsBelow n g → n ≤ MAX_PARTITIONS
+    (g : Graph) (inv : Invariant) (path : List ℕ) (n : ℕ) → IsFormed g → IsBelow n g
+    → n ≤ MAX_PARTITIONS
     → IsLeastViolation g inv path → length path ≤ 3067
 
 -- where the run of refinement keeps within the ids that may be, the paths of its splits have together at most so many numbers for each split
