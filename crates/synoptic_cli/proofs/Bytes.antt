@@ -1,5 +1,5 @@
 -- What holds of the bytes of stages, where files are told and where they are not.
-use Rattle.std.proofs.Common.{◌≡◌, ℕ, ◌+◌, List, [], ◌∷◌, ◌++◌, length, Option, Some, None, Result, Ok, Err, refl, sym, ap, ap₂, ◌∙◌, subst, arith}
+use Rattle.std.proofs.Common.{◌≡◌, ℕ, ◌+◌, List, [], ◌∷◌, ◌++◌, length, Option, Some, None, Result, Ok, Err, refl, sym, ap, ◌∙◌, subst, arith}
 use Rattle.outside.specs.Inputs.{Files}
 use Rattle.log_reader.specs.Inputs.{SomeContents, told_contents, with_content}
 use Rattle.synoptic_cli.specs.Stages.{Stage, SoFar, Stop, Filled, stage_names, stage_reads, input_count, after, and_then, reads}
@@ -75,18 +75,18 @@ input_count-append (stage ∷ first) second = omega (arith, input_count-append f
 
 -- a stop after so many inputs more
 abbrev pub later : ℕ → Stop → Stop
-later count stop = record { status = stop.status; least = count + stop.least; most = count + stop.most }
+later count stop = record { status = stop.status; count = count + stop.count }
 
-same-stop : (stop : Stop) (least most : ℕ) → least ≡ stop.least → most ≡ stop.most → ◌≡◌ {A = Stop} (record { status = stop.status; least = least; most = most }) stop
-same-stop stop least most l m = ap₂ (λ (a b : ℕ). let s : Stop = record { status = stop.status; least = a; most = b } in s) l m
+same-stop : (stop : Stop) (count : ℕ) → count ≡ stop.count → ◌≡◌ {A = Stop} (record { status = stop.status; count = count }) stop
+same-stop stop count is = ap (λ (n : ℕ). let s : Stop = record { status = stop.status; count = n } in s) is
 
 after-zero : (r : Result SoFar Stop) → after 0 r ≡ r
 after-zero (Ok s) = refl
-after-zero (Err stop) = ap (λ (s : Stop). Err s) (same-stop stop (0 + stop.least) (0 + stop.most) (omega arith) (omega arith))
+after-zero (Err stop) = ap (λ (s : Stop). Err s) (same-stop stop (0 + stop.count) (omega arith))
 
 after-after : (a b : ℕ) (r : Result SoFar Stop) → after a (after b r) ≡ after (a + b) r
 after-after a b (Ok s) = refl
-after-after a b (Err stop) = ap (λ (s : Stop). Err s) (same-stop (later (a + b) stop) (a + (b + stop.least)) (a + (b + stop.most)) (omega arith) (omega arith))
+after-after a b (Err stop) = ap (λ (s : Stop). Err s) (same-stop (later (a + b) stop) (a + (b + stop.count)) (omega arith))
 
 after-ok : (n : ℕ) (r : Result SoFar Stop) (s : SoFar) → after n r ≡ Ok s → r ≡ Ok s
 after-ok n (Ok t) s is = is

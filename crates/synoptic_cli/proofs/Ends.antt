@@ -1,11 +1,11 @@
 -- What a task reads, and why a run ends where its log is refused.
-use Rattle.std.proofs.Common.{◌≡◌, ◌⊎◌, ◌+◌, ◌≤◌, ℕ, Bool, List, [], ◌∷◌, length, sym, ap, subst, ⊎_elim, inl, inr, arith, Option, None, Some, Result, Err, IsTrue, slice_get, refl}
+use Rattle.std.proofs.Common.{◌≡◌, ◌∙◌, ◌⊎◌, ◌+◌, ◌≤◌, ℕ, Bool, List, [], ◌∷◌, length, sym, ap, subst, ⊎_elim, inl, inr, arith, Option, None, Some, Result, Err, IsTrue, slice_get, refl}
 use Rattle.std.specs.Prelude.{IsSome}
 use Rattle.std.specs.Option.{IsSomeAnd}
 use Rattle.outside.specs.Inputs.{Files, InputState, Stays}
 use Rattle.line_rules.specs.Patterns.{PatternsState}
 use Rattle.log_reader.specs.Reading.{Setting}
-use Rattle.log_reader.specs.Inputs.{RefusesLog, MayFail as LogMayFail, IsLacking, HasReadCause, inputs_of, refused_input}
+use Rattle.log_reader.specs.Inputs.{RefusesLog, Fails as LogFails, IsMissing as LogMissing, IsLacking, HasReadCause, StopsBefore, StopsWithin, inputs_of, opens_after}
 use Rattle.log_reader.specs.declared.refusal.ReadError.{ReadError}
 use Rattle.log_reader.specs.declared.refusal.ReadError.TheVariants as refused
 use Rattle.command_line.specs.Task.{Task, task_of}
@@ -14,13 +14,13 @@ use Rattle.synoptic_cli.specs.declared.status.Status.TheVariants.{Memory, ReadFa
 use Rattle.synoptic_cli.specs.declared.status.Source.{Source}
 use Rattle.synoptic_cli.specs.declared.status.Source.TheVariants as sources
 use Rattle.synoptic_cli.specs.declared.stages.SoFar as rust
-use Rattle.synoptic_cli.specs.Stages.{Filled, LogFiles, SoFar, Stage, Stop, at_start, input_count, log_stages, log_stop, reads, first_stages, setting_by, stages_of, status_of, stop_after, stop_at}
+use Rattle.synoptic_cli.specs.Stages.{Filled, LogFiles, SoFar, Stage, Stop, at_start, input_count, log_stages, reads, first_stages, rules_stages, setting_by, stages_of, status_of, stop_after}
 use Rattle.synoptic_cli.specs.Endings.{EndsAfter, EndsOver, IsFirstLacking, SomeBytes}
 use Rattle.synoptic_cli.specs.Causes.{World, FailsToRead, HasCause, Stops, world}
 use Rattle.synoptic_cli.specs.Steps.{Ends, HasRead, IsHeld, LogHalts, Reads, ReadsTask, StopsReading, held_form, setting_of}
 use Rattle.synoptic_cli.proofs.Texts.{rose-since}
 use Rattle.synoptic_cli.proofs.Bytes.{bytes-map, bytes-told, input_count-append, later}
-use Rattle.synoptic_cli.proofs.Through.{read-faults, read-more, read-most, read-stop, stop-bytes}
+use Rattle.synoptic_cli.proofs.Through.{opens-through, read-faults, read-more, read-most, read-stop, stop-bytes, stops-through}
 use Rattle.synoptic_cli.proofs.Rules.{memory-ends}
 use Rattle.synoptic_cli.proofs.ModelStage.{first-lacking, stopped}
 use Rattle.synoptic_cli.proofs.LogStage.{AreReadAlike, ReadAlike, alike-forms, log-lacks, log-stage-is, log-stops}
@@ -41,26 +41,19 @@ pub record Before (task : Task) (s : Setting) (old mid : InputState) : Type 0 wh
   pub alike : AreReadAlike s (setting_by so_far task.ignore task.join)
   pub log : log_stages task ≡ LogFiles (inputs_of task.files) task.ignore task.join ∷ []
 
-stop-status : (o : Option ℕ) (most : ℕ) (status : Status) → (stop_at o most status).status ≡ status
-stop-status None most status = refl
-stop-status (Some number) most status = refl
-
 -- the log is refused
 refuses : (task : Task) (s : Setting) (old new : World) (mid : InputState) (e : ReadError) → Before task s old.inputs mid → new.out ≡ old.out
     → RefusesLog s (inputs_of task.files) mid new.inputs e → Stops (status_of e) old new task
 refuses task s old new mid e before silent refusal =
-    let stop = log_stop (length (inputs_of task.files)) e in
+    let stop = stop_after (refusal.number + 1) (status_of e) in
     let here = log-stops before.so_far s (inputs_of task.files) task.ignore task.join mid new.inputs e before.alike refusal in
     let there =
     read-stop (first_stages task) (log_stages task) old.inputs mid new.inputs at_start before.so_far stop before.stays before.read
     (subst (λ (stages : List Stage). StopsReading stages mid new.inputs before.so_far stop) (sym before.log) here) in
     record {
       stop = later (input_count (first_stages task)) stop;
-      answered = stop-status (refused_input e) (length (inputs_of task.files)) (status_of e);
+      answered = refl;
       ends = bytes-map old.inputs.files (stages_of task) _ (λ filled. EndsOver task filled (Err (later (input_count (first_stages task)) stop))) (λ filled is. stopped task filled (later (input_count (first_stages task)) stop) is) there.bytes;
-      count = there.count;
-      least = there.least;
-      most = there.most;
       opened = there.opened;
       silent = silent;
     }
@@ -80,22 +73,41 @@ lacks task s old mid number before lacking =
     (stop-bytes old.files (first_stages task) (log_stages task) at_start before.so_far stop before.read.bytes
     (subst (λ (files : Option Files). SomeBytes files (log_stages task) (λ filled. reads before.so_far filled ≡ Err stop)) before.stays.files here))
 
+-- as many inputs were opened as end with the one that failed
+opens-within : (o : Option (List ℕ)) (number : ℕ) (mid new : InputState) → IsSomeAnd o (StopsWithin number mid new) → new.opens ≡ opens_after mid.opens (number + 1)
+opens-within None number mid new within = absurd within
+opens-within (Some name) number mid new within = within.opens
+
 -- a file of the log could not be read
-fails : (task : Task) (s : Setting) (old new : World) (mid : InputState) (number : ℕ) → Before task s old.inputs mid → new.out ≡ old.out → new.inputs.opens ≤ mid.opens + (number + 1)
-    → LogMayFail (inputs_of task.files) mid new.inputs number ⊎ IsLacking s mid.files (inputs_of task.files) number → FailsToRead (sources.Log number) old new task
-fails task s old new mid number before silent opens cause = record {
-  why =
-      ⊎_elim
-      (λ (may : LogMayFail (inputs_of task.files) mid new.inputs number).
-      inl (record {
-        rose = rose-since old.inputs.faults mid.faults new.inputs.faults before.stays.faults may.0;
-        may_fail = subst (λ (may_fail : List ℕ → Bool). IsSomeAnd (slice_get (inputs_of task.files) number) (λ name. IsTrue (may_fail name))) before.stays.may_fail may.1;
-      }))
-      (λ (lacking : IsLacking s mid.files (inputs_of task.files) number). inr (lacks task s old.inputs mid number before lacking))
-      cause;
-  opens = omega (arith, opens, read-most (input_count (first_stages task)) old.inputs mid before.read.inputs);
-  silent = silent;
-}
+fails : (task : Task) (s : Setting) (old new : World) (mid : InputState) (number : ℕ) → Before task s old.inputs mid → new.out ≡ old.out
+    → LogFails (inputs_of task.files) mid new.inputs number ⊎ LogMissing s (inputs_of task.files) mid new.inputs number → FailsToRead (sources.Log number) old new task
+fails task s old new mid number before silent cause =
+    let count = input_count (first_stages task) in
+    record {
+      why =
+          ⊎_elim
+          (λ (failed : LogFails (inputs_of task.files) mid new.inputs number).
+          inl (record {
+            cause =
+                record {
+                  rose = rose-since old.inputs.faults mid.faults new.inputs.faults before.stays.faults failed.0.0;
+                  may_fail = subst (λ (may_fail : List ℕ → Bool). IsSomeAnd (slice_get (inputs_of task.files) number) (λ name. IsTrue (may_fail name))) before.stays.may_fail failed.0.1;
+                };
+            opened =
+                ⊎_elim (λ (none : StopsBefore number mid new.inputs). inl (stops-through count number old.inputs mid new.inputs before.read.inputs none))
+                (λ (within : IsSomeAnd (slice_get (inputs_of task.files) number) (StopsWithin number mid new.inputs)).
+                inr (subst (λ (n : ℕ). new.inputs.opens ≡ opens_after old.inputs.opens n) (omega arith) (opens-through count (number + 1) new.inputs.opens old.inputs mid before.read.inputs (opens-within (slice_get (inputs_of task.files) number) number mid new.inputs within))))
+                failed.1;
+          }))
+          (λ (missing : LogMissing s (inputs_of task.files) mid new.inputs number).
+          inr (record {
+            lacking = lacks task s old.inputs mid number before missing.0;
+            opened = stops-through count number old.inputs mid new.inputs before.read.inputs missing.1;
+            faults = missing.2 ∙ read-faults count old.inputs mid before.read.inputs;
+          }))
+          cause;
+      silent = silent;
+    }
 
 -- the task has as many inputs as its file of rules and its log
 inputs-are : (task : Task) (s : Setting) (old mid : InputState) → Before task s old mid → input_count (stages_of task) ≡ input_count (first_stages task) + length (inputs_of task.files)
@@ -105,18 +117,17 @@ inputs-are task s old mid before =
 
 -- the run ends by the refusal of its log
 log-ends : (task : Task) (s : Setting) (words : List (List ℕ)) (old new : World) (mid : InputState) (e : ReadError) → Before task s old.inputs mid → new.out ≡ old.out → task_of words ≡ Some task
-    → new.inputs.opens ≤ mid.opens + length (inputs_of task.files) → ((number : ℕ) → e ≡ refused.ReadFault number → new.inputs.opens ≤ mid.opens + (number + 1))
-    → HasReadCause s (inputs_of task.files) mid new.inputs e → HasCause (status_of e) words old new
-log-ends task s words old new mid (refused.ReadFault number) before silent asks few fault cause = (task, asks, fails task s old new mid number before silent (fault number refl) cause)
-log-ends task s words old new mid (refused.LineTooLong at) before silent asks few fault cause = (task, asks, refuses task s old new mid (refused.LineTooLong at) before silent cause)
-log-ends task s words old new mid (refused.Undecided at) before silent asks few fault cause = (task, asks, refuses task s old new mid (refused.Undecided at) before silent cause)
-log-ends task s words old new mid (refused.BadTime at) before silent asks few fault cause = (task, asks, refuses task s old new mid (refused.BadTime at) before silent cause)
-log-ends task s words old new mid (refused.TypeTooLong at) before silent asks few fault cause = (task, asks, refuses task s old new mid (refused.TypeTooLong at) before silent cause)
-log-ends task s words old new mid (refused.TraceTooLong at) before silent asks few fault cause = (task, asks, refuses task s old new mid (refused.TraceTooLong at) before silent cause)
-log-ends task s words old new mid (refused.TypeLimit at) before silent asks few fault cause = (task, asks, refuses task s old new mid (refused.TypeLimit at) before silent cause)
-log-ends task s words old new mid (refused.EventLimit at) before silent asks few fault cause = (task, asks, refuses task s old new mid (refused.EventLimit at) before silent cause)
-log-ends task s words old new mid refused.InputLimit before silent asks few fault cause = (task, asks, refuses task s old new mid refused.InputLimit before silent cause)
-log-ends task s words old new mid refused.Memory before silent asks few fault cause =
+    → new.inputs.opens ≤ mid.opens + length (inputs_of task.files) → HasReadCause s (inputs_of task.files) mid new.inputs e → HasCause (status_of e) words old new
+log-ends task s words old new mid (refused.ReadFault number) before silent asks few cause = (task, asks, fails task s old new mid number before silent cause)
+log-ends task s words old new mid (refused.LineTooLong at) before silent asks few cause = (task, asks, refuses task s old new mid (refused.LineTooLong at) before silent cause)
+log-ends task s words old new mid (refused.Undecided at) before silent asks few cause = (task, asks, refuses task s old new mid (refused.Undecided at) before silent cause)
+log-ends task s words old new mid (refused.BadTime at) before silent asks few cause = (task, asks, refuses task s old new mid (refused.BadTime at) before silent cause)
+log-ends task s words old new mid (refused.TypeTooLong at) before silent asks few cause = (task, asks, refuses task s old new mid (refused.TypeTooLong at) before silent cause)
+log-ends task s words old new mid (refused.TraceTooLong at) before silent asks few cause = (task, asks, refuses task s old new mid (refused.TraceTooLong at) before silent cause)
+log-ends task s words old new mid (refused.TypeLimit at) before silent asks few cause = (task, asks, refuses task s old new mid (refused.TypeLimit at) before silent cause)
+log-ends task s words old new mid (refused.EventLimit at) before silent asks few cause = (task, asks, refuses task s old new mid (refused.EventLimit at) before silent cause)
+log-ends task s words old new mid refused.InputLimit before silent asks few cause = (task, asks, refuses task s old new mid refused.InputLimit before silent cause)
+log-ends task s words old new mid refused.Memory before silent asks few cause =
     let most = read-most (input_count (first_stages task)) old.inputs mid before.read.inputs in
     record { opens = (memory-ends task old.inputs new.inputs old.patterns old.patterns (omega (arith, few, most, inputs-are task s old.inputs mid before)) words old.out asks).opens; silent = silent }
 
@@ -127,7 +138,7 @@ log-stage-ends law task start held old mid new before after e is stays first hal
     let a = first at_start is in
     log-ends task (setting_of task (held_form held)) words (world old before out) (world new after out) mid e
     (record { so_far = a.0; stays = stays; read = a.2; alike = alike-forms law (held_form held) a.0.form task.ignore task.join a.1.form; log = log-stage-is task halts.reads })
-    refl asks halts.opens halts.fault halts.cause
+    refl asks halts.opens halts.cause
 
 -- memory is answered where memory was wanted
 pub log-memory : (e : ReadError) → status_of e ≡ Memory → e ≡ refused.Memory
@@ -145,3 +156,7 @@ log-memory refused.Memory is = refl
 -- no fault was counted before the stage of the log
 pub stage-faults : (task : Task) (start held : rust.SoFar) (old mid : InputState) → IsHeld start at_start → Reads (first_stages task) start old mid held → mid.faults ≡ old.faults
 stage-faults task start held old mid is first = read-faults (input_count (first_stages task)) old mid (first at_start is).2.inputs
+
+-- nor before the stage of the model
+pub rules-faults : (task : Task) (start held : rust.SoFar) (old mid : InputState) → IsHeld start at_start → Reads (rules_stages task) start old mid held → mid.faults ≡ old.faults
+rules-faults task start held old mid is first = read-faults (input_count (rules_stages task)) old mid (first at_start is).2.inputs

@@ -17,7 +17,7 @@ use Rattle.synoptic_cli.specs.declared.status.Source.{Source}
 use Rattle.synoptic_cli.specs.Task.{rules_name}
 use Rattle.synoptic_cli.specs.Stages.{RulesFile, SoFar, Stage, Stop, and_then, at_start, log_stages, model_stages, reads, reads_rules, rules_stage, stages_of, stop_after, with_rules}
 use Rattle.synoptic_cli.specs.Endings.{EndsAfter, EndsOver, EndsTold, HasStatus, IsFirstLacking, IsStatusOf, IsTold, SomeBytes, end_status, told_stages}
-use Rattle.synoptic_cli.specs.Causes.{World, FailsToRead, HasCause, IsExpected, IsTooDeep, MayFail, RefusesRules, Stops, WritesAll}
+use Rattle.synoptic_cli.specs.Causes.{World, FailsToRead, HasCause, IsExpected, IsTooDeep, IsUnread, IsMissing, RefusesRules, Stops, WritesAll}
 use Rattle.synoptic_cli.proofs.Bytes.{bytes-told}
 
 -- a fact of what an option holds, where it holds it
@@ -59,9 +59,9 @@ read-fault : (words : List (List ℕ)) (task : Task) (files : Files) (source : S
     → (Rose old.inputs.faults new.inputs.faults → ⊥) → FailsToRead source old new task → IsStatusOf words files (ReadFault source)
 read-fault words task files source old new some asks calm cause =
     ⊎_elim
-    (λ (may : MayFail source old.inputs new.inputs task). absurd (calm may.rose))
-    (λ (lacks : IsFirstLacking old.inputs.files task source).
-    task-status words task files (ReadFault source) asks (lacking-status task files source (subst (λ (f : Option Files). IsFirstLacking f task source) some lacks))) cause.why
+    (λ (failed : IsUnread source old.inputs new.inputs task). absurd (calm failed.cause.rose))
+    (λ (missing : IsMissing source old.inputs new.inputs task).
+    task-status words task files (ReadFault source) asks (lacking-status task files source (subst (λ (f : Option Files). IsFirstLacking f task source) some missing.lacking))) cause.why
 
 -- the file of rules is refused, before all else
 rules-status : (files : Files) (name bytes : List ℕ) (e : RuleError) (more : List Stage) → bytes_of files name ≡ Some bytes → rules_of bytes ≡ Err e

@@ -9,16 +9,17 @@ use Rattle.traces.specs.Words.{Log, log_of}
 use Rattle.line_rules.specs.Rules.{Rule, AreAlike}
 use Rattle.log_reader.specs.Reading.{Form, Setting, events_of, first_refusal}
 use Rattle.log_reader.specs.Reading as form
-use Rattle.log_reader.specs.Inputs.{IsLacking, ReadsLog, RefusesLog, first_lacking, inputs_of, lacking, refused_input, told_contents, with_content}
+use Rattle.log_reader.specs.Inputs.{IsLacking, IsRefusedAt, ReadsLog, RefusesLog, first_lacking, inputs_of, lacking, refused_input, told_contents, with_content}
 use Rattle.log_reader.specs.declared.refusal.ReadError.{ReadError}
 use Rattle.command_line.specs.Task.{Task}
 use Rattle.command_line.specs.Task as ask
+use Rattle.synoptic_cli.specs.declared.material.Material.{Material}
 use Rattle.synoptic_cli.specs.declared.status.Status.{Status}
 use Rattle.synoptic_cli.specs.declared.status.Status.TheVariants.{ReadFault}
 use Rattle.synoptic_cli.specs.declared.status.Source.TheVariants as sources
 use Rattle.synoptic_cli.specs.declared.stages.SoFar as rust
-use Rattle.synoptic_cli.specs.Stages.{LogFiles, SoFar, Stage, Stop, and_then, log_stage, log_stages, log_stop, reads, reads_log, setting_by, status_of, stop_after, stop_at, with_log}
-use Rattle.synoptic_cli.specs.Endings.{SomeBytes}
+use Rattle.synoptic_cli.specs.Stages.{LogFiles, SoFar, Stage, Stop, and_then, log_stage, log_stages, reads, reads_log, setting_by, status_of, stop_after, stop_at, with_log}
+use Rattle.synoptic_cli.specs.Endings.{ReadAll, SomeBytes}
 use Rattle.synoptic_cli.specs.Steps.{AreAlikeForms, HasRead, Reads, StopsReading, held_form, setting_of}
 use Rattle.synoptic_cli.proofs.Bytes.{contents-map}
 
@@ -52,15 +53,19 @@ log-value so_far s t count contents log alike many none value =
     ∙ (cond-false _ _ _ test
     ∙ ap (λ (l : Log). let r : Result SoFar Stop = Ok (record { form = so_far.form; material = record { log = l; model = so_far.material.model } }) in r) (sym (value ∙ ap log_of (alike contents).1)))
 
+-- a log has an input, so some were opened
+log-read : (names : List (List ℕ)) (old new : InputState) (s : Setting) (log : Log) → 0 < length names → ReadsLog s names old new log → ReadAll (length names + 0) old new
+log-read names old new s log some read = inl (omega (arith, some), record { opens = omega (arith, read.opened.opens); faults = read.opened.faults }, read.at_end)
+
 pub log-through : (so_far : SoFar) (s : Setting) (names : List (List ℕ)) (ignore join : Bool) (old new : InputState) (log : Log) → AreReadAlike s (setting_by so_far ignore join)
-    → ReadsLog s names old new log → HasRead (LogFiles names ignore join ∷ []) old new so_far (record { form = so_far.form; material = record { log = log; model = so_far.material.model } })
-log-through so_far s names ignore join old new log alike read =
+    → 0 < length names → ReadsLog s names old new log → HasRead (LogFiles names ignore join ∷ []) old new so_far (record { form = so_far.form; material = record { log = log; model = so_far.material.model } })
+log-through so_far s names ignore join old new log alike some read =
     let next : SoFar = record { form = so_far.form; material = record { log = log; model = so_far.material.model } } in
     record {
       bytes =
           contents-map old.files names _ (λ contents. reads so_far ((LogFiles names ignore join, contents) ∷ []) ≡ Ok next)
           (λ contents p. ap (λ (r : Result SoFar Stop). and_then r (length names) (λ n. Ok n)) (log-value so_far s (setting_by so_far ignore join) (length names) contents log alike p.0 p.1 p.2)) read.words;
-      inputs = let same : length names ≡ length names + 0 = omega arith in inl (record { opens = omega (arith, read.opened.opens); faults = read.opened.faults }, read.at_end);
+      inputs = log-read names old new s log some read;
     }
 
 -- the stage of a task that reads a log
@@ -71,36 +76,39 @@ log-stage-is task some = stage-is task.form task.files task.ignore task.join som
     stage-is None files ignore join some = cc
     stage-is (Some lines) files ignore join some = refl
 
+-- without any name, the log is that of standard input
+some-input : (files : List (List ℕ)) → 0 < length (inputs_of files)
+some-input [] = omega arith
+some-input (name ∷ names) = omega arith
+
 pub log-held : ReadAlike → (task : Task) (held : rust.SoFar) (old new : InputState) (log : Log) → IsSome task.form
     → ReadsLog (setting_of task (held_form held)) (inputs_of task.files) old new log
     → Reads (log_stages task) held old new (record { rules = held.rules; material = record { log = log; model = held.material.model } })
 log-held law task held old new log some read = λ so_far is. (
   record { form = so_far.form; material = record { log = log; model = so_far.material.model } },
-  record { form = is.form; material = refl },
+  record { form = is.form; material = ap (λ (m : Material). let n : Material = record { log = log; model = m.model } in n) is.material },
   subst (λ (stages : List Stage). HasRead stages old new so_far (record { form = so_far.form; material = record { log = log; model = so_far.material.model } })) (sym (log-stage-is task some))
-      (log-through so_far (setting_of task (held_form held)) (inputs_of task.files) task.ignore task.join old new log (alike-forms law (held_form held) so_far.form task.ignore task.join is.form) read),
+      (log-through so_far (setting_of task (held_form held)) (inputs_of task.files) task.ignore task.join old new log (alike-forms law (held_form held) so_far.form task.ignore task.join is.form) (some-input task.files) read),
 )
 
 -- ---- a log that is refused
 
-least-opened : (o : Option ℕ) (count most : ℕ) (status : Status) → 1 ≤ count → count ≤ most → IfSome o (λ number. count ≡ suc number)
-    → ((stop_at o most status).least ≤ count) × (count ≤ (stop_at o most status).most)
-least-opened None count most status some few last = (some, few)
-least-opened (Some number) count most status some few last = (omega (arith, last), omega (arith, last))
+-- what a refusal stops at, over bytes in which reading stops at this input
+refused-value : (so_far : SoFar) (t : Setting) (count number : ℕ) (contents : List (List ℕ)) (e : ReadError) → first_refusal t contents ≡ Some e → refused_input e contents ≡ Some number
+    → reads_log so_far t count contents ≡ Err (stop_after (number + 1) (status_of e))
+refused-value so_far t count number contents e refusal at =
+    ap (with_log so_far t count contents) refusal ∙ ap (λ (o : Option ℕ). let r : Result SoFar Stop = Err (stop_at o (status_of e)) in r) at
 
 pub log-stops : (so_far : SoFar) (s : Setting) (names : List (List ℕ)) (ignore join : Bool) (old new : InputState) (e : ReadError) → AreReadAlike s (setting_by so_far ignore join)
-    → RefusesLog s names old new e → StopsReading (LogFiles names ignore join ∷ []) old new so_far (log_stop (length names) e)
-log-stops so_far s names ignore join old new e alike refuses =
+    → (refusal : RefusesLog s names old new e) → StopsReading (LogFiles names ignore join ∷ []) old new so_far (stop_after (refusal.number + 1) (status_of e))
+log-stops so_far s names ignore join old new e alike refusal =
     let t = setting_by so_far ignore join in
-    let counts = least-opened (refused_input e) refuses.count (length names) (status_of e) refuses.some refuses.few refuses.last in
+    let number = refusal.number in
     record {
       bytes =
-          contents-map old.files names (λ contents. first_refusal s contents ≡ Some e) (λ contents. reads so_far ((LogFiles names ignore join, contents) ∷ []) ≡ Err (log_stop (length names) e))
-          (λ contents p. ap (λ (o : Option ReadError). and_then (with_log so_far t (length names) contents o) (length names) (λ n. Ok n)) (sym (alike contents).0 ∙ p)) refuses.refusal;
-      count = refuses.count;
-      least = counts.0;
-      most = counts.1;
-      opened = inl refuses.opened;
+          contents-map old.files names (IsRefusedAt s e number) (λ contents. reads so_far ((LogFiles names ignore join, contents) ∷ []) ≡ Err (stop_after (number + 1) (status_of e)))
+          (λ contents p. ap (λ (r : Result SoFar Stop). and_then r (length names) (λ n. Ok n)) (refused-value so_far t (length names) number contents e (sym (alike contents).0 ∙ p.0) p.1)) refusal.refusal;
+      opened = inl (omega arith, refusal.opened);
     }
 
 -- ---- a log of which a file is not there

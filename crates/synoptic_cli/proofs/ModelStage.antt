@@ -6,14 +6,14 @@ use Rattle.std.specs.Prelude.{IsSome}
 use Rattle.std.specs.Option.{IsSomeAnd}
 use Rattle.outside.specs.Counts.{Rose}
 use Rattle.outside.specs.Inputs.{Files, InputState, Lacks, Stays}
-use Rattle.outside.specs.Reading.{IfTold, OpensNone, ReadsInput}
+use Rattle.outside.specs.Reading.{IfTold, OpensNamed, OpensNone, ReadsInput}
 use Rattle.limits.specs.declared.TheConstants.{MAX_MODEL_BYTES}
 use Rattle.invariants.specs.declared.records.Model.{Model}
 use Rattle.model_file.specs.Reading.{reads as file_reads, Fails}
 use Rattle.model_file.specs.declared.refusal.FileError.{FileError}
 use Rattle.model_file.specs.declared.refusal.FileError.TheVariants as refused
 use Rattle.line_rules.specs.Patterns.{PatternsState}
-use Rattle.log_reader.specs.Inputs.{with_content}
+use Rattle.log_reader.specs.Inputs.{StopsBefore, with_content}
 use Rattle.command_line.specs.Task.{Task, task_of}
 use Rattle.synoptic_cli.specs.declared.status.Status.{Status}
 use Rattle.synoptic_cli.specs.declared.status.Status.TheVariants.{ReadFault, Memory}
@@ -28,7 +28,7 @@ use Rattle.synoptic_cli.specs.Endings.{EndsAfter, EndsOver, IsFirstLacking, IsTo
 use Rattle.synoptic_cli.specs.Causes.{FailsToRead, RefusesModel, Stops, World, world}
 use Rattle.synoptic_cli.specs.Steps.{Ends, HasRead, IsHeld, ModelHalts, Reads, ReadsModel, RefusesFile, StopsReading, halt_of, halt_status}
 use Rattle.synoptic_cli.proofs.Bytes.{bytes-first, bytes-map, bytes-told, contents-one, input_count-append, later, reads-stop}
-use Rattle.synoptic_cli.proofs.Through.{read-faults, read-most, read-stop, stop-bytes, stop-first}
+use Rattle.synoptic_cli.proofs.Through.{opens-through, read-faults, read-most, read-stop, stop-bytes, stop-first, stops-through}
 use Rattle.synoptic_cli.proofs.Texts.{rose-since}
 use Rattle.synoptic_cli.proofs.Rules.{memory-ends, told-bytes, told-part, whole-or-long}
 
@@ -61,7 +61,7 @@ model-read old new name bytes model reads read =
       bytes = found.0;
       told = found.1;
       read = found.2;
-      opened = inl (record { opens = reads.opens; faults = reads.faults }, reads.at_end (short-read bytes model read));
+      opened = inl (omega arith, record { opens = reads.opens; faults = reads.faults }, reads.at_end (short-read bytes model read));
     }
 
 -- a refusal that is not want of memory is that of the bytes
@@ -81,7 +81,7 @@ model-refused old new name bytes e reads other fails =
 
 -- why the file gives no model
 pub model-halts : (old new : InputState) (name bytes : List ℕ) (e : FileError) → ReadsInput old new name MAX_MODEL_BYTES bytes → Fails e (file_reads bytes) → ModelHalts old new name (halt_of e)
-model-halts old new name bytes refused.Memory reads fails = omega (arith, reads.opens)
+model-halts old new name bytes refused.Memory reads fails = reads.opens
 model-halts old new name bytes refused.TooLong reads fails = model-refused old new name bytes refused.TooLong reads (λ same. cc) fails
 model-halts old new name bytes refused.NotJson reads fails = model-refused old new name bytes refused.NotJson reads (λ same. cc) fails
 model-halts old new name bytes (refused.Shape field) reads fails = model-refused old new name bytes (refused.Shape field) reads (λ same. cc) fails
@@ -116,10 +116,7 @@ model-stops so_far old new name e refuses = record {
   bytes =
       contents-one old.files name refuses.bytes (λ contents. reads so_far ((ModelFile name, contents) ∷ []) ≡ Err (stop_after 1 (statuses.ModelFile e))) refuses.told
       (ap (λ (r : Result Model FileError). and_then (with_model so_far r) 1 (λ next. Ok next)) refuses.read);
-  count = 1;
-  least = omega arith;
-  most = omega arith;
-  opened = inl refuses.opened;
+  opened = inl (omega arith, refuses.opened);
 }
 
 -- the same for the stage of the task
@@ -145,9 +142,6 @@ refuses task name old new mid e before silent refusal =
       stop = first;
       answered = refl;
       ends = bytes-map old.inputs.files (stages_of task) _ (λ filled. EndsOver task filled (Err first)) (λ filled is. stopped task filled first is) there.bytes;
-      count = there.count;
-      least = there.least;
-      most = there.most;
       opened = there.opened;
       silent = silent;
     }
@@ -193,7 +187,15 @@ model-ends : (task : Task) (name : List ℕ) (old mid new : InputState) (before 
 model-ends task name old mid new before after halts.Missing here cause = λ words out asks. (
   task,
   asks,
-  record { why = inr (model-lacks task name old mid here cause.0); opens = omega (arith, cause.1.opens, read-most (input_count (rules_stages task)) old mid here.read.inputs); silent = refl },
+  record {
+    why =
+        inr (record {
+          lacking = model-lacks task name old mid here cause.0;
+          opened = subst (λ (n : ℕ). StopsBefore n old new) (omega arith) (stops-through (input_count (rules_stages task)) 0 old mid new here.read.inputs (record { opens = cause.1.opens; closed = cause.1.closed }));
+          faults = cause.2 ∙ read-faults (input_count (rules_stages task)) old mid here.read.inputs;
+        });
+    silent = refl;
+  },
 )
 model-ends task name old mid new before after halts.Fault here cause = λ words out asks. (
   task,
@@ -201,10 +203,17 @@ model-ends task name old mid new before after halts.Fault here cause = λ words 
   record {
     why =
         inl (record {
-          rose = rose-since old.faults mid.faults new.faults here.stays.faults cause.0;
-          may_fail = subst (λ (w : Option (List ℕ)). IsSomeAnd w (λ n. IsTrue (old.may_fail n))) (sym here.named) (subst (λ (may_fail : List ℕ → Bool). IsTrue (may_fail name)) here.stays.may_fail cause.1);
+          cause =
+              record {
+                rose = rose-since old.faults mid.faults new.faults here.stays.faults cause.0;
+                may_fail = subst (λ (w : Option (List ℕ)). IsSomeAnd w (λ n. IsTrue (old.may_fail n))) (sym here.named) (subst (λ (may_fail : List ℕ → Bool). IsTrue (may_fail name)) here.stays.may_fail cause.1);
+              };
+          opened =
+              ⊎_elim
+              (λ (none : OpensNone mid new). inl (subst (λ (n : ℕ). StopsBefore n old new) (omega arith) (stops-through (input_count (rules_stages task)) 0 old mid new here.read.inputs (record { opens = none.opens; closed = none.closed }))))
+              (λ (named : OpensNamed mid new name MAX_MODEL_BYTES). inr (opens-through (input_count (rules_stages task)) 1 new.opens old mid here.read.inputs named.opens))
+              cause.2;
         });
-    opens = omega (arith, cause.2, read-most (input_count (rules_stages task)) old mid here.read.inputs);
     silent = refl;
   },
 )

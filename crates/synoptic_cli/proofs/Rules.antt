@@ -5,7 +5,7 @@ use Rattle.std.proofs.lemmas.Bool.Decides.{nat_tests}
 use Rattle.std.specs.Option.{IsSomeAnd, option_map_or}
 use Rattle.outside.specs.Counts.{Rose}
 use Rattle.outside.specs.Inputs.{Files, InputState, Lacks}
-use Rattle.outside.specs.Reading.{IfTold, ReadsInput}
+use Rattle.outside.specs.Reading.{IfTold, OpensNamed, OpensNone, ReadsInput}
 use Rattle.line_rules.specs.Rules.{Rule, AreAlike}
 use Rattle.line_rules.specs.Views.{rules_in}
 use Rattle.line_rules.specs.declared.line_rules.LineRules.{LineRules}
@@ -71,7 +71,7 @@ rules-read old new name bytes rules reads read =
       plain = read.0;
       read = found.2;
       alike = read.2;
-      opened = inl (record { opens = reads.opens; faults = reads.faults }, reads.at_end (short-read bytes read.0 read.1));
+      opened = inl (omega arith, record { opens = reads.opens; faults = reads.faults }, reads.at_end (short-read bytes read.0 read.1));
     }
 
 -- a file that is too long has no other refusal
@@ -123,15 +123,20 @@ one-input task name is =
 pub memory-by-rules : (old new : InputState) (before after : PatternsState) (name : List ℕ) → new.opens ≤ old.opens + 1 → EndsByRules Memory name old new before after
 memory-by-rules old new before after name few = λ task is. memory-ends task old new before after (omega (arith, few, one-input task name is))
 
--- the file of rules failed
-pub fault-by-rules : (old new : InputState) (before after : PatternsState) (name : List ℕ) → Rose old.faults new.faults → IsTrue (old.may_fail name) → new.opens ≤ old.opens + 1
-    → EndsByRules (ReadFault sources.Expressions) name old new before after
-fault-by-rules old new before after name rose may few = λ task is words out asks. (
+-- the file of rules failed, at its opening or at a read after it
+pub fault-by-rules : (old new : InputState) (before after : PatternsState) (name : List ℕ) (limit : ℕ) → Rose old.faults new.faults → IsTrue (old.may_fail name)
+    → OpensNone old new ⊎ OpensNamed old new name limit → EndsByRules (ReadFault sources.Expressions) name old new before after
+fault-by-rules old new before after name limit rose may opened = λ task is words out asks. (
   task,
   asks,
   record {
-    why = inl (record { rose = rose; may_fail = subst (λ (w : Option (List ℕ)). IsSomeAnd w (λ name. IsTrue (old.may_fail name))) (sym is) may });
-    opens = omega (arith, few);
+    why =
+        inl (record {
+          cause = record { rose = rose; may_fail = subst (λ (w : Option (List ℕ)). IsSomeAnd w (λ name. IsTrue (old.may_fail name))) (sym is) may };
+          opened =
+              ⊎_elim (λ (none : OpensNone old new). inl (record { opens = none.opens; closed = none.closed }))
+              (λ (named : OpensNamed old new name limit). inr named.opens) opened;
+        });
     silent = refl;
   },
 )
@@ -146,12 +151,15 @@ rules-lack (Some files) task name is lacks =
     ∙ ap (λ (o : Option (List ℕ)). and_then (reads_rules at_start (with_content o [])) 1 next) lacks in
     (0, read)
 
-pub missing-by-rules : (old new : InputState) (before after : PatternsState) (name : List ℕ) → Lacks old.files name → new.opens ≡ old.opens
+pub missing-by-rules : (old new : InputState) (before after : PatternsState) (name : List ℕ) → Lacks old.files name → OpensNone old new → new.faults ≡ old.faults
     → EndsByRules (ReadFault sources.Expressions) name old new before after
-missing-by-rules old new before after name lacks none = λ task is words out asks. (
+missing-by-rules old new before after name lacks none faults = λ task is words out asks. (
   task,
   asks,
-  record { why = inr (rules-lack old.files task name is lacks); opens = omega (arith, none); silent = refl },
+  record {
+    why = inr (record { lacking = rules-lack old.files task name is lacks; opened = record { opens = none.opens; closed = none.closed }; faults = faults });
+    silent = refl;
+  },
 )
 
 -- the same, with want of memory among the refusals

@@ -10,10 +10,10 @@ use Rattle.std.specs.Io.KnownBytes.{Appends}
 use Rattle.outside.specs.Counts.{Rose}
 use Rattle.outside.specs.Sinks.{SinkState, AppendsFront}
 
--- the first texts were appended, and no count fell
+-- the first texts were appended, and no fault was counted
 pub record HasWritten {X : Type 0} (f : X → List ℕ) (texts : List X) (count : ℕ) (old new : SinkState) : Type 0 where
   pub written : Appends old.written new.written (flat_map f (take count texts))
-  pub faults : old.faults ≤ new.faults
+  pub faults : new.faults ≡ old.faults
 
 -- all texts are the first ones, the next one, and the rest
 parted : {X : Type 0} (f : X → List ℕ) (texts : List X) (count : ℕ) (x : X) → count < length texts

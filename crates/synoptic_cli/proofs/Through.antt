@@ -1,8 +1,9 @@
 -- Stages that were read one after another.
-use Rattle.std.proofs.Common.{◌≡◌, ℕ, ◌+◌, ◌≤◌, List, ◌++◌, Option, Result, Ok, Err, sym, ap, ◌∙◌, subst, arith, inl, inr, ⊎_elim}
+use Rattle.std.proofs.Common.{◌≡◌, ℕ, zero, suc, refl, ◌+◌, ◌-◌, ◌^◌, ◌<◌, ◌≤◌, min, List, ◌++◌, Option, Result, Ok, Err, sym, ap, ◌∙◌, subst, arith, inl, inr, ⊎_elim}
 use Rattle.std.specs.Io.KnownBytes.{IsAtEnd}
 use Rattle.outside.specs.Inputs.{Files, InputState, Stays}
-use Rattle.log_reader.specs.Inputs.{Opened}
+use Rattle.std.proofs.lemmas.Bool.{cases_lt}
+use Rattle.log_reader.specs.Inputs.{Opened, StopsBefore, opens_after}
 use Rattle.synoptic_cli.specs.Stages.{Stage, SoFar, Stop, input_count, after, reads}
 use Rattle.synoptic_cli.specs.Endings.{SomeBytes, OpenedAll, ReadAll}
 use Rattle.synoptic_cli.specs.declared.stages.SoFar as rust
@@ -21,12 +22,14 @@ opened-both a b old mid new first second = record { opens = omega (arith, first.
 pub opens-both : (a b : ℕ) (old mid new : InputState) → ReadAll a old mid → OpenedAll b mid new → OpenedAll (a + b) old new
 opens-both a b old mid new first second =
     ⊎_elim
-    (λ (some : Opened a old mid × IsAtEnd mid.rest). ⊎_elim
-    (λ (more : Opened b mid new). inl (opened-both a b old mid new some.0 more))
-    (λ (none : (b ≡ 0) × (new ≡ mid)). inl (subst (λ (s : InputState). Opened (a + b) old s) (sym none.1) (opened-is a (a + b) old mid (omega (arith, none.0)) some.0)))
+    (λ (some : (0 < a) × Opened a old mid × IsAtEnd mid.rest). ⊎_elim
+    (λ (more : (0 < b) × Opened b mid new). inl (omega (arith, some.0), opened-both a b old mid new some.1 more.1))
+    (λ (none : (b ≡ 0) × (new ≡ mid)).
+    inl (omega (arith, some.0), subst (λ (s : InputState). Opened (a + b) old s) (sym none.1) (opened-is a (a + b) old mid (omega (arith, none.0)) some.1)))
     second)
     (λ (none : (a ≡ 0) × (mid ≡ old)). ⊎_elim
-    (λ (more : Opened b mid new). inl (opened-is b (a + b) old new (omega (arith, none.0)) (subst (λ (s : InputState). Opened b s new) none.1 more)))
+    (λ (more : (0 < b) × Opened b mid new).
+    inl (omega (arith, more.0), opened-is b (a + b) old new (omega (arith, none.0)) (subst (λ (s : InputState). Opened b s new) none.1 more.1)))
     (λ (both : (b ≡ 0) × (new ≡ mid)). inr (omega (arith, none.0, both.0), both.1 ∙ none.1))
     second)
     first
@@ -35,28 +38,58 @@ opens-both a b old mid new first second =
 pub read-both : (a b : ℕ) (old mid new : InputState) → ReadAll a old mid → ReadAll b mid new → ReadAll (a + b) old new
 read-both a b old mid new first second =
     ⊎_elim
-    (λ (some : Opened a old mid × IsAtEnd mid.rest). ⊎_elim
-    (λ (more : Opened b mid new × IsAtEnd new.rest). inl (opened-both a b old mid new some.0 more.0, more.1))
-    (λ (none : (b ≡ 0) × (new ≡ mid)). inl (subst (λ (s : InputState). Opened (a + b) old s × IsAtEnd s.rest) (sym none.1) (opened-is a (a + b) old mid (omega (arith, none.0)) some.0, some.1)))
+    (λ (some : (0 < a) × Opened a old mid × IsAtEnd mid.rest). ⊎_elim
+    (λ (more : (0 < b) × Opened b mid new × IsAtEnd new.rest). inl (omega (arith, some.0), opened-both a b old mid new some.1 more.1, more.2))
+    (λ (none : (b ≡ 0) × (new ≡ mid)).
+    let here = subst (λ (s : InputState). Opened (a + b) old s × IsAtEnd s.rest) (sym none.1) (opened-is a (a + b) old mid (omega (arith, none.0)) some.1, some.2) in
+    inl (omega (arith, some.0), here.0, here.1))
     second)
     (λ (none : (a ≡ 0) × (mid ≡ old)). ⊎_elim
-    (λ (more : Opened b mid new × IsAtEnd new.rest). inl (opened-is b (a + b) old new (omega (arith, none.0)) (subst (λ (s : InputState). Opened b s new) none.1 more.0), more.1))
+    (λ (more : (0 < b) × Opened b mid new × IsAtEnd new.rest).
+    inl (omega (arith, more.0), opened-is b (a + b) old new (omega (arith, none.0)) (subst (λ (s : InputState). Opened b s new) none.1 more.1), more.2))
     (λ (both : (b ≡ 0) × (new ≡ mid)). inr (omega (arith, none.0, both.0), both.1 ∙ none.1))
     second)
     first
 
 -- as many inputs were opened as there are
 pub read-opens : (count : ℕ) (old new : InputState) → ReadAll count old new → OpenedAll count old new
-read-opens count old new read = ⊎_elim (λ (some : Opened count old new × IsAtEnd new.rest). inl some.0) (λ (none : (count ≡ 0) × (new ≡ old)). inr none) read
+read-opens count old new read =
+    ⊎_elim (λ (some : (0 < count) × Opened count old new × IsAtEnd new.rest). inl (some.0, some.1)) (λ (none : (count ≡ 0) × (new ≡ old)). inr none) read
 
 pub read-faults : (count : ℕ) (old new : InputState) → ReadAll count old new → new.faults ≡ old.faults
 read-faults count old new read =
-    ⊎_elim (λ (some : Opened count old new × IsAtEnd new.rest). some.0.faults) (λ (none : (count ≡ 0) × (new ≡ old)). ap (λ (s : InputState). s.faults) none.1) read
+    ⊎_elim (λ (some : (0 < count) × Opened count old new × IsAtEnd new.rest). some.1.faults) (λ (none : (count ≡ 0) × (new ≡ old)). ap (λ (s : InputState). s.faults) none.1) read
 
 pub read-most : (count : ℕ) (old new : InputState) → ReadAll count old new → new.opens ≤ old.opens + count
 read-most count old new read =
-    ⊎_elim (λ (some : Opened count old new × IsAtEnd new.rest). omega (arith, some.0.opens))
+    ⊎_elim (λ (some : (0 < count) × Opened count old new × IsAtEnd new.rest). omega (arith, some.1.opens))
     (λ (none : (count ≡ 0) × (new ≡ old)). let same : new.opens ≡ old.opens = ap (λ (s : InputState). s.opens) none.1 in omega (arith, same)) read
+
+after-none : (opens count : ℕ) → count ≡ 0 → opens_after opens count ≡ opens
+after-none opens zero is = refl
+after-none opens (suc count) is = absurd (omega (arith, is))
+
+after-some : (opens count : ℕ) → 0 < count → opens_after opens count ≡ min (opens + count) (2 ^ 64 - 1)
+after-some opens zero some = absurd (omega (arith, some))
+after-some opens (suc count) some = refl
+
+-- inputs that were opened after those that were read
+pub opens-through : (a b opens : ℕ) (old mid : InputState) → ReadAll a old mid → opens ≡ opens_after mid.opens b → opens ≡ opens_after old.opens (a + b)
+opens-through a b opens old mid read is =
+    ⊎_elim
+    (λ (some : (0 < a) × Opened a old mid × IsAtEnd mid.rest).
+    let all : opens_after old.opens (a + b) ≡ min (old.opens + (a + b)) (2 ^ 64 - 1) = after-some old.opens (a + b) (omega (arith, some.0)) in
+    ⊎_elim
+    (λ (more : 0 < b). omega (arith, is, all, after-some mid.opens b more, some.1.opens))
+    (λ (none : b ≤ 0). omega (arith, is, all, after-none mid.opens b (omega (arith, none)), some.1.opens, none))
+    (cases_lt 0 b))
+    (λ (none : (a ≡ 0) × (mid ≡ old)).
+    subst (λ (n : ℕ). opens ≡ opens_after old.opens n) (omega (arith, none.0)) (subst (λ (s : InputState). opens ≡ opens_after s.opens b) none.1 is))
+    read
+
+-- the same where nothing is open
+pub stops-through : (a b : ℕ) (old mid new : InputState) → ReadAll a old mid → StopsBefore b mid new → StopsBefore (a + b) old new
+stops-through a b old mid new read stops = record { opens = opens-through a b new.opens old mid read stops.opens; closed = stops.closed }
 
 -- stages that were read, and then more
 pub read-more : (first second : List Stage) (old mid new : InputState) (a b c : SoFar) → Stays old mid → HasRead first old mid a b → HasRead second mid new b c
@@ -81,19 +114,13 @@ pub read-stop : (first second : List Stage) (old mid new : InputState) (a b : So
     → StopsReading (first ++ second) old new a (later (input_count first) stop)
 read-stop first second old mid new a b stop stays read stops = record {
   bytes = stop-bytes old.files first second a b stop read.bytes (subst (λ (files : Option Files). SomeBytes files second (λ g. reads b g ≡ Err stop)) stays.files stops.bytes);
-  count = input_count first + stops.count;
-  least = omega (arith, stops.least);
-  most = omega (arith, stops.most);
-  opened = opens-both (input_count first) stops.count old mid new read.inputs stops.opened;
+  opened = opens-both (input_count first) stop.count old mid new read.inputs stops.opened;
 }
 
 -- a stop of first stages is a stop of these and more
 pub stop-first : (first second : List Stage) (old new : InputState) (a : SoFar) (stop : Stop) → StopsReading first old new a stop → StopsReading (first ++ second) old new a stop
 stop-first first second old new a stop stops = record {
   bytes = bytes-first old.files first second (λ f. reads a f ≡ Err stop) (λ f. reads a f ≡ Err stop) (λ f s. reads-stop f s a stop) stops.bytes;
-  count = stops.count;
-  least = stops.least;
-  most = stops.most;
   opened = stops.opened;
 }
 
@@ -104,3 +131,7 @@ reads-both first second start held last old mid new stays one two = λ so_far is
     let a = one so_far is in
     let b = two a.0 a.1 in
     (b.0, b.1, read-more first second old mid new so_far a.0 b.0 stays a.2 b.2)
+
+-- what stays through two steps
+pub stays-both : (old mid new : InputState) → Stays old mid → Stays mid new → Stays old new
+stays-both old mid new one two = record { files = two.files ∙ one.files; may_fail = two.may_fail ∙ one.may_fail; faults = omega (arith, one.faults, two.faults) }

@@ -66,9 +66,6 @@ limit-ends task old new before after m kind read answers = λ words out asks. (
         (λ filled is.
         subst (λ (r : Result SoFar Stop). EndsAfter task r (Err (stop_after (input_count (stages_of task)) (Limit kind)))) (sym is)
         (kind, subst (λ (n : Material). Answers task n (Err kind)) (sym read.value) answers, refl)) read.read.bytes;
-    count = input_count (stages_of task);
-    least = omega arith;
-    most = omega arith;
     opened = read-opens (input_count (stages_of task)) old new read.read.inputs;
     silent = refl;
   },

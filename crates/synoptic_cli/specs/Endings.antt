@@ -1,5 +1,5 @@
 -- How a run ends, by the bytes of its inputs, where the inputs tell them and where they do not.
-use Rattle.std.specs.Prelude.{ℕ, ◌≡◌, ◌⊎◌, List, [], ◌∷◌, map, Option, Some, None, ⊤, Result, Ok, Err}
+use Rattle.std.specs.Prelude.{ℕ, ◌≡◌, ◌<◌, ◌⊎◌, List, [], ◌∷◌, map, Option, Some, None, ⊤, Result, Ok, Err}
 use Rattle.std.specs.Io.KnownBytes.{IsAtEnd}
 use Rattle.outside.specs.Inputs.{Files, InputState, bytes_of}
 use Rattle.log_reader.specs.Inputs.{Opened, SomeContents, told_contents}
@@ -80,8 +80,8 @@ IsFirstLacking (Some files) task source =
 
 -- so many inputs were opened, with no fault; or there is none, and nothing was touched
 abbrev pub OpenedAll : ℕ → InputState → InputState → Type 0
-OpenedAll count old new = Opened count old new ⊎ ((count ≡ 0) × (new ≡ old))
+OpenedAll count old new = ((0 < count) × Opened count old new) ⊎ ((count ≡ 0) × (new ≡ old))
 
 -- so many inputs were opened, with no fault, and the last was read to its end; or there is none, and nothing was touched
 abbrev pub ReadAll : ℕ → InputState → InputState → Type 0
-ReadAll count old new = (Opened count old new × IsAtEnd new.rest) ⊎ ((count ≡ 0) × (new ≡ old))
+ReadAll count old new = ((0 < count) × Opened count old new × IsAtEnd new.rest) ⊎ ((count ≡ 0) × (new ≡ old))

@@ -93,15 +93,14 @@ no_model = record { types = []; partitions = []; edges = []; invariants = []; sp
 abbrev pub at_start : SoFar
 at_start = record { form = form.Plain; material = record { log = log_of []; model = no_model } }
 
--- where the reading stops: the status, and how many inputs were opened by then, at least and at most
+-- where the reading stops: the status, and how many inputs were opened by then
 pub record Stop : Type 0 where
   pub status : Status
-  pub least : ℕ
-  pub most : ℕ
+  pub count : ℕ
 
--- it stops after exactly so many inputs
+-- it stops after so many inputs
 abbrev pub stop_after : ℕ → Status → Stop
-stop_after count status = record { status = status; least = count; most = count }
+stop_after count status = record { status = status; count = count }
 
 -- what the file of rules gives
 abbrev pub with_rules : SoFar → Result (List Rule) RuleError → Result SoFar Stop
@@ -135,13 +134,10 @@ status_of (refused.EventLimit at) = Limit limits.Events
 status_of refused.InputLimit = Limit limits.Input
 status_of refused.Memory = Memory
 
--- a refusal stops at the input with the line that is refused; at the limit on all input, at any of so many
-abbrev pub stop_at : Option ℕ → ℕ → Status → Stop
-stop_at (Some number) count status = stop_after (number + 1) status
-stop_at None count status = record { status = status; least = 1; most = count }
-
-abbrev pub log_stop : ℕ → ReadError → Stop
-log_stop count e = stop_at (refused_input e) count (status_of e)
+-- a refusal stops at the input with this number, which has the line that is refused, or the byte past the limit
+abbrev pub stop_at : Option ℕ → Status → Stop
+stop_at (Some number) status = stop_after (number + 1) status
+stop_at None status = stop_after 0 status
 
 -- how a log of so many files is read
 abbrev pub setting_by : SoFar → (ignore join : Bool) → Setting
@@ -149,7 +145,7 @@ setting_by so_far ignore join = record { form = so_far.form; ignore = ignore; jo
 
 -- what a log of so many files gives, by its first refusal: that comes first, then the first file that is not there
 abbrev pub with_log : SoFar → Setting → ℕ → List (List ℕ) → Option ReadError → Result SoFar Stop
-with_log so_far s count contents (Some e) = Err (log_stop count e)
+with_log so_far s count contents (Some e) = Err (stop_at (refused_input e contents) (status_of e))
 with_log so_far s count contents None =
     if nat_lt (length contents) count then Err (stop_after (length contents) (ReadFault (sources.Log (length contents))))
     else Ok (record { form = so_far.form; material = record { log = log_of (events_of s contents); model = so_far.material.model } })
@@ -170,7 +166,7 @@ Filled = Stage × List (List ℕ)
 -- a later stop comes after so many inputs more
 abbrev pub after : ℕ → Result SoFar Stop → Result SoFar Stop
 after count (Ok so_far) = Ok so_far
-after count (Err stop) = Err (record { status = stop.status; least = count + stop.least; most = count + stop.most })
+after count (Err stop) = Err (record { status = stop.status; count = count + stop.count })
 
 -- what comes after a stage of so many inputs, unless that stops
 abbrev pub and_then : Result SoFar Stop → ℕ → (SoFar → Result SoFar Stop) → Result SoFar Stop

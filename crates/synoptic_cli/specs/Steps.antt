@@ -19,7 +19,6 @@ use Rattle.log_reader.specs.Reading.{Form, Setting}
 use Rattle.log_reader.specs.Reading as form
 use Rattle.log_reader.specs.Inputs.{HasReadCause, Opened, inputs_of}
 use Rattle.log_reader.specs.declared.refusal.ReadError.{ReadError}
-use Rattle.log_reader.specs.declared.refusal.ReadError.TheVariants as refused
 use Rattle.command_line.specs.Task.{Task, task_of}
 use Rattle.command_line.specs.declared.given.ParseError.{ParseError}
 use Rattle.command_line.specs.declared.given.ParseError.TheVariants as parse_error
@@ -86,7 +85,7 @@ pub record RefusesFile (old new : InputState) (name : List ℕ) (e : FileError) 
 
 -- why the named file gives no model
 abbrev pub ModelHalts : (old new : InputState) → List ℕ → ModelHalt → Type 0
-ModelHalts old new name halts.Missing = Lacks old.files name × OpensNone old new
+ModelHalts old new name halts.Missing = Lacks old.files name × OpensNone old new × (new.faults ≡ old.faults)
 ModelHalts old new name halts.Fault =
     Rose old.faults new.faults × IsTrue (old.may_fail name)
     × (OpensNone old new ⊎ OpensNamed old new name MAX_MODEL_BYTES)
@@ -130,7 +129,6 @@ pub record LogHalts (task : Task) (f : Form) (old new : InputState) (e : ReadErr
   pub reads : IsSome task.form
   pub cause : HasReadCause (setting_of task f) (inputs_of task.files) old new e
   pub opens : new.opens ≤ old.opens + length (inputs_of task.files)
-  pub fault : (number : ℕ) → e ≡ refused.ReadFault number → new.opens ≤ old.opens + (number + 1)
 
 -- the program holds what was read so far, with rules that are alike
 pub record IsHeld (held : rust.SoFar) (so_far : SoFar) : Type 0 where
@@ -150,10 +148,7 @@ Reads stages before old new now =
 -- the stages were read up to a stop
 pub record StopsReading (stages : List Stage) (old new : InputState) (before : SoFar) (stop : Stop) : Type 0 where
   pub bytes : SomeBytes old.files stages (λ filled. reads before filled ≡ Err stop)
-  pub count : ℕ
-  pub least : stop.least ≤ count
-  pub most : count ≤ stop.most
-  pub opened : OpenedAll count old new
+  pub opened : OpenedAll stop.count old new
 
 -- the task's inputs were read, and this is what the command is to work on
 pub record ReadsTask (task : Task) (old new : InputState) (material : Material) : Type 0 where

@@ -156,7 +156,7 @@ fn field_name(field: Field) -> &'static str
 /// Writes what is wrong with a model's file, by two words.
 fn write_file_fault<E: Sink>(what: &str, which: &str, err: &mut E) -> Result<(), Failed>
     ensures { WholeGives (E.state err.old)
-        (codes "synoptic: model file: " ++ (what.now ++ which.now) ++ codes "\n") result (E.state err.new) }
+        (codes "synoptic: model file: " ++ what.now ++ which.now ++ codes "\n") result (E.state err.new) }
 {
     write_texts(&["synoptic: model file: ", what, which, "\n"], err)
 }

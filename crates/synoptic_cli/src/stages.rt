@@ -4,7 +4,7 @@ ghost use Rattle.std.specs.Option.{IsSomeAnd};
 ghost use Rattle.outside.specs.Inputs.{Stays};
 ghost use Rattle.line_rules.specs.Patterns.{Stays as PatternsStay};
 ghost use Rattle.line_rules.specs.Views.{rules_in};
-ghost use Rattle.log_reader.specs.Inputs.{HasReadCause, OpensUpToFault, ReadsLog, inputs_of};
+ghost use Rattle.log_reader.specs.Inputs.{HasReadCause, ReadsLog, inputs_of};
 ghost use Rattle.log_reader.specs.Views.{form_view};
 ghost use Rattle.command_line.specs.Task.{task_held};
 ghost use Rattle.synoptic_cli.specs.Causes.{KeepsCounts};
@@ -149,7 +149,6 @@ fn read_files<I: Inputs>(
         → (I.state inputs.new).faults ≡ (I.state inputs.old).faults }
     ensures opens { (I.state inputs.new).opens
         ≤ (I.state inputs.old).opens + length (inputs_of (task_held task.now).files) }
-    ensures fault { OpensUpToFault result (I.state inputs.old) (I.state inputs.new) }
 {
     let Ok(names) = names_of(alloc, task) else {
         return Err(ReadError::Memory);

@@ -1,4 +1,4 @@
-use Rattle.std.proofs.Common.{List, ℕ, subst}
+use Rattle.std.proofs.Common.{List, ℕ, arith, subst}
 use Rattle.std.proofs.lemmas.Result.{err_from_is_err_and}
 use Rattle.outside.specs.Sinks.{AppendsFront}
 use Rattle.synoptic_cli.proofs.Texts.{fails-within, rose-since}
@@ -13,5 +13,5 @@ returns-in_err-write_whole g c =
     rw p.1 (
       fails-within (λ text. text.now) c.args.texts.now c.loop-text.text-index _ old mid new c.loop-text-test.true c.loop-text.invariant
           (subst (λ (t : List ℕ). AppendsFront mid t new) c.as_bytes.ensures.value c.in_err-write_whole.ensures.gives.0),
-      rose-since old.faults mid.faults new.faults c.loop-text.invariant.faults c.in_err-write_whole.ensures.gives.1,
+      rose-since old.faults mid.faults new.faults (omega (arith, c.loop-text.invariant.faults)) c.in_err-write_whole.ensures.gives.1,
     )
