@@ -17,6 +17,10 @@ pub record HasShape (table : List (List Bool)) (rows bits : ℕ) : Type 0 where
   pub count : length table ≡ rows
   pub long : (r : ℕ) → r < rows → length (row_at table r) ≡ bits
 
+-- as many rows as before, and as many truth values in each
+abbrev pub KeepsShape : List (List Bool) → List (List Bool) → Type 0
+KeepsShape old new = (rows bits : ℕ) → HasShape old rows bits → HasShape new rows bits
+
 -- each truth value of a row is false
 abbrev pub IsBlank : List Bool → Type 0
 IsBlank row = (i : ℕ) → is_set row i ≡ false
