@@ -44,3 +44,15 @@ pub const MAX_PATH_NUMBERS: u32 = 4_000_000;
 
 /// How many bytes a model file has at most.
 pub const MAX_MODEL_BYTES: usize = 134_217_728;
+
+/// How many splits the refinement of a log has at most, and how many merges its coarsening: each makes or takes a partition of events.
+pub const MAX_STEPS: u32 = 1022;
+
+/// How many pairs of partitions of one type a graph has at most.
+pub const MAX_PAIRS: u32 = 521_731;
+
+/// How many places an edge of a model stands for at most.
+pub const MAX_EDGE_COUNT: u32 = 2_000_000;
+
+/// How many sessions a made log has at most.
+pub const MAX_SESSIONS: u32 = 20_000;

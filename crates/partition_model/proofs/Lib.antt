@@ -11,7 +11,7 @@ pub mod Passes
 pub mod Least
 pub mod Runs
 pub mod Counting
-pub mod Rows
+pub mod Examples
 pub mod Unique
 pub mod Forming
 pub mod Listing

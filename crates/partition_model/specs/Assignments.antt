@@ -1,6 +1,7 @@
 -- Events with the ids of their partitions, and the graph that these give.
 use Rattle.std.specs.Prelude.{◌≡◌, ◌==◌, ◌&&◌, ◌||◌, ℕ, ◌+◌, ◌≤◌, Bool, false, nat_lt, if◌then◌else◌, List, [], ◌∷◌, ◌++◌, map, length, sum_by, count_by}
 use Rattle.std.specs.List.{AllByRecursion, flat_map}
+use Rattle.limits.specs.declared.TheConstants.{INITIAL, TERMINAL, FIRST_TYPE}
 use Rattle.partition_model.specs.Graphs.{Graph}
 
 -- an event: its type, and the id of its partition
@@ -14,7 +15,7 @@ Assignment = List (List Event)
 
 -- between INITIAL and TERMINAL
 abbrev pub with_ends : List ℕ → List ℕ
-with_ends xs = 0 ∷ xs ++ 1 ∷ []
+with_ends xs = INITIAL ∷ xs ++ TERMINAL ∷ []
 
 -- the id of each event
 abbrev pub ids_of : List Event → List ℕ
@@ -58,9 +59,9 @@ events h = flat_map (λ trace. trace) h
 abbrev pub members : Assignment → ℕ → ℕ
 members h p = count_by (λ e. e.id == p) (events h)
 
--- the number of events of an id; of 0 and 1, the number of traces
+-- the number of events of an id; of the two ends, the number of traces
 abbrev pub size : Assignment → ℕ → ℕ
-size h p = if nat_lt p 2 then length h else members h p
+size h p = if nat_lt p FIRST_TYPE then length h else members h p
 
 -- the type of the first event of the id
 abbrev pub first_type : ℕ → List Event → ℕ
@@ -69,11 +70,11 @@ first_type p (e ∷ es) = if e.id == p then e.typ else first_type p es
 
 -- the type of an id; the two ends have their own
 abbrev pub type_of : Assignment → ℕ → ℕ
-type_of h p = if nat_lt p 2 then p else first_type p (events h)
+type_of h p = if nat_lt p FIRST_TYPE then p else first_type p (events h)
 
 -- the two ends, and the ids that events have
 abbrev pub is_live : Assignment → ℕ → Bool
-is_live h p = nat_lt p 2 || nat_lt 0 (members h p)
+is_live h p = nat_lt p FIRST_TYPE || nat_lt 0 (members h p)
 
 -- the graph of an assignment: the live ids, with an edge where there are neighbours
 abbrev pub G : Assignment → Graph
@@ -88,9 +89,9 @@ G h =
 abbrev pub AllEvents : (Event → Type 0) → Assignment → Type 0
 AllEvents P h = AllByRecursion P (events h)
 
--- ids are at least 2, and events of one id have one type
+-- ids are not those of the ends, and events of one id have one type
 abbrev pub IsTyped : Assignment → Type 0
-IsTyped h = AllEvents (λ e. (2 ≤ e.id) × (e.typ ≡ type_of h e.id)) h
+IsTyped h = AllEvents (λ e. (FIRST_TYPE ≤ e.id) × (e.typ ≡ type_of h e.id)) h
 
 -- the event with another id
 abbrev pub renamed_event : (ℕ → ℕ) → Event → Event

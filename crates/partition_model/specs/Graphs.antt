@@ -1,5 +1,6 @@
 -- Graphs of partitions, their paths, and the words of these.
 use Rattle.std.specs.Prelude.{◌≡◌, ◌==◌, ◌&&◌, ◌||◌, not, ℕ, ◌<◌, ◌≤◌, ◌⊎◌, Bool, true, List, [], ◌∷◌, map, length}
+use Rattle.limits.specs.declared.TheConstants.{INITIAL, TERMINAL}
 use Rattle.invariants.specs.declared.Invariant.{Invariant}
 use Rattle.invariants.specs.Holds.{Holds}
 
@@ -15,10 +16,10 @@ abbrev pub Walk : Graph → ℕ → List ℕ → ℕ → Type 0
 Walk g p [] q = p ≡ q
 Walk g p (r ∷ rs) q = (g.edge p r ≡ true) × Walk g r rs q
 
--- a list of ids that begins with 0, ends with 1 and goes along edges
+-- a list of ids that begins with INITIAL, ends with TERMINAL and goes along edges
 abbrev pub IsPath : Graph → List ℕ → Type 0
 IsPath g [] = ⊥
-IsPath g (x ∷ xs) = (x ≡ 0) × Walk g x xs 1
+IsPath g (x ∷ xs) = (x ≡ INITIAL) × Walk g x xs TERMINAL
 
 -- the types of a list of ids
 abbrev pub word : Graph → List ℕ → List ℕ
@@ -48,15 +49,15 @@ pub record IsLeastViolation (g : Graph) (inv : Invariant) (path : List ℕ) : Ty
   pub shortest : (other : List ℕ) → Breaks g inv other → length path ≤ length other
   pub first : (other : List ℕ) → Breaks g inv other → length other ≡ length path → IsBefore other path → ⊥
 
--- the two ends are listed, with their own types; edges go between listed ids, none into 0 and none out of 1
+-- the two ends are listed, with their own types; edges go between listed ids, none into INITIAL and none out of TERMINAL
 pub record IsFormed (g : Graph) : Type 0 where
-  pub start_listed : g.listed 0 ≡ true
-  pub end_listed : g.listed 1 ≡ true
-  pub start_type : g.typ 0 ≡ 0
-  pub end_type : g.typ 1 ≡ 1
+  pub start_listed : g.listed INITIAL ≡ true
+  pub end_listed : g.listed TERMINAL ≡ true
+  pub start_type : g.typ INITIAL ≡ INITIAL
+  pub end_type : g.typ TERMINAL ≡ TERMINAL
   pub between : (p q : ℕ) → g.edge p q ≡ true → (g.listed p ≡ true) × (g.listed q ≡ true)
-  pub none_into_start : (p : ℕ) → g.edge p 0 ≡ true → ⊥
-  pub none_out_of_end : (q : ℕ) → g.edge 1 q ≡ true → ⊥
+  pub none_into_start : (p : ℕ) → g.edge p INITIAL ≡ true → ⊥
+  pub none_out_of_end : (q : ℕ) → g.edge TERMINAL q ≡ true → ⊥
 
 -- whether there is an edge from u to v where q is replaced by p
 abbrev pub merged_edge : Graph → ℕ → ℕ → ℕ → ℕ → Bool

@@ -1,6 +1,7 @@
 -- Laws over the definitions.
 use Rattle.std.specs.Prelude.{◌≡◌, ◌≢◌, ◌↔◌, ◌+◌, ℕ, suc, ◌<◌, ◌≤◌, ◌⊎◌, Bool, true, false, List, [], ◌∷◌, ◌++◌, length, take, slice_index, slice_get, Some, Contains}
 use Rattle.std.specs.List.{AllByRecursion}
+use Rattle.limits.specs.declared.TheConstants.{INITIAL, FIRST_TYPE}
 use Rattle.invariants.specs.declared.Invariant.{Invariant}
 use Rattle.invariants.specs.Holds.{Holds}
 use Rattle.partition_model.specs.Graphs.{Graph, IsPath, word, Accepts, Satisfies, Breaks, Merged, IsLeastViolation, IsFormed}
@@ -18,12 +19,12 @@ GraphsAreFormed = (h : Assignment) → IsTyped h → IsFormed (G h)
 -- the merged graph of a formed graph is formed, and q is gone from it
 abbrev pub MergedAreFormed : Type 0
 MergedAreFormed =
-    (g : Graph) (p q : ℕ) → IsFormed g → 2 ≤ p → p < q → g.listed p ≡ true
+    (g : Graph) (p q : ℕ) → IsFormed g → FIRST_TYPE ≤ p → p < q → g.listed p ≡ true
     → IsFormed (Merged g p q) × ((Merged g p q).listed q ≡ false)
 
 -- no event has this id, which is no end's
 abbrev pub IsFresh : ℕ → Assignment → Type 0
-IsFresh n h = (2 ≤ n) × AllEvents (λ e. e.id ≢ n) h
+IsFresh n h = (FIRST_TYPE ≤ n) × AllEvents (λ e. e.id ≢ n) h
 
 -- some events of p, whichever they are, have the new id n, and all else is as it was
 pub record IsDivided (p n : ℕ) (h divided : Assignment) : Type 0 where
@@ -57,17 +58,17 @@ SplitKeeps =
 -- every word of a path is one of a path of the merged graph
 abbrev pub MergeGrows : Type 0
 MergeGrows =
-    (g : Graph) (p q : ℕ) → 2 ≤ p → p < q → g.typ p ≡ g.typ q → (w : List ℕ) → Accepts g w → Accepts (Merged g p q) w
+    (g : Graph) (p q : ℕ) → FIRST_TYPE ≤ p → p < q → g.typ p ≡ g.typ q → (w : List ℕ) → Accepts g w → Accepts (Merged g p q) w
 
 -- so an invariant that the merged graph satisfies was satisfied before
 abbrev pub MergedKeeps : Type 0
 MergedKeeps =
-    (g : Graph) (p q : ℕ) → 2 ≤ p → p < q → g.typ p ≡ g.typ q → (inv : Invariant) → Satisfies (Merged g p q) inv → Satisfies g inv
+    (g : Graph) (p q : ℕ) → FIRST_TYPE ≤ p → p < q → g.typ p ≡ g.typ q → (inv : Invariant) → Satisfies (Merged g p q) inv → Satisfies g inv
 
 -- no path of the merged graph names the id that was merged away
 abbrev pub MergedPathsAvoid : Type 0
 MergedPathsAvoid =
-    (g : Graph) (p q : ℕ) → 2 ≤ q → (path : List ℕ) → IsPath (Merged g p q) path → AllByRecursion (λ x. x ≢ q) path
+    (g : Graph) (p q : ℕ) → FIRST_TYPE ≤ q → (path : List ℕ) → IsPath (Merged g p q) path → AllByRecursion (λ x. x ≢ q) path
 
 -- the same edges, the same listed ids with the same types, and the same paths with the same words
 pub record AreSame (g k : Graph) : Type 0 where
@@ -133,7 +134,7 @@ pub record IsLongest (h : Assignment) (path : List ℕ) (n : ℕ) : Type 0 where
 abbrev pub StitchIsLast : Type 0
 StitchIsLast =
     (h : Assignment) (path : List ℕ) → 0 < length h
-    → IsLongest h path (followed h path) × (slice_get path 0 ≡ Some 0 → suc (stitch h path) ≡ followed h path)
+    → IsLongest h path (followed h path) × (slice_get path 0 ≡ Some INITIAL → suc (stitch h path) ≡ followed h path)
 
 -- where a labelling is inductive, no path breaks the invariant
 abbrev pub InductiveSatisfies : Type 0
@@ -208,13 +209,13 @@ pub record IsRun (words : List (List ℕ)) (h : Assignment) (n : ℕ) : Type 0 w
   pub words_are : inner_words h ≡ words
   pub typed : IsTyped h
   pub below : AllEvents (λ e. e.id < n) h
-  pub each_live : (p : ℕ) → 2 ≤ p → p < n → 0 < members h p
+  pub each_live : (p : ℕ) → FIRST_TYPE ≤ p → p < n → 0 < members h p
 
 -- the words use exactly the types from 2 up to n - 1
 pub record AreTyped (words : List (List ℕ)) (n : ℕ) : Type 0 where
-  pub two : 2 ≤ n
-  pub range : AllEvents (λ e. (2 ≤ e.typ) × (e.typ < n)) (by_type words)
-  pub each : (p : ℕ) → 2 ≤ p → p < n → 0 < members (by_type words) p
+  pub two : FIRST_TYPE ≤ n
+  pub range : AllEvents (λ e. (FIRST_TYPE ≤ e.typ) × (e.typ < n)) (by_type words)
+  pub each : (p : ℕ) → FIRST_TYPE ≤ p → p < n → 0 < members (by_type words) p
 
 -- each invariant holds of each of these words, with its ends
 abbrev pub HoldAll : List (List ℕ) → List Invariant → Type 0
@@ -249,7 +250,7 @@ SatisfiesBefore g invs k = (j : ℕ) (inv : Invariant) → j < k → slice_get i
 -- a split for the invariant with number k, where those before it are satisfied, is the next one, and these stay so
 abbrev pub OnePassSplits : Type 0
 OnePassSplits =
-    (invs : List Invariant) (words : List (List ℕ)) (h : Assignment) (n k : ℕ) (inv : Invariant) (path : List ℕ) → IsRun words h n → 2 ≤ n → HoldAll words invs
+    (invs : List Invariant) (words : List (List ℕ)) (h : Assignment) (n k : ℕ) (inv : Invariant) (path : List ℕ) → IsRun words h n → FIRST_TYPE ≤ n → HoldAll words invs
     → slice_get invs k ≡ Some inv → SatisfiesBefore (G h) invs k → IsLeastViolation (G h) inv path
     → IsNextSplit invs h (record { inv = k; place = stitch h path; path = path })
     × IsRun words (after_split n (record { inv = k; place = stitch h path; path = path }) h) (n + 1)
@@ -272,7 +273,7 @@ PassesOver k (inv ∷ invs) h n splits end =
 -- one pass over the invariants makes the whole run of refinement
 abbrev pub OnePassRefines : Type 0
 OnePassRefines =
-    (invs : List Invariant) (words : List (List ℕ)) (h : Assignment) (n : ℕ) (splits : List Split) (end : Assignment) → IsRun words h n → 2 ≤ n → HoldAll words invs
+    (invs : List Invariant) (words : List (List ℕ)) (h : Assignment) (n : ℕ) (splits : List Split) (end : Assignment) → IsRun words h n → FIRST_TYPE ≤ n → HoldAll words invs
     → PassesOver 0 invs h n splits end → Refines invs h n splits end
 
 -- what refinement and coarsening are for: one type for each id, a path for each word, and each invariant satisfied

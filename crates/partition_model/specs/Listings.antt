@@ -1,6 +1,7 @@
 -- The partitions and the edges of an assignment, as lists.
 use Rattle.std.specs.Prelude.{ℕ, suc, ◌≡◌, ◌≢◌, ◌↔◌, ◌<◌, ◌≤◌, ◌⊎◌, true, nat_lt, List, [], ◌∷◌, length, map, filter, take, Contains, sum_by}
 use Rattle.std.specs.List.{flat_map, range_with_len, AllByRecursion}
+use Rattle.limits.specs.declared.TheConstants.{INITIAL, TERMINAL, FIRST_TYPE}
 use Rattle.invariants.specs.declared.records.Partition.{Partition}
 use Rattle.invariants.specs.declared.records.Edge.{Edge}
 use Rattle.partition_model.specs.Assignments.{Assignment, IsTyped, events, edge_count, size, type_of, is_live, ids_of}
@@ -71,12 +72,12 @@ pub record AreEdges (xs : List Edge) (h : Assignment) : Type 0 where
 -- where ids are below n, the lists have all partitions and all edges
 abbrev pub ListingsTell : Type 0
 ListingsTell =
-    (h : Assignment) (n : ℕ) → 2 ≤ n → AreBelow n h
+    (h : Assignment) (n : ℕ) → FIRST_TYPE ≤ n → AreBelow n h
     → ArePartitions (partitions_below n h) h × AreEdges (edges_below n h) h
 
 -- where ids are below n, the counts of the edges out of an id add up to its size, but for TERMINAL, and so do those of the edges into it, but for INITIAL
 abbrev pub CountsAddUp : Type 0
 CountsAddUp =
-    (h : Assignment) (n : ℕ) → IsTyped h → 2 ≤ n → AreBelow n h
-    → ((p : ℕ) → p ≢ 1 → sum_by (λ q. edge_count h p q) (ids_below n) ≡ size h p)
-    × ((q : ℕ) → q ≢ 0 → sum_by (λ p. edge_count h p q) (ids_below n) ≡ size h q)
+    (h : Assignment) (n : ℕ) → IsTyped h → FIRST_TYPE ≤ n → AreBelow n h
+    → ((p : ℕ) → p ≢ TERMINAL → sum_by (λ q. edge_count h p q) (ids_below n) ≡ size h p)
+    × ((q : ℕ) → q ≢ INITIAL → sum_by (λ p. edge_count h p q) (ids_below n) ≡ size h q)

@@ -1,6 +1,7 @@
 -- Refinement: a step divides the partition at which the least violation leaves the traces.
 use Rattle.std.specs.Prelude.{◌≡◌, ◌==◌, ◌&&◌, ℕ, zero, suc, pred, ◌+◌, max, if◌then◌else◌, List, [], ◌∷◌, map, slice_index, slice_get, Some}
 use Rattle.std.specs.List.{AllByRecursion}
+use Rattle.limits.specs.declared.TheConstants.{TERMINAL, FIRST_TYPE}
 use Rattle.invariants.specs.declared.Invariant.{Invariant}
 use Rattle.invariants.specs.declared.records.Split.{Split}
 use Rattle.partition_model.specs.Graphs.{Graph, Satisfies, IsLeastViolation}
@@ -29,7 +30,7 @@ stitch h path = pred (followed h path)
 
 -- the id after an event, in the rest of its trace
 abbrev pub next_id : List Event → ℕ
-next_id [] = 1
+next_id [] = TERMINAL
 next_id (e ∷ es) = e.id
 
 -- the event's id, where the events of p that are followed by q get the id n
@@ -75,6 +76,6 @@ abbrev pub Splits : List Invariant → Assignment → ℕ → List Split → Ass
 Splits invs h n [] end = end ≡ h
 Splits invs h n (s ∷ ss) end = IsNextSplit invs h s × Splits invs (after_split n s h) (suc n) ss end
 
--- the refinement of the words, whose types are numbered from 2 up to types + 1
+-- the refinement of the words, whose types are numbered from the first number of a type on
 abbrev pub IsRefined : List Invariant → ℕ → List (List ℕ) → List Split → Assignment → Type 0
-IsRefined invs types inner splits end = Refines invs (by_type inner) (types + 2) splits end
+IsRefined invs types inner splits end = Refines invs (by_type inner) (types + FIRST_TYPE) splits end
