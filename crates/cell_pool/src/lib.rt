@@ -1,0 +1,8 @@
+//! Stores whose memory is taken once, when they are made: cells in lists, spans of numbers, and the log of a run.
+#![tactic(auto)]
+
+mod run_log;
+mod spans;
+
+pub use run_log::{BlockEntry, MergeEntry, RunLog, SplitEntry};
+pub use spans::{Span, Spans};
