@@ -1,3 +1,4 @@
 pub mod Linked
 pub mod Listed
 pub mod Moving
+pub mod Splicing

@@ -59,6 +59,15 @@ rows_of P table from to r s from_in to_in apart has_from has_to others list = el
   ])
 ]
 
+pub row_second : (table : List (List ℕ)) (from to : ℕ) (r s : List ℕ) → to < length table → row_at (set (set table from r) to s) to ≡ s
+row_second table from to r s to_in = get_or-set_same (set table from r) to s [] (omega (arith, length-set table from r))
+
+pub row_first : (table : List (List ℕ)) (from to : ℕ) (r s : List ℕ) → from < length table → from ≢ to → row_at (set (set table from r) to s) from ≡ r
+row_first table from to r s from_in apart = get_or-set_other (set table from r) to from s [] apart ∙ get_or-set_same table from r [] from_in
+
+pub row_third : (table : List (List ℕ)) (from to : ℕ) (r s : List ℕ) (list : ℕ) → list ≢ from → list ≢ to → row_at (set (set table from r) to s) list ≡ row_at table list
+row_third table from to r s list not_from not_to = get_or-set_other (set table from r) to list s [] not_to ∙ get_or-set_other table from list r [] not_from
+
 -- ---- no cell stands at two places
 
 pub once_at : (next prev : List ℕ) (count lists : ℕ) (table : List (List ℕ)) → IsLinked next prev count lists table → (list other place place' : ℕ) → list < lists → other < lists
