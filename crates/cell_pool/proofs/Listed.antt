@@ -43,6 +43,9 @@ row_in table list place inside = elim (cases_lt list (length table)) [
   | inr past ↦ absurd (omega (arith, ap length (get_or_past table list [] past)))
 ]
 
+pub low_at : (xs : List ℕ) (count place cell : ℕ) → slice_get xs place ≡ Some cell → All (λ x. x < count) xs → cell < count
+low_at xs count place cell is all = subst (λ x. x < count) (get_or_from_slice_get xs place cell 0 is) (All-get_or (λ x. x < count) xs place 0 (slice_get_within xs place cell is) all)
+
 -- ---- two rows of a table are exchanged
 
 pub rows_of : (P : ℕ → List ℕ → Type 0) (table : List (List ℕ)) (from to : ℕ) (r s : List ℕ) → from < length table → to < length table → from ≢ to → P from r → P to s

@@ -61,7 +61,7 @@ module _ (next prev : List ℕ) (count lists : ℕ) (table : List (List ℕ)) (h
   unfolding row
   cells_in_row = h.linked.cells from from_low
 
-  cell_low : cell < count
+  pub cell_low : cell < count
   cell_low = subst (λ x. x < count) is_cell (All-get_or (λ x. x < count) row place 0 inside cells_in_row)
 
   front_low : All (λ x. x < count) front
@@ -145,6 +145,10 @@ module _ (next prev : List ℕ) (count lists : ℕ) (table : List (List ℕ)) (h
 
   prev2 : List ℕ
   prev2 = set (set prev1 cell (get_or prev1 (count + to) 0)) (count + to) cell
+
+  pub end_low : get_or (set prev (get_or next cell 0) (get_or prev cell 0)) (count + to) 0 < count + lists
+  unfolding prev1
+  end_low = last_low
 
   size1 : length next1 ≡ count + lists
   unfolding next1
