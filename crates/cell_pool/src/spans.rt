@@ -1,6 +1,6 @@
 //! Lists of numbers, one behind the other in one block of memory, and the spans by which they are found again.
-ghost use Rattle.std.specs.Prelude.{◌≡◌, ◌+◌, ◌<◌, ◌≤◌, [], length, take, drop, IfOk, MatchOption};
-ghost use Rattle.cell_pool.specs.Numbers.{Pushes};
+ghost use Rattle.std.specs.Prelude.{◌≡◌, ◌+◌, ◌<◌, ◌≤◌, [], length, IfOk, MatchOption};
+ghost use Rattle.cell_pool.specs.Numbers.{Pushes, KeepsLists, list_at};
 
 use std::alloc::{AllocError, Global};
 use std::marker::Model;
@@ -44,7 +44,7 @@ impl Spans {
     }
 
     /// Appends the numbers, and answers where they stand. `None` comes exactly where the room that is left is too small
-    /// for them; then nothing changed.
+    /// for them; then nothing changed. What was pushed before stays where it is.
     pub fn push(&mut self, numbers: &[u32]) -> Option<Span>
         ensures push { MatchOption result
             (((self.old).room < length (self.old).numbers + length numbers.now)
@@ -67,7 +67,7 @@ impl Spans {
     /// The numbers at the places of the span, which lie within the numbers pushed so far.
     pub fn get(&self, span: Span) -> &[u32]
         requires { span.from + span.len ≤ length (self.now).numbers }
-        ensures { result.now ≡ take span.len (drop span.from (self.now).numbers) }
+        ensures { result.now ≡ list_at (self.now).numbers span.from span.len }
     {
         let from = span.from as usize;
         &self.numbers.as_slice()[from..from + span.len as usize]
