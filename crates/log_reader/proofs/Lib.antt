@@ -1,5 +1,6 @@
 pub mod Bytes
 pub mod AlikeLogs
+pub mod LinesOfLog
 pub mod Pieces
 pub mod Files
 pub mod UpTo

@@ -1,7 +1,8 @@
 //! Laws over the definitions.
 ghost use Rattle.std.specs.Prelude.{◌≡◌, List, ℕ, Bool};
 ghost use Rattle.line_rules.specs.Rules.{Rule, AreAlike};
-ghost use Rattle.log_reader.specs.Reading.{Rules, events_of, first_refusal, setting};
+ghost use Rattle.log_reader.specs.Reading.{Rules, Setting, events_of, first_refusal, setting};
+ghost use Rattle.log_reader.specs.LogLines.{events_at, lines_of};
 
 /// Rules that are alike read each log alike: they have one first refusal, and the same events.
 pub fn alike_rules_read_alike()
@@ -11,4 +12,11 @@ pub fn alike_rules_read_alike()
     ensures events { (rs ss : List Rule) (ignore join : Bool) (files : List (List ℕ)) → AreAlike rs ss
         → events_of (setting (Rules rs) ignore join) files
         ≡ events_of (setting (Rules ss) ignore join) files }
+{}
+
+/// The events of a log are those of its lines, file by file and line by line. The key of each names its file
+/// and how many separators stand before its line in that file; where files are joined it names file 0, and
+/// how many stand before its line in all files.
+pub fn events_are_those_of_lines()
+    ensures { (s : Setting) (files : List (List ℕ)) → events_of s files ≡ events_at s (lines_of s files) }
 {}

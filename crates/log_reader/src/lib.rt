@@ -12,6 +12,6 @@ mod so_far;
 mod tests;
 
 pub use form::Form;
-pub use law::alike_rules_read_alike;
+pub use law::{alike_rules_read_alike, events_are_those_of_lines};
 pub use reading::read_log;
 pub use refusal::{At, ReadError};
