@@ -75,7 +75,8 @@ some-first : (b : ℕ) (ps : List (List ℕ)) → 0 < length (on_first b ps)
 some-first b [] = omega arith
 some-first b (p ∷ ps) = omega arith
 
-some-pieces : (bytes : List ℕ) → 0 < length bytes → 0 < length (pieces bytes)
+-- where a byte is, a piece is
+pub some-pieces : (bytes : List ℕ) → 0 < length bytes → 0 < length (pieces bytes)
 some-pieces [] some = absurd (omega arith)
 some-pieces (b ∷ bytes) some = ⊎_elim
     (λ feed. subst (λ ps. 0 < length ps) (sym (cond-true (b == 10) ([] ∷ pieces bytes) (on_first b (pieces bytes)) feed)) (omega arith))
