@@ -1,5 +1,5 @@
 use Rattle.std.proofs.Common.{rules}
-use Rattle.count_miner.proofs.counts.Counts.new.Goals as goal
+use Rattle.count_miner.proofs.counts.Counts.make.Goals as goal
 
 pub returns-clause-shape : goal.returns-clause-shape
 returns-clause-shape c = record {
