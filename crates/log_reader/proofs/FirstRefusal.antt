@@ -15,7 +15,7 @@ use Rattle.log_reader.specs.declared.refusal.At.{At}
 use Rattle.log_reader.specs.declared.refusal.ReadError.{ReadError}
 use Rattle.log_reader.specs.declared.refusal.ReadError.TheVariants as refused
 use Rattle.log_reader.proofs.LinesOfLog.{piece_lines, files_lines, met-lines}
-use Rattle.log_reader.proofs.Pieces.{some-pieces}
+use Rattle.log_reader.proofs.PieceByPiece.{some-pieces}
 
 -- the first refusal of lines, one behind the other, after these events
 abbrev lines_refusal : Setting → Bool → List KeyedEvent → List Line → Option ReadError
@@ -284,6 +284,7 @@ line-taken true at before spec.Undecided is = refl
 line-taken false at before spec.Undecided is = absurd (none-some (refused.Undecided at) (sym is))
 line-taken ignore at before spec.BadTime is = absurd (none-some (refused.BadTime at) (sym is))
 
+-- so it is of a whole log
 pub all-taken : (s : Setting) (files : List (List ℕ)) → AllTaken s files
 all-taken s files none front l rest is =
     let taken : TellsRefusal s files None = subst (TellsRefusal s files) none (tells-refusal s files) in
@@ -304,6 +305,7 @@ past-more room bytes files fits (Some k) tells =
     ap (λ n. total_bytes (take n (bytes ∷ files))) two ∙ total-cons bytes (take (k + 1) files) in
     (omega (arith, tells.0), omega (arith, before, tells.1), omega (arith, within, tells.2))
 
+-- what is found is the file with the first byte past so many
 pub tells-past : (room : ℕ) (files : List (List ℕ)) → TellsPast room files (file_past room files)
 tells-past room [] = omega arith
 tells-past room (bytes ∷ files) = ⊎_elim

@@ -1,8 +1,8 @@
-pub mod Bytes
+pub mod TextIsBytes
 pub mod AlikeLogs
 pub mod LinesOfLog
-pub mod Pieces
+pub mod PieceByPiece
 pub mod FirstRefusal
-pub mod Files
-pub mod UpTo
-pub mod Causes
+pub mod OneInput
+pub mod InputByInput
+pub mod WhyRefused

@@ -97,7 +97,7 @@ met-lines s files = all-files s files [] files 0 0 refl refl (none-before s.join
 
 -- the events of a log are those of its lines
 
-pub piece-own : (s : Setting) (number section line : ℕ) (ps : List (List ℕ)) → piece_events s.form (key_file s number) section ps ≡ events_at s (piece_lines s.form number section line ps)
+piece-own : (s : Setting) (number section line : ℕ) (ps : List (List ℕ)) → piece_events s.form (key_file s number) section ps ≡ events_at s (piece_lines s.form number section line ps)
 piece-own s number section line [] = refl
 piece-own s number section line (p ∷ ps) =
     ap (λ es. line_events (key_file s number) section (decided_piece s.form p) ++ es) (piece-own s number (section_after section (decided_piece s.form p)) (line + 1) ps)

@@ -65,7 +65,9 @@ refusal_after s front l = piece_refusal s l.at (events_at s front) l.piece
 
 -- none of these lines is refused
 abbrev pub AreTaken : Setting → List Line → Type 0
-AreTaken s lines = (front : List Line) (l : Line) (rest : List Line) → lines ≡ front ++ l ∷ rest → refusal_after s front l ≡ None
+AreTaken s lines =
+    (front : List Line) (l : Line) (rest : List Line) → lines ≡ front ++ l ∷ rest
+    → refusal_after s front l ≡ None
 
 -- a line that is decided, or skipped
 abbrev pub IsTaken : Bool → Decided → Type 0
@@ -82,7 +84,9 @@ total_bytes files = sum_by length files
 -- the files, up to one byte past so many
 abbrev pub up_to : ℕ → List (List ℕ) → List (List ℕ)
 up_to room [] = []
-up_to room (bytes ∷ files) = if nat_lt room (length bytes) then take (room + 1) bytes ∷ [] else bytes ∷ up_to (room - length bytes) files
+up_to room (bytes ∷ files) =
+    if nat_lt room (length bytes) then take (room + 1) bytes ∷ []
+    else bytes ∷ up_to (room - length bytes) files
 
 -- the refusal of a line with these behind it, after those before it: where the limit on all input is passed, the last
 -- line is the one with the byte past it
@@ -108,11 +112,13 @@ TellsRefusal s files (Some e) =
 -- where a log is not refused, each of its lines is decided or skipped
 abbrev pub AllTaken : Setting → List (List ℕ) → Type 0
 AllTaken s files =
-    first_refusal s files ≡ None → (front : List Line) (l : Line) (rest : List Line) → lines_of s files ≡ front ++ l ∷ rest
+    first_refusal s files ≡ None
+    → (front : List Line) (l : Line) (rest : List Line) → lines_of s files ≡ front ++ l ∷ rest
     → IsTaken s.ignore (decided_piece s.form l.piece)
 
 -- the file with the first byte past so many: those before it are within, and with it they are not
 abbrev pub TellsPast : ℕ → List (List ℕ) → Option ℕ → Type 0
 TellsPast room files None = total_bytes files ≤ room
 TellsPast room files (Some number) =
-    (number < length files) × (total_bytes (take number files) ≤ room) × (room < total_bytes (take (number + 1) files))
+    (number < length files) × (total_bytes (take number files) ≤ room)
+    × (room < total_bytes (take (number + 1) files))

@@ -19,7 +19,8 @@ pub fn alike_rules_read_alike()
 /// and how many separators stand before its line in that file; where files are joined it names file 0, and
 /// how many stand before its line in all files.
 pub fn events_are_those_of_lines()
-    ensures { (s : Setting) (files : List (List ℕ)) → events_of s files ≡ events_at s (lines_of s files) }
+    ensures { (s : Setting) (files : List (List ℕ)) →
+        events_of s files ≡ events_at s (lines_of s files) }
 {}
 
 /// What the first refusal of a log says of its lines: no line before the one that is named is refused, and
@@ -27,7 +28,8 @@ pub fn events_are_those_of_lines()
 /// the one that has the byte past it, and that one is refused for the limit, or for its length. Without a
 /// refusal the limit is not passed, no line is refused, and each is decided or skipped.
 pub fn a_refusal_is_of_the_first_line()
-    ensures refusal { (s : Setting) (files : List (List ℕ)) → TellsRefusal s files (first_refusal s files) }
+    ensures refusal { (s : Setting) (files : List (List ℕ)) →
+        TellsRefusal s files (first_refusal s files) }
     ensures taken { (s : Setting) (files : List (List ℕ)) → AllTaken s files }
 {}
 

@@ -37,9 +37,11 @@ pub piece-decided : (form : Form) (piece line text : List ℕ) → line ≡ line
 piece-decided form piece line text same some is =
     ap (decided form) is ∙ sym (cond-false _ _ _ (subst (λ l. (length l == 0) ≡ false) same some))
 
+-- the refusal of a piece that is short enough is that of its line
 pub piece-in : (s : Setting) (at : At) (log : Gathering) (piece : List ℕ) (d : Decided) → length piece ≤ MAX_LINE_BYTES → d ≡ decided_piece s.form piece → refusal_in s.ignore at log d ≡ piece_refusal_in s at log piece
 piece-in s at log piece d few is = ap (refusal_in s.ignore at log) is ∙ sym (cond-false _ _ _ (short (length piece) few))
 
+-- a piece that is short enough is read where its text is
 pub reads-piece : (at : At) (piece : List ℕ) (old new : LogReader) (d : Decided) → length piece ≤ MAX_LINE_BYTES → d ≡ decided_piece (decider_view old.decider) piece → ReadsText at d old new → ReadsPiece at piece old new
 reads-piece at piece old new d few is reads = record {
   refusal = sym (piece-in (setting_of old) at old.log.builder piece d few is) ∙ reads.takes.refusal;
@@ -90,12 +92,14 @@ no-pieces (b ∷ bytes) = let some : 0 < length (pieces (b ∷ bytes)) = some-pi
 
 -- a file that is read up to a piece
 
+-- the pieces up to these were taken in, after these events
 pub record IsPart (s : Setting) (number : ℕ) (cut : Bool) (first : ℕ) (all : List (List ℕ)) (events : List KeyedEvent) (section : ℕ) (log : Gathering) (line : ℕ) (rest : List (List ℕ)) : Type 0 where
   pub more : List KeyedEvent
   pub is : IsGatheredOf log (events ++ more)
   pub refusal : pieces_refusal s number cut first events 1 all ≡ pieces_refusal s number cut section (events ++ more) line rest
   pub parts : piece_events s.form (key_file s number) first all ≡ more ++ piece_events s.form (key_file s number) section rest
 
+-- a reader that took in the pieces up to these
 pub record IsPartWay (number : ℕ) (cut : Bool) (all : List (List ℕ)) (old now : LogReader) (line : ℕ) (rest : List (List ℕ)) : Type 0 where
   pub ready : IsReady now
   pub setting : setting_of now ≡ setting_of old
@@ -123,6 +127,7 @@ part-more s number cut first all events section old new line piece rest part unc
       parts = part.parts ∙ sym (append_assoc part.more more (piece_events s.form (key_file s number) later rest));
     }
 
+-- one piece more
 pub way-more : (number : ℕ) (cut : Bool) (all : List (List ℕ)) (old now new : LogReader) (line : ℕ) (piece : List ℕ) (rest after : List (List ℕ))
     → IsPartWay number cut all old now line rest → rest ≡ piece ∷ after → (cut && length after == 0) ≡ false → ReadsPiece (at_line number line) piece now new
     → IsPartWay number cut all old new (line + 1) after

@@ -19,7 +19,7 @@ use Rattle.log_reader.specs.declared.reader.LogReader.{LogReader}
 use Rattle.log_reader.specs.declared.refusal.At.{At}
 use Rattle.log_reader.specs.declared.refusal.ReadError.{ReadError}
 use Rattle.log_reader.specs.declared.refusal.ReadError.TheVariants as refused
-use Rattle.log_reader.proofs.UpTo.{HasContents, IsUpTo, next-name, opens-next, opened-so, opened-next}
+use Rattle.log_reader.proofs.InputByInput.{HasContents, IsUpTo, next-name, opens-next, opened-so, opened-next}
 
 -- each refusal of a file's lines names a line of that file, or is the limit on all input, where that cuts the file
 
