@@ -1,8 +1,11 @@
 -- The inputs of a log, and why reading them ends as it does.
-use Rattle.std.specs.Prelude.{ℕ, suc, ◌≡◌, ◌≤◌, ◌⊎◌, ◌+◌, ◌-◌, ◌^◌, min, List, [], ◌∷◌, length, slice_get, IsTrue, IsSomeAnd, IfSome, Option, Some, None, option_map, Result, Err}
+use Rattle.std.specs.Prelude.{ℕ, zero, suc, ◌≡◌, ◌≤◌, ◌<◌, ◌⊎◌, ◌+◌, ◌-◌, ◌^◌, min, nat_lt, if◌then◌else◌}
+use Rattle.std.specs.Prelude.{List, [], ◌∷◌, length, slice_get, IsTrue, IsSomeAnd, Option, Some, None, option_map}
 use Rattle.std.specs.Io.KnownBytes.{IsAtEnd}
+use Rattle.limits.specs.declared.TheConstants.{MAX_INPUT_BYTES}
 use Rattle.outside.specs.Counts.{Rose}
 use Rattle.outside.specs.Inputs.{Files, InputState, bytes_of}
+use Rattle.outside.specs.Reading.{IfTold, LosesFront}
 use Rattle.traces.specs.Words.{Log, log_of}
 use Rattle.log_reader.specs.Reading.{Setting, events_of, first_refusal}
 use Rattle.log_reader.specs.declared.refusal.ReadError.{ReadError}
@@ -35,7 +38,8 @@ first_lacking files (name ∷ names) = lacking (bytes_of files name) (first_lack
 
 -- P holds of the bytes of the inputs up to the first that is not there, where files are told; else of some bytes of a front of the inputs
 abbrev pub SomeContents : Option Files → List (List ℕ) → (List (List ℕ) → Type 0) → Type 0
-SomeContents None names P = (contents : List (List ℕ)) × (length contents ≤ length names) × P contents
+SomeContents None names P =
+    (contents : List (List ℕ)) × (length contents ≤ length names) × P contents
 SomeContents (Some files) names P = P (told_contents files names)
 
 -- so many inputs more were opened, and no fault was counted
@@ -43,56 +47,86 @@ pub record Opened (count : ℕ) (old new : InputState) : Type 0 where
   pub opens : new.opens ≡ min (old.opens + count) (2 ^ 64 - 1)
   pub faults : new.faults ≡ old.faults
 
+-- how many inputs were opened, after so many more: the count stands still at its type's end
+abbrev pub opens_after : ℕ → ℕ → ℕ
+opens_after opens zero = opens
+opens_after opens (suc count) = min (opens + suc count) (2 ^ 64 - 1)
+
 -- the log is that of the inputs: each was read to its end, and nothing in them is refused
 pub record ReadsLog (s : Setting) (names : List (List ℕ)) (old new : InputState) (log : Log) : Type 0 where
-  pub words : SomeContents old.files names (λ contents. (length contents ≡ length names) × (first_refusal s contents ≡ None) × (log ≡ log_of (events_of s contents)))
+  pub words : SomeContents old.files names (λ contents.
+      (length contents ≡ length names) × (first_refusal s contents ≡ None) × (log ≡ log_of (events_of s contents)))
   pub opened : Opened (length names) old new
   pub at_end : IsAtEnd new.rest
 
--- the number of the input with the line that is refused, where a line is named
-abbrev pub refused_input : ReadError → Option ℕ
-refused_input (refused.LineTooLong at) = Some at.file
-refused_input (refused.Undecided at) = Some at.file
-refused_input (refused.BadTime at) = Some at.file
-refused_input (refused.TypeTooLong at) = Some at.file
-refused_input (refused.TraceTooLong at) = Some at.file
-refused_input (refused.TypeLimit at) = Some at.file
-refused_input (refused.EventLimit at) = Some at.file
-refused_input (refused.ReadFault number) = Some number
-refused_input refused.InputLimit = None
-refused_input refused.Memory = None
+-- the number of the file with the first byte past so many, counted from 0
+abbrev pub file_past : ℕ → List (List ℕ) → Option ℕ
+file_past room [] = None
+file_past room (bytes ∷ files) =
+    if nat_lt room (length bytes) then Some 0
+    else option_map (λ number. number + 1) (file_past (room - length bytes) files)
 
--- the inputs have this first refusal, and some of them were opened: those up to the one with the line that is refused
+-- the number of the input at which reading stops, over these bytes: the one with the line that is refused, or with
+-- the byte past the limit on all input
+abbrev pub refused_input : ReadError → List (List ℕ) → Option ℕ
+refused_input (refused.LineTooLong at) contents = Some at.file
+refused_input (refused.Undecided at) contents = Some at.file
+refused_input (refused.BadTime at) contents = Some at.file
+refused_input (refused.TypeTooLong at) contents = Some at.file
+refused_input (refused.TraceTooLong at) contents = Some at.file
+refused_input (refused.TypeLimit at) contents = Some at.file
+refused_input (refused.EventLimit at) contents = Some at.file
+refused_input refused.InputLimit contents = file_past MAX_INPUT_BYTES contents
+refused_input (refused.ReadFault number) contents = None
+refused_input refused.Memory contents = None
+
+-- this is the first refusal, and reading stops at the input with this number
+abbrev pub IsRefusedAt : Setting → ReadError → ℕ → List (List ℕ) → Type 0
+IsRefusedAt s e number contents = (first_refusal s contents ≡ Some e) × (refused_input e contents ≡ Some number)
+
+-- the inputs have this first refusal, and those up to the one at which reading stops were opened, and no others
 pub record RefusesLog (s : Setting) (names : List (List ℕ)) (old new : InputState) (e : ReadError) : Type 0 where
-  pub refusal : SomeContents old.files names (λ contents. first_refusal s contents ≡ Some e)
-  pub count : ℕ
-  pub some : 1 ≤ count
-  pub few : count ≤ length names
-  pub last : IfSome (refused_input e) (λ number. count ≡ suc number)
-  pub opened : Opened count old new
+  pub number : ℕ
+  pub few : number < length names
+  pub refusal : SomeContents old.files names (IsRefusedAt s e number)
+  pub opened : Opened (number + 1) old new
 
 -- files are told, the one with this number is the first that is not there, and nothing in those before it is refused
 abbrev pub IsLacking : Setting → Option Files → List (List ℕ) → ℕ → Type 0
 IsLacking s None names number = ⊥
-IsLacking s (Some files) names number = (first_lacking files names ≡ Some number) × (first_refusal s (told_contents files names) ≡ None)
+IsLacking s (Some files) names number =
+    (first_lacking files names ≡ Some number) × (first_refusal s (told_contents files names) ≡ None)
+
+-- the inputs before the one with this number were opened, and no others, and nothing is open
+pub record StopsBefore (number : ℕ) (old new : InputState) : Type 0 where
+  pub opens : new.opens ≡ opens_after old.opens number
+  pub closed : new.rest ≡ Some []
+
+-- the inputs up to the named one, which has this number, were opened, and no others; it is open, and has left what
+-- stands behind some front
+pub record StopsWithin (number : ℕ) (old new : InputState) (name : List ℕ) : Type 0 where
+  pub opens : new.opens ≡ opens_after old.opens (number + 1)
+  pub mark : new.mark ≡ old.may_fail name
+  pub left : IfTold old.files name (λ content. LosesFront (Some content) new.rest MAX_INPUT_BYTES)
 
 -- a fault was counted, and the input with this number may fail
 abbrev pub MayFail : List (List ℕ) → InputState → InputState → ℕ → Type 0
-MayFail names old new number = Rose old.faults new.faults × IsSomeAnd (slice_get names number) (λ name. IsTrue (old.may_fail name))
+MayFail names old new number =
+    Rose old.faults new.faults × IsSomeAnd (slice_get names number) (λ name. IsTrue (old.may_fail name))
 
--- why a log is refused so
+-- the input with this number failed at its opening, or at a read after it
+abbrev pub Fails : List (List ℕ) → InputState → InputState → ℕ → Type 0
+Fails names old new number =
+    MayFail names old new number
+    × (StopsBefore number old new ⊎ IsSomeAnd (slice_get names number) (StopsWithin number old new))
+
+-- the input with this number is the first that is not there, nothing before it is refused, and no fault was counted
+abbrev pub IsMissing : Setting → List (List ℕ) → InputState → InputState → ℕ → Type 0
+IsMissing s names old new number =
+    IsLacking s old.files names number × StopsBefore number old new × (new.faults ≡ old.faults)
+
+-- why a log is refused so, and what was opened
 abbrev pub HasReadCause : Setting → List (List ℕ) → InputState → InputState → ReadError → Type 0
-HasReadCause s names old new (refused.ReadFault number) = MayFail names old new number ⊎ IsLacking s old.files names number
-HasReadCause s names old new (refused.LineTooLong at) = RefusesLog s names old new (refused.LineTooLong at)
-HasReadCause s names old new (refused.Undecided at) = RefusesLog s names old new (refused.Undecided at)
-HasReadCause s names old new (refused.BadTime at) = RefusesLog s names old new (refused.BadTime at)
-HasReadCause s names old new (refused.TypeTooLong at) = RefusesLog s names old new (refused.TypeTooLong at)
-HasReadCause s names old new (refused.TraceTooLong at) = RefusesLog s names old new (refused.TraceTooLong at)
-HasReadCause s names old new (refused.TypeLimit at) = RefusesLog s names old new (refused.TypeLimit at)
-HasReadCause s names old new (refused.EventLimit at) = RefusesLog s names old new (refused.EventLimit at)
-HasReadCause s names old new refused.InputLimit = RefusesLog s names old new refused.InputLimit
+HasReadCause s names old new (refused.ReadFault number) = Fails names old new number ⊎ IsMissing s names old new number
 HasReadCause s names old new refused.Memory = Unit {0}
-
--- where an input could not be read, none after it was opened
-abbrev pub OpensUpToFault : {T : Type 0} → Result T ReadError → InputState → InputState → Type 0
-OpensUpToFault result old new = (number : ℕ) → result ≡ Err (refused.ReadFault number) → new.opens ≤ old.opens + (number + 1)
+HasReadCause s names old new e = RefusesLog s names old new e

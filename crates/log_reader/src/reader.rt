@@ -1,22 +1,22 @@
 //! Reads the lines of the files of a log.
 ghost use Rattle.std.specs.Prelude.{◌≡◌, ◌<◌, ◌≤◌, ◌+◌, ◌-◌, ◌^◌, length, OnOk, IfOk, IfErr, [], true, false};
-ghost use Rattle.traces.specs.Lines.{pieces};
+ghost use Rattle.lines.specs.Lines.{pieces};
 ghost use Rattle.traces.specs.Words.{gathered_of, in_order};
 ghost use Rattle.log_reader.specs.Views.{form_view};
-ghost use Rattle.log_reader.specs.Reading.{decided, limit_refusal, next_section};
-ghost use Rattle.log_reader.specs.SoFar.{setting_of, IsReady, IsRefusal, refusal_in, piece_refusal_in, ReadsText, ReadsPiece, ReadsPieces, IsPiecesRefusal};
+ghost use Rattle.log_reader.specs.Reading.{decided, limit_refusal, next_section, setting};
+ghost use Rattle.log_reader.specs.SoFar.{IsReady, IsRefusal, piece_refusal_in, refusal_in, setting_of};
+ghost use Rattle.log_reader.specs.SoFar.{IsPiecesRefusal, ReadsPiece, ReadsPieces, ReadsText};
 
 use crate::decider::Decider;
 use crate::form::Form;
 use crate::refusal::{At, ReadError};
 use crate::so_far::LogSoFar;
 use bstr::ByteSlice;
+use limits::MAX_LINE_BYTES;
+use lines::{next_piece, without_return};
 use std::alloc::{AllocError, Global};
 use std::str;
-use traces::{Builder, TraceSet, next_piece, without_return};
-
-/// The most bytes between two line feeds.
-const MAX_PIECE: usize = 65_536;
+use traces::{Builder, TraceSet};
 
 /// A log that is being read.
 #[derive(Drop)]
@@ -31,7 +31,7 @@ pub struct LogReader<'r> {
 fn refusal_at_limit(at: At, piece: &[u8]) -> ReadError
     ensures { result ≡ limit_refusal at piece.now }
 {
-    if piece.len() > MAX_PIECE {
+    if piece.len() > MAX_LINE_BYTES {
         ReadError::LineTooLong(at)
     } else {
         ReadError::InputLimit
@@ -47,7 +47,8 @@ impl<'r> LogReader<'r> {
         join: bool,
     ) -> Result<LogReader<'r>, AllocError>
         ensures ready { IfOk result IsReady }
-        ensures setting { IfOk result (λ reader. setting_of reader ≡ record { form = form_view form.entry; ignore = ignore; join = join }) }
+        ensures setting { IfOk result (λ reader.
+            setting_of reader ≡ setting (form_view form.entry) ignore join) }
         ensures section { IfOk result (λ reader. reader.log.section ≡ 0) }
         ensures log { IfOk result (λ reader. reader.log.builder ≡ gathered_of []) }
     {
@@ -69,8 +70,11 @@ impl<'r> LogReader<'r> {
     fn read_text(&mut self, at: At, text: &str) -> Result<(), ReadError>
         requires ready { IsReady self.old }
         requires room { self.old.log.section < 2 ^ 32 - 1 }
-        ensures ok { OnOk result (ReadsText at (decided (setting_of self.old).form text.now) self.old self.new) }
-        ensures err { IfErr result (IsRefusal (refusal_in (setting_of self.old).ignore at self.old.log.builder (decided (setting_of self.old).form text.now))) }
+        ensures ok { OnOk result
+            (ReadsText at (decided (setting_of self.old).form text.now) self.old self.new) }
+        ensures err { IfErr result (IsRefusal
+            (refusal_in (setting_of self.old).ignore at self.old.log.builder
+            (decided (setting_of self.old).form text.now))) }
     {
         match &mut self.decider {
             Decider::Plain => self.log.take_plain(at, text),
@@ -83,9 +87,10 @@ impl<'r> LogReader<'r> {
         requires ready { IsReady self.old }
         requires room { self.old.log.section < 2 ^ 32 - 1 }
         ensures ok { OnOk result (ReadsPiece at piece.now self.old self.new) }
-        ensures err { IfErr result (IsRefusal (piece_refusal_in (setting_of self.old) at self.old.log.builder piece.now)) }
+        ensures err { IfErr result (IsRefusal
+            (piece_refusal_in (setting_of self.old) at self.old.log.builder piece.now)) }
     {
-        if piece.len() > MAX_PIECE {
+        if piece.len() > MAX_LINE_BYTES {
             return Err(ReadError::LineTooLong(at));
         }
         let line = without_return(piece);
@@ -137,7 +142,8 @@ impl<'r> LogReader<'r> {
 
     /// Ends a file: the sections of the next one are counted anew, unless files are joined.
     pub fn end_file(&mut self)
-        ensures section { self.new.log.section ≡ next_section (setting_of self.old) self.old.log.section }
+        ensures section { self.new.log.section
+            ≡ next_section (setting_of self.old) self.old.log.section }
         ensures few { self.new.log.section ≤ self.old.log.section }
         ensures setting { setting_of self.new ≡ setting_of self.old }
         ensures ready { IsReady self.old → IsReady self.new }

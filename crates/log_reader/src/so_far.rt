@@ -1,22 +1,17 @@
 //! The log of the lines so far.
 ghost use Rattle.std.specs.Prelude.{◌≡◌, ◌<◌, ◌-◌, ◌^◌, length, OnOk, IfErr};
-ghost use Rattle.traces.specs.Lines.{plain_fields_of};
-ghost use Rattle.line_rules.specs.Rules.{decision_of};
+ghost use Rattle.lines.specs.Lines.{plain_fields_of};
 ghost use Rattle.line_rules.specs.Views.{rules_in, matched_rules};
 ghost use Rattle.log_reader.specs.Reading as spec;
-ghost use Rattle.log_reader.specs.Reading.{by_fields, by_rules};
+ghost use Rattle.log_reader.specs.Reading.{by_fields, decided};
 ghost use Rattle.log_reader.specs.SoFar.{refusal_in, IsRefusal, IsWithin, TakesLine};
 
 use crate::decider::{KeptRules, type_text_of};
 use crate::refusal::{At, ReadError};
+use limits::{MAX_TRACE_BYTES, MAX_TYPE_BYTES};
 use line_rules::{DecideError, Decision};
-use traces::{AddError, Builder, plain_fields};
-
-/// The most bytes of a type text.
-const MAX_TYPE: usize = 256;
-
-/// The most bytes of a trace text.
-const MAX_TRACE: usize = 1024;
+use lines::plain_fields;
+use traces::{AddError, Builder};
 
 /// The log of the lines so far.
 #[derive(Drop)]
@@ -42,13 +37,15 @@ impl LogSoFar {
     ) -> Result<(), ReadError>
         requires within { IsWithin self.old.builder }
         requires stands { 0 < length type_text.now }
-        ensures ok { OnOk result (TakesLine at (spec.Event type_text.now trace_text.now time) self.old self.new) }
-        ensures err { IfErr result (IsRefusal (refusal_in self.old.ignore at self.old.builder (spec.Event type_text.now trace_text.now time))) }
+        ensures ok { OnOk result
+            (TakesLine at (spec.Event type_text.now trace_text.now time) self.old self.new) }
+        ensures err { IfErr result (IsRefusal (refusal_in self.old.ignore at self.old.builder
+            (spec.Event type_text.now trace_text.now time))) }
     {
-        if type_text.len() > MAX_TYPE {
+        if type_text.len() > MAX_TYPE_BYTES {
             return Err(ReadError::TypeTooLong(at));
         }
-        if trace_text.len() > MAX_TRACE {
+        if trace_text.len() > MAX_TRACE_BYTES {
             return Err(ReadError::TraceTooLong(at));
         }
         let file = if self.join { 0 } else { at.file };
@@ -67,7 +64,8 @@ impl LogSoFar {
     fn pass(&self, at: At) -> Result<(), ReadError>
         requires within { IsWithin self.now.builder }
         ensures ok { OnOk result (TakesLine at spec.Undecided self.now self.now) }
-        ensures err { IfErr result (IsRefusal (refusal_in self.now.ignore at self.now.builder spec.Undecided)) }
+        ensures err { IfErr result
+            (IsRefusal (refusal_in self.now.ignore at self.now.builder spec.Undecided)) }
     {
         if self.ignore {
             Ok(())
@@ -79,8 +77,10 @@ impl LogSoFar {
     /// Takes in a line in the plain form.
     pub fn take_plain(&mut self, at: At, text: &str) -> Result<(), ReadError>
         requires within { IsWithin self.old.builder }
-        ensures ok { OnOk result (TakesLine at (by_fields (plain_fields_of text.now)) self.old self.new) }
-        ensures err { IfErr result (IsRefusal (refusal_in self.old.ignore at self.old.builder (by_fields (plain_fields_of text.now)))) }
+        ensures ok { OnOk result
+            (TakesLine at (by_fields (plain_fields_of text.now)) self.old self.new) }
+        ensures err { IfErr result (IsRefusal (refusal_in self.old.ignore at self.old.builder
+            (by_fields (plain_fields_of text.now)))) }
     {
         match plain_fields(text) {
             Some((trace_text, type_text)) => self.add(at, trace_text, type_text, 0),
@@ -98,8 +98,11 @@ impl LogSoFar {
         requires within { IsWithin self.old.builder }
         requires matchers { matched_rules kept.old.matchers ≡ rules_in kept.old.rules.now }
         requires room { self.old.section < 2 ^ 32 - 1 }
-        ensures ok { OnOk result (TakesLine at (by_rules (rules_in kept.old.rules.now) text.now (decision_of (rules_in kept.old.rules.now) text.now)) self.old self.new) }
-        ensures err { IfErr result (IsRefusal (refusal_in self.old.ignore at self.old.builder (by_rules (rules_in kept.old.rules.now) text.now (decision_of (rules_in kept.old.rules.now) text.now)))) }
+        ensures ok { OnOk result
+            (TakesLine at (decided (spec.Rules (rules_in kept.old.rules.now)) text.now)
+            self.old self.new) }
+        ensures err { IfErr result (IsRefusal (refusal_in self.old.ignore at self.old.builder
+            (decided (spec.Rules (rules_in kept.old.rules.now)) text.now))) }
         ensures matchers { matched_rules kept.new.matchers ≡ matched_rules kept.old.matchers }
         ensures rules { rules_in kept.new.rules.now ≡ rules_in kept.old.rules.now }
     {

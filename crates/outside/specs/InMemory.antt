@@ -1,5 +1,6 @@
 -- Inputs and a sink in memory: what contracts see of them, and what each call gives exactly.
-use Rattle.std.specs.Prelude.{ℕ, ◌≡◌, ◌⊎◌, ◌-◌, ◌<◌, min, List, [], ◌++◌, length, take, drop, true, Option, Some, None, Result, Ok, Err, get_or}
+use Rattle.std.specs.Prelude.{ℕ, ◌≡◌, ◌⊎◌, ◌-◌, ◌<◌, min, List, [], ◌++◌, length, take, drop, get_or}
+use Rattle.std.specs.Prelude.{true, Option, Some, None, Result, Ok, Err}
 use Rattle.outside.specs.declared.OpenError.{OpenError}
 use Rattle.outside.specs.declared.OpenError.TheVariants.{Missing, Failed}
 use Rattle.outside.specs.Counts.{raised, next_call, FailsNext}
@@ -23,6 +24,11 @@ pub record StoredInputs : Type 0 where
   -- how many of them failed
   pub faults : ℕ
 
+-- inputs over these files before the first call, with nothing open
+abbrev pub unused_inputs : Files → ℕ → List ℕ → StoredInputs
+unused_inputs files piece failing =
+    record { files = files; rest = []; piece = piece; failing = failing; calls = 0; opens = 0; faults = 0 }
+
 -- what the file at a place has from a byte on
 abbrev pub rest_of : Files → Option ℕ → ℕ → List ℕ
 rest_of files None at = []
@@ -30,7 +36,14 @@ rest_of files (Some place) at = drop at (get_or files place ([], [])).1
 
 -- inputs in memory tell all, and may fail each name
 abbrev pub input_state : StoredInputs → InputState
-input_state s = record { files = Some s.files; rest = Some s.rest; opens = s.opens; faults = s.faults; may_fail = λ _. true; mark = true }
+input_state s = record {
+  files = Some s.files;
+  rest = Some s.rest;
+  opens = s.opens;
+  faults = s.faults;
+  may_fail = λ _. true;
+  mark = true;
+}
 
 -- one more call, which leaves this rest and this count of faults
 abbrev pub after_input : StoredInputs → List ℕ → ℕ → StoredInputs
@@ -38,9 +51,13 @@ after_input old rest faults = record old { rest = rest; calls = next_call old.ca
 
 -- what `open(name)` answers, and all that it leaves
 abbrev pub OpensStored : {T : Type 0} → StoredInputs → List ℕ → Result T OpenError → StoredInputs → Type 0
-OpensStored old name (Ok x) new = ¬ FailsNext old.failing old.calls × (bytes_of old.files name ≡ Some new.rest) × (new ≡ record (after_input old new.rest old.faults) { opens = next_call old.opens })
-OpensStored old name (Err Missing) new = ¬ FailsNext old.failing old.calls × (bytes_of old.files name ≡ None) × (new ≡ after_input old [] old.faults)
-OpensStored old name (Err Failed) new = FailsNext old.failing old.calls × (new ≡ after_input old [] (raised old.faults))
+OpensStored old name (Ok x) new =
+    ¬ FailsNext old.failing old.calls × (bytes_of old.files name ≡ Some new.rest)
+    × (new ≡ record (after_input old new.rest old.faults) { opens = next_call old.opens })
+OpensStored old name (Err Missing) new =
+    ¬ FailsNext old.failing old.calls × (bytes_of old.files name ≡ None) × (new ≡ after_input old [] old.faults)
+OpensStored old name (Err Failed) new =
+    FailsNext old.failing old.calls × (new ≡ after_input old [] (raised old.faults))
 
 -- how many bytes a read into this much room gives
 abbrev pub read_count : StoredInputs → ℕ → ℕ
@@ -48,8 +65,11 @@ read_count s room = min room (min s.piece (length s.rest))
 
 -- what `read(buf)` answers, and all that it leaves
 abbrev pub ReadsStored : {E : Type 0} → StoredInputs → List ℕ → Result ℕ E → List ℕ → StoredInputs → Type 0
-ReadsStored old before (Ok n) buf new = ¬ FailsNext old.failing old.calls × (n ≡ read_count old (length before)) × (buf ≡ take n old.rest ++ drop n before) × (new ≡ after_input old (drop n old.rest) old.faults)
-ReadsStored old before (Err e) buf new = FailsNext old.failing old.calls × (buf ≡ before) × (new ≡ after_input old old.rest (raised old.faults))
+ReadsStored old before (Ok n) buf new =
+    ¬ FailsNext old.failing old.calls × (n ≡ read_count old (length before))
+    × (buf ≡ take n old.rest ++ drop n before) × (new ≡ after_input old (drop n old.rest) old.faults)
+ReadsStored old before (Err e) buf new =
+    FailsNext old.failing old.calls × (buf ≡ before) × (new ≡ after_input old old.rest (raised old.faults))
 
 -- what contracts see of a sink in memory
 pub record StoredSink : Type 0 where
@@ -65,6 +85,11 @@ pub record StoredSink : Type 0 where
   pub calls : ℕ
   -- how many of them failed
   pub faults : ℕ
+
+-- an empty sink of so much room before the first call
+abbrev pub unused_sink : ℕ → ℕ → List ℕ → StoredSink
+unused_sink room piece failing =
+    record { bytes = []; room = room; piece = piece; failing = failing; calls = 0; faults = 0 }
 
 -- a sink in memory tells all
 abbrev pub sink_state : StoredSink → SinkState
@@ -88,5 +113,8 @@ write_count s given = min given (min s.piece (room_left s))
 
 -- what `write(piece)` answers, and all that it leaves
 abbrev pub WritesStored : {E : Type 0} → StoredSink → List ℕ → Result ℕ E → StoredSink → Type 0
-WritesStored old piece (Ok n) new = ¬ RefusesNext old piece × (n ≡ write_count old (length piece)) × (new ≡ after_write old (old.bytes ++ take n piece) old.faults)
-WritesStored old piece (Err e) new = RefusesNext old piece × (new ≡ after_write old old.bytes (raised old.faults))
+WritesStored old piece (Ok n) new =
+    ¬ RefusesNext old piece × (n ≡ write_count old (length piece))
+    × (new ≡ after_write old (old.bytes ++ take n piece) old.faults)
+WritesStored old piece (Err e) new =
+    RefusesNext old piece × (new ≡ after_write old old.bytes (raised old.faults))

@@ -6,6 +6,7 @@ use Rattle.outside.specs.declared.real.Source.{Source}
 use Rattle.outside.specs.declared.real.Source.TheVariants.{Nothing, Standard, File}
 use Rattle.outside.specs.Counts.{raised, next_call}
 use Rattle.outside.specs.Inputs.{InputState}
+use Rattle.outside.specs.Sinks.{SinkState}
 
 -- what contracts see of standard input and files
 pub record StreamState : Type 0 where
@@ -17,6 +18,14 @@ pub record StreamState : Type 0 where
   pub remaining : Option (List ℕ)
   -- how many faults were counted
   pub faults : ℕ
+
+-- standard input with these bytes left, and files, before the first call: nothing is open
+abbrev pub unused_streams : Option (List ℕ) → StreamState
+unused_streams remaining = record { source = Nothing; opens = 0; remaining = remaining; faults = 0 }
+
+-- a stream that tells nothing of what it holds, before the first write
+abbrev pub unused_output : SinkState
+unused_output = record { written = None; faults = 0 }
 
 -- what is open, with what a file has left
 abbrev pub source_of : {F : Type 0} → (F → Option (List ℕ)) → Source F → Source (Option (List ℕ))
@@ -32,7 +41,14 @@ rest_in (File rest) remaining = rest
 
 -- no file is told, and each name may fail, and each read
 abbrev pub stream_state : StreamState → InputState
-stream_state s = record { files = None; rest = rest_in s.source s.remaining; opens = s.opens; faults = s.faults; may_fail = λ _. true; mark = true }
+stream_state s = record {
+  files = None;
+  rest = rest_in s.source s.remaining;
+  opens = s.opens;
+  faults = s.faults;
+  may_fail = λ _. true;
+  mark = true;
+}
 
 -- what a name opens: the empty name standard input, and each other a file
 abbrev pub IsSourceOf : List ℕ → Source (Option (List ℕ)) → Type 0
@@ -42,9 +58,11 @@ IsSourceOf name (File rest) = name ≢ []
 
 -- what `open(name)` answers, and all that it leaves: the empty name opens
 abbrev pub OpensStream : {T : Type 0} → StreamState → List ℕ → Result T OpenError → StreamState → Type 0
-OpensStream old name (Ok x) new = IsSourceOf name new.source × (new ≡ record old { source = new.source; opens = next_call old.opens })
+OpensStream old name (Ok x) new =
+    IsSourceOf name new.source × (new ≡ record old { source = new.source; opens = next_call old.opens })
 OpensStream old name (Err Missing) new = ⊥
-OpensStream old name (Err Failed) new = (name ≢ []) × (new ≡ record old { source = Nothing; faults = raised old.faults })
+OpensStream old name (Err Failed) new =
+    (name ≢ []) × (new ≡ record old { source = Nothing; faults = raised old.faults })
 
 -- a file is open
 abbrev pub IsFile : Source (Option (List ℕ)) → Type 0
@@ -61,7 +79,8 @@ MovesOpen (File rest) old new = IsFile new.source × (new ≡ record old { sourc
 -- what `read` leaves beside the bytes: a failure is one fault, and comes only where something is open
 abbrev pub ReadsStream : {E : Type 0} → StreamState → Result ℕ E → StreamState → Type 0
 ReadsStream old (Ok n) new = MovesOpen old.source old new
-ReadsStream old (Err e) new = (old.source ≢ Nothing) × MovesOpen old.source (record old { faults = raised old.faults }) new
+ReadsStream old (Err e) new =
+    (old.source ≢ Nothing) × MovesOpen old.source (record old { faults = raised old.faults }) new
 
 -- a failed write is one fault
 abbrev pub CountsFault : {E : Type 0} → ℕ → Result ℕ E → ℕ → Type 0

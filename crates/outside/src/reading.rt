@@ -3,8 +3,8 @@
 ghost use Rattle.std.specs.Prelude.{◌≡◌, ◌≢◌, ◌≤◌, ◌<◌, ◌+◌, ◌^◌, IfOk, OnOk, Err, IsTrue, length};
 ghost use Rattle.std.specs.Io.KnownBytes.{Consumes, IsAtEnd};
 ghost use Rattle.outside.specs.Counts.{Rose};
-ghost use Rattle.outside.specs.Inputs.{Stays, Lacks};
-ghost use Rattle.outside.specs.Reading.{ReadsInput, OpensNone, OpensOne};
+ghost use Rattle.outside.specs.Inputs.{Stays};
+ghost use Rattle.outside.specs.Reading.{InputGives, LosesFront};
 
 use crate::{Inputs, OpenError};
 use std::alloc::Global;
@@ -25,13 +25,24 @@ fn read_rest<I: Inputs>(alloc: Global, inputs: &mut I, limit: usize) -> Result<V
     requires { limit < 2 ^ 32 }
     ensures stays { Stays (I.state inputs.old) (I.state inputs.new) }
     ensures opens { (I.state inputs.new).opens ≡ (I.state inputs.old).opens }
+    ensures mark { (I.state inputs.new).mark ≡ (I.state inputs.old).mark }
+    ensures left { LosesFront (I.state inputs.old).rest (I.state inputs.new).rest limit }
+
+    // At Ok the bytes are those that are gone from the rest, and no fault was counted.
     ensures no_fault { OnOk result ((I.state inputs.new).faults ≡ (I.state inputs.old).faults) }
-    ensures read { IfOk result (λ bytes. Consumes (I.state inputs.old).rest (I.state inputs.new).rest bytes.items) }
+    ensures read { IfOk result (λ bytes.
+        Consumes (I.state inputs.old).rest (I.state inputs.new).rest bytes.items) }
     ensures short { IfOk result (λ bytes. length bytes.items ≤ limit + 1) }
-    ensures at_end { IfOk result (λ bytes. length bytes.items ≤ limit → IsAtEnd (I.state inputs.new).rest) }
-    ensures fault { result ≡ Err InputError.Fault → Rose (I.state inputs.old).faults (I.state inputs.new).faults × IsTrue (I.state inputs.old).mark }
+    ensures at_end { IfOk result (λ bytes.
+        length bytes.items ≤ limit → IsAtEnd (I.state inputs.new).rest) }
+
+    // Each error has its cause.
+    ensures fault { result ≡ Err InputError.Fault
+        → Rose (I.state inputs.old).faults (I.state inputs.new).faults
+        × IsTrue (I.state inputs.old).mark }
     ensures missing { result ≢ Err InputError.Missing }
-    ensures memory { result ≡ Err InputError.Memory → (I.state inputs.new).faults ≡ (I.state inputs.old).faults }
+    ensures memory { result ≡ Err InputError.Memory
+        → (I.state inputs.new).faults ≡ (I.state inputs.old).faults }
 {
     let mut bytes = Vec::new(alloc);
     let mut buf = [0u8; 65_536];
@@ -53,11 +64,17 @@ fn read_rest<I: Inputs>(alloc: Global, inputs: &mut I, limit: usize) -> Result<V
 
 /// Reads the named input to its end, or to one byte past the limit, which is below 2^32 bytes.
 ///
-/// At Ok it was opened once, no fault was counted, and the bytes are those of the input, or its first
-/// `limit + 1`. `Fault` comes only where the inputs counted one and may fail this name, and `Missing`
-/// only where they tell their files and this name is not among them; nothing was opened then, and no fault
-/// was counted. Where memory was wanted, the input was opened once, and no fault was counted. After an error
-/// no clause says what is left to read.
+/// No other input is opened, and none twice. No call that failed is made good by another.
+///
+/// - `Ok`: the input was opened, no fault was counted, and the bytes are those of the input, or its
+///   first `limit + 1`. It stays open, with what stands behind them.
+/// - `Missing`: the inputs tell their files, and this name is not among them. Nothing was opened,
+///   nothing is open, and no fault was counted.
+/// - `Fault`: the inputs counted a fault, and may fail this name. Either its opening failed, and
+///   then nothing was opened and nothing is open; or a read failed, and then the input stays open,
+///   with what stands behind the front that was read.
+/// - `Memory`: memory was wanted. The input was opened and stays open, as after a read that failed,
+///   and no fault was counted.
 pub fn read_input<I: Inputs>(
     alloc: Global,
     inputs: &mut I,
@@ -66,12 +83,7 @@ pub fn read_input<I: Inputs>(
 ) -> Result<Vec<u8>, InputError>
     requires { limit < 2 ^ 32 }
     ensures stays { Stays (I.state inputs.old) (I.state inputs.new) }
-    ensures ok { IfOk result (λ bytes. ReadsInput (I.state inputs.old) (I.state inputs.new) name.now limit bytes.items) }
-    ensures fault { result ≡ Err InputError.Fault → Rose (I.state inputs.old).faults (I.state inputs.new).faults × IsTrue ((I.state inputs.old).may_fail name.now) }
-    ensures missing { result ≡ Err InputError.Missing → Lacks (I.state inputs.old).files name.now }
-    ensures unopened { result ≡ Err InputError.Missing → OpensNone (I.state inputs.old) (I.state inputs.new) }
-    ensures memory { result ≡ Err InputError.Memory → OpensOne (I.state inputs.old) (I.state inputs.new) }
-    ensures opens { result ≡ Err InputError.Fault → (I.state inputs.new).opens ≤ (I.state inputs.old).opens + 1 }
+    ensures gives { InputGives (I.state inputs.old) name.now limit result (I.state inputs.new) }
 {
     match inputs.open(name) {
         Ok(()) => match read_rest(alloc, inputs, limit) {

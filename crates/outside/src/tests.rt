@@ -70,20 +70,21 @@ fn calls_fail_by_their_number(rt: HostRuntime) -> Result<(), Fail> {
 fn inputs_are_read_up_to_a_limit(rt: HostRuntime) -> Result<(), Fail> {
     let alloc = rt.alloc();
     let cases = [
-        (1usize, 0u64, "", 9u32, Ok("1 a\n1 b\n")),
-        (7, 0, "", 9, Ok("1 a\n1 b\n")),
-        (7, 0, "", 8, Ok("1 a\n1 b\n")),
-        (7, 0, "", 7, Ok("1 a\n1 b\n")),
-        (1, 0, "", 6, Ok("1 a\n1 b")),
-        (7, 0, "", 0, Ok("1")),
-        (7, 0, "shop.rules", 9, Ok("word")),
-        (7, 0, "empty", 9, Ok("")),
-        (7, 0, "lost", 9, Err(InputError::Missing)),
-        (7, 1, "shop.rules", 9, Err(InputError::Fault)),
-        (7, 3, "shop.rules", 9, Err(InputError::Fault)),
-        (7, 4, "shop.rules", 9, Ok("word")),
+        (1usize, 0u64, "", 9u32, Ok("1 a\n1 b\n"), Some("")),
+        (7, 0, "", 9, Ok("1 a\n1 b\n"), Some("")),
+        (7, 0, "", 8, Ok("1 a\n1 b\n"), Some("")),
+        (7, 0, "", 7, Ok("1 a\n1 b\n"), Some("")),
+        (1, 0, "", 6, Ok("1 a\n1 b"), Some("\n")),
+        (7, 0, "", 0, Ok("1"), Some(" a\n1 b\n")),
+        (7, 0, "shop.rules", 9, Ok("word"), Some("")),
+        (7, 0, "empty", 9, Ok(""), Some("")),
+        (7, 0, "lost", 9, Err(InputError::Missing), Some("")),
+        (7, 1, "shop.rules", 9, Err(InputError::Fault), Some("")),
+        (7, 2, "shop.rules", 9, Err(InputError::Fault), Some("word")),
+        (2, 3, "shop.rules", 9, Err(InputError::Fault), Some("rd")),
+        (7, 4, "shop.rules", 9, Ok("word"), None),
     ];
-    for (piece, failing, name, limit, want) in cases {
+    for (piece, failing, name, limit, want, left) in cases {
         assert!(rt; piece > 0);
         let mut inputs = inputs_of(alloc, piece, &[failing])?;
         let want = match want {
@@ -92,6 +93,13 @@ fn inputs_are_read_up_to_a_limit(rt: HostRuntime) -> Result<(), Fail> {
         };
         let read = read_input(alloc, &mut inputs, name, limit as usize);
         assert_eq!(rt; read, want, "at {name}, {limit}, {failing}");
+        let mut buf = [0u8; 7];
+        let found = match inputs.read(&mut buf) {
+            Ok(count) => Some(&buf[..count]),
+            Err(_) => None,
+        };
+        let left = left.map(str::as_bytes);
+        assert_eq!(rt; found, left, "at {name}, {limit}, {failing}");
     }
     Ok(())
 }

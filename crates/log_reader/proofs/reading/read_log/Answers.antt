@@ -1,8 +1,8 @@
 use Rattle.std.proofs.Common.{◌≡◌, map, length, arith}
 use Rattle.std.specs.String.{string_bytes}
-use Rattle.log_reader.specs.Inputs.{inputs_of}
-use Rattle.log_reader.proofs.UpTo.{up-to-none, up-to-more, up-to-end, stays-on, all-inputs}
-use Rattle.log_reader.proofs.Causes.{up-to-cause, fault-opens}
+use Rattle.log_reader.specs.Views.{names_in}
+use Rattle.log_reader.proofs.InputByInput.{up-to-none, up-to-more, up-to-end, stays-on, all-inputs}
+use Rattle.log_reader.proofs.WhyRefused.{up-to-cause}
 use Rattle.log_reader.proofs.reading.read_log.Goals as goal
 
 pub loop-number-init : goal.loop-number-init
@@ -24,11 +24,6 @@ loop-number-preserved g c =
 pub returns-in-Ok-finish-clause-ok : goal.returns-in-Ok-finish-clause-ok
 returns-in-Ok-finish-clause-ok g c =
     let k = c.loop-number.number in
-    let all : k ≡ length (inputs_of (map string_bytes c.args.names.now)) =
+    let all : k ≡ length (names_in c.args.names.now) =
     all-inputs string_bytes c.args.names.now k c.max-number-end.result c.max-number-end.ensures c.loop-number.auto.number-end c.loop-number-test.false in
     up-to-end _ _ k _ (g.I.Inputs.state c.loop-number.inputs) c.loop-number.reader c.loop-number.room c.in-Ok-finish.set c.loop-number.invariant all (omega arith) c.in-Ok-finish.ensures c.gathering_in_order_is_the_log.ensures
-
-pub returns-in-Err-clause-fault : goal.returns-in-Err-clause-fault
-returns-in-Err-clause-fault g c = λ n is.
-    fault-opens _ _ c.loop-number.number n _ (g.I.Inputs.state c.loop-number.inputs) (g.I.Inputs.state c.read_file.new.inputs) c.loop-number.reader c.loop-number.room c.name_at-name.result.now c.in-Err.error
-    c.loop-number.invariant c.name_at-name.ensures c.in-Err.ensures.err c.read_file.ensures.opens (cc is)

@@ -1,0 +1,204 @@
+-- The inputs of a log, one by one.
+use Rattle.std.proofs.Common.{◌≡◌, ℕ, zero, suc, ◌+◌, ◌-◌, ◌^◌, ◌<◌, ◌≤◌, min, max, nat_lt, false, List, [], ◌∷◌, ◌++◌, length, map, drop, Option, Some, None, option_map, refl, sym, ap, ap₂, ◌∙◌, subst, arith, append-nil, append_assoc, length-append}
+use Rattle.std.proofs.lemmas.Bool.{cond-false}
+use Rattle.std.proofs.lemmas.Bool.Decides.{nat_tests}
+use Rattle.std.proofs.lemmas.Option.{none-some, same_Some}
+use Rattle.std.specs.Io.KnownBytes.{IsAtEnd}
+use Rattle.std.specs.List.{slice_get}
+use Rattle.std.proofs.lemmas.List.{length-map}
+use Rattle.outside.specs.Counts.{next_call}
+use Rattle.outside.specs.Inputs.{Files, InputState, Stays}
+use Rattle.limits.specs.declared.TheConstants.{MAX_INPUT_BYTES}
+use Rattle.lines.specs.Lines.{pieces}
+use Rattle.traces.specs.Words.{Event as KeyedEvent, Log, gathered_of, in_order, log_of}
+use Rattle.log_reader.specs.Reading.{Setting, piece_events, section_at_end, key_file, next_section, file_events, events_of, first_of, files_refusal, first_refusal}
+use Rattle.log_reader.specs.Inputs.{inputs_of, with_content, told_contents, lacking, first_lacking, SomeContents, ReadsLog, file_past, opens_after}
+use Rattle.log_reader.specs.SoFar.{IsGatheredOf, IsReady, setting_of}
+use Rattle.log_reader.specs.Files.{HasContent, FileIsRead, ReadsFile}
+use Rattle.log_reader.specs.declared.reader.LogReader.{LogReader}
+use Rattle.log_reader.specs.declared.refusal.ReadError.{ReadError}
+
+-- where files are told, the first ones of the named have these bytes
+abbrev pub HasContents : Option Files → List (List ℕ) → ℕ → List (List ℕ) → Type 0
+HasContents None names count contents = Unit {0}
+HasContents (Some files) names count contents =
+    (told_contents files names ≡ contents ++ told_contents files (drop count names)) × (first_lacking files names ≡ option_map (λ n. n + count) (first_lacking files (drop count names)))
+
+-- so many of the named inputs were read
+pub record IsUpTo (s : Setting) (names : List (List ℕ)) (count : ℕ) (old now : InputState) (reader : LogReader) (room : ℕ) : Type 0 where
+  pub stays : Stays old now
+  pub faults : now.faults ≡ old.faults
+  pub none : count ≡ 0 → now.opens ≡ old.opens
+  pub some : 0 < count → now.opens ≡ min (old.opens + count) (2 ^ 64 - 1)
+  pub at_end : 0 < count → IsAtEnd now.rest
+  pub ready : IsReady reader
+  pub setting : setting_of reader ≡ s
+  pub few : reader.log.section + room ≤ MAX_INPUT_BYTES
+  pub contents : List (List ℕ)
+  pub many : length contents ≡ count
+  pub told : HasContents old.files names count contents
+  pub events : List KeyedEvent
+  pub log : IsGatheredOf reader.log.builder events
+  pub past : (rest : List (List ℕ)) → file_past MAX_INPUT_BYTES (contents ++ rest) ≡ option_map (λ n. n + count) (file_past room rest)
+  pub refusal : (rest : List (List ℕ)) → first_refusal s (contents ++ rest) ≡ files_refusal s count reader.log.section events room rest
+  pub parts : (rest : List (List ℕ)) → events_of s (contents ++ rest) ≡ events ++ file_events s count reader.log.section rest
+
+drop-at : (names : List (List ℕ)) (k : ℕ) (name : List ℕ) → slice_get names k ≡ Some name → drop k names ≡ name ∷ drop (suc k) names
+drop-at [] k name at = absurd (none-some name at)
+drop-at (x ∷ names) zero name at = ap (λ n. n ∷ names) (same_Some x name at)
+drop-at (x ∷ names) (suc k) name at = drop-at names k name at
+
+-- the named inputs from one on are it and those behind it
+pub next-name : (names : List (List ℕ)) (k : ℕ) (name : List ℕ) → slice_get names k ≡ Some name → drop k names ≡ name ∷ drop (k + 1) names
+next-name names k name at = let one : suc k ≡ k + 1 = omega arith in drop-at names k name at ∙ ap (λ n. name ∷ drop n names) one
+
+at-end : (names : List (List ℕ)) → drop (length names) names ≡ []
+at-end [] = refl
+at-end (x ∷ names) = at-end names
+
+-- before the first input
+
+plus-zero : (o : Option ℕ) → option_map (λ n. n + 0) o ≡ o
+plus-zero None = refl
+plus-zero (Some n) = ap (λ (k : ℕ). Some k) (omega arith)
+
+contents-none : (told : Option Files) (names : List (List ℕ)) → HasContents told names 0 []
+contents-none None names = tt
+contents-none (Some files) names = (refl, sym (plus-zero (first_lacking files names)))
+
+-- before the first input
+pub up-to-none : (s : Setting) (names : List (List ℕ)) (old : InputState) (reader : LogReader) → IsReady reader → setting_of reader ≡ s → reader.log.section ≡ 0 → reader.log.builder ≡ gathered_of []
+    → IsUpTo s names 0 old old reader MAX_INPUT_BYTES
+up-to-none s names old reader ready setting section log = record {
+  stays = record { files = refl; may_fail = refl; faults = omega arith };
+  faults = refl;
+  none = λ _. refl;
+  some = λ some. absurd (omega arith);
+  at_end = λ some. absurd (omega arith);
+  ready = ready;
+  setting = setting;
+  few = omega arith;
+  contents = [];
+  many = refl;
+  told = contents-none old.files names;
+  events = [];
+  log = log;
+  past = λ rest. sym (plus-zero (file_past MAX_INPUT_BYTES rest));
+  refusal = λ rest. ap (λ n. files_refusal s 0 n [] MAX_INPUT_BYTES rest) (sym section);
+  parts = λ rest. ap (λ n. file_events s 0 n rest) (sym section);
+}
+
+-- one input more
+
+plus-one : (k : ℕ) (o : Option ℕ) → option_map (λ n. n + k) (option_map (λ n. n + 1) o) ≡ option_map (λ n. n + (k + 1)) o
+plus-one k None = refl
+plus-one k (Some n) = ap (λ (k : ℕ). Some k) (omega arith)
+
+contents-more : (told : Option Files) (names : List (List ℕ)) (k : ℕ) (contents : List (List ℕ)) (name content : List ℕ) → slice_get names k ≡ Some name
+    → HasContents told names k contents → HasContent told name content → HasContents told names (k + 1) (contents ++ content ∷ [])
+contents-more None names k contents name content at so_far has = tt
+contents-more (Some files) names k contents name content at so_far has =
+    let later = drop (k + 1) names in (
+      so_far.0 ∙ (ap (λ ns. contents ++ told_contents files ns) (next-name names k name at) ∙ (ap (λ o. contents ++ with_content o (told_contents files later)) has ∙ sym (append_assoc contents (content ∷ []) (told_contents files later)))),
+      so_far.1 ∙ (ap (λ ns. option_map (λ n. n + k) (first_lacking files ns)) (next-name names k name at) ∙ (ap (λ o. option_map (λ n. n + k) (lacking o (first_lacking files later))) has ∙ plus-one k (first_lacking files later))),
+    )
+
+-- a number that is within is not past
+not-past : (room n : ℕ) → n ≤ room → nat_lt room n ≡ false
+not-past room n within = grind (arith, nat_tests)
+
+-- one more than so many were opened
+pub opens-next : (a b c k : ℕ) → (k ≡ 0 → b ≡ a) → (0 < k → b ≡ min (a + k) (2 ^ 64 - 1)) → c ≡ next_call b → c ≡ min (a + (k + 1)) (2 ^ 64 - 1)
+opens-next a b c zero none some next = let same : b ≡ a = none refl in omega arith
+opens-next a b c (suc k) none some next = let sum : b ≡ min (a + suc k) (2 ^ 64 - 1) = some (omega arith) in omega arith
+
+-- so many were opened, none among them
+pub opened-so : (a b k : ℕ) → (k ≡ 0 → b ≡ a) → (0 < k → b ≡ min (a + k) (2 ^ 64 - 1)) → b ≡ opens_after a k
+opened-so a b zero none some = none refl
+opened-so a b (suc k) none some = some (omega arith)
+
+-- and one more
+pub opened-next : (a b c k : ℕ) → (k ≡ 0 → b ≡ a) → (0 < k → b ≡ min (a + k) (2 ^ 64 - 1)) → c ≡ next_call b → c ≡ opens_after a (k + 1)
+opened-next a b c k none some next =
+    let one : suc k ≡ k + 1 = omega arith in
+    let sum : c ≡ min (a + suc k) (2 ^ 64 - 1) = opens-next a b c k none some next ∙ ap (λ n. min (a + n) (2 ^ 64 - 1)) (sym one) in
+    subst (λ n. c ≡ opens_after a n) one sum
+
+-- what stays from one state to the next stays over both
+pub stays-on : (a b c : InputState) → Stays a b → Stays b c → Stays a c
+stays-on a b c p q = record { files = q.files ∙ p.files; may_fail = q.may_fail ∙ p.may_fail; faults = omega (arith, p.faults, q.faults) }
+
+-- one input more was read
+pub up-to-more : (s : Setting) (names : List (List ℕ)) (k : ℕ) (old before after : InputState) (reader new : LogReader) (room left : ℕ) (name : List ℕ)
+    → IsUpTo s names k old before reader room → slice_get names k ≡ Some name → Stays before after → ReadsFile before after name k room left reader new
+    → IsUpTo s names (k + 1) old after new left
+up-to-more s names k old before after reader new room left name so_far at stays reads =
+    let content = reads.content in
+    let section = reader.log.section in
+    let events = so_far.events in
+    let is_read : FileIsRead s k room section content events new.log.builder = subst (λ t. FileIsRead t k room section content events new.log.builder) so_far.setting (reads.log events so_far.log) in
+    let next : new.log.section ≡ next_section s (section_at_end s.form section (pieces content)) = subst (λ (t : Setting). new.log.section ≡ next_section t (section_at_end t.form section (pieces content))) so_far.setting reads.section in
+    let more = piece_events s.form (key_file s k) section (pieces content) in
+    let left_is : room - length content ≡ left = omega (arith, reads.room_left) in
+    let within : length content ≤ room = omega (arith, reads.room_left) in
+    let fits : nat_lt room (length content) ≡ false = not-past room (length content) within in
+    record {
+      stays = stays-on old before after so_far.stays stays;
+      faults = reads.faults ∙ so_far.faults;
+      none = λ none. absurd (omega arith);
+      some = λ some. opens-next old.opens before.opens after.opens k so_far.none so_far.some reads.opens;
+      at_end = λ some. reads.at_end;
+      ready = reads.ready;
+      setting = reads.setting ∙ so_far.setting;
+      few = omega (arith, reads.few, so_far.few);
+      contents = so_far.contents ++ content ∷ [];
+      many = omega (arith, length-append so_far.contents (content ∷ []), so_far.many);
+      told = contents-more old.files names k so_far.contents name content at so_far.told (subst (λ f. HasContent f name content) so_far.stays.files reads.told);
+      events = events ++ more;
+      log = is_read.log;
+      past = λ rest.
+          ap (file_past MAX_INPUT_BYTES) (append_assoc so_far.contents (content ∷ []) rest)
+          ∙ (so_far.past (content ∷ rest)
+          ∙ (ap (option_map (λ n. n + k)) (cond-false (nat_lt room (length content)) (Some 0) (option_map (λ n. n + 1) (file_past (room - length content) rest)) fits)
+          ∙ (plus-one k (file_past (room - length content) rest) ∙ ap (λ r. option_map (λ n. n + (k + 1)) (file_past r rest)) left_is)));
+      refusal = λ rest.
+          let later : ℕ → ℕ → Option ReadError = λ n r. files_refusal s (k + 1) n (events ++ more) r rest in
+          ap (first_refusal s) (append_assoc so_far.contents (content ∷ []) rest)
+          ∙ (so_far.refusal (content ∷ rest)
+          ∙ (ap (λ o. first_of o (later (next_section s (section_at_end s.form section (pieces content))) (room - length content))) is_read.refusal
+          ∙ ap₂ later (sym next) left_is));
+      parts = λ rest.
+          ap (events_of s) (append_assoc so_far.contents (content ∷ []) rest)
+          ∙ (so_far.parts (content ∷ rest)
+          ∙ (ap (λ n. events ++ (more ++ file_events s (k + 1) n rest)) (sym next) ∙ sym (append_assoc events more (file_events s (k + 1) new.log.section rest))));
+    }
+
+-- after the last input
+
+some-all : (told : Option Files) (names contents : List (List ℕ)) (P : List (List ℕ) → Type 0) → length contents ≡ length names → HasContents told names (length names) contents → P contents → SomeContents told names P
+some-all None names contents P many has holds = (contents, omega arith, holds)
+some-all (Some files) names contents P many has holds =
+    subst P (sym (has.0 ∙ (ap (λ ns. contents ++ told_contents files ns) (at-end names) ∙ append-nil contents))) holds
+
+-- all inputs were read
+pub up-to-end : (s : Setting) (names : List (List ℕ)) (k : ℕ) (old now : InputState) (reader : LogReader) (room : ℕ) (log : Log) → IsUpTo s names k old now reader room → k ≡ length names → 0 < k → log ≡ in_order reader.log.builder
+    → ((events : List KeyedEvent) → in_order (gathered_of events) ≡ log_of events) → ReadsLog s names old now log
+up-to-end s names k old now reader room log so_far all some is ordered =
+    let contents = so_far.contents in
+    let nothing : first_refusal s contents ≡ None = ap (first_refusal s) (sym (append-nil contents)) ∙ so_far.refusal [] in
+    let events : events_of s contents ≡ so_far.events = ap (events_of s) (sym (append-nil contents)) ∙ (so_far.parts [] ∙ append-nil so_far.events) in
+    record {
+      words = some-all old.files names contents _ (so_far.many ∙ all) (subst (λ n. HasContents old.files names n contents) all so_far.told)
+          (so_far.many ∙ all, nothing, is ∙ (ap in_order so_far.log ∙ (ordered so_far.events ∙ ap log_of (sym events))));
+      opened = record { opens = subst (λ n. now.opens ≡ min (old.opens + n) (2 ^ 64 - 1)) all (so_far.some some); faults = so_far.faults };
+      at_end = so_far.at_end some;
+    }
+
+-- standard input alone, or the named inputs
+pub count-inputs : (names : List (List ℕ)) → length (inputs_of names) ≡ max (length names) 1
+count-inputs [] = refl
+count-inputs (name ∷ names) = omega arith
+
+-- the loop over the inputs ends behind the last of them
+pub all-inputs : {X : Type 0} (f : X → List ℕ) (names : List X) (k end : ℕ) → end ≡ max (length names) 1 → k ≤ end → end ≤ k → k ≡ length (inputs_of (map f names))
+all-inputs f names k end is below above = omega (arith, count-inputs (map f names), length-map names f)
