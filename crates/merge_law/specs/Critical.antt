@@ -1,5 +1,6 @@
 -- The critical state of a monitor, and where it is met in a graph.
 use Rattle.std.specs.Prelude.{◌≡◌, ◌≢◌, ℕ, ◌⊎◌, true, List}
+use Rattle.limits.specs.declared.TheConstants.{INITIAL, TERMINAL}
 use Rattle.invariants.specs.declared.Kind.{Kind}
 use Rattle.invariants.specs.declared.Kind.TheVariants.{AF, NF, AP}
 use Rattle.invariants.specs.declared.Invariant.{Invariant}
@@ -17,13 +18,15 @@ critical_of AP = 0
 abbrev pub critical : Invariant → ℕ
 critical inv = critical_of inv.kind
 
--- some walk from 0 to p brings the monitor into its critical state
+-- some walk from INITIAL to p brings the monitor into its critical state
 abbrev pub Fore : Invariant → Graph → ℕ → Type 0
 Fore inv g p = Reached inv g p (critical inv)
 
--- some walk from p to 1 brings it from its critical state to its bad one
+-- some walk from p to TERMINAL brings it from its critical state to its bad one
 abbrev pub Back : Invariant → Graph → ℕ → Type 0
-Back inv g p = (walk : List ℕ) × Walk g p walk 1 × (is_bad inv (run inv (critical inv) (word g walk)) ≡ true)
+Back inv g p =
+    (walk : List ℕ) × Walk g p walk TERMINAL
+    × (is_bad inv (run inv (critical inv) (word g walk)) ≡ true)
 
 -- one of the two is met by the critical state, and the bad end is ahead of the other
 abbrev pub Clash : Invariant → Graph → ℕ → ℕ → Type 0
@@ -31,7 +34,7 @@ Clash inv g p q = (Fore inv g p × Back inv g q) ⊎ (Fore inv g q × Back inv g
 
 -- some path of the graph goes through p
 abbrev pub IsOnPath : Graph → ℕ → Type 0
-IsOnPath g p = (before after : List ℕ) × Walk g 0 before p × Walk g p after 1
+IsOnPath g p = (before after : List ℕ) × Walk g INITIAL before p × Walk g p after TERMINAL
 
 -- the state that is farthest from the bad end
 abbrev pub calm_of : Kind → ℕ

@@ -1,6 +1,7 @@
 -- Laws on what a merge loses.
 use Rattle.std.specs.Prelude.{◌≡◌, ◌↔◌, ℕ, ◌<◌, ◌≤◌, ◌⊎◌, Bool, true, List}
 use Rattle.std.specs.List.{AllByRecursion}
+use Rattle.limits.specs.declared.TheConstants.{INITIAL, TERMINAL, FIRST_TYPE}
 use Rattle.invariants.specs.declared.Invariant.{Invariant}
 use Rattle.invariants.specs.Monitors.{step, bad_of}
 use Rattle.partition_model.specs.Graphs.{Graph, Breaks, Satisfies, Merged}
@@ -12,23 +13,26 @@ use Rattle.merge_law.specs.Critical.{critical, Fore, Back, Clash, IsOnPath, Ente
 -- where the graph satisfies the invariant, some path of the merged graph breaks it exactly where the two clash
 abbrev pub MergeLoses : Type 0
 MergeLoses =
-    (g : Graph) (inv : Invariant) (p q : ℕ) → 2 ≤ p → p < q → g.typ p ≡ g.typ q → IsOnPath g p → IsOnPath g q → Satisfies g inv
+    (g : Graph) (inv : Invariant) (p q : ℕ) → FIRST_TYPE ≤ p → p < q → g.typ p ≡ g.typ q
+    → IsOnPath g p → IsOnPath g q → Satisfies g inv
     → ((path : List ℕ) × Breaks (Merged g p q) inv path) ↔ Clash inv g p q
 
 -- so the merged graph satisfies it exactly where they do not
 abbrev pub MergeKeeps : Type 0
 MergeKeeps =
-    (g : Graph) (inv : Invariant) (p q : ℕ) → 2 ≤ p → p < q → g.typ p ≡ g.typ q → IsOnPath g p → IsOnPath g q → Satisfies g inv
+    (g : Graph) (inv : Invariant) (p q : ℕ) → FIRST_TYPE ≤ p → p < q → g.typ p ≡ g.typ q
+    → IsOnPath g p → IsOnPath g q → Satisfies g inv
     → Satisfies (Merged g p q) inv ↔ (Clash inv g p q → ⊥)
 
 -- each partition of an assignment's graph is on a path
 abbrev pub AllOnPaths : Type 0
-AllOnPaths = (h : Assignment) (p : ℕ) → IsTyped h → 2 ≤ p → (G h).listed p ≡ true → IsOnPath (G h) p
+AllOnPaths =
+    (h : Assignment) (p : ℕ) → IsTyped h → FIRST_TYPE ≤ p → (G h).listed p ≡ true → IsOnPath (G h) p
 
 -- what is met, ahead or on a path stays so in the merged graph
 abbrev pub MergedHasMore : Type 0
 MergedHasMore =
-    (g : Graph) (inv : Invariant) (p q u : ℕ) → 2 ≤ p → p < q → g.typ p ≡ g.typ q
+    (g : Graph) (inv : Invariant) (p q u : ℕ) → FIRST_TYPE ≤ p → p < q → g.typ p ≡ g.typ q
     → (Fore inv g u → Fore inv (Merged g p q) (onto p q u))
     × (Back inv g u → Back inv (Merged g p q) (onto p q u))
     × (IsOnPath g u → IsOnPath (Merged g p q) (onto p q u))
@@ -36,42 +40,48 @@ MergedHasMore =
 -- and of the merged id each is so where it was of one of the two, if the merge keeps the invariant
 abbrev pub MergedIsUnion : Type 0
 MergedIsUnion =
-    (g : Graph) (inv : Invariant) (p q : ℕ) → 2 ≤ p → p < q → g.typ p ≡ g.typ q → IsOnPath g p → IsOnPath g q → Satisfies (Merged g p q) inv
+    (g : Graph) (inv : Invariant) (p q : ℕ) → FIRST_TYPE ≤ p → p < q → g.typ p ≡ g.typ q
+    → IsOnPath g p → IsOnPath g q → Satisfies (Merged g p q) inv
     → (Fore inv (Merged g p q) p ↔ (Fore inv g p ⊎ Fore inv g q))
     × (Back inv (Merged g p q) p ↔ (Back inv g p ⊎ Back inv g q))
 
 -- a merge of partitions keeps every invariant of a list exactly where the two clash for none
 abbrev pub PairKeeps : Type 0
 PairKeeps =
-    (h : Assignment) (p q : ℕ) (invs : List Invariant) → IsTyped h → IsPair (G h) p q → SatisfiesAll (G h) invs
+    (h : Assignment) (p q : ℕ) (invs : List Invariant)
+    → IsTyped h → IsPair (G h) p q → SatisfiesAll (G h) invs
     → SatisfiesAll (G (merge p q h)) invs ↔ AllByRecursion (λ inv. Clash inv (G h) p q → ⊥) invs
 
--- rules that find what is met: at 0, and along an edge to a type that enters the critical state or leaves the monitor there
+-- rules that find what is met: at INITIAL, and along an edge to a type that enters the critical state or leaves the monitor there
 abbrev pub ForeFollows : Type 0
 ForeFollows =
     (g : Graph) (inv : Invariant) → Satisfies g inv
-    → (step inv 0 (g.typ 0) ≡ critical inv → Fore inv g 0)
-    × ((u v : ℕ) → IsOnPath g u → IsOnPath g v → g.edge u v ≡ true → Enters inv (g.typ v) ⊎ (Stays inv (g.typ v) × Fore inv g u) → Fore inv g v)
+    → (step inv 0 (g.typ INITIAL) ≡ critical inv → Fore inv g INITIAL)
+    × ((u v : ℕ) → IsOnPath g u → IsOnPath g v → g.edge u v ≡ true
+    → Enters inv (g.typ v) ⊎ (Stays inv (g.typ v) × Fore inv g u) → Fore inv g v)
 
 -- and they find all of it
 abbrev pub ForeIsLeast : Type 0
 ForeIsLeast =
     (g : Graph) (inv : Invariant) (found : ℕ → Bool)
-    → (step inv 0 (g.typ 0) ≡ critical inv → found 0 ≡ true)
-    → ((u v : ℕ) → g.edge u v ≡ true → Enters inv (g.typ v) ⊎ (Stays inv (g.typ v) × (found u ≡ true)) → found v ≡ true)
+    → (step inv 0 (g.typ INITIAL) ≡ critical inv → found INITIAL ≡ true)
+    → ((u v : ℕ) → g.edge u v ≡ true
+    → Enters inv (g.typ v) ⊎ (Stays inv (g.typ v) × (found u ≡ true)) → found v ≡ true)
     → (p : ℕ) → Fore inv g p → found p ≡ true
 
--- rules that find where the bad end is ahead: at 1 if the critical state is bad, and against an edge to a type that falls into the bad state or leaves the monitor where it is
+-- rules that find where the bad end is ahead: at TERMINAL if the critical state is bad, and against an edge to a type that falls into the bad state or leaves the monitor where it is
 abbrev pub BackFollows : Type 0
 BackFollows =
     (g : Graph) (inv : Invariant)
-    → (critical inv ≡ bad_of inv.kind → Back inv g 1)
-    × ((u v : ℕ) → IsOnPath g v → g.edge u v ≡ true → Falls inv (g.typ v) ⊎ (Stays inv (g.typ v) × Back inv g v) → Back inv g u)
+    → (critical inv ≡ bad_of inv.kind → Back inv g TERMINAL)
+    × ((u v : ℕ) → IsOnPath g v → g.edge u v ≡ true
+    → Falls inv (g.typ v) ⊎ (Stays inv (g.typ v) × Back inv g v) → Back inv g u)
 
 -- and they find all of it on paths
 abbrev pub BackIsLeast : Type 0
 BackIsLeast =
     (g : Graph) (inv : Invariant) (found : ℕ → Bool) → Satisfies g inv
-    → (critical inv ≡ bad_of inv.kind → found 1 ≡ true)
-    → ((u v : ℕ) → g.edge u v ≡ true → Falls inv (g.typ v) ⊎ (Stays inv (g.typ v) × (found v ≡ true)) → found u ≡ true)
+    → (critical inv ≡ bad_of inv.kind → found TERMINAL ≡ true)
+    → ((u v : ℕ) → g.edge u v ≡ true
+    → Falls inv (g.typ v) ⊎ (Stays inv (g.typ v) × (found v ≡ true)) → found u ≡ true)
     → (p : ℕ) → IsOnPath g p → Back inv g p → found p ≡ true

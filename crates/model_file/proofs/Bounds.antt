@@ -1,5 +1,5 @@
 -- The numbers of a well-shaped model fit the fields of its records.
-use Rattle.std.proofs.Common.{◌≡◌, ℕ, zero, suc, ◌+◌, ◌*◌, ◌<◌, ◌≤◌, Bool, true, false, cond, not, ◌&&◌, eqb, leb, ◌⊎◌, List, [], ◌∷◌, map, length, Option, Some, None, is_some, nat_lt, refl, sym, subst, arith, inl, inr}
+use Rattle.std.proofs.Common.{◌≡◌, ℕ, zero, suc, ◌+◌, ◌*◌, ◌<◌, ◌≤◌, Bool, true, false, cond, not, ◌&&◌, eqb, leb, ltb, ◌⊎◌, List, [], ◌∷◌, map, length, Option, Some, None, is_some, nat_lt, refl, sym, subst, arith, inl, inr}
 use Rattle.std.specs.Prelude.{unwrap_or, option_map, find}
 use Rattle.std.specs.List.{AllByRecursion, list_all, slice_get}
 use Rattle.std.proofs.lemmas.Bool.{and_parts, ltb-true, leb-true, eqb-true, cases_Bool, false≢true}
@@ -15,7 +15,8 @@ use Rattle.invariants.specs.declared.records.Merge.{Merge}
 use Rattle.invariants.specs.declared.records.Split.{Split}
 use Rattle.invariants.specs.declared.records.Block.{Block}
 use Rattle.invariants.proofs.CandidatePlaces.{length-candidates, candidate-shape}
-use Rattle.model_file.specs.Shape.{types_hold, partition_holds, partitions_hold, type_of, edge_holds, edges_hold, place_of, listed_holds, invariants_hold, merge_holds, merges_hold, path_holds, split_numbers, split_holds, splits_hold, are_one, block_holds, blocks_hold, comes_after, ascends_from}
+use Rattle.model_file.specs.Rules.{types_hold, partition_holds, partitions_hold, type_of, edge_holds, edges_hold, place_of, listed_holds, invariants_hold, merge_holds, merges_hold, path_holds, split_holds, splits_hold, are_one, block_holds, blocks_hold, comes_after, ascends_from}
+use Rattle.model_shape.specs.Numbers.{split_numbers}
 use Rattle.model_file.proofs.Places.{place-is}
 use Rattle.model_file.proofs.Back.{IsSmall, FitsPartition, FitsEdge, FitsListed, FitsMerge, FitsSplit, FitsBlock}
 
@@ -48,7 +49,9 @@ numbered-other types p h =
     let b = and_parts _ _ a.1 in
     let c = and_parts _ _ b.1 in
     let d = and_parts _ _ c.1 in
-    record { id = leb-true _ _ a.0; typ = leb-true _ _ c.0; count = leb-true _ _ d.1 }
+    let id : p.id < 1024 = ltb-true _ _ a.0 in
+    let typ : p.typ < types + 2 = ltb-true _ _ c.0 in
+    record { id = omega (arith, id); typ = omega (arith, typ); count = leb-true _ _ d.1 }
 
 pub numbered : (types : ℕ) (ps : List Partition) → partitions_hold types ps ≡ true → AllByRecursion (IsNumbered types) ps
 unfolding partitions_hold
@@ -122,17 +125,17 @@ fits-merges ms h =
     all-by merge_holds FitsMerge (λ m x.
     let a = and_parts _ _ x in
     let less : m.p < m.q = ltb-true _ _ a.0 in
-    let high : m.q ≤ 1023 = leb-true _ _ a.1 in
+    let high : m.q < 1024 = ltb-true _ _ a.1 in
     record { p = omega (arith, less, high); q = omega (arith, high) }) ms (and_parts _ _ h).1
 
 -- ---- paths
 
 pub small-path : (path : List ℕ) → path_holds path ≡ true → AllByRecursion IsSmall path
-small-path path h = all-by (λ id. leb id 1023) IsSmall (λ id x. let high : id ≤ 1023 = leb-true _ _ x in omega (arith, high)) path h
+small-path path h = all-by (λ id. ltb id 1024) IsSmall (λ id x. let high : id < 1024 = ltb-true _ _ x in omega (arith, high)) path h
 
 -- ---- invariants
 
-some-place : (o : Option ℕ) → is_some o ≡ true → (k : ℕ) × (o ≡ Some k)
+pub some-place : (o : Option ℕ) → is_some o ≡ true → (k : ℕ) × (o ≡ Some k)
 some-place None h = absurd (false≢true h)
 some-place (Some k) h = (k, refl)
 

@@ -4,7 +4,8 @@ use Rattle.std.specs.Prelude.{IfOk, IfErr}
 use Rattle.serde_json.specs.Data.{Data}
 use Rattle.model_file.specs.declared.refusal.FileError.{FileError}
 use Rattle.model_file.specs.declared.refusal.FileError.TheVariants.{TooLong, NotJson, Shape, Version, Memory}
-use Rattle.model_file.specs.Reading.{◌>>=◌, or_not_json, Fails, Gives, IsNoValue, model_in, value_of, max_bytes, reads}
+use Rattle.model_file.specs.Reading.{◌>>=◌, or_not_json, Fails, Gives, IsNoValue, model_in, value_of, reads}
+use Rattle.limits.specs.declared.TheConstants.{MAX_MODEL_BYTES}
 
 pub Fails-then : {A B : Type 0} (e : FileError) (r : Result A FileError) (f : A → Result B FileError) → Fails e r → Fails e (r >>= f)
 Fails-then TooLong r f h = ap (λ x. x >>= f) h
@@ -26,18 +27,18 @@ Gives-err (Ok x) read whole is h = tt
 Gives-err (Err e) read whole is h = subst (Fails e) (sym is) h
 
 -- bytes that are not too long
-pub reads-short : (bytes : List ℕ) → length bytes ≤ max_bytes → reads bytes ≡ (or_not_json (value_of bytes) >>= model_in)
+pub reads-short : (bytes : List ℕ) → length bytes ≤ MAX_MODEL_BYTES → reads bytes ≡ (or_not_json (value_of bytes) >>= model_in)
 unfolding reads
-reads-short bytes short = rw (le-ltb max_bytes (length bytes) short) refl
+reads-short bytes short = rw (le-ltb MAX_MODEL_BYTES (length bytes) short) refl
 
-pub reads-long : (bytes : List ℕ) → max_bytes < length bytes → reads bytes ≡ Err TooLong
+pub reads-long : (bytes : List ℕ) → MAX_MODEL_BYTES < length bytes → reads bytes ≡ Err TooLong
 unfolding reads
-reads-long bytes long = rw (lt-ltb max_bytes (length bytes) long) refl
+reads-long bytes long = rw (lt-ltb MAX_MODEL_BYTES (length bytes) long) refl
 
-pub reads-value : (bytes : List ℕ) (d : Data) → length bytes ≤ max_bytes → value_of bytes ≡ Some d → reads bytes ≡ model_in d
+pub reads-value : (bytes : List ℕ) (d : Data) → length bytes ≤ MAX_MODEL_BYTES → value_of bytes ≡ Some d → reads bytes ≡ model_in d
 reads-value bytes d short is = reads-short bytes short ∙ ap (λ o. or_not_json o >>= model_in) is
 
-pub no-value : (e : FileError) (bytes : List ℕ) → length bytes ≤ max_bytes → IsNoValue e (value_of bytes) → Fails e (reads bytes)
+pub no-value : (e : FileError) (bytes : List ℕ) → length bytes ≤ MAX_MODEL_BYTES → IsNoValue e (value_of bytes) → Fails e (reads bytes)
 no-value TooLong bytes short h = absurd h
 no-value NotJson bytes short h = reads-short bytes short ∙ ap (λ o. or_not_json o >>= model_in) h
 no-value (Shape field) bytes short h = absurd h

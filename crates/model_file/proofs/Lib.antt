@@ -15,3 +15,5 @@ pub mod Tables
 pub mod Forth
 pub mod Objects
 pub mod Limit
+pub mod Passing
+pub mod Telling

@@ -1,5 +1,5 @@
 -- The text of a well-shaped model is not too long.
-use Rattle.std.proofs.Common.{◌≡◌, ℕ, ◌+◌, ◌*◌, ◌^◌, ◌<◌, ◌≤◌, Bool, true, false, cond, not, ◌&&◌, eqb, ltb, leb, List, [], ◌∷◌, ◌++◌, map, length, Option, Some, None, nat_lt, refl, ap, subst, arith, inl, inr, length-append}
+use Rattle.std.proofs.Common.{◌≡◌, ℕ, ◌+◌, ◌*◌, ◌^◌, ◌<◌, ◌≤◌, Bool, true, false, cond, not, ◌&&◌, eqb, ltb, leb, List, [], ◌∷◌, ◌++◌, map, length, Option, Some, None, Ok, All, IsUtf8, nat_lt, refl, ap, subst, arith, inl, inr, length-append}
 use Rattle.std.specs.Prelude.{codes, unwrap_or, is_some}
 use Rattle.std.specs.List.{AllByRecursion, list_all}
 use Rattle.std.proofs.lemmas.Bool.{and_parts, or_cases, ltb-true, leb-true, eqb-true}
@@ -19,10 +19,13 @@ use Rattle.invariants.specs.declared.records.Listed.{Listed}
 use Rattle.invariants.specs.declared.records.Merge.{Merge}
 use Rattle.invariants.specs.declared.records.Split.{Split}
 use Rattle.invariants.specs.declared.records.Block.{Block}
-use Rattle.model_file.specs.Tree.{number_data, array_of, path_data, partition_data, edge_data, kind_text, digit_of, listed_data, merge_data, split_data, block_data, tree_of}
-use Rattle.model_file.specs.Laws.{TextsAreShort, WrittenReadsBack}
+use Rattle.model_file.specs.Tree.{number_data, array_of, path_data, partition_data, edge_data, kind_text, digit_of, listed_data, merge_data, split_data, block_data, tree_of, file_text}
+use Rattle.limits.specs.declared.TheConstants.{MAX_MODEL_BYTES}
+use Rattle.invariants.specs.declared.records.Model.{Model}
+use Rattle.model_file.specs.Reading.{reads}
 use Rattle.model_file.proofs.Forth.{some-is}
-use Rattle.model_file.specs.Shape.{pair_less, comes_after, ascends_from, type_holds, types_hold, are_distinct, partitions_hold, type_of, edge_holds, edges_hold, place_of, listed_holds, invariants_hold, merge_holds, merges_hold, path_holds, split_holds, split_numbers, splits_hold, are_one, block_holds, block_numbers, blocks_hold}
+use Rattle.model_file.specs.Rules.{pair_less, comes_after, ascends_from, type_holds, types_hold, are_distinct, partitions_hold, type_of, edge_holds, edges_hold, place_of, listed_holds, invariants_hold, merge_holds, merges_hold, path_holds, split_holds, splits_hold, are_one, block_holds, blocks_hold, PassesRules}
+use Rattle.model_shape.specs.Numbers.{split_numbers, block_numbers}
 use Rattle.model_file.proofs.Bounds.{all-by, all-weaker, all-map, few-types, IsNumbered, numbered, listed-small, six, place-known, few-invariants, both-some}
 use Rattle.model_file.proofs.Trees.{from_version, from_types, from_splits, from_partitions, from_merges, from_invariants, from_edges, IsUtf8-file_text, text-reads-back}
 
@@ -281,9 +284,9 @@ invariants-short types partitions ls few short h =
 
 merge-short : (m : Merge) → merge_holds m ≡ true → length (compact_text (merge_data m)) + 1 ≤ 12
 merge-short m h =
-    let x = and_parts (ltb m.p m.q) (leb m.q 1023) h in
+    let x = and_parts (ltb m.p m.q) (ltb m.q 1024) h in
     let less : m.p < m.q = ltb-true m.p m.q x.0 in
-    let high : m.q ≤ 1023 = leb-true m.q 1023 x.1 in
+    let high : m.q < 1024 = ltb-true m.q 1024 x.1 in
     let a = number-short 4 m.p (omega arith) (omega (arith, less, high)) (omega (arith, less, high)) in
     let b = number-short 4 m.q (omega arith) (omega (arith, high)) (omega (arith, high)) in
     omega (arith, a, b, row-two (number_data m.p) (number_data m.q))
@@ -291,8 +294,8 @@ merge-short m h =
 merges-short : (ms : List Merge) → merges_hold ms ≡ true → length (compact_text (array_of (map merge_data ms))) ≤ 12300
 unfolding merges_hold
 merges-short ms h =
-    let x = and_parts (leb (length ms) 1022) (list_all merge_holds ms) h in
-    let few : length ms ≤ 1022 = leb-true (length ms) 1022 x.0 in
+    let x = and_parts (leb (length ms + 2) 1024) (list_all merge_holds ms) h in
+    let few : length ms + 2 ≤ 1024 = leb-true (length ms + 2) 1024 x.0 in
     let all = array-short merge_data (λ _. 12) (λ m. merge_holds m ≡ true) merge-short ms (all-by merge_holds (λ m. merge_holds m ≡ true) (λ m y. y) ms x.1) in
     omega (arith, all, total-const 12 ms, few)
 
@@ -304,7 +307,7 @@ record IsShortSplit (s : Split) : Type 0 where
   path : AllByRecursion (λ id. id ≤ 1023) s.path
 
 low-path : (path : List ℕ) → path_holds path ≡ true → AllByRecursion (λ id. id ≤ 1023) path
-low-path path h = all-by (λ id. leb id 1023) (λ id. id ≤ 1023) (λ id x. leb-true id 1023 x) path h
+low-path path h = all-by (λ id. ltb id 1024) (λ id. id ≤ 1023) (λ id x. let low : id < 1024 = ltb-true id 1024 x in omega (arith, low)) path h
 
 split-numbers : (invariants n : ℕ) (ss : List Split) → invariants ≤ 49280 → n ≤ 4000000 → list_all (split_holds invariants) ss ≡ true → split_numbers ss ≤ n → AllByRecursion IsShortSplit ss
 split-numbers invariants n [] few long h room = tt
@@ -332,9 +335,9 @@ total-splits (s ∷ ss) = let sum = sum_by-cons (λ (t : Split). length t.path) 
 splits-short : (invariants : ℕ) (ss : List Split) → invariants ≤ 49280 → splits_hold invariants ss ≡ true → length (compact_text (array_of (map split_data ss))) ≤ 20000 + split_numbers ss * 5
 unfolding splits_hold
 splits-short invariants ss few h =
-    let x = and_parts (leb (length ss) 1022) (list_all (split_holds invariants) ss && leb (split_numbers ss) 4000000) h in
+    let x = and_parts (leb (length ss + 2) 1024) (list_all (split_holds invariants) ss && leb (split_numbers ss) 4000000) h in
     let y = and_parts (list_all (split_holds invariants) ss) (leb (split_numbers ss) 4000000) x.1 in
-    let count : length ss ≤ 1022 = leb-true (length ss) 1022 x.0 in
+    let count : length ss + 2 ≤ 1024 = leb-true (length ss + 2) 1024 x.0 in
     let numbers : split_numbers ss ≤ 4000000 = leb-true (split_numbers ss) 4000000 y.1 in
     let all = array-short split_data (λ (s : Split). 19 + length s.path * 5) IsShortSplit split-short ss (split-numbers invariants (split_numbers ss) ss few numbers y.0 (omega arith)) in
     omega (arith, all, total-splits ss, count)
@@ -395,7 +398,7 @@ member-short later k d ms =
       length-append (compact_text d) (members_text true ms),
     )
 
-pub texts-are-short : TextsAreShort
+pub texts-are-short : (m : Model) → PassesRules m → length (file_text m) ≤ MAX_MODEL_BYTES
 unfolding tree_of
 texts-are-short m h =
     let few = few-types m.types h.types in
@@ -419,5 +422,5 @@ texts-are-short m h =
     let g = blocks-short (length m.types) (length m.invariants) m.partitions m.splits m.blocks h.partitions listed h.blocks in
     omega (arith, blocks, edges, invariants, merges, partitions, splits, types, version, one, a, b, c, d, e, f, g)
 
-pub written-reads-back : WrittenReadsBack
+pub written-reads-back : (m : Model) → PassesRules m → All IsUtf8 m.types → reads (file_text m) ≡ Ok m
 written-reads-back m h texts = text-reads-back m h (IsUtf8-file_text m h texts) (texts-are-short m h)

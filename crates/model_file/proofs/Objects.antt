@@ -20,10 +20,11 @@ use Rattle.std.specs.Option.{option_and_then}
 use Rattle.model_file.specs.declared.refusal.Field.{Field}
 use Rattle.model_file.specs.declared.refusal.Field.TheVariants.{Root, Extra, Types, Partitions, Edges, Invariants, Merges, Splits, Blocks}
 use Rattle.model_file.specs.declared.refusal.FileError.{FileError}
-use Rattle.model_file.specs.Shape.{types_hold, partitions_hold, type_of, edges_hold, invariants_hold, merges_hold, splits_hold, blocks_hold}
+use Rattle.model_file.specs.Rules.{types_hold, partitions_hold, type_of, edges_hold, invariants_hold, merges_hold, splits_hold, blocks_hold}
 use Rattle.model_file.specs.Tree.{number_data, array_of, block_data, edge_data, listed_data, merge_data, partition_data, split_data, members_in}
 use Rattle.model_file.specs.Entries.{list_in, block_in, edge_in, listed_in, merge_in, partition_in, split_in}
-use Rattle.model_file.specs.Reading.{◌>>=◌, or_shape, tested, root_in, if_first, version_in, keys, is_key, has_no_extra, keys_in, head_in, part_in, types_in, partitions_in, edges_in, invariants_in, merges_in, splits_in, blocks_in, parts_in, model_in, or_not_json, value_of, max_bytes, reads}
+use Rattle.model_file.specs.Reading.{◌>>=◌, or_shape, tested, root_in, if_first, version_in, keys, is_key, has_no_extra, keys_in, head_in, part_in, types_in, partitions_in, edges_in, invariants_in, merges_in, splits_in, blocks_in, parts_in, model_in, or_not_json, value_of, reads}
+use Rattle.limits.specs.declared.TheConstants.{MAX_MODEL_BYTES}
 use Rattle.model_file.specs.Laws.{ReadIsTree}
 use Rattle.model_file.proofs.Shapes.{bind-ok, ok-is, tested-ok, too-long}
 use Rattle.model_file.proofs.Forth.{bind-some, list-forth, text-forth, block-forth, edge-forth, listed-forth, merge-forth, partition-forth, split-forth}
@@ -210,7 +211,7 @@ value-is (Some x) d e = ap Some (ok-is x d e)
 pub read-is-tree : ReadIsTree
 unfolding reads
 read-is-tree bytes m e =
-    let read = too-long (nat_lt max_bytes (length bytes)) (or_not_json (value_of bytes) >>= model_in) m e in
+    let read = too-long (nat_lt MAX_MODEL_BYTES (length bytes)) (or_not_json (value_of bytes) >>= model_in) m e in
     let d = bind-ok (or_not_json (value_of bytes)) model_in m read in
     let tree = model-is-tree d.0 m d.2 in
     (tree.0, value-is (value_of bytes) d.0 d.1 ∙ ap Some tree.1, tree.2)

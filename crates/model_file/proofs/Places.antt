@@ -6,7 +6,7 @@ use Rattle.invariants.specs.Candidates.{candidates}
 use Rattle.invariants.specs.declared.Kind.{Kind}
 use Rattle.invariants.specs.declared.Kind.TheVariants.{AF, NF, AP}
 use Rattle.invariants.specs.declared.Invariant.{Invariant}
-use Rattle.model_file.specs.Shape.{same_kind, same_invariant, place_in, place_of}
+use Rattle.model_file.specs.Rules.{same_kind, same_invariant, place_in, place_of}
 
 kinds-are : (i j : Kind) → same_kind i j ≡ true → i ≡ j
 kinds-are AF AF h = refl
@@ -65,7 +65,7 @@ some-here true o h = refl
 some-here false o h = absurd (false≢true h)
 
 -- what stands in the list has a place
-place-some : (i : Invariant) (cs : List Invariant) (k : ℕ) → slice_get cs k ≡ Some i → is_some (place_in i cs) ≡ true
+pub place-some : (i : Invariant) (cs : List Invariant) (k : ℕ) → slice_get cs k ≡ Some i → is_some (place_in i cs) ≡ true
 place-some i [] k h = absurd cc
 place-some i (c ∷ cs) zero h = let is : c ≡ i = cc in some-here (same_invariant i c) _ (subst (λ j. same_invariant i j ≡ true) (sym is) (same-itself i))
 place-some i (c ∷ cs) (suc k) h = some-later (same_invariant i c) (place_in i cs) (place-some i cs k h)

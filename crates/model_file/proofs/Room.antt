@@ -1,7 +1,7 @@
 -- The room that is left for the numbers of paths.
 use Rattle.std.proofs.Common.{◌≡◌, ℕ, ◌+◌, ◌-◌, ◌<◌, ◌≤◌, false, cond, leb, Some, None, sym, ap, ◌∙◌, arith, inl, inr}
 use Rattle.std.proofs.lemmas.Bool.{cases_lt, le-leb, lt-leb}
-use Rattle.model_file.specs.Shape.{room_left}
+use Rattle.model_file.specs.Rules.{room_left}
 
 -- there is room for more where there is room for both
 pub fits-after : (room n m : ℕ) → n ≤ room → leb m (room - n) ≡ leb (n + m) room

@@ -14,10 +14,10 @@ use Rattle.model_file.specs.declared.refusal.Field.{Field}
 use Rattle.model_file.specs.declared.refusal.Field.TheVariants.{Types, Partitions, Edges, Invariants, Merges, Splits, Blocks}
 use Rattle.model_file.specs.declared.refusal.FileError.{FileError}
 use Rattle.model_file.specs.declared.refusal.FileError.TheVariants.{TooLong}
-use Rattle.model_file.specs.Shape.{types_hold, partitions_hold, type_of, edges_hold, invariants_hold, merges_hold, splits_hold, blocks_hold, IsWellShaped}
+use Rattle.model_file.specs.Rules.{types_hold, partitions_hold, type_of, edges_hold, invariants_hold, merges_hold, splits_hold, blocks_hold, PassesRules}
 use Rattle.model_file.specs.Entries.{partition_in, edge_in, listed_in, merge_in, split_in, block_in}
-use Rattle.model_file.specs.Reading.{◌>>=◌, tested, part_in, head_in, types_in, partitions_in, edges_in, invariants_in, merges_in, splits_in, blocks_in, parts_in, model_in, or_not_json, value_of, max_bytes, reads}
-use Rattle.model_file.specs.Laws.{ReadIsWellShaped}
+use Rattle.model_file.specs.Reading.{◌>>=◌, tested, part_in, head_in, types_in, partitions_in, edges_in, invariants_in, merges_in, splits_in, blocks_in, parts_in, model_in, or_not_json, value_of, reads}
+use Rattle.limits.specs.declared.TheConstants.{MAX_MODEL_BYTES}
 
 abbrev done : {A : Type 0} → A → Result A FileError
 done x = Ok x
@@ -70,9 +70,9 @@ blocks-hold : (type : ℕ → Option ℕ) (invariants : ℕ) (ss : List Split) (
 unfolding blocks_in
 blocks-hold type invariants ss d bs e = rule-of Blocks (blocks_hold type invariants ss) (part_in block_in (codes "blocks") Blocks d) bs e
 
-pub model-is-well-shaped : (d : Data) (m : Model) → model_in d ≡ Ok m → IsWellShaped m
+pub model-passes : (d : Data) (m : Model) → model_in d ≡ Ok m → PassesRules m
 unfolding model_in parts_in
-model-is-well-shaped d m e =
+model-passes d m e =
     let h = bind-ok (head_in d) _ m e in
     let ts = bind-ok (types_in d) _ m h.2 in
     let ps = bind-ok (partitions_in (length ts.0) d) _ m ts.2 in
@@ -82,7 +82,7 @@ model-is-well-shaped d m e =
     let ss = bind-ok (splits_in (length ls.0) d) _ m ms.2 in
     let bs = bind-ok (blocks_in (type_of ps.0) (length ls.0) ss.0 d) _ m ss.2 in
     let made : Model = record { types = ts.0; partitions = ps.0; edges = es.0; invariants = ls.0; splits = ss.0; merges = ms.0; blocks = bs.0 } in
-    let shaped : IsWellShaped made = record {
+    let shaped : PassesRules made = record {
       types = types-hold d ts.0 ts.1;
       partitions = partitions-hold (length ts.0) d ps.0 ps.1;
       edges = edges-hold (type_of ps.0) d es.0 es.1;
@@ -91,15 +91,15 @@ model-is-well-shaped d m e =
       splits = splits-hold (length ls.0) d ss.0 ss.1;
       blocks = blocks-hold (type_of ps.0) (length ls.0) ss.0 d bs.0 bs.1;
     } in
-    subst IsWellShaped (ok-is made m bs.2) shaped
+    subst PassesRules (ok-is made m bs.2) shaped
 
 pub too-long : (b : Bool) (r : Result Model FileError) (m : Model) → cond b (Err TooLong) r ≡ Ok m → r ≡ Ok m
 too-long true r m e = absurd cc
 too-long false r m e = e
 
-pub read-is-well-shaped : ReadIsWellShaped
+pub read-passes : (bytes : List ℕ) (m : Model) → reads bytes ≡ Ok m → PassesRules m
 unfolding reads
-read-is-well-shaped bytes m e =
-    let read = too-long (nat_lt max_bytes (length bytes)) (or_not_json (value_of bytes) >>= model_in) m e in
+read-passes bytes m e =
+    let read = too-long (nat_lt MAX_MODEL_BYTES (length bytes)) (or_not_json (value_of bytes) >>= model_in) m e in
     let d = bind-ok (or_not_json (value_of bytes)) model_in m read in
-    model-is-well-shaped d.0 m d.2
+    model-passes d.0 m d.2

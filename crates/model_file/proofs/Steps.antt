@@ -13,7 +13,7 @@ use Rattle.std.specs.Prelude.{codes}
 use Rattle.model_file.specs.declared.refusal.Field.{Field}
 use Rattle.model_file.specs.declared.refusal.Field.TheVariants.{Edges, Blocks}
 use Rattle.model_file.specs.declared.refusal.FileError.{FileError}
-use Rattle.model_file.specs.Shape.{type_of, edge_holds, edges_hold, block_holds, blocks_hold}
+use Rattle.model_file.specs.Rules.{type_of, edge_holds, edges_hold, block_holds, blocks_hold}
 use Rattle.model_file.specs.Entries.{edge_in, block_in}
 use Rattle.model_file.specs.Reading.{◌>>=◌, tested, part_in, types_in, partitions_in, edges_in, invariants_in, merges_in, splits_in, blocks_in, parts_in}
 
@@ -33,7 +33,7 @@ tested-same field p q h (Err e) = refl
 edge-same : (f g : ℕ → Option ℕ) → Agree f g → (e : Edge) → edge_holds f e ≡ edge_holds g e
 edge-same f g h e = rw (h e.from, h e.to) refl
 
-edges-rule-same : (f g : ℕ → Option ℕ) → Agree f g → (es : List Edge) → edges_hold f es ≡ edges_hold g es
+pub edges-rule-same : (f g : ℕ → Option ℕ) → Agree f g → (es : List Edge) → edges_hold f es ≡ edges_hold g es
 unfolding edges_hold
 edges-rule-same f g h es = rw (all-same (edge_holds f) (edge_holds g) (edge-same f g h) es) refl
 
@@ -44,7 +44,7 @@ edges-same f g h d = tested-same Edges (edges_hold f) (edges_hold g) (edges-rule
 block-same : (f g : ℕ → Option ℕ) → Agree f g → (n : ℕ) (b : Block) → block_holds f n b ≡ block_holds g n b
 block-same f g h n b = rw (h b.p, h b.q) refl
 
-blocks-rule-same : (f g : ℕ → Option ℕ) → Agree f g → (n : ℕ) (ss : List Split) (bs : List Block) → blocks_hold f n ss bs ≡ blocks_hold g n ss bs
+pub blocks-rule-same : (f g : ℕ → Option ℕ) → Agree f g → (n : ℕ) (ss : List Split) (bs : List Block) → blocks_hold f n ss bs ≡ blocks_hold g n ss bs
 unfolding blocks_hold
 blocks-rule-same f g h n ss bs = rw (all-same (block_holds f n) (block_holds g n) (block-same f g h n) bs) refl
 

@@ -5,7 +5,7 @@ use Rattle.std.specs.Option.{option_or}
 use Rattle.std.proofs.lemmas.List.{take_more}
 use Rattle.std.proofs.lemmas.List.Folds.{find-append}
 use Rattle.invariants.specs.declared.records.Partition.{Partition}
-use Rattle.model_file.specs.Shape.{type_of}
+use Rattle.model_file.specs.Rules.{type_of}
 
 mapped-or : (o p : Option Partition) → option_map (λ (q : Partition). q.typ) (option_or o p) ≡ option_or (option_map (λ (q : Partition). q.typ) o) (option_map (λ (q : Partition). q.typ) p)
 mapped-or None p = refl

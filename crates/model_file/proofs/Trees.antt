@@ -18,11 +18,11 @@ use Rattle.invariants.specs.declared.Kind.{Kind}
 use Rattle.invariants.specs.declared.Kind.TheVariants.{AF, NF, AP}
 use Rattle.invariants.specs.declared.records.Model.{Model}
 use Rattle.model_file.specs.Tree.{number_data, array_of, path_data, partition_data, edge_data, kind_text, digit_of, listed_data, merge_data, split_data, block_data, tree_of, file_text}
-use Rattle.model_file.specs.Shape.{types_hold, partitions_hold, type_of, edges_hold, invariants_hold, merges_hold, splits_hold, blocks_hold, IsWellShaped}
+use Rattle.model_file.specs.Rules.{types_hold, partitions_hold, type_of, edges_hold, invariants_hold, merges_hold, splits_hold, blocks_hold, PassesRules}
 use Rattle.model_file.specs.Entries.{partition_in, edge_in, listed_in, merge_in, split_in, block_in}
-use Rattle.model_file.specs.Reading.{root_in, version_in, is_key, keys_in, head_in, part_in, types_in, partitions_in, edges_in, invariants_in, merges_in, splits_in, blocks_in, parts_in, model_in, value_of, max_bytes, reads}
+use Rattle.model_file.specs.Reading.{root_in, version_in, is_key, keys_in, head_in, part_in, types_in, partitions_in, edges_in, invariants_in, merges_in, splits_in, blocks_in, parts_in, model_in, value_of, reads}
+use Rattle.limits.specs.declared.TheConstants.{MAX_MODEL_BYTES}
 use Rattle.model_file.specs.Writing.{tokens_of}
-use Rattle.model_file.specs.Laws.{TreesAreRead}
 use Rattle.model_file.proofs.Back.{list-back, FitsPartition, FitsEdge, FitsListed, FitsMerge, FitsSplit, FitsBlock, partition-back, edge-back, listed-back, merge-back, split-back, block-back}
 use Rattle.model_file.proofs.Bounds.{few-types, fits-partitions, fits-edges, fits-merges, few-invariants, fits-invariants, fits-splits, fits-blocks}
 use Rattle.model_file.proofs.Texts.{IsPlain, ArePlain, plain-back, plain-numbers, IsSpelled, AreSpelled, spelled-text, IsUtf8-comma, read-text}
@@ -36,7 +36,7 @@ record Fits (m : Model) : Type 0 where
   splits : AllByRecursion FitsSplit m.splits
   blocks : AllByRecursion FitsBlock m.blocks
 
-fits : (m : Model) → IsWellShaped m → Fits m
+fits : (m : Model) → PassesRules m → Fits m
 fits m h =
     let few = few-types m.types h.types in
     let listed = few-invariants (length m.types) (length m.partitions) m.invariants few h.invariants in
@@ -87,7 +87,7 @@ blocks-back : (m : Model) (type : ℕ → Option ℕ) (invariants : ℕ) → All
 unfolding blocks_in part_in tree_of
 blocks-back m type invariants fit h = rw (list-back block_in block_data FitsBlock block-back m.blocks fit, h) refl
 
-pub tree-is-read : (m : Model) → IsWellShaped m → model_in (tree_of m) ≡ Ok m
+pub tree-is-read : (m : Model) → PassesRules m → model_in (tree_of m) ≡ Ok m
 unfolding model_in parts_in
 tree-is-read m h =
     let fit = fits m h in
@@ -102,9 +102,9 @@ tree-is-read m h =
       blocks-back m (type_of m.partitions) (length m.invariants) fit.blocks h.blocks,
     ) refl
 
-pub trees-are-read : TreesAreRead
+pub trees-are-read : (bytes : List ℕ) (m : Model) → length bytes ≤ MAX_MODEL_BYTES → value_of bytes ≡ Some (tree_of m) → PassesRules m → reads bytes ≡ Ok m
 unfolding reads
-trees-are-read bytes m short value h = rw (le-ltb max_bytes (length bytes) short, value) (tree-is-read m h)
+trees-are-read bytes m short value h = rw (le-ltb MAX_MODEL_BYTES (length bytes) short, value) (tree-is-read m h)
 
 -- ---- from the text
 
@@ -282,7 +282,7 @@ from_edges m = member (codes "edges") (array_of (map edge_data m.edges)) (from_i
 abbrev pub from_blocks : Model → Members
 from_blocks m = member (codes "blocks") (array_of (map block_data m.blocks)) (from_edges m)
 
-pub IsUtf8-file_text : (m : Model) → IsWellShaped m → All IsUtf8 m.types → IsUtf8 (file_text m)
+pub IsUtf8-file_text : (m : Model) → PassesRules m → All IsUtf8 m.types → IsUtf8 (file_text m)
 unfolding tree_of
 IsUtf8-file_text m h texts =
     let v = texts-of m (fits m h) (recursion_from_All IsUtf8 m.types texts) in
@@ -296,14 +296,14 @@ IsUtf8-file_text m h texts =
     let blocks = member-text false (codes "blocks") (array_of (map block_data m.blocks)) (from_edges m) (IsUtf8-are_ascii (codes "blocks") refl) v.blocks edges in
     IsUtf8-append (123 ∷ []) (members_text false (from_blocks m)) (IsUtf8-are_ascii (123 ∷ []) refl) blocks
 
-text-is-read : (m : Model) → IsWellShaped m → IsUtf8 (file_text m) → value_of (file_text m) ≡ Some (tree_of m)
+text-is-read : (m : Model) → PassesRules m → IsUtf8 (file_text m) → value_of (file_text m) ≡ Some (tree_of m)
 unfolding value_of
 text-is-read m h text =
     let v = values m (fits m h) in
     rw (is_utf8-from_IsUtf8 (file_text m) text) (read-text (tree_of m) (tree-numbers m v) (tree-depth m) (tree-back m v))
 
 -- what is written is read back, where it is text
-pub text-reads-back : (m : Model) → IsWellShaped m → IsUtf8 (file_text m) → length (file_text m) ≤ max_bytes → reads (file_text m) ≡ Ok m
+pub text-reads-back : (m : Model) → PassesRules m → IsUtf8 (file_text m) → length (file_text m) ≤ MAX_MODEL_BYTES → reads (file_text m) ≡ Ok m
 text-reads-back m h text short = trees-are-read (file_text m) m short (text-is-read m h text) h
 
 -- the text of the tokens that were written

@@ -20,6 +20,7 @@ o >>= f = option_and_then f o
 
 -- ---- numbers
 
+-- the number, where it is below the limit
 abbrev pub if_below : ℕ → ℕ → Option ℕ
 if_below limit n = if nat_lt n limit then Some n else None
 
@@ -49,25 +50,30 @@ each f (item d ds) = f d >>= λ a. each f ds >>= λ rest. Some (a ∷ rest)
 unfoldable pub list_in : {A : Type 0} → (Data → Option A) → Data → Option (List A)
 list_in f d = as_array d >>= each f
 
+-- just two items
 abbrev pub two : Items → Option (Data × Data)
 two (item a (item b no_items)) = Some (a, b)
 two _ = None
 
+-- just three items
 abbrev pub three : Items → Option (Data × Data × Data)
 three (item a (item b (item c no_items))) = Some (a, b, c)
 three _ = None
 
+-- just four items
 abbrev pub four : Items → Option (Data × Data × Data × Data)
 four (item a (item b (item c (item d no_items)))) = Some (a, b, c, d)
 four _ = None
 
--- the items of an array of just two, three or four
+-- the items of an array of just two
 unfoldable pub two_in : Data → Option (Data × Data)
 two_in d = as_array d >>= two
 
+-- the items of an array of just three
 unfoldable pub three_in : Data → Option (Data × Data × Data)
 three_in d = as_array d >>= three
 
+-- the items of an array of just four
 unfoldable pub four_in : Data → Option (Data × Data × Data × Data)
 four_in d = as_array d >>= four
 
@@ -75,8 +81,11 @@ four_in d = as_array d >>= four
 
 -- the kind with this name
 abbrev pub kind_named : List ℕ → Option Kind
-kind_named text = if bytes_eq text (codes "AF") then Some AF else (if bytes_eq text (codes "NF") then Some NF else (if bytes_eq text (codes "AP") then Some AP else None))
+kind_named text =
+    if bytes_eq text (codes "AF") then Some AF
+    else (if bytes_eq text (codes "NF") then Some NF else (if bytes_eq text (codes "AP") then Some AP else None))
 
+-- the kind with the name that the value is
 unfoldable pub kind_in : Data → Option Kind
 kind_in d = do
   text ← as_str d
@@ -86,10 +95,13 @@ kind_in d = do
 abbrev pub label_of : ℕ → Option ℕ
 label_of byte = if nat_le 48 byte && nat_le byte 55 then Some (byte - 48) else None
 
+-- the labels of bytes that all are such digits
 abbrev pub labels_of : List ℕ → Option (List ℕ)
 labels_of [] = Some []
-labels_of (byte ∷ bytes) = label_of byte >>= λ label. labels_of bytes >>= λ rest. Some (label ∷ rest)
+labels_of (byte ∷ bytes) =
+    label_of byte >>= λ label. labels_of bytes >>= λ rest. Some (label ∷ rest)
 
+-- the labels of a string of such digits
 unfoldable pub labels_in : Data → Option (List ℕ)
 labels_in d = do
   text ← as_str d
@@ -97,6 +109,7 @@ labels_in d = do
 
 -- ---- entries
 
+-- a path, as the array of its ids
 unfoldable pub path_in : Data → Option (List ℕ)
 path_in d = list_in number_in d
 

@@ -1,5 +1,5 @@
 pub mod Tree
-pub mod Shape
+pub mod Rules
 pub mod Table
 pub mod Entries
 pub mod Reading

@@ -6,6 +6,7 @@ use Rattle.std.specs.Str.{bytes_eq, is_utf8}
 use Rattle.serde_json.specs.Data.{Data, Members, no_members, member}
 use Rattle.serde_json.specs.Find.{get, as_number, as_u64, as_str, as_object}
 use Rattle.serde_json.specs.Read.{read}
+use Rattle.limits.specs.declared.TheConstants.{MAX_MODEL_BYTES}
 use Rattle.invariants.specs.declared.records.Partition.{Partition}
 use Rattle.invariants.specs.declared.records.Edge.{Edge}
 use Rattle.invariants.specs.declared.records.Listed.{Listed}
@@ -13,7 +14,7 @@ use Rattle.invariants.specs.declared.records.Merge.{Merge}
 use Rattle.invariants.specs.declared.records.Split.{Split}
 use Rattle.invariants.specs.declared.records.Block.{Block}
 use Rattle.invariants.specs.declared.records.Model.{Model}
-use Rattle.model_file.specs.Shape.{types_hold, partitions_hold, type_of, edges_hold, invariants_hold, merges_hold, splits_hold, blocks_hold}
+use Rattle.model_file.specs.Rules.{types_hold, partitions_hold, type_of, edges_hold, invariants_hold, merges_hold, splits_hold, blocks_hold}
 use Rattle.model_file.specs.Entries.{list_in, partition_in, edge_in, listed_in, merge_in, split_in, block_in}
 use Rattle.model_file.specs.declared.refusal.Field.{Field}
 use Rattle.model_file.specs.declared.refusal.Field.TheVariants.{Root, Version, Extra, Types, Partitions, Edges, Invariants, Merges, Splits, Blocks}
@@ -22,7 +23,8 @@ use Rattle.model_file.specs.declared.refusal.FileError.TheVariants as refused
 
 -- what comes after a step that was not refused
 infixl 10 ◌>>=◌
-abbrev pub ◌>>=◌ : {A B : Type 0} → Result A FileError → (A → Result B FileError) → Result B FileError
+abbrev pub ◌>>=◌ : {A B : Type 0} → Result A FileError → (A → Result B FileError)
+    → Result B FileError
 (Ok x) >>= f = f x
 (Err e) >>= f = Err e
 
@@ -47,21 +49,27 @@ abbrev pub if_first : Option ℕ → Result (Unit {0}) FileError
 if_first None = Err (refused.Shape Version)
 if_first (Some n) = if n == 1 then Ok tt else Err (refused.Version n)
 
+-- the number under the key `version`
 unfoldable pub version_in : Data → Result (Unit {0}) FileError
-version_in d = if_first (option_and_then as_u64 (option_and_then as_number (get (codes "version") d)))
+version_in d =
+    if_first (option_and_then as_u64 (option_and_then as_number (get (codes "version") d)))
 
+-- the eight keys of a model file
 abbrev pub keys : List (List ℕ)
-keys = codes "blocks" ∷ codes "edges" ∷ codes "invariants" ∷ codes "merges" ∷ codes "partitions" ∷ codes "splits" ∷ codes "types" ∷ codes "version" ∷ []
+keys =
+    codes "blocks" ∷ codes "edges" ∷ codes "invariants" ∷ codes "merges"
+    ∷ codes "partitions" ∷ codes "splits" ∷ codes "types" ∷ codes "version" ∷ []
 
 -- one of the eight keys
 unfoldable pub is_key : List ℕ → Bool
 is_key key = list_any (bytes_eq key) keys
 
--- no key but these
+-- whether there is no key but these
 abbrev pub has_no_extra : Members → Bool
 has_no_extra no_members = true
 has_no_extra (member key d ms) = is_key key && has_no_extra ms
 
+-- no key but these, or the refusal of a further one
 unfoldable pub keys_in : Members → Result (Unit {0}) FileError
 keys_in ms = tested Extra (has_no_extra ms) tt
 
@@ -72,37 +80,69 @@ head_in d = root_in d >>= λ ms. version_in d >>= λ v. keys_in ms
 -- ---- the parts
 
 -- the entries under a key, each read by f
-unfoldable pub part_in : {A : Type 0} → (Data → Option A) → List ℕ → Field → Data → Result (List A) FileError
+unfoldable pub part_in : {A : Type 0} → (Data → Option A) → List ℕ → Field → Data
+    → Result (List A) FileError
 part_in f key field d = or_shape field (option_and_then (list_in f) (get key d))
 
+-- the types, which keep their rule
 unfoldable pub types_in : Data → Result (List (List ℕ)) FileError
-types_in d = part_in as_str (codes "types") Types d >>= λ ts. tested Types (types_hold ts) ts
+types_in d =
+    part_in as_str (codes "types") Types d
+    >>= λ ts. tested Types (types_hold ts) ts
 
+-- the partitions, of so many types
 unfoldable pub partitions_in : ℕ → Data → Result (List Partition) FileError
-partitions_in types d = part_in partition_in (codes "partitions") Partitions d >>= λ ps. tested Partitions (partitions_hold types ps) ps
+partitions_in types d =
+    part_in partition_in (codes "partitions") Partitions d
+    >>= λ ps. tested Partitions (partitions_hold types ps) ps
 
+-- the edges; `type` gives the type of a listed partition
 unfoldable pub edges_in : (ℕ → Option ℕ) → Data → Result (List Edge) FileError
-edges_in type d = part_in edge_in (codes "edges") Edges d >>= λ es. tested Edges (edges_hold type es) es
+edges_in type d =
+    part_in edge_in (codes "edges") Edges d
+    >>= λ es. tested Edges (edges_hold type es) es
 
+-- the invariants, between so many types, with labels for so many partitions
 unfoldable pub invariants_in : ℕ → ℕ → Data → Result (List Listed) FileError
-invariants_in types partitions d = part_in listed_in (codes "invariants") Invariants d >>= λ ls. tested Invariants (invariants_hold types partitions ls) ls
+invariants_in types partitions d =
+    part_in listed_in (codes "invariants") Invariants d
+    >>= λ ls. tested Invariants (invariants_hold types partitions ls) ls
 
+-- the merges, which keep their rule
 unfoldable pub merges_in : Data → Result (List Merge) FileError
-merges_in d = part_in merge_in (codes "merges") Merges d >>= λ ms. tested Merges (merges_hold ms) ms
+merges_in d =
+    part_in merge_in (codes "merges") Merges d
+    >>= λ ms. tested Merges (merges_hold ms) ms
 
+-- the splits, for so many invariants
 unfoldable pub splits_in : ℕ → Data → Result (List Split) FileError
-splits_in invariants d = part_in split_in (codes "splits") Splits d >>= λ ss. tested Splits (splits_hold invariants ss) ss
+splits_in invariants d =
+    part_in split_in (codes "splits") Splits d
+    >>= λ ss. tested Splits (splits_hold invariants ss) ss
 
+-- the blocks, for so many invariants, beside these splits
 unfoldable pub blocks_in : (ℕ → Option ℕ) → ℕ → List Split → Data → Result (List Block) FileError
-blocks_in type invariants ss d = part_in block_in (codes "blocks") Blocks d >>= λ bs. tested Blocks (blocks_hold type invariants ss bs) bs
+blocks_in type invariants ss d =
+    part_in block_in (codes "blocks") Blocks d
+    >>= λ bs. tested Blocks (blocks_hold type invariants ss bs) bs
 
 -- ---- the whole
 
 -- the model of the parts
 unfoldable pub parts_in : Data → Result Model FileError
 parts_in d =
-    types_in d >>= λ ts. partitions_in (length ts) d >>= λ ps. edges_in (type_of ps) d >>= λ es. invariants_in (length ts) (length ps) d >>= λ ls. merges_in d >>= λ ms.
-    splits_in (length ls) d >>= λ ss. blocks_in (type_of ps) (length ls) ss d >>= λ bs. Ok (record { types = ts; partitions = ps; edges = es; invariants = ls; splits = ss; merges = ms; blocks = bs })
+    types_in d >>= λ ts. partitions_in (length ts) d >>= λ ps. edges_in (type_of ps) d >>= λ es.
+    invariants_in (length ts) (length ps) d >>= λ ls. merges_in d >>= λ ms.
+    splits_in (length ls) d >>= λ ss. blocks_in (type_of ps) (length ls) ss d >>= λ bs.
+    Ok (record {
+      types = ts;
+      partitions = ps;
+      edges = es;
+      invariants = ls;
+      splits = ss;
+      merges = ms;
+      blocks = bs;
+    })
 
 -- the model of a JSON value, or its first refusal
 unfoldable pub model_in : Data → Result Model FileError
@@ -117,16 +157,15 @@ abbrev pub or_not_json : Option Data → Result Data FileError
 or_not_json None = Err refused.NotJson
 or_not_json (Some d) = Ok d
 
--- the most bytes of a model file
-abbrev pub max_bytes : ℕ
-max_bytes = 134217728
-
 -- the model of a file's bytes, or the first refusal
 unfoldable pub reads : List ℕ → Result Model FileError
-reads bytes = if nat_lt max_bytes (length bytes) then Err refused.TooLong else (or_not_json (value_of bytes) >>= model_in)
+reads bytes =
+    if nat_lt MAX_MODEL_BYTES (length bytes) then Err refused.TooLong
+    else (or_not_json (value_of bytes) >>= model_in)
 
 -- ---- for contracts: what a call answered is what was to be read, unless memory was wanted
 
+-- an answer that is no model is the refusal of what was to be read
 abbrev pub Fails : {A : Type 0} → FileError → Result A FileError → Type 0
 Fails refused.Memory read = Unit {0}
 Fails refused.TooLong read = read ≡ Err refused.TooLong
@@ -134,6 +173,7 @@ Fails refused.NotJson read = read ≡ Err refused.NotJson
 Fails (refused.Shape field) read = read ≡ Err (refused.Shape field)
 Fails (refused.Version n) read = read ≡ Err (refused.Version n)
 
+-- an answer is what was to be read
 abbrev pub Gives : {A : Type 0} → Result A FileError → Result A FileError → Type 0
 Gives (Ok x) read = read ≡ Ok x
 Gives (Err e) read = Fails e read

@@ -45,7 +45,9 @@ digit_of label = 48 + label
 
 -- `[kind,a,b,labels]`, the labels with a digit each
 abbrev pub listed_data : Listed → Data
-listed_data l = array_of (string (kind_text l.inv.kind) ∷ number_data l.inv.a ∷ number_data l.inv.b ∷ string (map digit_of l.labels) ∷ [])
+listed_data l =
+    array_of (string (kind_text l.inv.kind) ∷ number_data l.inv.a ∷ number_data l.inv.b
+    ∷ string (map digit_of l.labels) ∷ [])
 
 -- `[p,q]`
 abbrev pub merge_data : Merge → Data
@@ -57,7 +59,8 @@ split_data s = array_of (number_data s.inv ∷ number_data s.place ∷ path_data
 
 -- `[p,q,inv,[path]]`
 abbrev pub block_data : Block → Data
-block_data b = array_of (number_data b.p ∷ number_data b.q ∷ number_data b.inv ∷ path_data b.path ∷ [])
+block_data b =
+    array_of (number_data b.p ∷ number_data b.q ∷ number_data b.inv ∷ path_data b.path ∷ [])
 
 -- the eight keys of a model, in the order of their bytes
 abbrev pub members_in : Model → Members

@@ -33,7 +33,8 @@ pub(crate) fn type_number(value: &Value) -> Option<u16>
 /// The items of an array that has just two.
 #[tactic(auto, unfolding(crate::specs::Entries::two_in))]
 pub(crate) fn two(value: &Value) -> Option<(&Value, &Value)>
-    ensures { option_map (λ row. (view row.0.now, view row.1.now)) result ≡ two_in (view value.now) }
+    ensures { option_map (λ row. (view row.0.now, view row.1.now)) result
+        ≡ two_in (view value.now) }
 {
     let items = value.as_array()?;
     if items.len() != 2 {
@@ -45,7 +46,8 @@ pub(crate) fn two(value: &Value) -> Option<(&Value, &Value)>
 /// The items of an array that has just three.
 #[tactic(auto, unfolding(crate::specs::Entries::three_in))]
 pub(crate) fn three(value: &Value) -> Option<(&Value, &Value, &Value)>
-    ensures { option_map (λ row. (view row.0.now, view row.1.now, view row.2.now)) result ≡ three_in (view value.now) }
+    ensures { option_map (λ row. (view row.0.now, view row.1.now, view row.2.now)) result
+        ≡ three_in (view value.now) }
 {
     let items = value.as_array()?;
     if items.len() != 3 {
@@ -84,7 +86,8 @@ pub(crate) fn list<T: Entry + Drop>(
     alloc: Global,
     value: &Value,
 ) -> Result<Option<Vec<T>>, AllocError>
-    ensures { IfOk result (λ entries. option_map (λ v. v.items) entries ≡ list_in T.read_as (view value.now)) }
+    ensures { IfOk result (λ entries. option_map (λ v. v.items) entries
+        ≡ list_in T.read_as (view value.now)) }
 {
     let Some(items) = value.as_array() else {
         return Ok(None);

@@ -18,8 +18,10 @@ mod tests;
 mod writing;
 
 pub use law::{
-    read_is_tree, read_is_well_shaped, texts_are_short, trees_are_read, written_reads_back,
+    read_is_tree, read_is_well_shaped, rules_tell, texts_are_short, trees_are_read,
+    written_reads_back,
 };
 pub use reading::read_model;
 pub use refusal::{Field, FileError};
+pub use shape::is_well_shaped;
 pub use writing::write_model;

@@ -1,5 +1,6 @@
 //! The parts of a model's JSON value, each with the rule that it keeps.
 ghost use Rattle.std.specs.Prelude.{◌≡◌, ◌≤◌, ℕ, length, string_bytes};
+ghost use Rattle.limits.specs.declared.TheConstants.{MAX_TYPES};
 ghost use Rattle.serde_json.specs.View.{view, members_view};
 ghost use Rattle.model_file.specs.Table.{type_at};
 ghost use Rattle.model_file.specs.Reading.{Gives, root_in, version_in, is_key, keys_in, head_in, part_in, types_in, partitions_in, edges_in, invariants_in, merges_in, splits_in, blocks_in};
@@ -114,7 +115,7 @@ pub(crate) fn partitions_in(
     root: &Value,
     types: usize,
 ) -> Result<Seq<Partition>, FileError>
-    requires { types ≤ 128 }
+    requires { types ≤ MAX_TYPES }
     ensures { Gives result (partitions_in types (view root.now)) }
 {
     let partitions = match part::<Partition>(alloc, root, "partitions", Field::Partitions) {
@@ -154,7 +155,7 @@ pub(crate) fn invariants_in(
     types: u32,
     partitions: usize,
 ) -> Result<Seq<Listed>, FileError>
-    requires { types ≤ 128 }
+    requires { types ≤ MAX_TYPES }
     ensures { Gives result (invariants_in types partitions (view root.now)) }
 {
     let invariants = match part::<Listed>(alloc, root, "invariants", Field::Invariants) {

@@ -1,7 +1,7 @@
 //! Reading a model file.
 ghost use Rattle.std.specs.Prelude.{◌≡◌, Some, Ok, IfOk, IfErr};
 ghost use Rattle.serde_json.specs.View.{view};
-ghost use Rattle.model_file.specs.Shape.{IsWellShaped};
+ghost use Rattle.model_shape.specs.Shapes.{IsWellShaped};
 ghost use Rattle.model_file.specs.Reading.{Gives, Fails, IsNoValue, parts_in, model_in, value_of, reads};
 
 use crate::parts::{
@@ -10,11 +10,9 @@ use crate::parts::{
 use crate::refusal::FileError;
 use crate::table::types_by_id;
 use invariants::Model;
+use limits::MAX_MODEL_BYTES;
 use serde_json::Value;
 use std::alloc::Global;
-
-/// The most bytes of a model file.
-const MAX_BYTES: usize = 134_217_728;
 
 /// The model of the parts of a JSON value.
 fn parts_of(alloc: Global, root: &Value) -> Result<Model, FileError>
@@ -91,7 +89,7 @@ fn value_of(alloc: Global, bytes: &[u8]) -> Result<Value, FileError>
 
 /// The model of a file's bytes, or the first refusal.
 ///
-/// `TooLong` comes for more than 134,217,728 bytes, `NotJson` for bytes that are no JSON text, `Shape(Root)` for a value
+/// `TooLong` comes for more than 134,217,728 bytes (`limits::MAX_MODEL_BYTES`), of which no byte is then looked at, `NotJson` for bytes that are no JSON text, `Shape(Root)` for a value
 /// that is no object, `Shape(Version)` and `Version` for any version but 1, `Shape(Extra)` for a key that no model file
 /// has, and `Shape` of the first part that is not there, is not of its form or breaks its rule. `Memory` may come at any
 /// time.
@@ -100,7 +98,7 @@ pub fn read_model(alloc: Global, bytes: &[u8]) -> Result<Model, FileError>
     ensures shape { IfOk result IsWellShaped }
     ensures err { IfErr result (λ e. Fails e (reads bytes.now)) }
 {
-    if bytes.len() > MAX_BYTES {
+    if bytes.len() > MAX_MODEL_BYTES {
         return Err(FileError::TooLong);
     }
     match value_of(alloc, bytes) {

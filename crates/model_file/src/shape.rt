@@ -1,15 +1,20 @@
 //! The rules of a well-shaped model.
-ghost use Rattle.std.specs.Prelude.{◌≡◌, ◌≤◌, ◌+◌, map, unwrap_or, nat_lt, nat_le};
+ghost use Rattle.std.specs.Prelude.{◌↔◌, IsTrue, IfOk, length, ◌≡◌, ◌≤◌, ◌+◌, map, unwrap_or, nat_lt, nat_le};
+ghost use Rattle.limits.specs.declared.TheConstants.{MAX_TYPES, MAX_PATH_NUMBERS};
 ghost use Rattle.std.specs.List.{list_any, list_all};
 ghost use Rattle.std.specs.Str.{bytes_eq};
 ghost use Rattle.model_file.specs.Table.{type_at};
-ghost use Rattle.model_file.specs.Shape.{ascends, pair_less, are_distinct, type_holds, types_hold, ends_hold, partition_holds, partitions_hold, edge_holds, edges_hold, place_of, listed_holds, invariants_hold, merge_holds, merges_hold, path_holds, split_holds, split_numbers, block_numbers, room_left, splits_hold, are_one, block_holds, blocks_hold};
+ghost use Rattle.model_file.specs.Rules.{ascends, pair_less, are_distinct, type_holds, types_hold, ends_hold, partition_holds, partitions_hold, edge_holds, edges_hold, place_of, listed_holds, invariants_hold, merge_holds, merges_hold, path_holds, split_holds, room_left, splits_hold, are_one, block_holds, blocks_hold, others_hold};
+ghost use Rattle.model_shape.specs.Shapes.{IsWellShaped};
+ghost use Rattle.model_shape.specs.Numbers.{split_numbers, block_numbers};
 
-use crate::table::type_at;
-use invariants::{Block, Edge, Invariant, Listed, Merge, Partition, Split, Text, index_of};
-
-/// How many numbers the paths of splits and blocks may have together.
-const MAX_NUMBERS: usize = 4_000_000;
+use crate::table::{type_at, types_by_id};
+use invariants::{Block, Edge, Invariant, Listed, Merge, Model, Partition, Split, Text, index_of};
+use limits::{
+    FIRST_TYPE, INITIAL, MAX_EVENTS, MAX_PARTITIONS, MAX_PATH_NUMBERS, MAX_TYPE_BYTES, MAX_TYPES,
+    TERMINAL,
+};
+use std::alloc::{AllocError, Global};
 
 fn stands_in(text: &str, types: &[Text]) -> bool
     ensures { result ≡ list_any (bytes_eq text.now) types.now }
@@ -36,15 +41,15 @@ fn are_distinct(types: &[Text]) -> bool
 fn type_holds(text: &Text) -> bool
     ensures { result ≡ type_holds text.now }
 {
-    1 <= text.len() && text.len() <= 256
+    1 <= text.len() && text.len() <= MAX_TYPE_BYTES
 }
 
-/// At most 128 types, each of 1 to 256 bytes, no two equal.
-#[tactic(auto, unfolding(crate::specs::Shape::types_hold))]
+/// No more types than a log may have, each of 1 to `MAX_TYPE_BYTES` bytes, no two equal.
+#[tactic(auto, unfolding(crate::specs::Rules::types_hold))]
 pub(crate) fn types_hold(types: &[Text]) -> bool
     ensures { result ≡ types_hold types.now }
 {
-    if types.len() > 128 {
+    if types.len() > MAX_TYPES as usize {
         return false;
     }
     'types: for text in types {
@@ -60,26 +65,26 @@ fn ends_hold(partitions: &[Partition]) -> bool
 {
     match partitions {
         [first, second, ..] => {
-            first.id == 0
-                && first.typ == 0
-                && second.id == 1
-                && second.typ == 1
+            first.id == INITIAL
+                && u32::from(first.typ) == INITIAL
+                && second.id == TERMINAL
+                && u32::from(second.typ) == TERMINAL
                 && first.count == second.count
-                && first.count <= 1_000_000
+                && first.count <= MAX_EVENTS
         }
         _ => false,
     }
 }
 
 fn partition_holds(types: usize, partition: Partition) -> bool
-    requires { types ≤ 128 }
+    requires { types ≤ MAX_TYPES }
     ensures { result ≡ partition_holds types partition }
 {
-    partition.id <= 1_023
-        && 2 <= partition.typ
-        && partition.typ as usize <= types + 1
+    partition.id < MAX_PARTITIONS
+        && FIRST_TYPE <= u32::from(partition.typ)
+        && (partition.typ as usize) < types + FIRST_TYPE as usize
         && 1 <= partition.count
-        && partition.count <= 1_000_000
+        && partition.count <= MAX_EVENTS
 }
 
 fn partitions_ascend(partitions: &[Partition]) -> bool
@@ -98,12 +103,12 @@ fn partitions_ascend(partitions: &[Partition]) -> bool
 }
 
 /// The two ends first, then others of the types there are, by ascending ids.
-#[tactic(auto, unfolding(crate::specs::Shape::partitions_hold))]
+#[tactic(auto, unfolding(crate::specs::Rules::partitions_hold))]
 pub(crate) fn partitions_hold(types: usize, partitions: &[Partition]) -> bool
-    requires { types ≤ 128 }
+    requires { types ≤ MAX_TYPES }
     ensures { result ≡ partitions_hold types partitions.now }
 {
-    if partitions.len() > 1_024 || !ends_hold(partitions) {
+    if partitions.len() > MAX_PARTITIONS as usize || !ends_hold(partitions) {
         return false;
     }
     'others: for partition in &partitions[2..] {
@@ -119,10 +124,10 @@ fn edge_holds(table: &[Option<u16>], edge: Edge) -> bool
 {
     type_at(table, edge.from).is_some()
         && type_at(table, edge.to).is_some()
-        && edge.from != 1
-        && edge.to != 0
+        && edge.from != TERMINAL
+        && edge.to != INITIAL
         && 1 <= edge.count
-        && edge.count <= 2_000_000
+        && edge.count <= 2 * MAX_EVENTS
 }
 
 fn is_less(x: (u32, u32), y: (u32, u32)) -> bool
@@ -148,7 +153,7 @@ fn edges_ascend(edges: &[Edge]) -> bool
 }
 
 /// Ascending edges between partitions of the table.
-#[tactic(auto, unfolding(crate::specs::Shape::edges_hold))]
+#[tactic(auto, unfolding(crate::specs::Rules::edges_hold))]
 pub(crate) fn edges_hold(table: &[Option<u16>], edges: &[Edge]) -> bool
     ensures { result ≡ edges_hold (type_at table.now) edges.now }
 {
@@ -161,7 +166,7 @@ pub(crate) fn edges_hold(table: &[Option<u16>], edges: &[Edge]) -> bool
 }
 
 fn place_of(types: u32, inv: Invariant) -> Option<u32>
-    requires { types ≤ 128 }
+    requires { types ≤ MAX_TYPES }
     ensures { result ≡ place_of types inv }
 {
     index_of(types, inv)
@@ -174,7 +179,7 @@ fn labels_hold(labels: &[u8]) -> bool
 }
 
 fn listed_holds(types: u32, partitions: usize, listed: &Listed) -> bool
-    requires { types ≤ 128 }
+    requires { types ≤ MAX_TYPES }
     ensures { result ≡ listed_holds types partitions listed.now }
 {
     place_of(types, listed.inv).is_some()
@@ -183,8 +188,9 @@ fn listed_holds(types: u32, partitions: usize, listed: &Listed) -> bool
 }
 
 fn invariants_ascend(types: u32, invariants: &[Listed]) -> bool
-    requires { types ≤ 128 }
-    ensures { result ≡ ascends nat_lt (map (λ l. unwrap_or (place_of types l.inv) 0) invariants.now) }
+    requires { types ≤ MAX_TYPES }
+    ensures { result
+        ≡ ascends nat_lt (map (λ l. unwrap_or (place_of types l.inv) 0) invariants.now) }
 {
     let mut before = None;
     'invariants: for listed in invariants {
@@ -200,9 +206,9 @@ fn invariants_ascend(types: u32, invariants: &[Listed]) -> bool
 }
 
 /// Candidates in their order, each with a label for each partition.
-#[tactic(auto, unfolding(crate::specs::Shape::invariants_hold))]
+#[tactic(auto, unfolding(crate::specs::Rules::invariants_hold))]
 pub(crate) fn invariants_hold(types: u32, partitions: usize, invariants: &[Listed]) -> bool
-    requires { types ≤ 128 }
+    requires { types ≤ MAX_TYPES }
     ensures { result ≡ invariants_hold types partitions invariants.now }
 {
     'invariants: for listed in invariants {
@@ -216,15 +222,15 @@ pub(crate) fn invariants_hold(types: u32, partitions: usize, invariants: &[Liste
 fn merge_holds(merge: Merge) -> bool
     ensures { result ≡ merge_holds merge }
 {
-    merge.p < merge.q && merge.q <= 1_023
+    merge.p < merge.q && merge.q < MAX_PARTITIONS
 }
 
-/// At most 1,022 merges, each of a lower id and a higher one.
-#[tactic(auto, unfolding(crate::specs::Shape::merges_hold))]
+/// No more merges than there are ids beside the two ends, each of a lower id and a higher one.
+#[tactic(auto, unfolding(crate::specs::Rules::merges_hold))]
 pub(crate) fn merges_hold(merges: &[Merge]) -> bool
     ensures { result ≡ merges_hold merges.now }
 {
-    if merges.len() > 1_022 {
+    if merges.len() + FIRST_TYPE as usize > MAX_PARTITIONS as usize {
         return false;
     }
     'merges: for merge in merges {
@@ -238,7 +244,7 @@ pub(crate) fn merges_hold(merges: &[Merge]) -> bool
 fn path_holds(path: &[u32]) -> bool
     ensures { result ≡ path_holds path.now }
 {
-    path.iter().all(|id| *id <= 1_023)
+    path.iter().all(|id| *id < MAX_PARTITIONS)
 }
 
 fn split_holds(invariants: usize, split: &Split) -> bool
@@ -251,9 +257,9 @@ fn split_holds(invariants: usize, split: &Split) -> bool
 
 /// How many more numbers paths may have after those of the splits, where these have not too many.
 fn room_after_splits(splits: &[Split]) -> Option<usize>
-    ensures { result ≡ room_left 4000000 (split_numbers splits.now) }
+    ensures { result ≡ room_left MAX_PATH_NUMBERS (split_numbers splits.now) }
 {
-    let mut room = MAX_NUMBERS;
+    let mut room = MAX_PATH_NUMBERS as usize;
     'splits: for split in splits {
         if split.path.len() > room {
             return None;
@@ -263,12 +269,12 @@ fn room_after_splits(splits: &[Split]) -> Option<usize>
     Some(room)
 }
 
-/// At most 1,022 splits with the numbers of listed invariants and places in their paths.
-#[tactic(auto, unfolding(crate::specs::Shape::splits_hold))]
+/// No more splits than there are ids beside the two ends, with the numbers of listed invariants and places in their paths.
+#[tactic(auto, unfolding(crate::specs::Rules::splits_hold))]
 pub(crate) fn splits_hold(invariants: usize, splits: &[Split]) -> bool
     ensures { result ≡ splits_hold invariants splits.now }
 {
-    if splits.len() > 1_022 {
+    if splits.len() + FIRST_TYPE as usize > MAX_PARTITIONS as usize {
         return false;
     }
     'splits: for split in splits {
@@ -328,7 +334,8 @@ fn blocks_fit(blocks: &[Block], room: usize) -> bool
 }
 
 fn numbers_fit(splits: &[Split], blocks: &[Block]) -> bool
-    ensures { result ≡ nat_le (split_numbers splits.now + block_numbers blocks.now) 4000000 }
+    ensures { result
+        ≡ nat_le (split_numbers splits.now + block_numbers blocks.now) MAX_PATH_NUMBERS }
 {
     match room_after_splits(splits) {
         Some(room) => blocks_fit(blocks, room),
@@ -337,7 +344,7 @@ fn numbers_fit(splits: &[Split], blocks: &[Block]) -> bool
 }
 
 /// Ascending blocks of two partitions of one type, with the numbers of listed invariants.
-#[tactic(auto, unfolding(crate::specs::Shape::blocks_hold))]
+#[tactic(auto, unfolding(crate::specs::Rules::blocks_hold))]
 pub(crate) fn blocks_hold(
     table: &[Option<u16>],
     invariants: usize,
@@ -352,4 +359,41 @@ pub(crate) fn blocks_hold(
         }
     }
     blocks_ascend(blocks) && numbers_fit(splits, blocks)
+}
+
+/// The lists whose rules come after those of the types and the partitions.
+fn others_hold(table: &[Option<u16>], model: &Model) -> bool
+    requires { length model.now.types ≤ MAX_TYPES }
+    ensures { result ≡ others_hold (type_at table.now) model.now }
+{
+    let listed = model.invariants.len();
+    edges_hold(table, model.edges.as_slice())
+        && invariants_hold(
+            model.types.len() as u32,
+            model.partitions.len(),
+            model.invariants.as_slice(),
+        )
+        && merges_hold(model.merges.as_slice())
+        && splits_hold(listed, model.splits.as_slice())
+        && blocks_hold(
+            table,
+            listed,
+            model.splits.as_slice(),
+            model.blocks.as_slice(),
+        )
+}
+
+/// Whether a model is well shaped, which `write_model` asks of it and `read_model` gives: for a caller who made the model
+/// and cannot know it.
+pub fn is_well_shaped(alloc: Global, model: &Model) -> Result<bool, AllocError>
+    ensures { IfOk result (λ shaped. IsTrue shaped ↔ IsWellShaped model.now) }
+{
+    if !types_hold(model.types.as_slice()) {
+        return Ok(false);
+    }
+    if !partitions_hold(model.types.len(), model.partitions.as_slice()) {
+        return Ok(false);
+    }
+    let table = types_by_id(alloc, model.partitions.as_slice())?;
+    Ok(others_hold(&table, model))
 }

@@ -1,14 +1,13 @@
 //! The types of listed partitions, by their ids.
 ghost use Rattle.std.specs.Prelude.{◌≡◌, ◌≤◌, ◌<◌, ◌==◌, ℕ, All, IfOk, OnOk, List, Option, Some, None, length, if◌then◌else◌, slice_index_or, vec_len};
+ghost use Rattle.limits.specs.declared.TheConstants.{MAX_PARTITIONS};
 ghost use Rattle.std.specs.Option.{option_or};
-ghost use Rattle.model_file.specs.Shape.{type_of};
+ghost use Rattle.model_file.specs.Rules.{type_of};
 ghost use Rattle.model_file.specs.Table.{type_at};
 
 use invariants::Partition;
+use limits::MAX_PARTITIONS;
 use std::alloc::{AllocError, Global};
-
-/// How many ids there are.
-const IDS: usize = 1_024;
 
 /// The type that the table has for an id.
 pub(crate) fn type_at(table: &[Option<u16>], id: u32) -> Option<u16>
@@ -24,7 +23,9 @@ pub(crate) fn type_at(table: &[Option<u16>], id: u32) -> Option<u16>
 /// Notes the type of a partition, unless one is noted for its id.
 fn note(table: &mut [Option<u16>], partition: Partition)
     requires { partition.id < length table.old }
-    ensures { (id : ℕ) → type_at table.new id ≡ option_or (type_at table.old id) (if partition.id == id then Some partition.typ else None) }
+    ensures { (id : ℕ)
+        → type_at table.new id
+        ≡ option_or (type_at table.old id) (if partition.id == id then Some partition.typ else None) }
 {
     let id = partition.id as usize;
     if table[id].is_none() {
@@ -37,11 +38,11 @@ pub(crate) fn types_by_id(
     alloc: Global,
     partitions: &[Partition],
 ) -> Result<Vec<Option<u16>>, AllocError>
-    requires { All (λ p. p.id ≤ 1023) partitions.now }
+    requires { All (λ p. p.id < MAX_PARTITIONS) partitions.now }
     ensures { IfOk result (λ table. (id : ℕ) → type_at table.items id ≡ type_of partitions.now id) }
 {
     let mut table = Vec::new(alloc);
-    table.resize(IDS, None)?;
+    table.resize(MAX_PARTITIONS as usize, None)?;
     'partitions: for partition in partitions {
         note(&mut table, *partition);
     }

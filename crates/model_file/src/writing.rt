@@ -3,7 +3,7 @@ ghost use Rattle.std.specs.Prelude.{◌≡◌, ◌≤◌, [], ◌∷◌, ◌++�
 ghost use Rattle.json.specs.Token.{key};
 ghost use Rattle.serde_json.specs.Data.{string};
 ghost use Rattle.model_file.specs.Tree.{digit_of, kind_text, number_data, array_of, path_data, tree_of, file_text};
-ghost use Rattle.model_file.specs.Shape.{IsWellShaped};
+ghost use Rattle.model_shape.specs.Shapes.{IsWellShaped};
 ghost use Rattle.model_file.specs.Reading.{reads};
 ghost use Rattle.model_file.specs.Writing.{tokens_of, Appends};
 
@@ -215,7 +215,8 @@ fn write_part<T: Written>(
     out: &mut Writer,
 ) -> Result<(), AllocError>
     requires { All T.can_write entries.now }
-    ensures { Appends result out.old out.new (key name.now ∷ tokens_of (array_of (map T.written_as entries.now))) }
+    ensures { Appends result out.old out.new (key name.now
+        ∷ tokens_of (array_of (map T.written_as entries.now))) }
 {
     out.key(name)?;
     write_list(alloc, entries.as_slice(), out)

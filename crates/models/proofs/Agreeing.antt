@@ -15,7 +15,8 @@ use Rattle.partition_model.proofs.Listing.{Contains-In, In-Contains}
 use Rattle.partition_model.proofs.Forming.{graphs_are_formed}
 use Rattle.partition_model.proofs.Paths.{Maps}
 use Rattle.partition_model.proofs.Merging.{onto_is, onto_other, merged_parts}
-use Rattle.models.specs.Models.{listed_type, is_listed, has_edge, graph_of}
+use Rattle.models.specs.Models.{has_edge, graph_of}
+use Rattle.model_shape.specs.Shapes.{listed_type, is_listed}
 
 -- what each partition and each edge of the lists is
 abbrev pub IsPartitionOf : Assignment → Partition → Type 0

@@ -7,9 +7,10 @@ use Rattle.partition_model.proofs.Lists.{In}
 use Rattle.partition_model.proofs.Listing.{are_partitions, are_edges}
 use Rattle.partition_model.proofs.Passes.{live-member}
 use Rattle.models.specs.Models.{TypedWords, IsModelOf}
-use Rattle.models.specs.Shapes.{end_of, IsWithinLimits, KeepsLimits, IsWellShaped}
 use Rattle.models.specs.Laws.{IsTypedLog}
 use Rattle.models.proofs.Shaped.{models_are_shaped}
+use Rattle.model_shape.specs.Shapes.{end_of, IsWellShaped}
+use Rattle.models.specs.Limits.{IsWithinLimits, KeepsLimits}
 
 abbrev nothing : TypedWords
 nothing = record { types = []; words = [] }

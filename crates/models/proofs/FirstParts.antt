@@ -5,9 +5,10 @@ use Rattle.std.specs.List.{AllByRecursion}
 use Rattle.invariants.specs.declared.Invariant.{Invariant}
 use Rattle.invariants.specs.declared.records.Model.{Model}
 use Rattle.models.specs.declared.parts.Part.TheVariants as part
-use Rattle.models.specs.Models.{TypedWords, mined_of, listing_of, IsLabelled}
+use Rattle.models.specs.Models.{TypedWords, mined_of, IsLabelled}
 use Rattle.models.specs.Checks.{IsAccepted, IsFirstFailure, DiffersAt, IsFirstPart}
 use Rattle.models.specs.Laws.{FirstPartFails, OneFirstPart}
+use Rattle.model_shape.specs.Shapes.{listing_of}
 
 differs-self : (xs : List Invariant) (k : ℕ) → DiffersAt xs xs k → ⊥
 differs-self [] k d = d

@@ -32,7 +32,7 @@ split-or-not m h n s =
             | inl a ↦ inl (let l : n < 1024 = a.1.1.1 in record { listed = o.0; names = o.1; breaks = a.0; place = a.1.0; inside = a.1.1.0; room = omega arith })
             | inr f ↦ inr (λ j. f (
               same o.0 o.1 j,
-              (j.place, (j.inside, (let r : n ≤ 1023 = j.room in omega arith))),
+              (j.place, (j.inside, (let r : n < 1024 = j.room in omega arith))),
             ))
           ]
       | inr e ↦ inr (λ j. none-some j.listed (sym e ∙ j.names))

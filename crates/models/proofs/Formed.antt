@@ -5,16 +5,16 @@ use Rattle.std.specs.List.{AllByRecursion}
 use Rattle.invariants.specs.declared.records.Partition.{Partition}
 use Rattle.invariants.specs.declared.records.Edge.{Edge}
 use Rattle.partition_model.proofs.Lists.{In, all_in}
-use Rattle.models.specs.Models.{listed_type, is_listed, has_edge}
-use Rattle.models.specs.Shapes.{end_of, IsEventPartition, IsShapedEdge}
+use Rattle.models.specs.Models.{has_edge}
 use Rattle.models.specs.Laws.{ShapedAreFormed}
 use Rattle.models.proofs.Agreeing.{edge-in}
+use Rattle.model_shape.specs.Shapes.{listed_type, is_listed, end_of, IsEventPartition, IsShapedEdge}
 
 inner-below : (types : ℕ) (xs : List Partition) (p : ℕ) → AllByRecursion (IsEventPartition types) xs → is_listed p xs ≡ true → p < 1024
 inner-below types [] p a e = absurd (cc e)
 inner-below types (x ∷ xs) p a e =
     elim (or_cases (x.id == p) (is_listed p xs) e) [
-      | inl t ↦ (let q : x.id ≡ p = eqb-true x.id p t in let l : x.id ≤ 1023 = a.0.id in omega arith)
+      | inl t ↦ (let q : x.id ≡ p = eqb-true x.id p t in let l : x.id < 1024 = a.0.id in omega arith)
       | inr f ↦ inner-below types xs p a.1 f
     ]
 

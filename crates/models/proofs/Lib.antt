@@ -1,3 +1,4 @@
+pub mod Among
 pub mod Agreeing
 pub mod Deciding
 pub mod Valid

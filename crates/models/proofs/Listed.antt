@@ -7,10 +7,11 @@ use Rattle.partition_model.specs.Assignments.{G}
 use Rattle.partition_model.specs.Labels.{Reached}
 use Rattle.partition_model.specs.Listings.{ArePartitions, AreEdges, partitions_below, edges_below}
 use Rattle.partition_model.proofs.Listing.{are_partitions, are_edges}
-use Rattle.models.specs.Models.{has_state, label_at, is_listed}
+use Rattle.models.specs.Models.{has_state, label_at}
 use Rattle.models.specs.Laws.{GraphIsListed, NumbersGiveLabels}
 use Rattle.models.proofs.Agreeing.{live-is-listed}
 use Rattle.models.proofs.Unique.{one-partitions, one-edges}
+use Rattle.model_shape.specs.Shapes.{is_listed}
 
 pub graph_is_listed : GraphIsListed
 graph_is_listed m h n l b =

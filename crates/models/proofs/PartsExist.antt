@@ -22,12 +22,13 @@ use Rattle.partition_bounds.specs.Pairs.{pairs_below}
 use Rattle.partition_bounds.proofs.Ordered.{pair-asym, pair-next}
 use Rattle.partition_bounds.proofs.Pairing.{pairs_tell}
 use Rattle.models.specs.declared.parts.Part.TheVariants as part
-use Rattle.models.specs.Models.{mined_of, listing_of, listed_type, is_listed, has_edge, graph_of, has_state, label_at, IsInLabel, IsLabelled}
+use Rattle.models.specs.Models.{mined_of, has_edge, graph_of, has_state, label_at, IsInLabel, IsLabelled}
 use Rattle.models.specs.Checks.{IsBlocked, IsAccepted, IsFirstFailure, DiffersAt}
 use Rattle.models.specs.Laws.{FirstPartExists}
 use Rattle.models.proofs.Agreeing.{In-edges, edge-in}
 use Rattle.models.proofs.Valid.{three-states}
 use Rattle.models.proofs.Deciding.{OrNot, both, same-or-not, number-or-not, true-or-not, breaks-or-not, option-cases, some-same, from-or-not, all-or-not, any-or-not}
+use Rattle.model_shape.specs.Shapes.{listing_of, listed_type, is_listed}
 
 -- the list of invariants
 kind-or-not : (a b : Kind) → OrNot (a ≡ b)

@@ -20,13 +20,14 @@ use Rattle.partition_model.proofs.Lists.{In}
 use Rattle.partition_model.proofs.Listing.{are_partitions, are_edges}
 use Rattle.partition_bounds.specs.Pairs.{pair_of, pairs_below}
 use Rattle.partition_bounds.proofs.Pairing.{pairs_tell}
-use Rattle.models.specs.Models.{TypedWords, mined_of, listing_of, listed_type, is_listed, graph_of, has_state, label_at, IsInLabel, IsLabelled}
+use Rattle.models.specs.Models.{TypedWords, mined_of, graph_of, has_state, label_at, IsInLabel, IsLabelled}
 use Rattle.models.specs.Checks.{IsBlocked, IsValid}
 use Rattle.models.specs.Histories.{replayed, IsGraphOf, IsJustified, IsFirstStep}
-use Rattle.models.specs.Shapes.{AscendAmong}
 use Rattle.models.specs.declared.parts.ReplayPart.TheVariants as step_of
 use Rattle.models.proofs.Agreeing.{edge-in}
 use Rattle.models.proofs.Valid.{three-states}
+use Rattle.model_shape.specs.Shapes.{listing_of, listed_type, is_listed}
+use Rattle.models.proofs.Among.{AscendAmong}
 
 abbrev texts : List (List ℕ)
 texts = (97 ∷ []) ∷ (99 ∷ []) ∷ (100 ∷ []) ∷ (98 ∷ []) ∷ (101 ∷ []) ∷ []

@@ -5,6 +5,7 @@ use Rattle.std.proofs.lemmas.Option.{slice_get_within}
 use Rattle.std.proofs.lemmas.List.{length-map}
 use Rattle.std.proofs.lemmas.List.Sums.{length-filter, sum_by-cons, count_by-le-length}
 use Rattle.std.specs.List.{AllByRecursion, range_with_len}
+use Rattle.std.specs.Prelude.{Contains}
 use Rattle.invariants.specs.declared.Invariant.{Invariant}
 use Rattle.invariants.specs.declared.records.Partition.{Partition}
 use Rattle.invariants.specs.declared.records.Listed.{Listed}
@@ -21,28 +22,30 @@ use Rattle.partition_model.specs.Refinement.{Splits, Refines, after_split, stitc
 use Rattle.partition_model.specs.Coarsening.{merge, Coarsens, IsBlock, AreBlocks}
 use Rattle.partition_model.specs.Laws.{IsRun, HoldAll, Divides, Keeps}
 use Rattle.partition_model.proofs.Lists.{In, In-map, map-In, In-events, events-In, all_in, all_from, count-member, edge_count-cons}
-use Rattle.partition_model.proofs.Listing.{In-filter, are_partitions}
+use Rattle.partition_model.proofs.Listing.{Contains-In, In-filter, are_partitions}
 use Rattle.partition_model.proofs.Passes.{live-member}
 use Rattle.partition_model.proofs.Forming.{graphs_are_formed, merged_are_formed}
 use Rattle.partition_model.proofs.Stitching.{stitch_divides}
 use Rattle.partition_model.proofs.Runs.{broken, traces-hold, fresh-run, next-run, start-run, runs_keep}
-use Rattle.partition_bounds.specs.Numbers.{split_numbers, block_numbers}
+use Rattle.model_shape.specs.Numbers.{split_numbers, block_numbers}
 use Rattle.partition_bounds.proofs.Ordered.{In-get}
 use Rattle.partition_bounds.proofs.Pairing.{range-count}
 use Rattle.partition_bounds.proofs.Merges.{In-range, live-below, merge-below, merges-below, merges_are_few}
-use Rattle.models.specs.Models.{TypedWords, mined_of, listing_of, graph_of, AreReached, IsModelOf}
-use Rattle.models.specs.Shapes.{end_of, AreTypes, IsEventPartition, AreShapedPartitions, IsShapedEdge, AreShapedEdges, AscendAmong, AreLabels, AreShapedInvariants, IsShapedMerge, AreShapedMerges, AreIds, IsShapedSplit, IsShapedBlock}
+use Rattle.models.specs.Models.{TypedWords, mined_of, graph_of, AreReached, IsModelOf}
 use Rattle.models.specs.Laws.{IsTypedLog, ModelsAreShaped}
 use Rattle.models.proofs.Agreeing.{IsEdgeOf, each-edge, Agrees, agrees}
 use Rattle.models.proofs.Unique.{one-partitions}
 use Rattle.models.proofs.Valid.{mined-hold, end-Keeps}
+use Rattle.model_shape.specs.Shapes.{listing_of, end_of, AreTypes, IsEventPartition, AreShapedPartitions, IsShapedEdge, AreShapedEdges, IsShapedListed, AreShapedInvariants, IsShapedMerge, AreShapedMerges, AreIds, IsShapedSplit, IsShapedBlock}
+use Rattle.model_shape.specs.Ascending.{Ascends, CandidateBefore}
+use Rattle.models.proofs.Among.{AscendAmong, ids-ascend, edges-ascend, blocks-ascend, candidates-ascend}
 
 -- paths of graphs whose ids are below the bound
-walk-ids : (g : Graph) (p : ℕ) (xs : List ℕ) (q : ℕ) → IsFormed g → ((u : ℕ) → g.listed u ≡ true → u ≤ 1023) → Walk g p xs q → AreIds xs
+walk-ids : (g : Graph) (p : ℕ) (xs : List ℕ) (q : ℕ) → IsFormed g → ((u : ℕ) → g.listed u ≡ true → u < 1024) → Walk g p xs q → AreIds xs
 walk-ids g p [] q f b w = tt
 walk-ids g p (x ∷ xs) q f b w = (b x (f.between p x w.0).1, walk-ids g x xs q f b w.1)
 
-path-ids : (g : Graph) (path : List ℕ) → IsFormed g → ((u : ℕ) → g.listed u ≡ true → u ≤ 1023) → IsPath g path → AreIds path
+path-ids : (g : Graph) (path : List ℕ) → IsFormed g → ((u : ℕ) → g.listed u ≡ true → u < 1024) → IsPath g path → AreIds path
 path-ids g [] f b i = tt
 path-ids g (x ∷ xs) f b i = ((let e : x ≡ 0 = i.0 in omega arith), walk-ids g x xs 1 f b i.1)
 
@@ -114,14 +117,13 @@ shaped-partitions m log h j t ws ty traces few jl b a =
     let d : length m.partitions ≡ suc (suc (length (inner-of h j))) = ap length e in
     let f : length (inner_words h) ≡ length h = length-map h types_of in
     let g : length (inner_words h) ≡ length log.words = ap length ws in
-    let o : AscendIds 0 (end_of 0 (length h) ∷ end_of 1 (length h) ∷ inner-of h j) = subst (λ (xs : List Partition). AscendIds 0 xs) e a.order in
     record {
       traces = length h;
       inner = inner-of h j;
       ends = e;
       few = omega arith;
       few_traces = omega arith;
-      order = o.1.1;
+      order = ids-ascend 0 m.partitions a.order;
       each = all_from (IsEventPartition (length log.types)) (inner-of h j) (λ x i.
           let v : (p : ℕ) × In p (filter (is_live h) (range_with_len 2 j)) × (partition_of h p ≡ x) = In-map (partition_of h) x (filter (is_live h) (range_with_len 2 j)) i in
           let w : In v.0 (range_with_len 2 j) × (is_live h v.0 ≡ true) = In-filter (is_live h) v.0 (range_with_len 2 j) v.1 in
@@ -163,7 +165,7 @@ shaped-edges m log k ws ty ag traces few =
     let c : length (events k.end) ≡ sum_by (λ w. length w) (inner_words k.end) = events-count k.end in
     let d : sum_by (λ w. length w) (inner_words k.end) ≡ sum_by (λ w. length w) log.words = ap (λ (vs : List (List ℕ)). sum_by (λ w. length w) vs) ws in
     record {
-      order = k.edges.order;
+      order = edges-ascend 0 0 m.edges k.edges.order;
       each = all_from (IsShapedEdge m.partitions) m.edges (λ x i.
           let e : IsEdgeOf k.end x = all_in (IsEdgeOf k.end) x m.edges (each-edge m.edges k.end k.edges) i in
           let e0 : 0 < x.count = e.0 in
@@ -200,14 +202,27 @@ ascend-filter p all (x ∷ xs) low f =
 mined-ascends : (log : TypedWords) → AscendAmong (candidates (length log.types)) 0 (mined_of log)
 mined-ascends log = ascend-filter (holds_of_all (map with_ends log.words)) (candidates (length log.types)) (candidates (length log.types)) 0 (λ j. ap (slice_get (candidates (length log.types))) (omega arith))
 
-shaped-invariants : (m : Model) (log : TypedWords) → IsModelOf m log → AreShapedInvariants m
+mined-candidate : (log : TypedWords) (inv : Invariant) → In inv (mined_of log) → Contains (candidates (length log.types)) inv
+mined-candidate log inv i =
+    Contains-In inv (candidates (length log.types)) (In-filter (holds_of_all (map with_ends log.words)) inv (candidates (length log.types)) i).0
+
+shaped-listed : (m : Model) (log : TypedWords) (k : IsModelOf m log) (l : Listed) → In l m.invariants → IsShapedListed (length m.types) (length m.partitions) l
+shaped-listed m log k l i =
+    let r : AreReached l.inv k.end m.partitions l.labels = all_in (λ l. AreReached l.inv k.end m.partitions l.labels) l m.invariants k.labels i in
+    let c : In l.inv (mined_of log) = subst (λ (xs : List Invariant). In l.inv xs) k.listing (map-In (λ (x : Listed). x.inv) l m.invariants i) in
+    record {
+      candidate = subst (λ (ts : List (List ℕ)). Contains (candidates (length ts)) l.inv) (sym k.types) (mined-candidate log l.inv c);
+      count = r.count;
+      labels = r.each;
+    }
+
+shaped-invariants : (m : Model) (log : TypedWords) → IsModelOf m log → AreShapedInvariants (length m.types) (length m.partitions) m.invariants
 shaped-invariants m log k =
     let a : AscendAmong (candidates (length log.types)) 0 (listing_of m) = subst (λ (xs : List Invariant). AscendAmong (candidates (length log.types)) 0 xs) (sym k.listing) (mined-ascends log) in
+    let b : Ascends (CandidateBefore (length log.types)) (listing_of m) = candidates-ascend (length log.types) 0 (listing_of m) a in
     record {
-      order = subst (λ (ts : List (List ℕ)). AscendAmong (candidates (length ts)) 0 (listing_of m)) (sym k.types) a;
-      each = all_from (λ l. AreLabels (length m.partitions) l.labels) m.invariants (λ l i.
-          let r : AreReached l.inv k.end m.partitions l.labels = all_in (λ l. AreReached l.inv k.end m.partitions l.labels) l m.invariants k.labels i in
-          record { count_is = r.count; each = r.each });
+      order = subst (λ (ts : List (List ℕ)). Ascends (CandidateBefore (length ts)) (listing_of m)) (sym k.types) b;
+      each = all_from (IsShapedListed (length m.types) (length m.partitions)) m.invariants (shaped-listed m log k);
     }
 
 -- the merges
@@ -235,7 +250,7 @@ each-split words invs (s ∷ ss) h n end r l a lim w =
     let pl : s.place ≡ stitch h s.path = w.0.place in
     let be : stitch h s.path + 1 < length s.path = d.before_end in
     let f : IsFormed (G h) = graphs_are_formed h r.typed in
-    let ids : (u : ℕ) → (G h).listed u ≡ true → u ≤ 1023 = λ u k. (let y : u < n = live-below h n u l r.below k in omega arith) in (
+    let ids : (u : ℕ) → (G h).listed u ≡ true → u < 1024 = λ u k. (let y : u < n = live-below h n u l r.below k in omega arith) in (
       record { names = slice_get_within invs s.inv b.0 b.1; place = omega arith; path = path-ids (G h) s.path f ids v.breaks.0 },
       each-split words invs ss (after_split n s h) (suc n) end (subst (λ (k : ℕ). IsRun words (after_split n s h) k) x r') (omega arith) a (omega arith) w.1,
     )
@@ -253,7 +268,7 @@ each-block m h invs n b l k ty below ag i =
     let mf : IsFormed (Merged (G h) b.p b.q) = (merged_are_formed (G h) b.p b.q f i.pair.low i.pair.order i.pair.has_p).0 in
     let o : (inv : Invariant) × (slice_get invs b.inv ≡ Some inv) × (Satisfies (Merged (G h) b.p b.q) inv → ⊥) = broken (Merged (G h) b.p b.q) invs b.inv i.first in
     let v : IsLeastViolation (Merged (G h) b.p b.q) o.0 b.path = i.least o.0 o.1 in
-    let ids : (u : ℕ) → (Merged (G h) b.p b.q).listed u ≡ true → u ≤ 1023 =
+    let ids : (u : ℕ) → (Merged (G h) b.p b.q).listed u ≡ true → u < 1024 =
     λ u t. (let y : u < n = live-below h n u l below (and_parts (not (u == b.q)) ((G h).listed u) t).1 in omega arith) in
     record {
       order = i.pair.order;
@@ -303,7 +318,7 @@ models_are_shaped m log t w lim k =
         numbers = omega arith;
       };
       blocks = record {
-        order = k.blocks.order;
+        order = blocks-ascend 0 0 m.blocks k.blocks.order;
         each = subst (λ (n : ℕ). AllByRecursion (IsShapedBlock n m.partitions) m.blocks) ln bs;
         numbers = lim.numbers;
       };

@@ -15,10 +15,11 @@ use Rattle.partition_model.proofs.Lists.{In, all_in, map-In}
 use Rattle.partition_model.proofs.Listing.{In-Contains}
 use Rattle.partition_model.proofs.Labelling.{inductive_satisfies}
 use Rattle.partition_bounds.proofs.Ordered.{get-In}
-use Rattle.models.specs.Models.{TypedWords, listing_of, graph_of, has_state, label_at, IsLabelled}
+use Rattle.models.specs.Models.{TypedWords, graph_of, has_state, label_at, IsLabelled}
 use Rattle.models.specs.Checks.{IsAccepted, IsBlocked, IsValid, KeepsApart}
 use Rattle.models.specs.Laws.{ValidSatisfies, ValidTells, ModelsTell}
 use Rattle.models.proofs.Valid.{models-valid}
+use Rattle.model_shape.specs.Shapes.{listing_of}
 
 labels-satisfy : (m : Model) (ls : List Listed) → AllByRecursion (IsLabelled m) ls → SatisfiesAll (graph_of m) (map (λ l. l.inv) ls)
 labels-satisfy m [] a = tt

@@ -14,8 +14,9 @@ use Rattle.partition_model.proofs.Listing.{Contains-In, In-Contains}
 use Rattle.partition_model.proofs.Unique.{one_refinement, one_coarsening}
 use Rattle.partition_bounds.proofs.Ordered.{Sorted, same-lists, pair-asym, pair-next}
 use Rattle.partition_bounds.proofs.Blocks.{one_blocks}
-use Rattle.models.specs.Models.{mined_of, IsLabel, has_state, label_at, AreReached}
+use Rattle.models.specs.Models.{mined_of, has_state, label_at, AreReached}
 use Rattle.models.specs.Laws.{OneModel}
+use Rattle.model_shape.specs.Shapes.{IsLabel}
 
 -- partitions
 abbrev IdBefore : Partition → Partition → Type 0

@@ -28,11 +28,12 @@ use Rattle.partition_model.proofs.Stitching.{stitch_divides}
 use Rattle.partition_model.proofs.Keeping.{refinement_keeps, coarsening_keeps}
 use Rattle.partition_model.proofs.Runs.{broken, traces-hold, fresh-run, next-run, start-run}
 use Rattle.partition_bounds.proofs.Ordered.{get-In}
-use Rattle.models.specs.Models.{TypedWords, mined_of, listing_of, graph_of, has_state, label_at, IsLabelled, AreReached, IsModelOf}
+use Rattle.models.specs.Models.{TypedWords, mined_of, graph_of, has_state, label_at, IsLabelled, AreReached, IsModelOf}
 use Rattle.models.specs.Checks.{IsAccepted, IsBlocked, IsValid}
 use Rattle.models.specs.Histories.{IsJustifiedSplit, SplitInTurn, split_by, replayed, IsGraphOf}
 use Rattle.models.specs.Laws.{IsTypedLog, ModelsPass}
 use Rattle.models.proofs.Agreeing.{Agrees, agrees, from-maps, merged-agrees}
+use Rattle.model_shape.specs.Shapes.{listing_of}
 
 -- what is mined holds of every word
 holds-all : (words : List (List ℕ)) (inv : Invariant) → holds_of_all (map with_ends words) inv ≡ true → AllByRecursion (λ w. Holds inv (with_ends w)) words

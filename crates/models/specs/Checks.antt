@@ -14,7 +14,8 @@ use Rattle.partition_model.specs.Refinement.{SatisfiesAll}
 use Rattle.partition_model.specs.Coarsening.{IsPair, PairBefore}
 use Rattle.models.specs.declared.parts.Part.{Part}
 use Rattle.models.specs.declared.parts.Part.TheVariants as part
-use Rattle.models.specs.Models.{TypedWords, mined_of, listing_of, graph_of, IsLabelled}
+use Rattle.models.specs.Models.{TypedWords, mined_of, graph_of, IsLabelled}
+use Rattle.model_shape.specs.Shapes.{listing_of}
 
 -- a block of the pair names a listed invariant, and a path of the merged graph that breaks it
 pub record KeepsApart (m : Model) (p q : ℕ) (b : Block) (l : Listed) : Type 0 where
@@ -57,9 +58,11 @@ DiffersAt (x ∷ xs) (y ∷ ys) (suc k) = (x ≡ y) × DiffersAt xs ys k
 -- the parts before it stand, and this one fails, first at the number or the pair that it names
 abbrev pub IsFirstPart : Model → TypedWords → Part → Type 0
 IsFirstPart m log part.Types = m.types ≢ log.types
-IsFirstPart m log (part.Listing k) = (m.types ≡ log.types) × DiffersAt (listing_of m) (mined_of log) k
+IsFirstPart m log (part.Listing k) =
+    (m.types ≡ log.types) × DiffersAt (listing_of m) (mined_of log) k
 IsFirstPart m log (part.Trace t) =
-    (m.types ≡ log.types) × (listing_of m ≡ mined_of log) × IsFirstFailure (IsAccepted m) log.words t
+    (m.types ≡ log.types) × (listing_of m ≡ mined_of log)
+    × IsFirstFailure (IsAccepted m) log.words t
 IsFirstPart m log (part.Label i) =
     (m.types ≡ log.types) × (listing_of m ≡ mined_of log) × AllByRecursion (IsAccepted m) log.words
     × IsFirstFailure (IsLabelled m) m.invariants i
@@ -74,19 +77,26 @@ pub record Promises (m : Model) (log : TypedWords) : Type 0 where
   -- its types are those of the log
   pub types : m.types ≡ log.types
   -- it lists exactly the candidates that hold, by places, of every word
-  pub listed : (inv : Invariant) → Contains (listing_of m) inv ↔ IsListed (length log.types) (map with_ends log.words) inv
+  pub listed : (inv : Invariant)
+      → Contains (listing_of m) inv ↔ IsListed (length log.types) (map with_ends log.words) inv
   -- in the order of the candidates, none twice
   pub order : (j k i n : ℕ) (first second : Invariant)
       → slice_get (listing_of m) j ≡ Some first → slice_get (listing_of m) k ≡ Some second
-      → slice_get (candidates (length log.types)) i ≡ Some first → slice_get (candidates (length log.types)) n ≡ Some second
+      → slice_get (candidates (length log.types)) i ≡ Some first
+      → slice_get (candidates (length log.types)) n ≡ Some second
       → j < k → i < n
   -- each word is the word of a path
-  pub accepted : (w : List ℕ) → Contains log.words w → (path : List ℕ) × IsPath (graph_of m) path × (word (graph_of m) path ≡ with_ends w)
+  pub accepted : (w : List ℕ) → Contains log.words w
+      → (path : List ℕ) × IsPath (graph_of m) path × (word (graph_of m) path ≡ with_ends w)
   -- each listed invariant holds of the word of each path
-  pub satisfied : (inv : Invariant) (path : List ℕ) → Contains (listing_of m) inv → IsPath (graph_of m) path → Holds inv (word (graph_of m) path)
+  pub satisfied : (inv : Invariant) (path : List ℕ) → Contains (listing_of m) inv
+      → IsPath (graph_of m) path → Holds inv (word (graph_of m) path)
   -- for each pair of one type the path that is written for it is one of the merged graph, and its word breaks the listed invariant that is named
   pub apart : (p q : ℕ) → IsPair (graph_of m) p q
-      → (b : Block) × (l : Listed) × Contains m.blocks b × (b.p ≡ p) × (b.q ≡ q) × (slice_get m.invariants b.inv ≡ Some l)
-      × IsPath (Merged (graph_of m) p q) b.path × (Holds l.inv (word (Merged (graph_of m) p q) b.path) → ⊥)
+      → (b : Block) × (l : Listed) × Contains m.blocks b × (b.p ≡ p) × (b.q ≡ q)
+      × (slice_get m.invariants b.inv ≡ Some l)
+      × IsPath (Merged (graph_of m) p q) b.path
+      × (Holds l.inv (word (Merged (graph_of m) p q) b.path) → ⊥)
   -- so no two partitions of one type can be merged without loss
-  pub no_merge : (p q : ℕ) → IsPair (graph_of m) p q → SatisfiesAll (Merged (graph_of m) p q) (listing_of m) → ⊥
+  pub no_merge : (p q : ℕ) → IsPair (graph_of m) p q
+      → SatisfiesAll (Merged (graph_of m) p q) (listing_of m) → ⊥

@@ -1,5 +1,6 @@
 -- When the steps that a model names lead from a log to its graph, and the first step that does not.
 use Rattle.std.specs.Prelude.{◌≡◌, ◌≢◌, ℕ, zero, suc, ◌+◌, ◌<◌, ◌≤◌, List, [], ◌∷◌, length, slice_get, Some}
+use Rattle.limits.specs.declared.TheConstants.{FIRST_TYPE, MAX_PARTITIONS}
 use Rattle.invariants.specs.declared.records.Listed.{Listed}
 use Rattle.invariants.specs.declared.records.Model.{Model}
 use Rattle.invariants.specs.declared.records.Split.{Split}
@@ -21,7 +22,7 @@ pub record IsJustifiedSplit (m : Model) (h : Assignment) (n : ℕ) (s : Split) :
   pub breaks : Breaks (G h) listed.inv s.path
   pub place : s.place ≡ stitch h s.path
   pub inside : s.place + 1 < length s.path
-  pub room : n ≤ 1023
+  pub room : n < MAX_PARTITIONS
 
 -- each split is right in its turn
 abbrev pub SplitInTurn : Model → Assignment → ℕ → List Split → Type 0
@@ -35,7 +36,7 @@ split_by n (s ∷ ss) h = split_by (suc n) ss (after_split n s h)
 
 -- the first new id
 abbrev pub first_new : TypedWords → ℕ
-first_new log = length log.types + 2
+first_new log = length log.types + FIRST_TYPE
 
 -- each event of the log in the partition that the splits of the model give
 abbrev pub refined_by : Model → TypedWords → Assignment
@@ -61,20 +62,25 @@ pub record IsJustified (m : Model) (log : TypedWords) : Type 0 where
 abbrev pub IsFirstWrongSplit : Model → Assignment → ℕ → List Split → ℕ → Type 0
 IsFirstWrongSplit m h n [] k = ⊥
 IsFirstWrongSplit m h n (s ∷ ss) zero = IsJustifiedSplit m h n s → ⊥
-IsFirstWrongSplit m h n (s ∷ ss) (suc k) = IsJustifiedSplit m h n s × IsFirstWrongSplit m (after_split n s h) (suc n) ss k
+IsFirstWrongSplit m h n (s ∷ ss) (suc k) =
+    IsJustifiedSplit m h n s × IsFirstWrongSplit m (after_split n s h) (suc n) ss k
 
 -- the merge with the number k is the first that is not right in its turn
 abbrev pub IsFirstWrongMerge : Assignment → List Merge → ℕ → Type 0
 IsFirstWrongMerge h [] k = ⊥
 IsFirstWrongMerge h (x ∷ xs) zero = IsPair (G h) x.p x.q → ⊥
-IsFirstWrongMerge h (x ∷ xs) (suc k) = IsPair (G h) x.p x.q × IsFirstWrongMerge (merge x.p x.q h) xs k
+IsFirstWrongMerge h (x ∷ xs) (suc k) =
+    IsPair (G h) x.p x.q × IsFirstWrongMerge (merge x.p x.q h) xs k
 
 -- the steps before it are right, and this one is not
 abbrev pub IsFirstStep : Model → TypedWords → ReplayPart → Type 0
 IsFirstStep m log step.Types = m.types ≢ log.types
-IsFirstStep m log (step.Split k) = (m.types ≡ log.types) × IsFirstWrongSplit m (by_type log.words) (first_new log) m.splits k
+IsFirstStep m log (step.Split k) =
+    (m.types ≡ log.types) × IsFirstWrongSplit m (by_type log.words) (first_new log) m.splits k
 IsFirstStep m log (step.Merge k) =
-    (m.types ≡ log.types) × SplitInTurn m (by_type log.words) (first_new log) m.splits × IsFirstWrongMerge (refined_by m log) m.merges k
+    (m.types ≡ log.types) × SplitInTurn m (by_type log.words) (first_new log) m.splits
+    × IsFirstWrongMerge (refined_by m log) m.merges k
 IsFirstStep m log step.Graph =
-    (m.types ≡ log.types) × SplitInTurn m (by_type log.words) (first_new log) m.splits × MergeInTurn (refined_by m log) m.merges
+    (m.types ≡ log.types) × SplitInTurn m (by_type log.words) (first_new log) m.splits
+    × MergeInTurn (refined_by m log) m.merges
     × (IsGraphOf m (replayed m log) → ⊥)

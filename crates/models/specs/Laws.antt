@@ -1,6 +1,7 @@
 -- Laws of models, of their checks and of their histories.
 use Rattle.std.specs.Prelude.{◌≡◌, ◌↔◌, ◌⊎◌, ℕ, ◌+◌, ◌<◌, ◌≤◌, true, List, length, slice_get, Some}
 use Rattle.std.specs.List.{AllByRecursion}
+use Rattle.limits.specs.declared.TheConstants.{FIRST_TYPE, MAX_PARTITIONS}
 use Rattle.invariants.specs.declared.Invariant.{Invariant}
 use Rattle.invariants.specs.declared.records.Partition.{Partition}
 use Rattle.invariants.specs.declared.records.Model.{Model}
@@ -13,10 +14,11 @@ use Rattle.partition_model.specs.Laws.{AreTyped}
 use Rattle.partition_bounds.specs.Laws.{IsBelow}
 use Rattle.models.specs.declared.parts.Part.{Part}
 use Rattle.models.specs.declared.parts.ReplayPart.{ReplayPart}
-use Rattle.models.specs.Models.{TypedWords, graph_of, listing_of, IsLabel, has_state, AreReached, IsModelOf}
+use Rattle.models.specs.Models.{TypedWords, graph_of, has_state, AreReached, IsModelOf}
 use Rattle.models.specs.Checks.{IsValid, IsFirstPart, Promises}
 use Rattle.models.specs.Histories.{IsGraphOf, IsJustified, IsFirstStep}
-use Rattle.models.specs.Shapes.{IsWellShaped, IsWithinLimits, KeepsLimits}
+use Rattle.model_shape.specs.Shapes.{listing_of, IsLabel, IsWellShaped}
+use Rattle.models.specs.Limits.{IsWithinLimits, KeepsLimits}
 
 -- a log has at most one model
 abbrev pub OneModel : Type 0
@@ -24,12 +26,13 @@ OneModel = (a b : Model) (log : TypedWords) → IsModelOf a log → IsModelOf b 
 
 -- the words use exactly the types of the log
 abbrev pub IsTypedLog : TypedWords → Type 0
-IsTypedLog log = AreTyped log.words (length log.types + 2)
+IsTypedLog log = AreTyped log.words (length log.types + FIRST_TYPE)
 
--- the model of a log passes both checks, where no id passes 1,023
+-- the model of a log passes both checks, where its ids keep the limit
 abbrev pub ModelsPass : Type 0
 ModelsPass =
-    (m : Model) (log : TypedWords) → IsTypedLog log → IsModelOf m log → length log.types + 2 + length m.splits ≤ 1024
+    (m : Model) (log : TypedWords) → IsTypedLog log → IsModelOf m log
+    → length log.types + FIRST_TYPE + length m.splits ≤ MAX_PARTITIONS
     → IsValid m log × IsJustified m log
 
 -- so it promises all that a valid model does, however many ids there are
@@ -39,25 +42,28 @@ ModelsTell = (m : Model) (log : TypedWords) → IsTypedLog log → IsModelOf m l
 -- where ids are below n, a model has the graph of an assignment exactly where its lists are those of the assignment
 abbrev pub GraphIsListed : Type 0
 GraphIsListed =
-    (m : Model) (h : Assignment) (n : ℕ) → 2 ≤ n → AreBelow n h
+    (m : Model) (h : Assignment) (n : ℕ) → FIRST_TYPE ≤ n → AreBelow n h
     → IsGraphOf m h ↔ ((m.partitions ≡ partitions_below n h) × (m.edges ≡ edges_below n h))
 
 -- numbers of the states that are reached at the partitions, in their order
 pub record AreReachedNumbers (inv : Invariant) (h : Assignment) (partitions : List Partition) (numbers : List ℕ) : Type 0 where
   pub count : length numbers ≡ length partitions
   pub each : AllByRecursion IsLabel numbers
-  pub states : (k : ℕ) (x : Partition) (number s : ℕ) → slice_get partitions k ≡ Some x → slice_get numbers k ≡ Some number → s < 3
+  pub states : (k : ℕ) (x : Partition) (number s : ℕ) → slice_get partitions k ≡ Some x
+      → slice_get numbers k ≡ Some number → s < 3
       → (has_state number s ≡ true) ↔ Reached inv (G h) x.id s
 
 -- these are the labels
 abbrev pub NumbersGiveLabels : Type 0
 NumbersGiveLabels =
-    (inv : Invariant) (h : Assignment) (partitions : List Partition) (numbers : List ℕ) → ArePartitions partitions h
+    (inv : Invariant) (h : Assignment) (partitions : List Partition) (numbers : List ℕ)
+    → ArePartitions partitions h
     → AreReachedNumbers inv h partitions numbers → AreReached inv h partitions numbers
 
 -- whatever is valid for a log satisfies each invariant that it lists
 abbrev pub ValidSatisfies : Type 0
-ValidSatisfies = (m : Model) (log : TypedWords) → IsValid m log → SatisfiesAll (graph_of m) (listing_of m)
+ValidSatisfies =
+    (m : Model) (log : TypedWords) → IsValid m log → SatisfiesAll (graph_of m) (listing_of m)
 
 -- and this is what it promises
 abbrev pub ValidTells : Type 0
@@ -65,33 +71,44 @@ ValidTells = (m : Model) (log : TypedWords) → IsValid m log → Promises m log
 
 -- a model is valid, or some part of it fails first
 abbrev pub FirstPartExists : Type 0
-FirstPartExists = (m : Model) (log : TypedWords) → IsValid m log ⊎ ((part : Part) × IsFirstPart m log part)
+FirstPartExists =
+    (m : Model) (log : TypedWords) → IsValid m log ⊎ ((part : Part) × IsFirstPart m log part)
 
 -- a part that fails first does fail
 abbrev pub FirstPartFails : Type 0
-FirstPartFails = (m : Model) (log : TypedWords) (part : Part) → IsFirstPart m log part → IsValid m log → ⊥
+FirstPartFails =
+    (m : Model) (log : TypedWords) (part : Part) → IsFirstPart m log part → IsValid m log → ⊥
 
 -- and no other part fails first
 abbrev pub OneFirstPart : Type 0
-OneFirstPart = (m : Model) (log : TypedWords) (a b : Part) → IsFirstPart m log a → IsFirstPart m log b → a ≡ b
+OneFirstPart =
+    (m : Model) (log : TypedWords) (a b : Part) → IsFirstPart m log a → IsFirstPart m log b → a ≡ b
 
 -- a history is justified, or some step of it fails first
 abbrev pub FirstStepExists : Type 0
-FirstStepExists = (m : Model) (log : TypedWords) → IsJustified m log ⊎ ((step : ReplayPart) × IsFirstStep m log step)
+FirstStepExists =
+    (m : Model) (log : TypedWords)
+    → IsJustified m log ⊎ ((step : ReplayPart) × IsFirstStep m log step)
 
 -- a step that fails first does fail
 abbrev pub FirstStepFails : Type 0
-FirstStepFails = (m : Model) (log : TypedWords) (step : ReplayPart) → IsFirstStep m log step → IsJustified m log → ⊥
+FirstStepFails =
+    (m : Model) (log : TypedWords) (step : ReplayPart)
+    → IsFirstStep m log step → IsJustified m log → ⊥
 
 -- and no other step fails first
 abbrev pub OneFirstStep : Type 0
-OneFirstStep = (m : Model) (log : TypedWords) (a b : ReplayPart) → IsFirstStep m log a → IsFirstStep m log b → a ≡ b
+OneFirstStep =
+    (m : Model) (log : TypedWords) (a b : ReplayPart)
+    → IsFirstStep m log a → IsFirstStep m log b → a ≡ b
 
--- the graph of a well-shaped model is formed, and its ids are below 1,024
+-- the graph of a well-shaped model is formed, and its ids keep the limit
 abbrev pub ShapedAreFormed : Type 0
-ShapedAreFormed = (m : Model) → IsWellShaped m → IsFormed (graph_of m) × IsBelow 1024 (graph_of m)
+ShapedAreFormed =
+    (m : Model) → IsWellShaped m → IsFormed (graph_of m) × IsBelow MAX_PARTITIONS (graph_of m)
 
 -- the model of a log is well shaped, where the log and the run keep the limits
 abbrev pub ModelsAreShaped : Type 0
 ModelsAreShaped =
-    (m : Model) (log : TypedWords) → IsTypedLog log → IsWithinLimits log → KeepsLimits m → IsModelOf m log → IsWellShaped m
+    (m : Model) (log : TypedWords) → IsTypedLog log → IsWithinLimits log → KeepsLimits m
+    → IsModelOf m log → IsWellShaped m

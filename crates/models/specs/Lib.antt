@@ -1,5 +1,5 @@
 pub mod Models
 pub mod Checks
 pub mod Histories
-pub mod Shapes
+pub mod Limits
 pub mod Laws

@@ -13,6 +13,7 @@ use Rattle.partition_model.specs.Labels.{IsInductive, Reached}
 use Rattle.partition_model.specs.Listings.{ArePartitions, AreEdges}
 use Rattle.partition_model.specs.Refinement.{IsRefined}
 use Rattle.partition_model.specs.Coarsening.{Coarsens, AreBlocks}
+use Rattle.model_shape.specs.Shapes.{listed_type, is_listed, listing_of, IsLabel}
 
 -- what inference needs of a log: the texts of its types, and its words without their ends
 pub record TypedWords : Type 0 where
@@ -23,20 +24,6 @@ pub record TypedWords : Type 0 where
 abbrev pub mined_of : TypedWords → List Invariant
 mined_of log = mined (length log.types) (map with_ends log.words)
 
--- the invariants that the model lists
-abbrev pub listing_of : Model → List Invariant
-listing_of m = map (λ l. l.inv) m.invariants
-
--- the type of an id, as the partitions have it
-abbrev pub listed_type : ℕ → List Partition → ℕ
-listed_type p [] = 0
-listed_type p (x ∷ xs) = if x.id == p then x.typ else listed_type p xs
-
--- whether the id is that of a partition
-abbrev pub is_listed : ℕ → List Partition → Bool
-is_listed p [] = false
-is_listed p (x ∷ xs) = (x.id == p) || is_listed p xs
-
 -- whether there is an edge from p to q
 abbrev pub has_edge : ℕ → ℕ → List Edge → Bool
 has_edge p q [] = false
@@ -45,11 +32,11 @@ has_edge p q (x ∷ xs) = (x.from == p && x.to == q) || has_edge p q xs
 -- the graph of the model: its partitions with its edges
 abbrev pub graph_of : Model → Graph
 graph_of m =
-    record { typ = λ p. listed_type p m.partitions; edge = λ p q. has_edge p q m.edges; listed = λ p. is_listed p m.partitions }
-
--- a number of 0 to 7, which is a set of states
-abbrev pub IsLabel : ℕ → Type 0
-IsLabel number = number ≤ 7
+    record {
+      typ = λ p. listed_type p m.partitions;
+      edge = λ p q. has_edge p q m.edges;
+      listed = λ p. is_listed p m.partitions;
+    }
 
 -- whether the state is in the set of this number: 1 is for the state 0, 2 for the state 1, and 4 for the state 2
 abbrev pub has_state : ℕ → ℕ → Bool
@@ -76,7 +63,8 @@ IsLabelled m l = IsInductive l.inv (graph_of m) (IsInLabel m.partitions l.labels
 pub record AreReached (inv : Invariant) (h : Assignment) (partitions : List Partition) (labels : List ℕ) : Type 0 where
   pub count : length labels ≡ length partitions
   pub each : AllByRecursion IsLabel labels
-  pub states : (p s : ℕ) → is_live h p ≡ true → s < 3 → IsInLabel partitions labels p s ↔ Reached inv (G h) p s
+  pub states : (p s : ℕ) → is_live h p ≡ true → s < 3
+      → IsInLabel partitions labels p s ↔ Reached inv (G h) p s
 
 -- the model of a log: the run of refinement and then that of coarsening, the graph at their end with the reached states, and why no further merge is made
 pub record IsModelOf (m : Model) (log : TypedWords) : Type 0 where

@@ -1,4 +1,4 @@
-//! What a model of a log is, when a model is valid for a log, when its history is justified, and when it is well shaped: each by a definition in `specs/`, with the laws of these.
+//! What a model of a log is, when a model is valid for a log, and when its history is justified: each by a definition in `specs/`, with the laws of these. When a model is well shaped is defined in `model_shape`, and has its laws here.
 //!
 //! Each function here is a law: its body is empty, and its contract is what is proved. No call takes memory or does anything when it runs.
 #![tactic(auto)]

@@ -9,7 +9,7 @@ use Rattle.partition_model.specs.Refinement.{Splits, after_split}
 use Rattle.partition_model.specs.Laws.{IsRun, HoldAll}
 use Rattle.partition_model.proofs.Forming.{graphs_are_formed}
 use Rattle.partition_model.proofs.Runs.{broken, next-run, start-run}
-use Rattle.partition_bounds.specs.Numbers.{split_numbers}
+use Rattle.model_shape.specs.Numbers.{split_numbers}
 use Rattle.partition_bounds.specs.Laws.{SplitPathsWithinLimit}
 use Rattle.partition_bounds.proofs.Merges.{live-below}
 use Rattle.partition_bounds.proofs.Shorter.{least_within_limit}

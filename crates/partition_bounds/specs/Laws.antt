@@ -1,6 +1,7 @@
 -- Laws on how much there is: of pairs, of blocks, of ids in a path, and of splits.
 use Rattle.std.specs.Prelude.{◌≡◌, ◌↔◌, ℕ, ◌+◌, ◌*◌, ◌-◌, ◌<◌, ◌≤◌, true, List, ◌++◌, length, Contains}
 use Rattle.std.specs.List.{AllByRecursion}
+use Rattle.limits.specs.declared.TheConstants.{FIRST_TYPE, MAX_PARTITIONS}
 use Rattle.invariants.specs.declared.Invariant.{Invariant}
 use Rattle.invariants.specs.declared.records.Split.{Split}
 use Rattle.invariants.specs.declared.records.Merge.{Merge}
@@ -12,7 +13,7 @@ use Rattle.partition_model.specs.Refinement.{SatisfiesAll, IsNextSplit, Splits, 
 use Rattle.partition_model.specs.Coarsening.{merge, IsPair, Coarsens, IsBlock, AreBlocks}
 use Rattle.partition_model.specs.Laws.{AreTyped, HoldAll, PairsAscend, IsAmong, Passes}
 use Rattle.partition_bounds.specs.Pairs.{pairs_below, pairs_of}
-use Rattle.partition_bounds.specs.Numbers.{split_numbers}
+use Rattle.model_shape.specs.Numbers.{split_numbers}
 
 -- the listed ids are below the bound
 abbrev pub IsBelow : ℕ → Graph → Type 0
@@ -20,7 +21,7 @@ IsBelow n g = (p : ℕ) → g.listed p ≡ true → p < n
 
 -- so it is where the ids of events are
 abbrev pub GraphsAreBelow : Type 0
-GraphsAreBelow = (h : Assignment) (n : ℕ) → 2 ≤ n → AreBelow n h → IsBelow n (G h)
+GraphsAreBelow = (h : Assignment) (n : ℕ) → FIRST_TYPE ≤ n → AreBelow n h → IsBelow n (G h)
 
 -- it stays so in the merged graph
 abbrev pub MergedAreBelow : Type 0
@@ -28,7 +29,9 @@ MergedAreBelow = (g : Graph) (p q n : ℕ) → IsBelow n g → IsBelow n (Merged
 
 -- and through a merge
 abbrev pub MergesStayBelow : Type 0
-MergesStayBelow = (h : Assignment) (p q n : ℕ) → 2 ≤ n → IsPair (G h) p q → AreBelow n h → AreBelow n (merge p q h)
+MergesStayBelow =
+    (h : Assignment) (p q n : ℕ) → FIRST_TYPE ≤ n → IsPair (G h) p q → AreBelow n h
+    → AreBelow n (merge p q h)
 
 -- where ids are below n, the list has each pair of one type once, ascending, and no others
 abbrev pub PairsTell : Type 0
@@ -40,30 +43,35 @@ PairsTell =
 abbrev pub PairsAreFew : Type 0
 PairsAreFew = (g : Graph) (n : ℕ) → 2 * length (pairs_below n g) ≤ (n - 2) * (n - 3)
 
--- so at most so many of 1,024 ids
+-- so at most so many of all ids that may be
 abbrev pub PairsWithinLimit : Type 0
-PairsWithinLimit = (g : Graph) (n : ℕ) → n ≤ 1024 → length (pairs_below n g) ≤ 521731
+PairsWithinLimit = (g : Graph) (n : ℕ) → n ≤ MAX_PARTITIONS → length (pairs_below n g) ≤ 521731
 
 -- one pass over this list, without the pairs whose ids are gone, makes the whole run of coarsening
 abbrev pub PassCoarsens : Type 0
 PassCoarsens =
-    (invs : List Invariant) (h : Assignment) (n : ℕ) (merges : List Merge) (end : Assignment) → 2 ≤ n → IsTyped h → AreBelow n h
+    (invs : List Invariant) (h : Assignment) (n : ℕ) (merges : List Merge) (end : Assignment)
+    → FIRST_TYPE ≤ n → IsTyped h → AreBelow n h
     → Passes invs h (pairs_below n (G h)) merges end → Coarsens invs h merges end
 
 -- the blocks of a graph have its pairs, in their order
 abbrev pub BlocksFollowPairs : Type 0
 BlocksFollowPairs =
-    (invs : List Invariant) (g : Graph) (n : ℕ) (blocks : List Block) → IsBelow n g → AreBlocks invs g blocks → pairs_of blocks ≡ pairs_below n g
+    (invs : List Invariant) (g : Graph) (n : ℕ) (blocks : List Block)
+    → IsBelow n g → AreBlocks invs g blocks → pairs_of blocks ≡ pairs_below n g
 
 -- and where they have these, and each is the block of its pair, they are the blocks of the graph
 abbrev pub PairsGiveBlocks : Type 0
 PairsGiveBlocks =
-    (invs : List Invariant) (g : Graph) (n : ℕ) (blocks : List Block) → IsBelow n g → pairs_of blocks ≡ pairs_below n g
+    (invs : List Invariant) (g : Graph) (n : ℕ) (blocks : List Block)
+    → IsBelow n g → pairs_of blocks ≡ pairs_below n g
     → AllByRecursion (IsBlock invs g) blocks → AreBlocks invs g blocks
 
 -- a graph has one list of blocks
 abbrev pub OneBlocks : Type 0
-OneBlocks = (invs : List Invariant) (g : Graph) (a b : List Block) → AreBlocks invs g a → AreBlocks invs g b → a ≡ b
+OneBlocks =
+    (invs : List Invariant) (g : Graph) (a b : List Block)
+    → AreBlocks invs g a → AreBlocks invs g b → a ≡ b
 
 -- the graph of the merged assignment satisfies the invariants exactly where the merged graph does
 abbrev pub MergeSatisfies : Type 0
@@ -74,42 +82,49 @@ MergeSatisfies =
 -- each merge takes an id away that is no end
 abbrev pub MergesAreFew : Type 0
 MergesAreFew =
-    (invs : List Invariant) (h : Assignment) (merges : List Merge) (end : Assignment) (n : ℕ) → 2 ≤ n → AreBelow n h → Coarsens invs h merges end
-    → length merges + 2 ≤ n
+    (invs : List Invariant) (h : Assignment) (merges : List Merge) (end : Assignment) (n : ℕ)
+    → FIRST_TYPE ≤ n → AreBelow n h → Coarsens invs h merges end
+    → length merges + FIRST_TYPE ≤ n
 
 -- no id stands twice in a least violation with one state of the monitor, the ends stand there once,
 -- and so it has at most three times as many ids as there are, less four
 abbrev pub LeastIsShort : Type 0
 LeastIsShort =
-    (g : Graph) (inv : Invariant) (path ids : List ℕ) → IsFormed g → ((p : ℕ) → g.listed p ≡ true → Contains ids p)
+    (g : Graph) (inv : Invariant) (path ids : List ℕ)
+    → IsFormed g → ((p : ℕ) → g.listed p ≡ true → Contains ids p)
     → IsLeastViolation g inv path → length path + 4 ≤ 3 * length ids
 
 -- where there are ids beside the ends, some id never stands there with some state, which makes it one less
 abbrev pub LeastIsShorter : Type 0
 LeastIsShorter =
-    (g : Graph) (inv : Invariant) (path ids : List ℕ) → IsFormed g → ((p : ℕ) → g.listed p ≡ true → Contains ids p) → 3 ≤ length ids
+    (g : Graph) (inv : Invariant) (path ids : List ℕ)
+    → IsFormed g → ((p : ℕ) → g.listed p ≡ true → Contains ids p) → 3 ≤ length ids
     → IsLeastViolation g inv path → length path + 5 ≤ 3 * length ids
 
--- so at most so many of 1,024 ids
+-- so at most so many where there are no more ids than may be
 abbrev pub LeastWithinLimit : Type 0
 LeastWithinLimit =
-    (g : Graph) (inv : Invariant) (path : List ℕ) (n : ℕ) → IsFormed g → IsBelow n g → n ≤ 1024
+    (g : Graph) (inv : Invariant) (path : List ℕ) (n : ℕ) → IsFormed g → IsBelow n g
+    → n ≤ MAX_PARTITIONS
     → IsLeastViolation g inv path → length path ≤ 3067
 
--- where the run of refinement keeps within 1,024 ids, the paths of its splits have together at most so many numbers for each split
+-- where the run of refinement keeps within the ids that may be, the paths of its splits have together at most so many numbers for each split
 abbrev pub SplitPathsWithinLimit : Type 0
 SplitPathsWithinLimit =
-    (invs : List Invariant) (words : List (List ℕ)) (n : ℕ) (splits : List Split) (end : Assignment) → AreTyped words n → HoldAll words invs
-    → n + length splits ≤ 1024 → Splits invs (by_type words) n splits end → split_numbers splits ≤ 3067 * length splits
+    (invs : List Invariant) (words : List (List ℕ)) (n : ℕ) (splits : List Split) (end : Assignment)
+    → AreTyped words n → HoldAll words invs → n + length splits ≤ MAX_PARTITIONS
+    → Splits invs (by_type words) n splits end → split_numbers splits ≤ 3067 * length splits
 
 -- the first splits of a run of refinement begin the whole run, and the rest of it goes on from where they lead
 abbrev pub SplitsBegin : Type 0
 SplitsBegin =
-    (invs : List Invariant) (h mid end : Assignment) (n : ℕ) (a b : List Split) → Splits invs h n a mid → Refines invs h n b end
+    (invs : List Invariant) (h mid end : Assignment) (n : ℕ) (a b : List Split)
+    → Splits invs h n a mid → Refines invs h n b end
     → (rest : List Split) × (a ++ rest ≡ b) × Refines invs mid (n + length a) rest end
 
 -- where a split follows the first ones, the whole run has more
 abbrev pub StepsExclude : Type 0
 StepsExclude =
-    (invs : List Invariant) (h mid end : Assignment) (n : ℕ) (a b : List Split) (s : Split) → Splits invs h n a mid → IsNextSplit invs mid s
+    (invs : List Invariant) (h mid end : Assignment) (n : ℕ) (a b : List Split) (s : Split)
+    → Splits invs h n a mid → IsNextSplit invs mid s
     → Refines invs h n b end → length a < length b

@@ -1,3 +1,2 @@
 pub mod Pairs
-pub mod Numbers
 pub mod Laws

@@ -1,14 +1,15 @@
 -- The pairs of partitions of one type, as a list.
 use Rattle.std.specs.Prelude.{ℕ, ◌==◌, ◌&&◌, Bool, nat_lt, List, map, filter}
 use Rattle.std.specs.List.{flat_map}
+use Rattle.limits.specs.declared.TheConstants.{TERMINAL}
 use Rattle.invariants.specs.declared.records.Merge.{Merge}
 use Rattle.invariants.specs.declared.records.Block.{Block}
 use Rattle.partition_model.specs.Graphs.{Graph}
 use Rattle.partition_model.specs.Listings.{ids_below}
 
--- whether two ids are a pair of one type, the lower one first
+-- whether two ids above the two ends are a pair of one type, the lower one first
 abbrev pub is_pair : Graph → ℕ → ℕ → Bool
-is_pair g p q = nat_lt 1 p && nat_lt p q && g.listed p && g.listed q && g.typ p == g.typ q
+is_pair g p q = nat_lt TERMINAL p && nat_lt p q && g.listed p && g.listed q && g.typ p == g.typ q
 
 -- two ids as a pair
 abbrev pub pair_of : ℕ → ℕ → Merge

@@ -1,4 +1,4 @@
-use Rattle.model_file.proofs.Shapes.{read-is-well-shaped}
+use Rattle.model_file.proofs.Telling.{read-is-well-shaped}
 use Rattle.model_file.proofs.law.read_is_well_shaped.Goals as goal
 
 pub returns : goal.returns

@@ -3,7 +3,7 @@ use Rattle.std.proofs.lemmas.List.Elements.{All-from_recursion}
 use Rattle.serde_json.specs.View.{view}
 use Rattle.invariants.specs.declared.records.Partition.{Partition}
 use Rattle.invariants.specs.declared.records.Split.{Split}
-use Rattle.model_file.specs.Shape.{type_of}
+use Rattle.model_file.specs.Rules.{type_of}
 use Rattle.model_file.specs.Table.{type_at}
 use Rattle.model_file.specs.Reading.{◌>>=◌, Fails, types_in, partitions_in, edges_in, invariants_in, merges_in, splits_in, blocks_in}
 use Rattle.model_file.proofs.Shapes.{types-hold, partitions-hold}
@@ -31,8 +31,8 @@ types_by_id-requires c =
     let ps = c.in-Ok-partitions_in.partitions in
     let n = c.len.result in
     let all = numbered n ps (partitions-hold n d ps c.in-Ok-partitions_in.ensures) in
-    subst (λ (xs : List Partition). (k : ℕ) → (q : Partition) → k < length xs → (get_or xs k q).id ≤ 1023) (sym c.as_slice.ensures)
-    (All-from_recursion (λ (p : Partition). p.id ≤ 1023) ps (all-weaker (IsNumbered n) (λ (p : Partition). p.id ≤ 1023) (λ p x. x.id) ps all))
+    subst (λ (xs : List Partition). (k : ℕ) → (q : Partition) → k < length xs → (get_or xs k q).id < 1024) (sym c.as_slice.ensures)
+    (All-from_recursion (λ (p : Partition). p.id < 1024) ps (all-weaker (IsNumbered n) (λ (p : Partition). p.id < 1024) (λ p x. let low : p.id ≤ 1023 = x.id in omega (arith, low)) ps all))
 
 pub returns-in-Err-edges_in : goal.returns-in-Err-edges_in
 returns-in-Err-edges_in c =

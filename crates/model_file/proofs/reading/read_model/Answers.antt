@@ -2,14 +2,14 @@ use Rattle.std.proofs.Common.{arith}
 use Rattle.std.proofs.lemmas.Result.{IfOk-weaker}
 use Rattle.serde_json.specs.View.{view}
 use Rattle.model_file.specs.Reading.{model_in, reads}
-use Rattle.model_file.specs.Shape.{IsWellShaped}
+use Rattle.model_shape.specs.Shapes.{IsWellShaped}
 use Rattle.std.specs.Prelude.{◌≡◌, Ok}
-use Rattle.model_file.proofs.Shapes.{read-is-well-shaped}
+use Rattle.model_file.proofs.Telling.{read-is-well-shaped}
 use Rattle.model_file.proofs.Fails.{Gives-ok, Gives-err, reads-long, reads-value, no-value}
 use Rattle.model_file.proofs.reading.read_model.Goals as goal
 
-pub returns-then-bytes-gt-MAX_BYTES-clause-err : goal.returns-then-bytes-gt-MAX_BYTES-clause-err
-returns-then-bytes-gt-MAX_BYTES-clause-err c = reads-long c.args.bytes.now (omega arith)
+pub returns-then-bytes-gt-MAX_MODEL_BYTES-clause-err : goal.returns-then-bytes-gt-MAX_MODEL_BYTES-clause-err
+returns-then-bytes-gt-MAX_MODEL_BYTES-clause-err c = reads-long c.args.bytes.now (omega arith)
 
 pub returns-in-Ok-clause-ok : goal.returns-in-Ok-clause-ok
 returns-in-Ok-clause-ok c =

@@ -1,5 +1,5 @@
 use Rattle.std.proofs.Common.{◌≡◌, drop, nat_le}
-use Rattle.model_file.specs.Shape.{block_numbers}
+use Rattle.model_shape.specs.Numbers.{block_numbers}
 use Rattle.model_file.proofs.shape.blocks_fit.Given as goal
 
 abbrev pub invariant-each_block : goal.invariant-each_block

@@ -1,6 +1,6 @@
 use Rattle.std.proofs.Common.{◌≡◌, drop}
 use Rattle.std.specs.List.{list_all}
-use Rattle.model_file.specs.Shape.{block_holds}
+use Rattle.model_file.specs.Rules.{block_holds}
 use Rattle.model_file.specs.Table.{type_at}
 use Rattle.model_file.proofs.shape.blocks_hold.Given as goal
 

@@ -1,5 +1,5 @@
 use Rattle.std.proofs.Common.{◌≡◌, drop, map}
-use Rattle.model_file.specs.Shape.{ascends_from, ascends, pair_less}
+use Rattle.model_file.specs.Rules.{ascends_from, ascends, pair_less}
 use Rattle.model_file.proofs.shape.edges_ascend.Given as goal
 
 abbrev pub invariant-edges : goal.invariant-edges

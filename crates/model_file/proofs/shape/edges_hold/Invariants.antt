@@ -1,6 +1,6 @@
 use Rattle.std.proofs.Common.{◌≡◌, drop}
 use Rattle.std.specs.List.{list_all}
-use Rattle.model_file.specs.Shape.{edge_holds}
+use Rattle.model_file.specs.Rules.{edge_holds}
 use Rattle.model_file.specs.Table.{type_at}
 use Rattle.model_file.proofs.shape.edges_hold.Given as goal
 

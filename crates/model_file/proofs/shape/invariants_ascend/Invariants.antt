@@ -1,5 +1,5 @@
 use Rattle.std.proofs.Common.{◌≡◌, drop, map, nat_lt, unwrap_or}
-use Rattle.model_file.specs.Shape.{ascends_from, ascends, place_of}
+use Rattle.model_file.specs.Rules.{ascends_from, ascends, place_of}
 use Rattle.model_file.proofs.shape.invariants_ascend.Given as goal
 
 abbrev pub invariant-invariants : goal.invariant-invariants

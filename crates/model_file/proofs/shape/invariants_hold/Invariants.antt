@@ -1,6 +1,6 @@
 use Rattle.std.proofs.Common.{◌≡◌, drop}
 use Rattle.std.specs.List.{list_all}
-use Rattle.model_file.specs.Shape.{listed_holds}
+use Rattle.model_file.specs.Rules.{listed_holds}
 use Rattle.model_file.proofs.shape.invariants_hold.Given as goal
 
 abbrev pub invariant-invariants : goal.invariant-invariants

@@ -1,6 +1,6 @@
 use Rattle.std.proofs.Common.{◌≡◌, drop}
 use Rattle.std.specs.List.{list_all}
-use Rattle.model_file.specs.Shape.{merge_holds}
+use Rattle.model_file.specs.Rules.{merge_holds}
 use Rattle.model_file.proofs.shape.merges_hold.Given as goal
 
 abbrev pub invariant-merges : goal.invariant-merges

@@ -1,5 +1,5 @@
 use Rattle.std.proofs.Common.{◌≡◌, drop, map, nat_lt}
-use Rattle.model_file.specs.Shape.{ascends_from, ascends}
+use Rattle.model_file.specs.Rules.{ascends_from, ascends}
 use Rattle.model_file.proofs.shape.partitions_ascend.Given as goal
 
 abbrev pub invariant-partitions : goal.invariant-partitions

@@ -1,6 +1,6 @@
 use Rattle.std.proofs.Common.{◌≡◌, drop}
 use Rattle.std.specs.List.{list_all}
-use Rattle.model_file.specs.Shape.{partition_holds}
+use Rattle.model_file.specs.Rules.{partition_holds}
 use Rattle.model_file.proofs.shape.partitions_hold.Given as goal
 
 abbrev pub invariant-others : goal.invariant-others

@@ -1,6 +1,6 @@
 use Rattle.std.proofs.Common.{◌≡◌, drop}
 use Rattle.std.specs.List.{list_all}
-use Rattle.model_file.specs.Shape.{split_holds}
+use Rattle.model_file.specs.Rules.{split_holds}
 use Rattle.model_file.proofs.shape.splits_hold.Given as goal
 
 abbrev pub invariant-splits : goal.invariant-splits

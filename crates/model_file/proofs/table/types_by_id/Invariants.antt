@@ -1,5 +1,5 @@
 use Rattle.std.proofs.Common.{◌≡◌, ℕ, take, length}
-use Rattle.model_file.specs.Shape.{type_of}
+use Rattle.model_file.specs.Rules.{type_of}
 use Rattle.model_file.specs.Table.{type_at}
 use Rattle.model_file.proofs.table.types_by_id.Given as goal
 

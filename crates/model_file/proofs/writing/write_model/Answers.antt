@@ -7,13 +7,15 @@ use Rattle.model_file.specs.Reading.{reads}
 use Rattle.model_file.proofs.Back.{FitsListed}
 use Rattle.model_file.proofs.Bounds.{few-types, fits-invariants, all-weaker}
 use Rattle.model_file.proofs.Limit.{texts-are-short}
+use Rattle.model_file.proofs.Telling.{passes}
 use Rattle.model_file.proofs.Trees.{text-reads-back, printed}
 use Rattle.model_file.proofs.writing.write_model.Goals as goal
 
 pub write_tree-requires : goal.write_tree-requires
 write_tree-requires c =
     let m = c.args.model.now in
-    let fit = fits-invariants (length m.types) (length m.partitions) m.invariants (few-types m.types c.requires.types) c.requires.invariants in
+    let passed = passes m c.requires in
+    let fit = fits-invariants (length m.types) (length m.partitions) m.invariants (few-types m.types passed.types) passed.invariants in
     All-from_recursion (λ (l : Listed). All (λ label. label ≤ 7) l.labels) m.invariants
     (all-weaker FitsListed (λ (l : Listed). All (λ label. label ≤ 7) l.labels) (λ l f. All-from_recursion (λ label. label ≤ 7) l.labels f.labels) m.invariants fit)
 
@@ -30,4 +32,4 @@ returns-clause-reads_back c =
     let whole : c.from_vec.result ≡ file_text m =
     c.from_vec.ensures ∙ c.into_inner.ensures.items
     ∙ ap (λ (bytes : List ℕ). bytes ++ print c.write_tree.new.out.tokens) (c.in_ok-write_tree.ensures.before ∙ c.new-out.ensures.before ∙ c.new.ensures.items) ∙ text in
-    ap reads whole ∙ text-reads-back m c.requires (subst IsUtf8 text c.into_inner.ensures.utf8) (texts-are-short m c.requires)
+    ap reads whole ∙ text-reads-back m (passes m c.requires) (subst IsUtf8 text c.into_inner.ensures.utf8) (texts-are-short m (passes m c.requires))

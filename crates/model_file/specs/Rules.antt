@@ -1,0 +1,218 @@
+-- The seven rules of a well-shaped model as tests, one for each of its lists.
+use Rattle.std.specs.Prelude.{◌↔◌, ℕ, ◌+◌, ◌-◌, ◌*◌, ◌==◌, ◌&&◌, ◌||◌, Bool, true, false, not, List, [], ◌∷◌, drop, length, map, find, nat_lt, nat_le, IsTrue, Option, Some, None, is_some, option_map, unwrap_or, if◌then◌else◌}
+use Rattle.std.specs.List.{list_all, list_any}
+use Rattle.std.specs.Str.{bytes_eq}
+use Rattle.limits.specs.declared.TheConstants.{INITIAL, TERMINAL, FIRST_TYPE, MAX_TYPES, MAX_EVENTS, MAX_TYPE_BYTES, MAX_PARTITIONS, MAX_PATH_NUMBERS}
+use Rattle.invariants.specs.Candidates.{candidates}
+use Rattle.invariants.specs.declared.Kind.{Kind}
+use Rattle.invariants.specs.declared.Kind.TheVariants.{AF, NF, AP}
+use Rattle.invariants.specs.declared.Invariant.{Invariant}
+use Rattle.invariants.specs.declared.records.Partition.{Partition}
+use Rattle.invariants.specs.declared.records.Edge.{Edge}
+use Rattle.invariants.specs.declared.records.Listed.{Listed}
+use Rattle.invariants.specs.declared.records.Merge.{Merge}
+use Rattle.invariants.specs.declared.records.Split.{Split}
+use Rattle.invariants.specs.declared.records.Block.{Block}
+use Rattle.invariants.specs.declared.records.Model.{Model}
+use Rattle.model_shape.specs.Numbers.{split_numbers, block_numbers}
+use Rattle.model_shape.specs.Shapes.{AreTypes, AreShapedPartitions, AreShapedEdges, AreShapedInvariants, AreShapedMerges, AreShapedSplits, AreShapedBlocks}
+
+-- ---- lists that ascend
+
+-- whether a key comes after the one before it, where there is one
+abbrev pub comes_after : {K : Type 0} → (K → K → Bool) → Option K → K → Bool
+comes_after less None k = true
+comes_after less (Some before) k = less before k
+
+-- whether each key is above the one before it, and the first above the one given, where one is
+abbrev pub ascends_from : {K : Type 0} → (K → K → Bool) → Option K → List K → Bool
+ascends_from less before [] = true
+ascends_from less before (k ∷ ks) = comes_after less before k && ascends_from less (Some k) ks
+
+-- whether each key is above the one before it
+abbrev pub ascends : {K : Type 0} → (K → K → Bool) → List K → Bool
+ascends less ks = ascends_from less None ks
+
+-- pairs by their first numbers, and then by their second
+abbrev pub pair_less : ℕ × ℕ → ℕ × ℕ → Bool
+pair_less x y = nat_lt x.0 y.0 || ((x.0 == y.0) && nat_lt x.1 y.1)
+
+-- ---- types
+
+-- whether no text stands in the list twice
+abbrev pub are_distinct : List (List ℕ) → Bool
+are_distinct [] = true
+are_distinct (text ∷ texts) = not (list_any (bytes_eq text) texts) && are_distinct texts
+
+-- a text of 1 to so many bytes as a type may have
+abbrev pub type_holds : List ℕ → Bool
+type_holds text = nat_le 1 (length text) && nat_le (length text) MAX_TYPE_BYTES
+
+-- no more such types than a log may have, no two equal
+unfoldable pub types_hold : List (List ℕ) → Bool
+types_hold types =
+    nat_le (length types) MAX_TYPES && (list_all type_holds types && are_distinct types)
+
+-- ---- partitions
+
+-- `[0,0,n]` and `[1,1,n]` come first, with one n within the limit on traces
+abbrev pub ends_hold : List Partition → Bool
+ends_hold [] = false
+ends_hold (p ∷ []) = false
+ends_hold (p ∷ q ∷ ps) =
+    (p.id == INITIAL) && ((p.typ == INITIAL) && ((q.id == TERMINAL) && ((q.typ == TERMINAL)
+    && ((p.count == q.count) && nat_le p.count MAX_EVENTS))))
+
+-- of the others: an id that a partition may have, the number of a type, and a count within the limit on events, and not 0
+abbrev pub partition_holds : ℕ → Partition → Bool
+partition_holds types p =
+    nat_lt p.id MAX_PARTITIONS && (nat_le FIRST_TYPE p.typ && (nat_lt p.typ (types + FIRST_TYPE)
+    && (nat_le 1 p.count && nat_le p.count MAX_EVENTS)))
+
+-- no more partitions than may be: the two ends first, then others; the ids ascend
+unfoldable pub partitions_hold : ℕ → List Partition → Bool
+partitions_hold types ps =
+    nat_le (length ps) MAX_PARTITIONS && (ends_hold ps
+    && (list_all (partition_holds types) (drop 2 ps) && ascends nat_lt (map (λ p. p.id) ps)))
+
+-- the type of a listed partition
+abbrev pub type_of : List Partition → ℕ → Option ℕ
+type_of ps id = option_map (λ p. p.typ) (find (λ p. p.id == id) ps)
+
+-- ---- edges
+
+-- both ids are listed, nothing leaves TERMINAL and nothing enters INITIAL, and the count is within twice the limit on events, and not 0
+abbrev pub edge_holds : (ℕ → Option ℕ) → Edge → Bool
+edge_holds type e =
+    is_some (type e.from)
+    && (is_some (type e.to) && (not (e.from == TERMINAL) && (not (e.to == INITIAL)
+    && (nat_le 1 e.count && nat_le e.count (2 * MAX_EVENTS)))))
+
+-- such edges, which ascend by where they come from and where they go to; `type` gives the type of a listed partition
+unfoldable pub edges_hold : (ℕ → Option ℕ) → List Edge → Bool
+edges_hold type es =
+    list_all (edge_holds type) es && ascends pair_less (map (λ e. (e.from, e.to)) es)
+
+-- ---- invariants
+
+-- whether two kinds are the same
+abbrev pub same_kind : Kind → Kind → Bool
+same_kind AF AF = true
+same_kind NF NF = true
+same_kind AP AP = true
+same_kind _ _ = false
+
+-- whether two invariants are the same
+abbrev pub same_invariant : Invariant → Invariant → Bool
+same_invariant i j = same_kind i.kind j.kind && ((i.a == j.a) && (i.b == j.b))
+
+-- the place of an invariant in a list
+abbrev pub place_in : Invariant → List Invariant → Option ℕ
+place_in i [] = None
+place_in i (c ∷ cs) = if same_invariant i c then Some 0 else option_map (λ k. k + 1) (place_in i cs)
+
+-- its place among the candidates for so many types
+unfoldable pub place_of : ℕ → Invariant → Option ℕ
+place_of types i = place_in i (candidates types)
+
+-- a candidate, with a label of 0 to 7 for each partition
+abbrev pub listed_holds : ℕ → ℕ → Listed → Bool
+listed_holds types partitions l =
+    is_some (place_of types l.inv)
+    && ((length l.labels == partitions) && list_all (λ label. nat_le label 7) l.labels)
+
+-- such invariants, in the order of the candidates
+unfoldable pub invariants_hold : ℕ → ℕ → List Listed → Bool
+invariants_hold types partitions ls =
+    list_all (listed_holds types partitions) ls
+    && ascends nat_lt (map (λ l. unwrap_or (place_of types l.inv) 0) ls)
+
+-- ---- merges
+
+-- a lower and a higher id, which a partition may have
+abbrev pub merge_holds : Merge → Bool
+merge_holds m = nat_lt m.p m.q && nat_lt m.q MAX_PARTITIONS
+
+-- no more such merges than there are ids beside the two ends
+unfoldable pub merges_hold : List Merge → Bool
+merges_hold ms = nat_le (length ms + FIRST_TYPE) MAX_PARTITIONS && list_all merge_holds ms
+
+-- ---- paths
+
+-- ids that a partition may have
+abbrev pub path_holds : List ℕ → Bool
+path_holds path = list_all (λ id. nat_lt id MAX_PARTITIONS) path
+
+-- how much room is left after so many numbers, where there is room for them
+abbrev pub room_left : ℕ → ℕ → Option ℕ
+room_left room n = if nat_le n room then Some (room - n) else None
+
+-- ---- splits
+
+-- the number of a listed invariant, a path of ids, and a place in it
+abbrev pub split_holds : ℕ → Split → Bool
+split_holds invariants s =
+    nat_lt s.inv invariants && (nat_lt s.place (length s.path) && path_holds s.path)
+
+-- no more such splits than there are ids beside the two ends, and not too many numbers in their paths
+unfoldable pub splits_hold : ℕ → List Split → Bool
+splits_hold invariants ss =
+    nat_le (length ss + FIRST_TYPE) MAX_PARTITIONS
+    && (list_all (split_holds invariants) ss && nat_le (split_numbers ss) MAX_PATH_NUMBERS)
+
+-- ---- blocks
+
+-- both are there, and the same
+abbrev pub are_one : Option ℕ → Option ℕ → Bool
+are_one None t = false
+are_one (Some s) None = false
+are_one (Some s) (Some t) = s == t
+
+-- a lower and a higher id of listed partitions of one type, the number of a listed invariant, and a path of ids
+abbrev pub block_holds : (ℕ → Option ℕ) → ℕ → Block → Bool
+block_holds type invariants b =
+    nat_lt b.p b.q
+    && (are_one (type b.p) (type b.q) && (nat_lt b.inv invariants && path_holds b.path))
+
+-- such blocks, which ascend by their two ids, and not too many numbers in the paths of splits and blocks
+unfoldable pub blocks_hold : (ℕ → Option ℕ) → ℕ → List Split → List Block → Bool
+blocks_hold type invariants ss bs =
+    list_all (block_holds type invariants) bs
+    && (ascends pair_less (map (λ b. (b.p, b.q)) bs)
+    && nat_le (split_numbers ss + block_numbers bs) MAX_PATH_NUMBERS)
+
+-- ---- models
+
+-- the rules that come after those of types and partitions; `type` gives the type of a listed partition
+abbrev pub others_hold : (ℕ → Option ℕ) → Model → Bool
+others_hold type m =
+    edges_hold type m.edges
+    && (invariants_hold (length m.types) (length m.partitions) m.invariants
+    && (merges_hold m.merges
+    && (splits_hold (length m.invariants) m.splits
+    && blocks_hold type (length m.invariants) m.splits m.blocks)))
+
+-- all seven tests are passed
+pub record PassesRules (m : Model) : Type 0 where
+  pub types : IsTrue (types_hold m.types)
+  pub partitions : IsTrue (partitions_hold (length m.types) m.partitions)
+  pub edges : IsTrue (edges_hold (type_of m.partitions) m.edges)
+  pub invariants : IsTrue (invariants_hold (length m.types) (length m.partitions) m.invariants)
+  pub merges : IsTrue (merges_hold m.merges)
+  pub splits : IsTrue (splits_hold (length m.invariants) m.splits)
+  pub blocks : IsTrue (blocks_hold (type_of m.partitions) (length m.invariants) m.splits m.blocks)
+
+-- each test is passed exactly where the rule of a well-shaped model holds
+pub record RulesTell : Type 0 where
+  pub types : (ts : List (List ℕ)) → IsTrue (types_hold ts) ↔ AreTypes ts
+  pub partitions : (types : ℕ) (ps : List Partition)
+      → IsTrue (partitions_hold types ps) ↔ AreShapedPartitions types ps
+  pub edges : (ps : List Partition) (es : List Edge)
+      → IsTrue (edges_hold (type_of ps) es) ↔ AreShapedEdges ps es
+  pub invariants : (types partitions : ℕ) (ls : List Listed)
+      → IsTrue (invariants_hold types partitions ls) ↔ AreShapedInvariants types partitions ls
+  pub merges : (ms : List Merge) → IsTrue (merges_hold ms) ↔ AreShapedMerges ms
+  pub splits : (invariants : ℕ) (ss : List Split)
+      → IsTrue (splits_hold invariants ss) ↔ AreShapedSplits invariants ss
+  pub blocks : (invariants : ℕ) (ps : List Partition) (ss : List Split) (bs : List Block)
+      → IsTrue (blocks_hold (type_of ps) invariants ss bs) ↔ AreShapedBlocks invariants ps ss bs

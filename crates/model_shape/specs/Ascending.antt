@@ -1,0 +1,50 @@
+-- Lists that ascend, and the orders in which the lists of a model do.
+use Rattle.std.specs.Prelude.{◌≡◌, ℕ, ◌<◌, ◌⊎◌, List, [], ◌∷◌, slice_get, Some}
+use Rattle.invariants.specs.declared.Invariant.{Invariant}
+use Rattle.invariants.specs.declared.records.Partition.{Partition}
+use Rattle.invariants.specs.declared.records.Edge.{Edge}
+use Rattle.invariants.specs.declared.records.Block.{Block}
+use Rattle.invariants.specs.Candidates.{candidates}
+
+-- k is before the first of the list, where there is one
+abbrev pub LeadsTo : {K : Type 0} → (K → K → Type 0) → K → List K → Type 0
+LeadsTo Before k [] = Unit {0}
+LeadsTo Before k (l ∷ ls) = Before k l
+
+-- each is before the one behind it
+abbrev pub Ascends : {K : Type 0} → (K → K → Type 0) → List K → Type 0
+Ascends Before [] = Unit {0}
+Ascends Before (k ∷ ks) = LeadsTo Before k ks × Ascends Before ks
+
+-- partitions by their ids
+abbrev pub PartitionBefore : Partition → Partition → Type 0
+PartitionBefore x y = x.id < y.id
+
+-- edges by the ids that they leave, and then by those that they enter
+abbrev pub EdgeBefore : Edge → Edge → Type 0
+EdgeBefore x y = (x.from < y.from) ⊎ ((x.from ≡ y.from) × (x.to < y.to))
+
+-- blocks by their lower ids, and then by their higher ones
+abbrev pub BlockBefore : Block → Block → Type 0
+BlockBefore x y = (x.p < y.p) ⊎ ((x.p ≡ y.p) × (x.q < y.q))
+
+-- invariants by their places among the candidates for so many types
+pub record CandidateBefore (types : ℕ) (x y : Invariant) : Type 0 where
+  pub place : ℕ
+  pub later : ℕ
+  pub here : slice_get (candidates types) place ≡ Some x
+  pub there : slice_get (candidates types) later ≡ Some y
+  pub order : place < later
+
+-- each is before all that come later
+abbrev pub IsInOrder : {K : Type 0} → (K → K → Type 0) → List K → Type 0
+IsInOrder {K} Before ks =
+    (i j : ℕ) (x y : K) → slice_get ks i ≡ Some x → slice_get ks j ≡ Some y → i < j → Before x y
+
+-- a list of a model that ascends is in order throughout
+pub record AscendingTells : Type 0 where
+  pub partitions : (xs : List Partition) → Ascends PartitionBefore xs → IsInOrder PartitionBefore xs
+  pub edges : (xs : List Edge) → Ascends EdgeBefore xs → IsInOrder EdgeBefore xs
+  pub invariants : (types : ℕ) (xs : List Invariant)
+      → Ascends (CandidateBefore types) xs → IsInOrder (CandidateBefore types) xs
+  pub blocks : (xs : List Block) → Ascends BlockBefore xs → IsInOrder BlockBefore xs

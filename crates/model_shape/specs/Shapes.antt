@@ -1,0 +1,162 @@
+-- What a model must be like to be written to a file and read from one: seven rules, one for each of its lists.
+use Rattle.std.specs.Prelude.{◌≡◌, ◌≢◌, ℕ, ◌+◌, ◌*◌, ◌<◌, ◌≤◌, ◌==◌, ◌||◌, Bool, true, false, if◌then◌else◌, List, [], ◌∷◌, length, map, slice_get, Some, Contains}
+use Rattle.std.specs.List.{AllByRecursion}
+use Rattle.limits.specs.declared.TheConstants.{INITIAL, TERMINAL, FIRST_TYPE, MAX_TYPES, MAX_EVENTS, MAX_TYPE_BYTES, MAX_PARTITIONS, MAX_PATH_NUMBERS}
+use Rattle.invariants.specs.declared.Invariant.{Invariant}
+use Rattle.invariants.specs.declared.records.Partition.{Partition}
+use Rattle.invariants.specs.declared.records.Edge.{Edge}
+use Rattle.invariants.specs.declared.records.Listed.{Listed}
+use Rattle.invariants.specs.declared.records.Split.{Split}
+use Rattle.invariants.specs.declared.records.Merge.{Merge}
+use Rattle.invariants.specs.declared.records.Block.{Block}
+use Rattle.invariants.specs.declared.records.Model.{Model}
+use Rattle.invariants.specs.Candidates.{candidates}
+use Rattle.model_shape.specs.Numbers.{split_numbers, block_numbers}
+use Rattle.model_shape.specs.Ascending.{Ascends, PartitionBefore, EdgeBefore, BlockBefore, CandidateBefore}
+
+-- ---- what the lists of a model say
+
+-- whether the id is that of a partition
+abbrev pub is_listed : ℕ → List Partition → Bool
+is_listed p [] = false
+is_listed p (x ∷ xs) = (x.id == p) || is_listed p xs
+
+-- the type of an id, as the partitions have it
+abbrev pub listed_type : ℕ → List Partition → ℕ
+listed_type p [] = 0
+listed_type p (x ∷ xs) = if x.id == p then x.typ else listed_type p xs
+
+-- the invariants that the model lists
+abbrev pub listing_of : Model → List Invariant
+listing_of m = map (λ l. l.inv) m.invariants
+
+-- a number of 0 to 7, which is a set of the three states of a monitor
+abbrev pub IsLabel : ℕ → Type 0
+IsLabel number = number ≤ 7
+
+-- ---- types
+
+-- a text of 1 to so many bytes as a type may have
+pub record IsTypeText (text : List ℕ) : Type 0 where
+  pub some : 0 < length text
+  pub short : length text ≤ MAX_TYPE_BYTES
+
+-- no more types than a log may have, no two of them equal
+pub record AreTypes (types : List (List ℕ)) : Type 0 where
+  pub few : length types ≤ MAX_TYPES
+  pub each : AllByRecursion IsTypeText types
+  pub apart : (j k : ℕ) (text : List ℕ) → slice_get types j ≡ Some text
+      → slice_get types k ≡ Some text → j ≡ k
+
+-- ---- partitions
+
+-- INITIAL or TERMINAL, of so many traces
+abbrev pub end_of : ℕ → ℕ → Partition
+end_of id traces = record { id = id; typ = id; count = traces }
+
+-- a partition of events, of one of so many types
+pub record IsEventPartition (types : ℕ) (x : Partition) : Type 0 where
+  pub id : x.id < MAX_PARTITIONS
+  pub type_low : FIRST_TYPE ≤ x.typ
+  pub type_high : x.typ < types + FIRST_TYPE
+  pub some : 0 < x.count
+  pub few : x.count ≤ MAX_EVENTS
+
+-- the two ends, of one number of traces, and then partitions of events; all ascend by their ids
+pub record AreShapedPartitions (types : ℕ) (xs : List Partition) : Type 0 where
+  pub traces : ℕ
+  pub inner : List Partition
+  pub ends : xs ≡ end_of INITIAL traces ∷ end_of TERMINAL traces ∷ inner
+  pub few : length xs ≤ MAX_PARTITIONS
+  pub few_traces : traces ≤ MAX_EVENTS
+  pub order : Ascends PartitionBefore xs
+  pub each : AllByRecursion (IsEventPartition types) inner
+
+-- ---- edges
+
+-- an edge between partitions, neither out of TERMINAL nor into INITIAL; it is passed at most once after each event and once at the start of each trace
+pub record IsShapedEdge (partitions : List Partition) (x : Edge) : Type 0 where
+  pub has_from : is_listed x.from partitions ≡ true
+  pub has_to : is_listed x.to partitions ≡ true
+  pub not_from_end : x.from ≢ TERMINAL
+  pub not_to_start : x.to ≢ INITIAL
+  pub some : 0 < x.count
+  pub few : x.count ≤ 2 * MAX_EVENTS
+
+-- such edges, ascending by the ids that they leave and then by those that they enter
+pub record AreShapedEdges (partitions : List Partition) (xs : List Edge) : Type 0 where
+  pub order : Ascends EdgeBefore xs
+  pub each : AllByRecursion (IsShapedEdge partitions) xs
+
+-- ---- invariants
+
+-- a candidate for so many types, with a label for each of so many partitions
+pub record IsShapedListed (types partitions : ℕ) (x : Listed) : Type 0 where
+  pub candidate : Contains (candidates types) x.inv
+  pub count : length x.labels ≡ partitions
+  pub labels : AllByRecursion IsLabel x.labels
+
+-- such invariants, in the order of the candidates
+pub record AreShapedInvariants (types partitions : ℕ) (xs : List Listed) : Type 0 where
+  pub order : Ascends (CandidateBefore types) (map (λ l. l.inv) xs)
+  pub each : AllByRecursion (IsShapedListed types partitions) xs
+
+-- ---- merges
+
+-- a lower and a higher id
+pub record IsShapedMerge (x : Merge) : Type 0 where
+  pub order : x.p < x.q
+  pub high : x.q < MAX_PARTITIONS
+
+-- such merges, no more than there are ids beside the two ends
+pub record AreShapedMerges (xs : List Merge) : Type 0 where
+  pub few : length xs + FIRST_TYPE ≤ MAX_PARTITIONS
+  pub each : AllByRecursion IsShapedMerge xs
+
+-- ---- splits
+
+-- ids that a partition may have
+abbrev pub AreIds : List ℕ → Type 0
+AreIds path = AllByRecursion (λ p. p < MAX_PARTITIONS) path
+
+-- a split for one of so many invariants, with its place on its path
+pub record IsShapedSplit (invariants : ℕ) (x : Split) : Type 0 where
+  pub names : x.inv < invariants
+  pub place : x.place < length x.path
+  pub path : AreIds x.path
+
+-- such splits, no more than there are ids beside the two ends, and not too many numbers in their paths
+pub record AreShapedSplits (invariants : ℕ) (xs : List Split) : Type 0 where
+  pub few : length xs + FIRST_TYPE ≤ MAX_PARTITIONS
+  pub each : AllByRecursion (IsShapedSplit invariants) xs
+  pub numbers : split_numbers xs ≤ MAX_PATH_NUMBERS
+
+-- ---- blocks
+
+-- a block of two partitions of one type, for one of so many invariants
+pub record IsShapedBlock (invariants : ℕ) (partitions : List Partition) (x : Block) : Type 0 where
+  pub order : x.p < x.q
+  pub has_p : is_listed x.p partitions ≡ true
+  pub has_q : is_listed x.q partitions ≡ true
+  pub types : listed_type x.p partitions ≡ listed_type x.q partitions
+  pub names : x.inv < invariants
+  pub path : AreIds x.path
+
+-- such blocks, ascending by their two ids, and not too many numbers in the paths of splits and blocks
+pub record AreShapedBlocks (invariants : ℕ) (partitions : List Partition) (splits : List Split) (xs : List Block)
+    : Type 0 where
+  pub order : Ascends BlockBefore xs
+  pub each : AllByRecursion (IsShapedBlock invariants partitions) xs
+  pub numbers : split_numbers splits + block_numbers xs ≤ MAX_PATH_NUMBERS
+
+-- ---- models
+
+-- the seven rules
+pub record IsWellShaped (m : Model) : Type 0 where
+  pub types : AreTypes m.types
+  pub partitions : AreShapedPartitions (length m.types) m.partitions
+  pub edges : AreShapedEdges m.partitions m.edges
+  pub invariants : AreShapedInvariants (length m.types) (length m.partitions) m.invariants
+  pub merges : AreShapedMerges m.merges
+  pub splits : AreShapedSplits (length m.invariants) m.splits
+  pub blocks : AreShapedBlocks (length m.invariants) m.partitions m.splits m.blocks
