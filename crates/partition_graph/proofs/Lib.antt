@@ -3,6 +3,7 @@ pub mod Lasts
 pub mod Edges
 pub mod Ranges
 pub mod Words
+pub mod Counting
 pub mod Listing
 pub mod Gathered
 pub mod Moving

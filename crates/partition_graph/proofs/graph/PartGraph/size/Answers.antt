@@ -12,4 +12,4 @@ overflow_cast-result c = omega (arith, traces-le c.self.inside.cells.items, c.se
 pub returns-then-p-self : goal.returns-then-p-self
 returns-then-p-self c =
     subst (λ (x : Parts). 0 ≡ size x.traces c.args.p) c.self.view_is
-    (no_size (traces_of c.self.inside.cells.items) c.self.inside.used c.self.invariant.below c.args.p c.if-p-lt2.false c.if-p-self.true)
+    (no_size (traces_of c.self.inside.cells.items) c.self.inside.used c.self.invariant.below c.args.p c.if-p-lt-FIRST_TYPE.false c.if-p-self.true)
