@@ -1,5 +1,5 @@
 -- Cells that are counted one after another.
-use Rattle.std.proofs.Common.{◌≡◌, ℕ, suc, ◌+◌, ◌<◌, ◌≤◌, ◌==◌, cond, List, [], ◌∷◌, length, drop, get_or, arith, ap, sym, ◌∙◌, refl, true, false, ◌*◌, ◌^◌, eq-eqb, add-one}
+use Rattle.std.proofs.Common.{◌≡◌, ℕ, ◌+◌, ◌<◌, ◌≤◌, ◌==◌, cond, List, ◌∷◌, length, drop, get_or, arith, ap, sym, ◌∙◌, refl, ◌*◌, ◌^◌, eq-eqb, add-one}
 use Rattle.std.proofs.Math.Seq.{drop-cons}
 use Rattle.std.proofs.lemmas.List.Elements.{recursion_from_All, All-get_or}
 use Rattle.std.specs.List.{All, AllByRecursion}

@@ -61,4 +61,6 @@ id_behind (c ∷ cs) = if c.last then TERMINAL else first_id cs
 -- the same cells, where those of p that are followed at once by q have the id n
 abbrev pub moved_cells : ℕ → ℕ → ℕ → List Cell → List Cell
 moved_cells p q n [] = []
-moved_cells p q n (c ∷ cs) = record { typ = c.typ; last = c.last; id = if c.id == p && id_behind (c ∷ cs) == q then n else c.id } ∷ moved_cells p q n cs
+moved_cells p q n (c ∷ cs) =
+    record { typ = c.typ; last = c.last; id = if c.id == p && id_behind (c ∷ cs) == q then n else c.id }
+    ∷ moved_cells p q n cs

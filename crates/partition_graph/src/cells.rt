@@ -29,7 +29,8 @@ impl Cell {
 
 /// The cells of all traces, each with its type's number for its id, and the number of the first event of each trace.
 pub fn gather(alloc: Global, traces: &TraceSet) -> Result<(Vec<Cell>, Vec<u32>), AllocError>
-    ensures gathered { IfOk result (λ pair. IsGatheredOf traces.now (length traces.now.traces) pair.0.items pair.1.items) }
+    ensures gathered { IfOk result
+        (λ pair. IsGatheredOf traces.now (length traces.now.traces) pair.0.items pair.1.items) }
     ensures few { IfOk result (λ pair. length pair.0.items < 2 ^ 32) }
 {
     let event_count = traces.event_count();

@@ -65,7 +65,8 @@ impl PartGraph {
     pub fn split(&mut self, p: u32, next: u32) -> Option<u32>
         ensures { MatchOption result
             (((self.old).used ≡ MAX_PARTITIONS) × (self.new ≡ self.old))
-            (λ n. (n ≡ (self.old).used) × (n < MAX_PARTITIONS) × (self.new ≡ divided p next self.old)) }
+            (λ n. (n ≡ (self.old).used) × (n < MAX_PARTITIONS)
+            × (self.new ≡ divided p next self.old)) }
     {
         if self.used == MAX_PARTITIONS {
             return None;
@@ -82,6 +83,8 @@ impl PartGraph {
         ensures value { result ≡ (self.now).used }
         ensures two { FIRST_TYPE ≤ result }
         ensures limit { result ≤ MAX_PARTITIONS }
+
+        // What ids events have, and where edges go.
         ensures typed { IsTyped (self.now).traces }
         ensures below { AreBelow result (self.now).traces }
         ensures within { HasEdgesBelow (G (self.now).traces) result }
@@ -207,7 +210,8 @@ impl PartGraph {
 
     /// Puts the edges that leave p behind the others.
     fn push_edges_from(&self, p: u32, list: &mut Vec<Edge>) -> Result<(), AllocError>
-        ensures { OnOk result (list.new.items ≡ list.old.items ++ edges_from (self.now).used (self.now).traces p) }
+        ensures { OnOk result
+            (list.new.items ≡ list.old.items ++ edges_from (self.now).used (self.now).traces p) }
     {
         for q in 0..self.ids_used() {
             let count = self.edge_count(p, q);
