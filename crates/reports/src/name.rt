@@ -3,6 +3,7 @@ ghost use Rattle.std.specs.Prelude.{◌≡◌, ◌++◌, OnOk};
 ghost use Rattle.reports.specs.Reports.{name_of};
 
 use invariants::{Seq, Text};
+use limits::{FIRST_TYPE, INITIAL, TERMINAL};
 use serde_json::Value;
 use std::alloc::{AllocError, Global};
 
@@ -15,11 +16,11 @@ pub fn push_name(
 ) -> Result<(), AllocError>
     ensures { OnOk result (text.new.items ≡ text.old.items ++ name_of types.now number) }
 {
-    match number {
-        0 => text.extend_from_slice(b"INITIAL"),
-        1 => text.extend_from_slice(b"TERMINAL"),
-        _ => {
-            let Some(name) = types.as_slice().get(number as usize - 2) else {
+    match u32::from(number) {
+        INITIAL => text.extend_from_slice(b"INITIAL"),
+        TERMINAL => text.extend_from_slice(b"TERMINAL"),
+        number => {
+            let Some(name) = types.as_slice().get((number - FIRST_TYPE) as usize) else {
                 return Ok(());
             };
             let quoted = Value::try_from_str(alloc, name.as_str())?.to_string(alloc)?;
