@@ -7,7 +7,8 @@ use Rattle.std.proofs.lemmas.Option.{same_Some, slice_get_within}
 use Rattle.invariants.specs.Monitors.{run, is_bad}
 use Rattle.partition_model.specs.Graphs.{word}
 use Rattle.limits.specs.declared.TheConstants.{MAX_PARTITIONS}
-use Rattle.path_finder.specs.declared.TheConstants.{OPEN, STATES}
+use Rattle.path_finder.specs.declared.pair.TheConstants.{STATES}
+use Rattle.path_finder.specs.declared.table.TheConstants.{OPEN}
 use Rattle.path_finder.specs.declared.pair.Pair.{Pair}
 use Rattle.path_finder.specs.declared.search.Turn.{Turn}
 use Rattle.path_finder.specs.Walks.{Asked, IsPairOf, Leads, EndsBadly, Finishes}

@@ -6,7 +6,7 @@ use Rattle.invariants.specs.Monitors.{run, is_bad}
 use Rattle.invariants.proofs.Agree.{monitor_agrees}
 use Rattle.partition_graph.specs.Parts.{HasEdgesBelow}
 use Rattle.partition_model.specs.Graphs.{Walk, word, IsBefore, Breaks, Satisfies, IsLeastViolation}
-use Rattle.path_finder.specs.declared.TheConstants.{OPEN}
+use Rattle.path_finder.specs.declared.table.TheConstants.{OPEN}
 use Rattle.path_finder.specs.declared.pair.Pair.{Pair}
 use Rattle.path_finder.specs.Walks.{Asked, state_at, IsPairOf, Leads, EndsBadly, Finishes, IsLeastWalk}
 use Rattle.path_finder.specs.Tables.{Entries, at, IsMeasured, IsKnown, IsNextPair}

@@ -5,7 +5,8 @@ use Rattle.std.proofs.lemmas.Option.{slice_get_within, slice_get_cases}
 use Rattle.invariants.proofs.Agree.{step-le}
 use Rattle.partition_graph.specs.Parts.{HasEdgesBelow}
 use Rattle.limits.specs.declared.TheConstants.{MAX_PARTITIONS}
-use Rattle.path_finder.specs.declared.TheConstants.{OPEN, STATES}
+use Rattle.path_finder.specs.declared.pair.TheConstants.{STATES}
+use Rattle.path_finder.specs.declared.table.TheConstants.{OPEN}
 use Rattle.path_finder.specs.declared.pair.Pair.{Pair}
 use Rattle.path_finder.specs.Walks.{Asked, state_at, IsPairOf, Leads, EndsBadly, Finishes}
 use Rattle.path_finder.specs.Tables.{Entries, at, open_count, IsClosedAt, IsSearched, HasEnds, IsMeasured}

@@ -2,7 +2,8 @@
 use Rattle.std.specs.Prelude.{◌≡◌, ◌==◌, ℕ, ◌+◌, ◌*◌, ◌<◌, ◌≤◌, true, List, [], ◌∷◌, ◌++◌, length, slice_index, slice_get, slice_set, count_by, Some}
 use Rattle.limits.specs.declared.TheConstants.{TERMINAL}
 use Rattle.invariants.specs.Monitors.{is_bad}
-use Rattle.path_finder.specs.declared.TheConstants.{OPEN, STATES}
+use Rattle.path_finder.specs.declared.pair.TheConstants.{STATES}
+use Rattle.path_finder.specs.declared.table.TheConstants.{OPEN}
 use Rattle.path_finder.specs.declared.pair.Pair.{Pair}
 use Rattle.path_finder.specs.Walks.{Asked, IsPairOf, Leads, Finishes}
 

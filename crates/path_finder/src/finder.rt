@@ -1,6 +1,6 @@
 //! The finder.
 ghost use Rattle.std.specs.Prelude.{◌≡◌, ◌≤◌, ◌<◌, ◌+◌, ◌*◌, IfSome, MatchOption, length, vec_capacity};
-ghost use Rattle.path_finder.specs.declared.TheConstants.{MAX_PAIRS};
+ghost use Rattle.path_finder.specs.declared.table.TheConstants.{MAX_PAIRS};
 ghost use Rattle.partition_graph.specs.Seen.{seen};
 ghost use Rattle.partition_model.specs.Graphs.{IsLeastViolation, Satisfies};
 

@@ -24,7 +24,7 @@ pub(crate) struct Table {
 
 impl Model for Table {
     ghost use Rattle.std.specs.Prelude.{◌≤◌, vec_capacity};
-    ghost use Rattle.path_finder.specs.declared.TheConstants.{MAX_PAIRS};
+    ghost use Rattle.path_finder.specs.declared.table.TheConstants.{MAX_PAIRS};
     ghost use Rattle.path_finder.specs.Tables.{Entries};
 
     ghost Value = { Entries };

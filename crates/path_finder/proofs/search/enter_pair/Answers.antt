@@ -1,5 +1,5 @@
 use Rattle.std.proofs.Common.{◌<◌, sym, ◌∙◌, subst}
-use Rattle.path_finder.specs.declared.TheConstants.{OPEN}
+use Rattle.path_finder.specs.declared.table.TheConstants.{OPEN}
 use Rattle.path_finder.specs.Asking.{asked}
 use Rattle.path_finder.specs.Tables.{Entries, at, Grows}
 use Rattle.path_finder.specs.Turns.{IsTurn}

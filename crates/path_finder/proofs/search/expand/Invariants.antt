@@ -1,5 +1,5 @@
 use Rattle.std.proofs.Common.{◌<◌}
-use Rattle.path_finder.specs.declared.TheConstants.{OPEN}
+use Rattle.path_finder.specs.declared.table.TheConstants.{OPEN}
 use Rattle.path_finder.specs.declared.pair.Pair.{Pair}
 use Rattle.path_finder.specs.Asking.{asked}
 use Rattle.path_finder.specs.Walks.{IsPairOf, Leads}

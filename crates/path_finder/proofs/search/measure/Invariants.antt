@@ -1,5 +1,5 @@
 use Rattle.std.proofs.Common.{◌*◌, ◌-◌}
-use Rattle.path_finder.specs.declared.TheConstants.{STATES}
+use Rattle.path_finder.specs.declared.pair.TheConstants.{STATES}
 use Rattle.path_finder.specs.Asking.{asked}
 use Rattle.path_finder.specs.Tables.{IsSearched, HasEnds}
 use Rattle.path_finder.proofs.search.measure.Given as goal

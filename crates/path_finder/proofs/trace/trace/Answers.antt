@@ -1,6 +1,7 @@
 use Rattle.std.proofs.Common.{◌≡◌, ◌≤◌, ◌<◌, ◌+◌, ◌-◌, ◌*◌, ◌∷◌, [], ◌++◌, List, ℕ, suc, length, vec_len, vec_capacity, sym, ◌∙◌, ap, subst, arith}
 use Rattle.limits.specs.declared.TheConstants.{MAX_PARTITIONS}
-use Rattle.path_finder.specs.declared.TheConstants.{MAX_PAIRS, OPEN, STATES}
+use Rattle.path_finder.specs.declared.pair.TheConstants.{STATES}
+use Rattle.path_finder.specs.declared.table.TheConstants.{MAX_PAIRS, OPEN}
 use Rattle.path_finder.specs.Asking.{asked}
 use Rattle.path_finder.specs.Walks.{IsLeastOf}
 use Rattle.path_finder.specs.Tables.{at, IsKnown}

@@ -1,6 +1,6 @@
 use Rattle.std.proofs.Common.{◌≡◌, ◌+◌, ◌≤◌, ◌<◌, List, ℕ, ◌∷◌, length, vec_len, vec_capacity}
 use Rattle.limits.specs.declared.TheConstants.{INITIAL}
-use Rattle.path_finder.specs.declared.TheConstants.{MAX_PAIRS, OPEN}
+use Rattle.path_finder.specs.declared.table.TheConstants.{MAX_PAIRS, OPEN}
 use Rattle.path_finder.specs.Asking.{asked}
 use Rattle.path_finder.specs.Walks.{IsPairOf}
 use Rattle.path_finder.specs.Tables.{at, IsKnown}
