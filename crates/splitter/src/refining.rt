@@ -1,5 +1,5 @@
 //! The run of refinement.
-ghost use Rattle.std.specs.Prelude.{◌≡◌, ◌<◌, ◌≤◌, ◌+◌, ◌^◌, Err, IfErr, IfOk, OnErr, Some, length, slice_get};
+ghost use Rattle.std.specs.Prelude.{◌≡◌, ◌<◌, ◌+◌, ◌-◌, ◌^◌, Err, IfErr, IfOk, OnErr, Some, length, slice_get};
 ghost use Rattle.invariants.specs.declared.records.Split.{Split};
 ghost use Rattle.partition_model.specs.Assignments.{events, inner_words};
 ghost use Rattle.partition_model.specs.Laws.{Divides, HoldAll};
@@ -73,6 +73,7 @@ fn divide(
     requires divides { Divides (graph.old).traces path.now (graph.old).used }
     requires starts { slice_get path.now 0 ≡ Some INITIAL }
     requires made { stitcher.old ≡ length (events (graph.old).traces) }
+    requires short { length path.now < 2 ^ 32 }
 
     ensures split { IfOk result (λ s. IsSplitBy graph.old path.now k s × (graph.new ≡ after s graph.old)) }
     ensures room { IfOk result (λ s. (graph.old).used < MAX_PARTITIONS) }

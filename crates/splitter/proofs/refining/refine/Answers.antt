@@ -1,9 +1,8 @@
-use Rattle.std.proofs.Common.{◌≡◌, ◌<◌, ◌≤◌, ◌+◌, ◌-◌, List, [], ◌∷◌, ◌++◌, get_or, Err, Ok, length, subst, sym, ap, ◌∙◌, arith, length-append, refl, inl, inr}
-use Rattle.std.proofs.lemmas.Bool.{cases_lt}
-use Rattle.limits.specs.declared.TheConstants.{MAX_PARTITIONS}
+use Rattle.std.proofs.Common.{◌≡◌, ◌+◌, ◌-◌, List, [], ◌∷◌, ◌++◌, get_or, Err, length, subst, sym, ap, ◌∙◌, arith, length-append, refl}
 use Rattle.invariants.specs.declared.Invariant.{Invariant}
 use Rattle.invariants.specs.declared.Kind.TheVariants.{AF}
 use Rattle.invariants.specs.declared.records.Split.{Split}
+use Rattle.partition_graph.specs.Parts.{Parts}
 use Rattle.partition_model.specs.Assignments.{G}
 use Rattle.splitter.specs.declared.refining.RefineError.TheVariants.{Partitions}
 use Rattle.splitter.specs.Refining.{AreFewer, IsFull, IsStopped, EndsRefined, event_count}
@@ -70,7 +69,18 @@ loop-k-preserved-in-None g c =
     }
 
 pub loop-k-preserved : goal.loop-k-preserved
-loop-k-preserved g c = ?
+loop-k-preserved g c =
+    let f : c.push_reserved.new.self.items ≡ c.loop-k.splits.items ++ c.in-Ok.split ∷ [] = c.push_reserved.ensures.items in
+    let d = c.in-Ok.ensures.split in
+    let u : c.divide.new.graph.used ≡ c.loop-k.graph.used + 1 = ap (λ (p : Parts). p.used) d.1 in
+    record {
+      refining = subst (λ (z : List Split). IsRefining c.args.invs.now c.args.graph.now c.divide.new.graph c.loop-k.k z) (sym f)
+          (refining-some c.args.invs.now c.args.graph.now c.loop-k.graph c.divide.new.graph c.loop-k.k c.loop-k.splits.items none c.in-Some.path.now c.in-Ok.split c.requires.opened c.requires.hold c.loop-k.invariant.refining
+          c.loop-k-test.true c.in-Ok.ensures.room c.in-Some.ensures.found d.0 d.1);
+      counted = omega (arith, ap (λ (z : List Split). length z) f, length-append c.loop-k.splits.items (c.in-Ok.split ∷ []), c.in-Some.ensures.counted);
+      same = c.in-Ok.ensures.same ∙ c.loop-k.invariant.same;
+      room = omega (arith, c.push_reserved.ensures.len, c.push_reserved.ensures.capacity, c.loop-k.invariant.room, u);
+    }
 
 pub returns-clause-ok : goal.returns-clause-ok
 returns-clause-ok g c =
