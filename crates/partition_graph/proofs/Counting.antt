@@ -9,8 +9,8 @@ use Rattle.partition_graph.specs.declared.tables.Tables.{Tables}
 use Rattle.partition_graph.specs.Counts.{HasId, cells_with, last_type, edges_along, edges_at, before_next}
 use Rattle.partition_graph.specs.Tables.{type_at, size_at, count_at}
 use Rattle.partition_graph.proofs.Edges.{edges_along-le}
-use Rattle.partition_graph.proofs.Traces.{cells_with-le}
-use Rattle.partition_graph.proofs.Words.{all_weaker}
+use Rattle.partition_graph.proofs.CellTraces.{cells_with-le}
+use Rattle.partition_graph.proofs.WordCells.{all_weaker}
 
 -- the cells before this place are counted, and the next one follows this id
 pub record IsCounting (t : Tables) (before place : ℕ) (cells : List Cell) : Type 0 where

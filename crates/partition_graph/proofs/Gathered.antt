@@ -13,9 +13,9 @@ use Rattle.partition_graph.specs.Counts.{HasId}
 use Rattle.partition_graph.specs.Kept.{IsKept}
 use Rattle.partition_graph.specs.Parts.{Parts}
 use Rattle.partition_graph.specs.Tables.{IsCountOf}
-use Rattle.partition_graph.proofs.Traces.{types_are, members_are}
+use Rattle.partition_graph.proofs.CellTraces.{types_are, members_are}
 use Rattle.partition_graph.proofs.Edges.{edges_are}
-use Rattle.partition_graph.proofs.Words.{IsNew, words_new, all_weaker, words_closed, traces_are, first_event_of, new_below, new_typed, named}
+use Rattle.partition_graph.proofs.WordCells.{IsNew, words_new, all_weaker, words_closed, traces_are, first_event_of, new_below, new_typed, named}
 
 -- what is new of each cell
 gathered_new : (bound t : ℕ) (words : List (List ℕ)) (cells : List Cell) (firsts : List ℕ) → IsGathered bound words t cells firsts → AllByRecursion (IsNew bound) cells

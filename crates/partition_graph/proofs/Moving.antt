@@ -17,10 +17,10 @@ use Rattle.partition_graph.specs.Cells.{event_of, put_before, traces_of, IsClose
 use Rattle.partition_graph.specs.Counts.{HasId}
 use Rattle.partition_graph.specs.Kept.{IsKept}
 use Rattle.partition_graph.specs.Tables.{IsCountOf}
-use Rattle.partition_graph.proofs.Traces.{events_are, types_are, members_are}
+use Rattle.partition_graph.proofs.CellTraces.{events_are, types_are, members_are}
 use Rattle.partition_graph.proofs.Edges.{edges_are}
 use Rattle.partition_graph.proofs.Lasts.{first_begins}
-use Rattle.partition_graph.proofs.Words.{all_weaker}
+use Rattle.partition_graph.proofs.WordCells.{all_weaker}
 
 abbrev moved_event : ℕ → ℕ → ℕ → Event → ℕ → Event
 moved_event p q n e behind = record { typ = e.typ; id = cond (e.id == p && behind == q) n e.id }
@@ -41,9 +41,11 @@ traces_moved p q n ended (c ∷ cs) k =
       | inr f ↦ rw f (ap (λ (h : Assignment). put_before (moved_event p q n (event_of c) (first_id cs)) h) i ∙ put_moved p q n c cs (subst (λ (z : Bool). IsClosed z cs) f k))
     ]
 
+-- the traces of moved cells are the divided traces
 pub moved_are : (p q n : ℕ) (cs : List Cell) → IsClosed true cs → traces_of (moved_cells p q n cs) ≡ split p q n (traces_of cs)
 moved_are p q n cs k = traces_moved p q n true cs k
 
+-- there are as many cells as before
 pub length-moved_cells : (p q n : ℕ) (cs : List Cell) → length (moved_cells p q n cs) ≡ length cs
 length-moved_cells p q n [] = refl
 length-moved_cells p q n (c ∷ cs) = ap suc (length-moved_cells p q n cs)
@@ -108,6 +110,7 @@ moved_typed p q n cells moved firsts tables k e =
     let h : traces_of moved ≡ split p q n (traces_of cells) = ap (λ (cs : List Cell). traces_of cs) e ∙ moved_are p q n cells k.closed in
     subst (λ (z : Assignment). IsTyped z) (sym h) (split-typed (traces_of cells) p q n k.typed (fresh (traces_of cells) n k.two k.below))
 
+-- all ids are below the next one that is not used
 pub moved_below : (p q n : ℕ) (cells moved : List Cell) (firsts : List ℕ) (tables : Tables) → IsKept cells firsts tables n → moved ≡ moved_cells p q n cells → AreBelow (n + 1) (traces_of moved)
 moved_below p q n cells moved firsts tables k e =
     let h : traces_of moved ≡ split p q n (traces_of cells) = ap (λ (cs : List Cell). traces_of cs) e ∙ moved_are p q n cells k.closed in

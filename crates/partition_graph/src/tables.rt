@@ -131,6 +131,8 @@ impl Tables {
         requires id { cell.id < MAX_PARTITIONS }
         requires few { (p q : ℕ) → p < MAX_PARTITIONS → q < MAX_PARTITIONS
             → count_at self.old p q + edges_at before cell p q < 2 ^ 32 }
+
+        // The types and the sizes stay.
         ensures counts { (p q : ℕ) → p < MAX_PARTITIONS → q < MAX_PARTITIONS
             → count_at self.new p q ≡ count_at self.old p q + edges_at before cell p q }
         ensures types { (self.new).types ≡ (self.old).types }

@@ -21,16 +21,19 @@ slice_get_kept [] ys i x e = absurd (cc e)
 slice_get_kept (y ∷ xs) ys zero x e = e
 slice_get_kept (y ∷ xs) ys (suc i) x e = slice_get_kept xs ys i x e
 
+-- the element that was put at the end
 pub slice_get_last : {X : Type 0} (xs : List X) (y : X) → slice_get (xs ++ y ∷ []) (length xs) ≡ Some y
 slice_get_last [] y = refl
 slice_get_last (x ∷ xs) y = slice_get_last xs y
 
+-- an element of a longer list is an earlier one or the last
 pub slice_get_push : {X : Type 0} (xs : List X) (y : X) (i : ℕ) (x : X) → slice_get (xs ++ y ∷ []) i ≡ Some x → (slice_get xs i ≡ Some x) ⊎ ((i ≡ length xs) × (y ≡ x))
 slice_get_push [] y zero x e = inr (refl, same_Some y x e)
 slice_get_push [] y (suc i) x e = absurd (cc e)
 slice_get_push (z ∷ xs) y zero x e = inl e
 slice_get_push (z ∷ xs) y (suc i) x e = elim (slice_get_push xs y i x e) [ inl a ↦ inl a | inr b ↦ inr (ap suc b.0, b.1) ]
 
+-- pairs with one place are one pair
 pub same_pair : (a : Asked) (r s : Pair) → IsPairOf a r → IsPairOf a s → place r ≡ place s → r ≡ s
 same_pair a r s p q e =
     let rs : r.state < 3 = p.state in
@@ -41,18 +44,22 @@ same_pair a r s p q e =
     let make : ℕ → ℕ → Pair = λ x y. record { id = x; state = y } in
     ap₂ make i t
 
+-- the place of a pair is within the table
 pub place_within : (a : Asked) (r : Pair) → IsPairOf a r → place r < a.ids * STATES
 place_within a r p =
     let i : r.id < a.ids = p.id in
     let s : r.state < 3 = p.state in
     omega arith
 
+-- the distance with which a pair was entered
 pub at_same : (e : Entries) (r s : Pair) (d : ℕ) → place r < length e.distances → place s ≡ place r → at (with_pair e r d) s ≡ d
 at_same e r s d l q = ap (λ (i : ℕ). get_or (set e.distances (place r) d) i 0) q ∙ get_or-set_same e.distances (place r) d 0 l
 
+-- the distance of another pair is as before
 pub at_other : (e : Entries) (r s : Pair) (d : ℕ) → place s ≢ place r → at (with_pair e r d) s ≡ at e s
 at_other e r s d n = get_or-set_other e.distances (place r) (place s) d 0 n
 
+-- the distance of a pair that was entered before is as before
 pub at_known : (e : Entries) (r s : Pair) (d : ℕ) → at e r ≡ OPEN → at e s < OPEN → at (with_pair e r d) s ≡ at e s
 at_known e r s d o k =
     elim (cases_eq (place s) (place r)) [
@@ -60,6 +67,7 @@ at_known e r s d o k =
       | inr n ↦ at_other e r s d n
     ]
 
+-- where one open entry is filled, there is one less
 pub open_fewer : (xs : List ℕ) (i d : ℕ) → i < length xs → get_or xs i 0 ≡ OPEN → d < OPEN → count_by (λ x. x == OPEN) (set xs i d) + 1 ≡ count_by (λ x. x == OPEN) xs
 open_fewer xs i d l o k =
     let f : ℕ → ℕ = λ x. if x == OPEN then 1 else 0 in
@@ -69,6 +77,7 @@ open_fewer xs i d l o k =
     let v : f d ≡ 0 = ap (λ (b : Bool). if b then 1 else 0) (ne_eqb d OPEN n) in
     (let w : count_by (λ x. x == OPEN) (set xs i d) + f (get_or xs i 0) ≡ count_by (λ x. x == OPEN) xs + f d = s in omega arith)
 
+-- what was entered stays where an open pair is entered
 pub grows_pair : (e : Entries) (r : Pair) (d : ℕ) → at e r ≡ OPEN → Grows e (with_pair e r d)
 grows_pair e r d o = record { known = λ s k. at_known e r s d o k; listed = λ i s q. slice_get_kept e.entered (r ∷ []) i s q }
 
@@ -93,6 +102,7 @@ either a next e r d i s c q =
       | inr n ↦ inr (n.0, n.1, at_same e r s d (let l : place r < a.ids * STATES = place_within a r c.pair in let z : length e.distances ≡ a.ids * STATES = c.searched.size in omega arith) (ap (λ (p : Pair). place p) (sym n.1)))
     ]
 
+-- the search goes on where a pair that can be entered is entered
 pub enter_keeps : (a : Asked) (next : ℕ) (e : Entries) (r : Pair) (d : ℕ) → CanEnter a next e r d → IsSearched a next (with_pair e r d)
 enter_keeps a next e r d c =
     let z : length e.distances ≡ a.ids * STATES = c.searched.size in
@@ -194,6 +204,7 @@ turn_enters a t e r few tn pr o ld =
           omega arith;
     }
 
+-- the turn goes on where a pair that leads to its pair is entered
 pub turn_keeps : (a : Asked) (t : Turn) (e : Entries) (r : Pair) → a.ids ≤ MAX_PARTITIONS → IsTurn a t e → IsPairOf a r → at e r ≡ OPEN → Leads a r t.pair → IsTurn a t (with_pair e r t.distance)
 turn_keeps a t e r few tn pr o ld =
     let c : CanEnter a t.next e r t.distance = turn_enters a t e r few tn pr o ld in
@@ -206,6 +217,7 @@ turn_keeps a t e r few tn pr o ld =
       distance = omega arith;
     }
 
+-- a pair that was entered in a turn is not open
 pub entered_now : (a : Asked) (t : Turn) (e : Entries) (r : Pair) → a.ids ≤ MAX_PARTITIONS → IsTurn a t e → IsPairOf a r → at e r ≡ OPEN → Leads a r t.pair → at (with_pair e r t.distance) r < OPEN
 entered_now a t e r few tn pr o ld =
     let c : CanEnter a t.next e r t.distance = turn_enters a t e r few tn pr o ld in
@@ -215,6 +227,7 @@ entered_now a t e r few tn pr o ld =
     let v : at (with_pair e r t.distance) r ≡ t.distance = at_same e r r t.distance (omega arith) refl in
     omega arith
 
+-- the search has begun with one bad state more, that of TERMINAL in it
 pub end_enters : (a : Asked) (e : Entries) (s : ℕ) → 2 ≤ a.ids → s < 3 → IsBegun a s e → is_bad a.inv s ≡ true → IsBegun a (s + 1) (with_pair e (record { id = 1; state = s }) 0)
 end_enters a e s two s3 b bad =
     let r : Pair = record { id = 1; state = s } in

@@ -13,9 +13,11 @@ use Rattle.path_finder.specs.Tables.{Entries, at, IsMeasured, IsKnown, IsNextPai
 use Rattle.path_finder.proofs.Entering.{ends_before}
 use Rattle.path_finder.proofs.Measuring.{pair_after, after_is_pair, leads_after}
 
+-- the pair to which an edge leads is told by its id
 pub same_after : (a : Asked) (p r : Pair) → Leads a p r → r ≡ pair_after a p r.id
 same_after a p r l = ap (λ (s : ℕ). let x : Pair = record { id = r.id; state = s } in x) (sym l.step)
 
+-- a walk that ends badly goes on badly behind its first edge
 pub ends_after : (a : Asked) (p : Pair) (q : ℕ) (xs : List ℕ) → EndsBadly a p (q ∷ xs) → (a.graph.edge p.id q ≡ true) × EndsBadly a (pair_after a p q) xs
 ends_after a p q xs b = (b.walk.0, record { walk = b.walk.1; bad = b.bad })
 
@@ -23,6 +25,7 @@ ends_after a p q xs b = (b.walk.0, record { walk = b.walk.1; bad = b.bad })
 pub known_below : (a : Asked) (high low : ℕ) (e : Entries) → low ≤ high → IsKnown a high e → IsKnown a low e
 known_below a high low e l k = record { size = k.size; sound = k.sound; whole = λ r n p m f. k.whole r n p (omega arith) f }
 
+-- where the search has ended, the walks shorter than that of the start are known
 pub measured_known : (a : Asked) (start : Pair) (e : Entries) → IsMeasured a start e → IsKnown a (at e start) e
 measured_known a start e m = record { size = m.size; sound = m.sound; whole = λ r n p l f. m.whole r n p (λ h. l) f }
 
@@ -50,6 +53,7 @@ next_value a e p d q xs w k pp v l b =
     let up : at e (pair_after a p q) ≤ d = h.0 in
     omega arith
 
+-- a pair that is not at the end leads to one whose distance is one less
 pub has_next : (a : Asked) (e : Entries) (p : Pair) (d : ℕ) → HasEdgesBelow a.graph a.ids → IsKnown a (suc d) e → IsPairOf a p → at e p ≡ suc d → suc d < OPEN
     → (q : Pair) × (q.id < a.ids) × Leads a p q × (at e q ≡ d)
 has_next a e p d w k pp v l = from f.0 (f.1 ∙ v) f.2
@@ -61,6 +65,7 @@ has_next a e p d w k pp v l = from f.0 (f.1 ∙ v) f.2
     from [] n b = absurd (omega arith)
     from (q ∷ xs) n b = (pair_after a p q, (w p.id q b.walk.0).1, leads_after a p q b.walk.0, next_value a e p d q xs w k pp v (omega arith) b)
 
+-- at the distance 0 the least walk has no edge
 pub least_nil : (a : Asked) (e : Entries) (p : Pair) → IsKnown a 0 e → IsPairOf a p → at e p ≡ 0 → IsLeastWalk a p []
 least_nil a e p k pp v = from f.0 (f.1 ∙ v) f.2
   where
@@ -75,6 +80,7 @@ least_nil a e p k pp v = from f.0 (f.1 ∙ v) f.2
     from [] n b = record { ends = b; shortest = λ ys c. omega arith; first = λ ys c l o. none ys o }
     from (x ∷ xs) n b = absurd (omega arith)
 
+-- the least walk goes on along the least id whose distance is one less
 pub least_cons : (a : Asked) (e : Entries) (p q : Pair) (d : ℕ) (xs : List ℕ) → HasEdgesBelow a.graph a.ids → IsKnown a (suc d) e → IsPairOf a p → IsPairOf a q → at e p ≡ suc d → suc d < OPEN
     → IsNextPair a e p d q → IsLeastWalk a q xs → IsLeastWalk a p (q.id ∷ xs)
 least_cons a e p q d xs w k pp qp v l nx lw =
@@ -114,11 +120,13 @@ least_cons a e p q d xs w k pp qp v l nx lw =
 abbrev pub IsLedTo : Asked → Pair → List ℕ → Pair → Type 0
 IsLedTo a start front p = (ys : List ℕ) → IsLeastWalk a p ys → IsLeastWalk a start (front ++ ys)
 
+-- one id more is walked
 pub led_further : (a : Asked) (e : Entries) (start p q : Pair) (front : List ℕ) (d : ℕ) → HasEdgesBelow a.graph a.ids → IsKnown a (suc d) e → IsPairOf a p → IsPairOf a q → at e p ≡ suc d → suc d < OPEN
     → IsNextPair a e p d q → IsLedTo a start front p → IsLedTo a start (front ++ q.id ∷ []) q
 led_further a e start p q front d w k pp qp v l nx led ys lw =
     subst (λ (z : List ℕ). IsLeastWalk a start z) (sym (append_assoc front (q.id ∷ []) ys)) (led (q.id ∷ ys) (least_cons a e p q d ys w k pp qp v l nx lw))
 
+-- what was walked to the distance 0 is the least walk
 pub led_to_end : (a : Asked) (e : Entries) (start p : Pair) (front : List ℕ) → IsKnown a 0 e → IsPairOf a p → at e p ≡ 0 → IsLedTo a start front p → IsLeastWalk a start front
 led_to_end a e start p front k pp v led = subst (λ (z : List ℕ). IsLeastWalk a start z) (append-nil front) (led [] (least_nil a e p k pp v))
 
@@ -155,6 +163,7 @@ violation_from a start xs z s lw =
     first (x ∷ ys) b l (inl lt) = absurd (omega arith)
     first (x ∷ ys) b l (inr o) = lw.first ys (ends x ys b) (omega arith) o.1
 
+-- where the start is open, the graph satisfies the invariant
 pub satisfied_from : (a : Asked) (start : Pair) (e : Entries) → IsPairOf a start → start.id ≡ 0 → start.state ≡ state_at a 0 0 → IsMeasured a start e → at e start ≡ OPEN → Satisfies a.graph a.inv
 satisfied_from a start e sp z s m o [] h = absurd h
 satisfied_from a start e sp z s m o (x ∷ xs) h =

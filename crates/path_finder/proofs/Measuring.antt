@@ -11,6 +11,7 @@ use Rattle.path_finder.specs.declared.pair.Pair.{Pair}
 use Rattle.path_finder.specs.Walks.{Asked, state_at, IsPairOf, Leads, EndsBadly, Finishes}
 use Rattle.path_finder.specs.Tables.{Entries, at, open_count, IsClosedAt, IsSearched, HasEnds, IsMeasured}
 
+-- a monitor has three states
 pub state_small : (a : Asked) (s q : ℕ) → s < 3 → state_at a s q < 3
 state_small a s q l = let k : state_at a s q ≤ 2 = step-le a.inv.kind a.inv.a a.inv.b s (a.graph.typ q) (omega arith) in omega arith
 
@@ -18,12 +19,15 @@ state_small a s q l = let k : state_at a s q ≤ 2 = step-le a.inv.kind a.inv.a 
 abbrev pub pair_after : Asked → Pair → ℕ → Pair
 pair_after a r q = record { id = q; state = state_at a r.state q }
 
+-- an edge leads to a pair
 pub after_is_pair : (a : Asked) (r : Pair) (q : ℕ) → HasEdgesBelow a.graph a.ids → IsPairOf a r → a.graph.edge r.id q ≡ true → IsPairOf a (pair_after a r q)
 after_is_pair a r q w p e = record { id = (w r.id q e).1; state = state_small a r.state q p.state }
 
+-- an edge leads to the pair after it
 pub leads_after : (a : Asked) (r : Pair) (q : ℕ) → a.graph.edge r.id q ≡ true → Leads a r (pair_after a r q)
 leads_after a r q e = record { edge = e; step = refl }
 
+-- a distance is at most the number of pairs
 pub searched_short : (a : Asked) (next : ℕ) (e : Entries) → IsSearched a next e → (r : Pair) → IsPairOf a r → at e r < OPEN → at e r ≤ a.ids * STATES
 searched_short a next e s r p k =
     let o : (i : ℕ) × (slice_get e.entered i ≡ Some r) = s.found r p k in

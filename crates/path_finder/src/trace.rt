@@ -64,6 +64,7 @@ pub(crate) fn trace(question: &Question<'_>, table: &Table, start: Pair, path: &
     requires entered { at table.now start < OPEN }
     requires room { MAX_PAIRS < vec_capacity path.old }
 
+    // The memory for the next path stays.
     ensures least { IsLeastOf (asked question.now) path.new.items }
     ensures short { length path.new.items ≤ MAX_PAIRS + 1 }
     ensures room { MAX_PAIRS < vec_capacity path.new }

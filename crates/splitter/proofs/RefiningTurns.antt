@@ -70,6 +70,7 @@ all_at g [] k inv e a = absurd (cc e)
 all_at g (i ∷ invs) zero inv e a = let q : i ≡ inv = cc in subst (λ (z : Invariant). Satisfies g z) q a.0
 all_at g (i ∷ invs) (suc k) inv e a = all_at g invs k inv e a.1
 
+-- the invariant with a number of the list
 pub get_of : (xs : List Invariant) (k : ℕ) (d : Invariant) → k < length xs → slice_get xs k ≡ Some (get_or xs k d)
 get_of [] k d l = absurd (omega arith)
 get_of (x ∷ xs) zero d l = refl
@@ -94,6 +95,7 @@ pub record IsRefining (invs : List Invariant) (old now : Parts) (k : ℕ) (ss : 
   pub before : SatisfiesBefore (G now.traces) invs k
   pub so_far : Splits invs old.traces old.used ss now.traces
 
+-- before the first turn
 pub refining-start : (invs : List Invariant) (old : Parts) → IsOpened old → old.used ≤ MAX_PARTITIONS → IsRefining invs old old 0 []
 refining-start invs old o l =
     let words : List (List ℕ) = inner_words old.traces in
@@ -112,13 +114,16 @@ two-used invs old now k ss o r =
     let u : now.used ≡ old.used + length ss = r.used in
     omega arith
 
+-- the next id is not used
 pub refining-fresh : (invs : List Invariant) (old now : Parts) (k : ℕ) (ss : List Split) → IsOpened old → IsRefining invs old now k ss → IsFresh now.used now.traces
 refining-fresh invs old now k ss o r = fresh-run (inner_words old.traces) now.traces now.used r.run (two-used invs old now k ss o r)
 
+-- the invariant with the number of the turn holds of every trace
 pub refining-hold : (invs : List Invariant) (old now : Parts) (k : ℕ) (ss : List Split) (d : Invariant) → IsRefining invs old now k ss → HoldAll (inner_words old.traces) invs → k < length invs
     → AllByRecursion (λ trace. Holds (get_or invs k d) (word_of trace)) now.traces
 refining-hold invs old now k ss d r a l = traces-hold (inner_words old.traces) now.traces now.used (get_or invs k d) invs k r.run a (get_of invs k d l)
 
+-- there are as many events as in the beginning
 pub refining-events : (invs : List Invariant) (old now : Parts) (k : ℕ) (ss : List Split) → IsRefining invs old now k ss → length (events now.traces) ≡ length (events old.traces)
 refining-events invs old now k ss r = same_length now.traces old.traces r.run.words_are
   where
@@ -272,6 +277,7 @@ empty : {X : Type 0} (xs : List X) → length xs ≡ 0 → xs ≡ []
 empty [] e = refl
 empty (x ∷ xs) e = absurd (omega arith)
 
+-- there are fewer splits than events, and none where there is no event
 pub refining-fewer : (invs : List Invariant) (old now : Parts) (k : ℕ) (ss : List Split) → IsOpened old → HoldAll (inner_words old.traces) invs → IsRefining invs old now k ss → AreFewer ss (event_count old)
 refining-fewer invs old now k ss o a r =
     let words : List (List ℕ) = inner_words old.traces in

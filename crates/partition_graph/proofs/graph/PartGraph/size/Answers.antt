@@ -2,8 +2,8 @@ use Rattle.std.proofs.Common.{◌≡◌, subst, arith}
 use Rattle.partition_model.specs.Assignments.{size}
 use Rattle.partition_graph.specs.Cells.{traces_of}
 use Rattle.partition_graph.specs.Parts.{Parts}
-use Rattle.partition_graph.proofs.Ranges.{no_size}
-use Rattle.partition_graph.proofs.Words.{traces-le}
+use Rattle.partition_graph.proofs.UnusedIds.{no_size}
+use Rattle.partition_graph.proofs.WordCells.{traces-le}
 use Rattle.partition_graph.proofs.graph.PartGraph.size.Goals as goal
 
 pub overflow_cast-result : goal.overflow_cast-result

@@ -2,7 +2,7 @@ use Rattle.std.proofs.Common.{◌≡◌, subst}
 use Rattle.partition_model.specs.Assignments.{type_of}
 use Rattle.partition_graph.specs.Cells.{traces_of}
 use Rattle.partition_graph.specs.Parts.{Parts}
-use Rattle.partition_graph.proofs.Ranges.{no_type_of}
+use Rattle.partition_graph.proofs.UnusedIds.{no_type_of}
 use Rattle.partition_graph.proofs.graph.PartGraph.type_of.Goals as goal
 
 pub returns-then-p-self : goal.returns-then-p-self
