@@ -17,7 +17,11 @@ pub record IsKept (cells : List Cell) (firsts : List ℕ) (tables : Tables) (use
   pub typed : IsTyped (traces_of cells)
   pub below : AreBelow used (traces_of cells)
   pub first_count : length firsts ≡ length (traces_of cells)
-  pub firsts_are : (t : ℕ) → t < length firsts → slice_index firsts t ≡ first_event (traces_of cells) t
-  pub types_are : (p : ℕ) → p < MAX_PARTITIONS → type_at tables p ≡ first_type p (events (traces_of cells))
-  pub sizes_are : (p : ℕ) → p < MAX_PARTITIONS → size_at tables p ≡ members (traces_of cells) p
-  pub counts_are : (p q : ℕ) → p < MAX_PARTITIONS → q < MAX_PARTITIONS → count_at tables p q ≡ edge_count (traces_of cells) p q
+  pub firsts_are : (t : ℕ) → t < length firsts
+      → slice_index firsts t ≡ first_event (traces_of cells) t
+  pub types_are : (p : ℕ) → p < MAX_PARTITIONS
+      → type_at tables p ≡ first_type p (events (traces_of cells))
+  pub sizes_are : (p : ℕ) → p < MAX_PARTITIONS
+      → size_at tables p ≡ members (traces_of cells) p
+  pub counts_are : (p q : ℕ) → p < MAX_PARTITIONS → q < MAX_PARTITIONS
+      → count_at tables p q ≡ edge_count (traces_of cells) p q

@@ -27,4 +27,5 @@ pub record IsClear (t : Tables) : Type 0 where
 pub record IsCountOf (t : Tables) (cells : List Cell) : Type 0 where
   pub types : (p : ℕ) → p < MAX_PARTITIONS → type_at t p ≡ last_type p 0 cells
   pub sizes : (p : ℕ) → p < MAX_PARTITIONS → size_at t p ≡ cells_with p cells
-  pub counts : (p q : ℕ) → p < MAX_PARTITIONS → q < MAX_PARTITIONS → count_at t p q ≡ edges_along INITIAL cells p q
+  pub counts : (p q : ℕ) → p < MAX_PARTITIONS → q < MAX_PARTITIONS
+      → count_at t p q ≡ edges_along INITIAL cells p q

@@ -1,5 +1,5 @@
 //! The partitions of events, and the counts of edges.
-ghost use Rattle.std.specs.Prelude.{◌≡◌, ◌≤◌, ◌<◌, ◌+◌, ◌++◌, ℕ, IfOk, OnOk, length, map, filter, slice_index, slice_get, Some, MatchOption};
+ghost use Rattle.std.specs.Prelude.{◌≡◌, ◌≤◌, ◌<◌, ◌+◌, ◌++◌, IfOk, OnOk, length, slice_index, slice_get, Some, MatchOption};
 
 use crate::cells::{Cell, gather};
 use crate::splitting::move_cells;

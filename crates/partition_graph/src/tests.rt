@@ -160,9 +160,9 @@ fn the_events_of_c_that_e_follows(rt: HostRuntime) -> Result<(), Fail> {
     assert_events(&rt, rt.alloc(), &graph, &[2, 3, 4, 5, 7, 6], &[0, 3], &next)
 }
 
-/// A partition whose events follow one another is divided by itself, by its own new part, and by the ends of the traces.
+/// A partition whose events follow one another is divided by itself, and then its new part by itself.
 #[test]
-fn partitions_that_are_divided_by_themselves_and_by_terminal(rt: HostRuntime) -> Result<(), Fail> {
+fn partitions_that_are_divided_by_themselves(rt: HostRuntime) -> Result<(), Fail> {
     let set = log(&rt, rt.alloc(), &[&["a", "a", "a"]])?;
     let mut graph = PartGraph::open(rt.alloc(), &set)?;
     assert_eq!(rt; graph.split(2, 2), Some(3));
@@ -171,8 +171,17 @@ fn partitions_that_are_divided_by_themselves_and_by_terminal(rt: HostRuntime) ->
     assert_graph(&rt, rt.alloc(), &graph, &partitions, &edges)?;
     assert_eq!(rt; graph.split(3, 3), Some(4));
     assert_eq!(rt; graph.parts(rt.alloc())?.as_slice(), [4, 3, 2].as_slice());
+    Ok(())
+}
 
-    let set = log(&rt, rt.alloc(), &[&["a", "b", "a"], &["b", "a"], &["a", "a"]])?;
+/// The events that end their traces are divided off, each of them and no other.
+#[test]
+fn a_partition_that_is_divided_by_terminal(rt: HostRuntime) -> Result<(), Fail> {
+    let set = log(
+        &rt,
+        rt.alloc(),
+        &[&["a", "b", "a"], &["b", "a"], &["a", "a"]],
+    )?;
     let mut graph = PartGraph::open(rt.alloc(), &set)?;
     assert_eq!(rt; graph.split(2, TERMINAL), Some(4));
     let partitions = [[0, 0, 3], [1, 1, 3], [2, 2, 2], [3, 3, 2], [4, 2, 3]];

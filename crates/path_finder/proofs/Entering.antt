@@ -1,8 +1,8 @@
 -- What is kept when a pair is entered.
-use Rattle.std.proofs.Common.{◌≡◌, ◌≢◌, ◌⊎◌, ◌==◌, ℕ, zero, suc, ◌+◌, ◌*◌, ◌<◌, ◌≤◌, true, false, List, [], ◌∷◌, ◌++◌, length, slice_index, slice_get, set, get_or, count_by, replicate, Some, None, sym, ◌∙◌, refl, ap, ap₂, subst, inl, inr, arith, get_or-set_same, get_or-set_other, length-append, Bool, if◌then◌else◌, sum_by, ne_eqb}
-use Rattle.std.proofs.lemmas.Bool.{cases_eq, cases_lt}
-use Rattle.std.proofs.lemmas.List.{length-set, length-replicate, get_or-replicate}
-use Rattle.std.proofs.lemmas.List.Sums.{count_by-le-length, sum_by-set}
+use Rattle.std.proofs.Common.{◌≡◌, ◌≢◌, ◌⊎◌, ◌==◌, ℕ, zero, suc, ◌+◌, ◌*◌, ◌<◌, ◌≤◌, true, List, [], ◌∷◌, ◌++◌, length, slice_get, set, get_or, count_by, Some, sym, ◌∙◌, refl, ap, ap₂, subst, inl, inr, arith, get_or-set_same, get_or-set_other, length-append, Bool, if◌then◌else◌, sum_by, ne_eqb}
+use Rattle.std.proofs.lemmas.Bool.{cases_eq}
+use Rattle.std.proofs.lemmas.List.{length-set}
+use Rattle.std.proofs.lemmas.List.Sums.{sum_by-set}
 use Rattle.std.proofs.lemmas.Option.{same_Some, slice_get_within}
 use Rattle.invariants.specs.Monitors.{run, is_bad}
 use Rattle.partition_model.specs.Graphs.{word}
@@ -12,7 +12,7 @@ use Rattle.path_finder.specs.declared.table.TheConstants.{OPEN}
 use Rattle.path_finder.specs.declared.pair.Pair.{Pair}
 use Rattle.path_finder.specs.declared.search.Turn.{Turn}
 use Rattle.path_finder.specs.Walks.{Asked, IsPairOf, Leads, EndsBadly, Finishes}
-use Rattle.path_finder.specs.Tables.{Entries, place, at, open_count, with_pair, IsClosedAt, IsSearched, Grows, IsBegun}
+use Rattle.path_finder.specs.Tables.{Entries, place, at, open_count, with_pair, IsSearched, Grows, IsBegun}
 use Rattle.path_finder.specs.Turns.{IsTurn}
 
 -- elements of a list with one more at its end

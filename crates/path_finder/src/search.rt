@@ -1,6 +1,5 @@
 //! The search backwards: the distances of pairs, from TERMINAL in the bad state on.
-ghost use Rattle.std.specs.Prelude.{◌≡◌, ◌≤◌, ◌<◌, ◌+◌, ◌*◌, true};
-ghost use Rattle.partition_graph.specs.Parts.{HasEdgesBelow};
+ghost use Rattle.std.specs.Prelude.{◌≡◌, ◌<◌, ◌+◌};
 ghost use Rattle.path_finder.specs.Asking.{asked};
 ghost use Rattle.path_finder.specs.Walks.{state_at, IsPairOf, Leads};
 ghost use Rattle.path_finder.specs.Tables.{at, Grows, HasEnds, IsBegun, IsMeasured, IsSearched};
@@ -73,7 +72,13 @@ fn enter_end(question: &Question<'_>, table: &mut Table, state: u8)
     ensures { IsBegun (asked question.now) (state + 1) table.new }
 {
     if question.is_bad(state) {
-        table.enter(Pair { id: TERMINAL, state }, 0);
+        table.enter(
+            Pair {
+                id: TERMINAL,
+                state,
+            },
+            0,
+        );
     }
 }
 

@@ -1,6 +1,6 @@
 //! The text of a graph.
-ghost use Rattle.std.specs.Prelude.{◌≡◌, ◌++◌, ℕ, OnOk, IfOk, decimal, option_map, unwrap_or};
-ghost use Rattle.reports.specs.Reports.{shown_as, count_of, edge_text, edge_line, found_at, graph_report, partition_with};
+ghost use Rattle.std.specs.Prelude.{◌≡◌, ◌++◌, OnOk, IfOk, decimal};
+ghost use Rattle.reports.specs.Reports.{shown_as, count_of, edge_text, found_at, graph_report};
 
 use crate::name::push_name;
 use crate::partitions::by_id;

@@ -23,7 +23,10 @@ fn set_of(alloc: Global, log: &str) -> Result<TraceSet, Fail>
     let mut builder = Builder::new(alloc);
     for line in log.lines() {
         if let Some((key, type_text)) = line.split_once(' ') {
-            if key.len() <= MAX_TRACE_BYTES && !type_text.is_empty() && type_text.len() <= MAX_TYPE_BYTES {
+            if key.len() <= MAX_TRACE_BYTES
+                && !type_text.is_empty()
+                && type_text.len() <= MAX_TYPE_BYTES
+            {
                 builder.add(0, 0, key, type_text, 0)?;
             }
         }
