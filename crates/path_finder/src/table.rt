@@ -31,7 +31,8 @@ impl Model for Table {
 
     ghost view = { λ t. record { distances = t.distances.items; entered = t.entered.items } };
 
-    ghost invariant = { λ t. (MAX_PAIRS ≤ vec_capacity t.distances) × (MAX_PAIRS ≤ vec_capacity t.entered) };
+    ghost invariant = { λ t.
+        (MAX_PAIRS ≤ vec_capacity t.distances) × (MAX_PAIRS ≤ vec_capacity t.entered) };
 }
 
 impl Table {

@@ -75,7 +75,8 @@ fn divide(
     requires made { stitcher.old ≡ length (events (graph.old).traces) }
     requires short { length path.now < 2 ^ 32 }
 
-    ensures split { IfOk result (λ s. IsSplitBy graph.old path.now k s × (graph.new ≡ after s graph.old)) }
+    ensures split { IfOk result
+        (λ s. IsSplitBy graph.old path.now k s × (graph.new ≡ after s graph.old)) }
     ensures room { IfOk result (λ s. (graph.old).used < MAX_PARTITIONS) }
 
     // `Partitions` comes exactly where no id is left, and a refusal leaves the graph as it was.
