@@ -2,6 +2,7 @@
 use Rattle.std.proofs.Common.{◌≡◌, ◌⊎◌, ℕ, zero, suc, ◌+◌, ◌<◌, ◌≤◌, List, [], ◌∷◌, ◌++◌, length, slice_get, Some, get_or, sym, refl, ap, ap₂, ◌∙◌, subst, inl, inr, arith, add-zero, length-append}
 use Rattle.std.proofs.lemmas.Bool.{cases_lt}
 use Rattle.std.specs.List.{AllByRecursion, flat_map}
+use Rattle.limits.specs.declared.TheConstants.{INITIAL, FIRST_TYPE, MAX_PARTITIONS}
 use Rattle.invariants.specs.declared.Invariant.{Invariant}
 use Rattle.invariants.specs.declared.records.Split.{Split}
 use Rattle.invariants.specs.Holds.{Holds}
@@ -15,12 +16,19 @@ use Rattle.partition_model.proofs.Stitching.{stitch_divides}
 use Rattle.partition_model.proofs.Runs.{start-run, one_pass_splits, words-typed, fresh-run, traces-hold, ids_within_rests, fewer_splits}
 use Rattle.partition_graph.specs.Parts.{Parts, inner_words_of}
 use Rattle.partition_graph.proofs.Starting.{start-typed}
-use Rattle.splitter.specs.Refining.{IsOpened, event_count, EndsRefined, IsFull, AreFewer}
+use Rattle.splitter.specs.Refining.{IsOpened, event_count, after, EndsRefined, IsSplitBy, IsStopped, IsFull, AreFewer}
 
+-- a violation divides at the place of its stitch
 pub violation-divides : (h : Assignment) (inv : Invariant) (path : List ℕ) (n : ℕ) → IsTyped h → IsFresh n h → AllByRecursion (λ trace. Holds inv (word_of trace)) h
     → IsLeastViolation (G h) inv path → Divides h path n
 violation-divides h inv path n t f a v = stitch_divides h inv path n t f a v.breaks
 
+-- a violation begins with INITIAL
+pub violation-starts : (g : Graph) (inv : Invariant) (path : List ℕ) → IsLeastViolation g inv path → slice_get path 0 ≡ Some INITIAL
+violation-starts g inv [] v = absurd v.breaks.0
+violation-starts g inv (x ∷ xs) v = ap (λ (y : ℕ). Some y) v.breaks.0.0
+
+-- where a path divides, there is a trace
 pub divides-some : (h : Assignment) (path : List ℕ) (n : ℕ) → Divides h path n → 0 < length h
 divides-some [] path n d = let z : 1 ≤ 0 = d.after_start in absurd (omega arith)
 divides-some (t ∷ h) path n d = omega arith
@@ -62,6 +70,7 @@ all_at g [] k inv e a = absurd (cc e)
 all_at g (i ∷ invs) zero inv e a = let q : i ≡ inv = cc in subst (λ (z : Invariant). Satisfies g z) q a.0
 all_at g (i ∷ invs) (suc k) inv e a = all_at g invs k inv e a.1
 
+-- the invariant with a number of the list
 pub get_of : (xs : List Invariant) (k : ℕ) (d : Invariant) → k < length xs → slice_get xs k ≡ Some (get_or xs k d)
 get_of [] k d l = absurd (omega arith)
 get_of (x ∷ xs) zero d l = refl
@@ -81,12 +90,13 @@ opened-start old o =
 pub record IsRefining (invs : List Invariant) (old now : Parts) (k : ℕ) (ss : List Split) : Type 0 where
   pub within : k ≤ length invs
   pub used : now.used ≡ old.used + length ss
-  pub limit : now.used ≤ 1024
+  pub limit : now.used ≤ MAX_PARTITIONS
   pub run : IsRun (inner_words old.traces) now.traces now.used
   pub before : SatisfiesBefore (G now.traces) invs k
   pub so_far : Splits invs old.traces old.used ss now.traces
 
-pub refining-start : (invs : List Invariant) (old : Parts) → IsOpened old → old.used ≤ 1024 → IsRefining invs old old 0 []
+-- before the first turn
+pub refining-start : (invs : List Invariant) (old : Parts) → IsOpened old → old.used ≤ MAX_PARTITIONS → IsRefining invs old old 0 []
 refining-start invs old o l =
     let words : List (List ℕ) = inner_words old.traces in
     record {
@@ -98,19 +108,22 @@ refining-start invs old o l =
       so_far = refl;
     }
 
-two-used : (invs : List Invariant) (old now : Parts) (k : ℕ) (ss : List Split) → IsOpened old → IsRefining invs old now k ss → 2 ≤ now.used
+two-used : (invs : List Invariant) (old now : Parts) (k : ℕ) (ss : List Split) → IsOpened old → IsRefining invs old now k ss → FIRST_TYPE ≤ now.used
 two-used invs old now k ss o r =
-    let t : 2 ≤ old.used = (opened-typed old o).two in
+    let t : FIRST_TYPE ≤ old.used = (opened-typed old o).two in
     let u : now.used ≡ old.used + length ss = r.used in
     omega arith
 
+-- the next id is not used
 pub refining-fresh : (invs : List Invariant) (old now : Parts) (k : ℕ) (ss : List Split) → IsOpened old → IsRefining invs old now k ss → IsFresh now.used now.traces
 refining-fresh invs old now k ss o r = fresh-run (inner_words old.traces) now.traces now.used r.run (two-used invs old now k ss o r)
 
+-- the invariant with the number of the turn holds of every trace
 pub refining-hold : (invs : List Invariant) (old now : Parts) (k : ℕ) (ss : List Split) (d : Invariant) → IsRefining invs old now k ss → HoldAll (inner_words old.traces) invs → k < length invs
     → AllByRecursion (λ trace. Holds (get_or invs k d) (word_of trace)) now.traces
 refining-hold invs old now k ss d r a l = traces-hold (inner_words old.traces) now.traces now.used (get_or invs k d) invs k r.run a (get_of invs k d l)
 
+-- there are as many events as in the beginning
 pub refining-events : (invs : List Invariant) (old now : Parts) (k : ℕ) (ss : List Split) → IsRefining invs old now k ss → length (events now.traces) ≡ length (events old.traces)
 refining-events invs old now k ss r = same_length now.traces old.traces r.run.words_are
   where
@@ -160,23 +173,29 @@ more-splits invs old now k ss s r n =
     (splits_push invs ss s old.traces old.used now.traces r.so_far n)
 
 -- a turn with a split
-pub refining-some : (invs : List Invariant) (old now : Parts) (k : ℕ) (ss : List Split) (d : Invariant) (s : Split)
-    → IsOpened old → HoldAll (inner_words old.traces) invs → IsRefining invs old now k ss → k < length invs → now.used < 1024
-    → s.inv ≡ k → IsLeastViolation (G now.traces) (get_or invs k d) s.path → s.place ≡ stitch now.traces s.path
-    → IsRefining invs old (record { traces = after_split now.used s now.traces; used = now.used + 1 }) k (ss ++ s ∷ [])
-refining-some invs old now k ss d s o a r l few si v sp =
+pub refining-some : (invs : List Invariant) (old now new : Parts) (k : ℕ) (ss : List Split) (d : Invariant) (path : List ℕ) (s : Split)
+    → IsOpened old → HoldAll (inner_words old.traces) invs → IsRefining invs old now k ss → k < length invs → now.used < MAX_PARTITIONS
+    → IsLeastViolation (G now.traces) (get_or invs k d) path → IsSplitBy now path k s → new ≡ after s now
+    → IsRefining invs old new k (ss ++ s ∷ [])
+refining-some invs old now new k ss d path s o a r l few v b e =
     let u : now.used ≡ old.used + length ss = r.used in
-    let same : next_split k now.traces s.path ≡ s = ap₂ (λ (x y : ℕ). record { inv = x; place = y; path = s.path }) (sym si) (sym sp) in
-    let n : IsNextStep invs old now k s = subst (λ (x : Split). IsNextStep invs old now k x) same (next-step invs old now k ss d s.path o a r l v) in
+    let same : next_split k now.traces path ≡ s =
+    ap₂ (λ (x y : ℕ). record { inv = x; place = y; path = path }) (sym b.inv) (sym b.place) ∙ ap (λ (z : List ℕ). record { inv = s.inv; place = s.place; path = z }) (sym b.path_is) in
+    let n : IsNextStep invs old now k s = subst (λ (x : Split). IsNextStep invs old now k x) same (next-step invs old now k ss d path o a r l v) in
     let len : length (ss ++ s ∷ []) ≡ length ss + 1 = length-append ss (s ∷ []) in
-    record {
+    subst (λ (p : Parts). IsRefining invs old p k (ss ++ s ∷ [])) (sym e)
+    (record {
       within = r.within;
       used = omega arith;
       limit = omega arith;
       run = n.1;
       before = n.2;
       so_far = more-splits invs old now k ss s r n.0;
-    }
+    })
+
+-- where it stops
+pub refining-stopped : (invs : List Invariant) (old now : Parts) (k counted : ℕ) (ss : List Split) → IsRefining invs old now k ss → counted ≤ length invs + length ss → IsStopped invs old now counted
+refining-stopped invs old now k counted ss r l = record { splits = ss; on_the_way = record { run = r.so_far; used = r.used }; steps = l }
 
 -- the end
 pub refining-end : (invs : List Invariant) (old now : Parts) (k : ℕ) (ss : List Split) → IsRefining invs old now k ss → length invs ≤ k → EndsRefined invs old ss now
@@ -185,7 +204,7 @@ refining-end invs old now k ss r l =
 
 -- all ids are used
 pub refining-full : (invs : List Invariant) (old now : Parts) (k : ℕ) (ss : List Split) (d : Invariant) (path : List ℕ) → IsOpened old → HoldAll (inner_words old.traces) invs → IsRefining invs old now k ss
-    → k < length invs → now.used ≡ 1024 → IsLeastViolation (G now.traces) (get_or invs k d) path → IsFull invs now
+    → k < length invs → now.used ≡ MAX_PARTITIONS → IsLeastViolation (G now.traces) (get_or invs k d) path → IsFull invs now
 refining-full invs old now k ss d path o a r l u v =
     record {
       used = u;
@@ -230,8 +249,8 @@ names-alike names h k e n rest i some =
 
 -- where there are few rests, a further step never wants one id too many
 pub refining-rests : (invs : List Invariant) (old now : Parts) (k : ℕ) (ss : List Split) (d : Invariant) (path : List ℕ) (names : List (List ℕ))
-    → IsOpened old → HoldAll (inner_words old.traces) invs → IsRefining invs old now k ss → k < length invs → now.used ≡ 1024
-    → IsLeastViolation (G now.traces) (get_or invs k d) path → NamesRests names old.traces → length names ≤ 1022 → ⊥
+    → IsOpened old → HoldAll (inner_words old.traces) invs → IsRefining invs old now k ss → k < length invs → now.used ≡ MAX_PARTITIONS
+    → IsLeastViolation (G now.traces) (get_or invs k d) path → NamesRests names old.traces → length names + FIRST_TYPE ≤ MAX_PARTITIONS → ⊥
 refining-rests invs old now k ss d path names o a r l u v n few =
     let words : List (List ℕ) = inner_words old.traces in
     let s : Split = next_split k now.traces path in
@@ -258,6 +277,7 @@ empty : {X : Type 0} (xs : List X) → length xs ≡ 0 → xs ≡ []
 empty [] e = refl
 empty (x ∷ xs) e = absurd (omega arith)
 
+-- there are fewer splits than events, and none where there is no event
 pub refining-fewer : (invs : List Invariant) (old now : Parts) (k : ℕ) (ss : List Split) → IsOpened old → HoldAll (inner_words old.traces) invs → IsRefining invs old now k ss → AreFewer ss (event_count old)
 refining-fewer invs old now k ss o a r =
     let words : List (List ℕ) = inner_words old.traces in
@@ -266,7 +286,7 @@ refining-fewer invs old now k ss o a r =
     let w : Splits invs (by_type words) old.used ss now.traces = subst (λ (h : Assignment). Splits invs h old.used ss now.traces) e r.so_far in
     let c : length (events now.traces) ≡ length (events old.traces) = refining-events invs old now k ss r in
     let u : now.used ≡ old.used + length ss = r.used in
-    let low : 2 ≤ old.used = t.two in
+    let low : FIRST_TYPE ≤ old.used = t.two in
     record {
       some = λ l.
           let x : (x : Event) × In x (events old.traces) = some-In (events old.traces) l in

@@ -26,6 +26,7 @@ events_are (c ∷ cs) =
       | false ↦ put-events (event_of c) (traces_of cs) ∙ ap (λ (es : List Event). event_of c ∷ es) i
     ]
 
+-- there are as many events as cells
 pub length-events : (cs : List Cell) → length (events (traces_of cs)) ≡ length cs
 length-events cs = ap (λ (es : List Event). length es) (events_are cs) ∙ length-map cs event_of
 
@@ -33,6 +34,7 @@ ids_are : (cs : List Cell) → ids_of (map event_of cs) ≡ map (λ (c : Cell). 
 ids_are [] = refl
 ids_are (c ∷ cs) = ap (λ (ids : List ℕ). c.id ∷ ids) (ids_are cs)
 
+-- the ids of the events are those of the cells
 pub parts_are : (cs : List Cell) → parts_of (traces_of cs) ≡ map (λ (c : Cell). c.id) cs
 parts_are cs = ap (λ (es : List Event). ids_of es) (events_are cs) ∙ ids_are cs
 
@@ -42,6 +44,7 @@ sizes_of_events p (c ∷ cs) =
     let i : count_by (λ (e : Event). e.id == p) (map event_of cs) ≡ cells_with p cs = sizes_of_events p cs in
     members-cons p (event_of c) (map event_of cs) ∙ ap (λ n. cond (c.id == p) 1 0 + n) i
 
+-- an id has as many events as cells
 pub members_are : (p : ℕ) (cs : List Cell) → members (traces_of cs) p ≡ cells_with p cs
 members_are p cs = ap (λ (es : List Event). count_by (λ (e : Event). e.id == p) es) (events_are cs) ∙ sizes_of_events p cs
 
@@ -71,9 +74,11 @@ last_first T p (c ∷ cs) a =
           rw t (last_first T p cs a.1)
     ]
 
+-- where the cells of each id have one type, the type of the last cell of an id is that of its first event
 pub types_are : (T : ℕ → ℕ) (p : ℕ) (cs : List Cell) → AllByRecursion (λ (c : Cell). c.typ ≡ T c.id) cs → last_type p 0 cs ≡ first_type p (events (traces_of cs))
 types_are T p cs a = last_first T p cs a ∙ sym (ap (λ (es : List Event). first_type p es) (events_are cs))
 
+-- an id has at most all cells
 pub cells_with-le : (p : ℕ) (cs : List Cell) → cells_with p cs ≤ length cs
 cells_with-le p [] = omega arith
 cells_with-le p (c ∷ cs) =

@@ -13,7 +13,7 @@ use Rattle.partition_model.proofs.Lists.{all_from, all_in}
 use Rattle.partition_model.proofs.Naming.{TypedBy, type_known}
 use Rattle.partition_graph.specs.declared.cells.Cell.{Cell}
 use Rattle.partition_graph.specs.Cells.{event_of, put_before, traces_of, IsClosed, cells_of, IsGathered}
-use Rattle.partition_graph.proofs.Traces.{events_are}
+use Rattle.partition_graph.proofs.CellTraces.{events_are}
 
 -- the words of traces
 abbrev pub named : ℕ → Event
@@ -23,6 +23,7 @@ events_of_word : (w : List ℕ) → map event_of (cells_of w) ≡ map named w
 events_of_word [] = refl
 events_of_word (n ∷ ns) = ap (λ (es : List Event). named n ∷ es) (events_of_word ns)
 
+-- a word has a cell for each number
 pub length-cells_of : (w : List ℕ) → length (cells_of w) ≡ length w
 length-cells_of [] = refl
 length-cells_of (n ∷ ns) = ap suc (length-cells_of ns)
@@ -32,6 +33,7 @@ trace_of_word : (n : ℕ) (ns : List ℕ) (cs : List Cell) → traces_of (cells_
 trace_of_word n [] cs = refl
 trace_of_word n (m ∷ ms) cs = ap (λ (h : Assignment). put_before (named n) h) (trace_of_word m ms cs)
 
+-- the traces of the cells of words are the words, by type
 pub traces_are : (ws : List (List ℕ)) → AllByRecursion (λ (w : List ℕ). 0 < length w) ws → traces_of (flat_map cells_of ws) ≡ by_type ws
 traces_are [] a = refl
 traces_are ([] ∷ ws) a = let z : 0 < 0 = a.0 in absurd (omega arith)
@@ -42,6 +44,7 @@ closed_word : (ended : Bool) (n : ℕ) (ns : List ℕ) (cs : List Cell) → IsCl
 closed_word ended n [] cs k = k
 closed_word ended n (m ∷ ms) cs k = closed_word false m ms cs k
 
+-- the cells of words end with the last of a trace
 pub words_closed : (ws : List (List ℕ)) → AllByRecursion (λ (w : List ℕ). 0 < length w) ws → IsClosed true (flat_map cells_of ws)
 words_closed [] a = refl
 words_closed ([] ∷ ws) a = let z : 0 < 0 = a.0 in absurd (omega arith)
@@ -56,6 +59,7 @@ events_of_words (w ∷ ws) =
     ∙ ap (λ (es : List Event). es ++ map event_of (flat_map cells_of ws)) (sym (events_of_word w))
     ∙ sym (map-append event_of (cells_of w) (flat_map cells_of ws))
 
+-- the first event of a trace stands behind the cells of the words before it
 pub first_event_of : (ws : List (List ℕ)) (t : ℕ) → length (flat_map cells_of (take t ws)) ≡ first_event (by_type ws) t
 first_event_of ws t =
     let a : take t (by_type ws) ≡ by_type (take t ws) = take-map (λ (w : List ℕ). map named w) t ws in
@@ -75,10 +79,12 @@ new_word : (bound : ℕ) (w : List ℕ) → AllByRecursion (λ n. (2 ≤ n) × (
 new_word bound [] a = tt
 new_word bound (n ∷ ns) a = ((a.0.0, a.0.1, refl), new_word bound ns a.1)
 
+-- what holds of each number of the words holds of each cell
 pub words_new : (bound : ℕ) (ws : List (List ℕ)) → AllByRecursion (λ (w : List ℕ). AllByRecursion (λ n. (2 ≤ n) × (n < bound)) w) ws → AllByRecursion (IsNew bound) (flat_map cells_of ws)
 words_new bound [] a = tt
 words_new bound (w ∷ ws) a = all_append (IsNew bound) (cells_of w) (flat_map cells_of ws) (new_word bound w a.0) (words_new bound ws a.1)
 
+-- what follows from a fact of each element holds of each element
 pub all_weaker : {X : Type 0} (P Q : X → Type 0) (xs : List X) → ((x : X) → P x → Q x) → AllByRecursion P xs → AllByRecursion Q xs
 all_weaker P Q [] f a = tt
 all_weaker P Q (x ∷ xs) f a = (f x a.0, all_weaker P Q xs f a.1)
@@ -90,12 +96,14 @@ mapped P (c ∷ cs) a = (a.0, mapped P cs a.1)
 all_events : (P : Event → Type 0) (cs : List Cell) → AllByRecursion (λ (c : Cell). P (event_of c)) cs → AllByRecursion P (events (traces_of cs))
 all_events P cs a = subst (λ (es : List Event). AllByRecursion P es) (sym (events_are cs)) (mapped P cs a)
 
+-- the ids of cells of words are below the bound of the numbers
 pub new_below : (bound : ℕ) (cs : List Cell) → AllByRecursion (IsNew bound) cs → AreBelow bound (traces_of cs)
 new_below bound cs a = all_events (λ (e : Event). e.id < bound) cs (all_weaker (IsNew bound) (λ (c : Cell). c.id < bound) cs (λ c n. n.1) a)
 
 new_typed_by : (bound : ℕ) (cs : List Cell) → AllByRecursion (IsNew bound) cs → TypedBy (λ x. x) (traces_of cs)
 new_typed_by bound cs a = all_events (λ (e : Event). (2 ≤ e.id) × (e.typ ≡ e.id)) cs (all_weaker (IsNew bound) (λ (c : Cell). (2 ≤ c.id) × (c.typ ≡ c.id)) cs (λ c n. (n.0, n.2)) a)
 
+-- the events of cells of words have one type for each id
 pub new_typed : (bound : ℕ) (cs : List Cell) → AllByRecursion (IsNew bound) cs → IsTyped (traces_of cs)
 new_typed bound cs a =
     let t : TypedBy (λ x. x) (traces_of cs) = new_typed_by bound cs a in
@@ -108,6 +116,7 @@ length-put_before : (e : Event) (h : Assignment) → length (put_before e h) ≤
 length-put_before e [] = omega arith
 length-put_before e (t ∷ h) = omega arith
 
+-- there are at most as many traces as cells
 pub traces-le : (cs : List Cell) → length (traces_of cs) ≤ length cs
 traces-le [] = omega arith
 traces-le (c ∷ cs) =
@@ -125,6 +134,7 @@ first_at bound words t cells firsts g k b =
           get_or_push firsts (length cells) 0 k (g.count ∙ q) ∙ ap (λ (cs : List Cell). length cs) g.cells_are ∙ ap (λ (j : ℕ). length (flat_map cells_of (take j words))) q
     ]
 
+-- the cells of one word more behind the others
 pub more_gathered : (bound : ℕ) (words : List (List ℕ)) (t : ℕ) (cells : List Cell) (firsts : List ℕ) (w : List ℕ) → t < length words → get_or words t [] ≡ w → 0 < length w
     → AllByRecursion (λ n. (2 ≤ n) × (n < bound)) w → IsGathered bound words t cells firsts → IsGathered bound words (t + 1) (cells ++ cells_of w) (firsts ++ length cells ∷ [])
 more_gathered bound words t cells firsts w l e some numbers g =
@@ -153,6 +163,7 @@ cells-le (x ∷ xs) (suc t) =
     let s : event_count_of (x ∷ xs) ≡ length x.events + event_count_of xs = sum_by-cons (λ (trace : Trace). length trace.events) x xs in
     omega arith
 
+-- the word of a trace
 pub word_at : (traces : List Trace) (t : ℕ) (w : List ℕ) → t < length traces → IfSome (slice_get traces t) (λ (trace : Trace). w ≡ trace.events) → get_or (map (λ (trace : Trace). trace.events) traces) t [] ≡ w
 word_at [] t w l s = absurd (omega arith)
 word_at (x ∷ xs) zero w l s = sym s

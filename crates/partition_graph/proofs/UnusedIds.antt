@@ -18,6 +18,7 @@ id_below h n x two b trace i j =
       | inr c ↦ elim c [ inl e ↦ omega arith | inr z ↦ absurd z ]
     ]
 
+-- edges go between ids that are used
 pub edges_within : (h : Assignment) (n : ℕ) → 2 ≤ n → AreBelow n h → HasEdgesBelow (G h) n
 edges_within h n two b p q k =
     let o : (trace : List Event) × In trace h × (0 < pairs p q (id_list trace)) = edge-In p q h k in
@@ -25,6 +26,7 @@ edges_within h n two b p q k =
     let from : p < n = elim (pairs-first p q (id_list o.0) o.2) [ inl e ↦ omega arith | inr r ↦ id_below h n p two b o.0 o.1 r ] in
     (from, to)
 
+-- an id that is not used has no edge
 pub no_edge : (h : Assignment) (n : ℕ) → 2 ≤ n → AreBelow n h → (p q : ℕ) → (n ≤ p) ⊎ (n ≤ q) → 0 ≡ edge_count h p q
 no_edge h n two b p q past =
     elim (cases_lt 0 (edge_count h p q)) [
@@ -36,6 +38,7 @@ no_edge h n two b p q past =
       | inr z ↦ omega arith
     ]
 
+-- an id that is not used has no event
 pub no_member : (h : Assignment) (n : ℕ) → AreBelow n h → (p : ℕ) → n ≤ p → 0 ≡ members h p
 no_member h n b p past =
     elim (cases_lt 0 (members h p)) [
@@ -54,11 +57,14 @@ no_first n (e ∷ es) b p past =
     let f : (e.id == p) ≡ false = ne_eqb e.id p (λ q. omega arith) in
     rw f (no_first n es b.1 p past)
 
+-- an id that is not used has no event that gives it a type
 pub no_type : (h : Assignment) (n : ℕ) → AreBelow n h → (p : ℕ) → n ≤ p → 0 ≡ first_type p (events h)
 no_type h n b p past = no_first n (events h) b p past
 
+-- an id that is not used has the size 0
 pub no_size : (h : Assignment) (n : ℕ) → AreBelow n h → (p : ℕ) → 2 ≤ p → n ≤ p → 0 ≡ size h p
 no_size h n b p two past = no_member h n b p past ∙ sym (cond-false (ltb p 2) (length h) (members h p) (le-ltb p 2 two))
 
+-- an id that is not used has the type 0
 pub no_type_of : (h : Assignment) (n : ℕ) → AreBelow n h → (p : ℕ) → 2 ≤ p → n ≤ p → 0 ≡ type_of h p
 no_type_of h n b p two past = no_type h n b p past ∙ sym (cond-false (ltb p 2) p (first_type p (events h)) (le-ltb p 2 two))
