@@ -219,9 +219,11 @@ pub(crate) fn or_and_not_words(
     requires mask_apart { IsApart to mask count }
     ensures fits { AllFit words.old × AllFit words.new }
     ensures written { IsWritten words.old words.new to count
-        (λ k. bit_or (word words.old to k) (bit_and (word words.old a k) (bit_not w64 (word words.old mask k)))) }
+        (λ k. bit_or (word words.old to k)
+        (bit_and (word words.old a k) (bit_not w64 (word words.old mask k)))) }
     ensures tells { TellsChange count
-        (λ k. bit_or (word words.old to k) (bit_and (word words.old a k) (bit_not w64 (word words.old mask k))))
+        (λ k. bit_or (word words.old to k)
+        (bit_and (word words.old a k) (bit_not w64 (word words.old mask k))))
         (word words.old to) result }
 {
     let mut more = 0;

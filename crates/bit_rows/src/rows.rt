@@ -127,7 +127,8 @@ impl Rows {
         requires to_row { to < length self.old }
         requires from_row { from < length self.old }
         requires apart { to ≢ from }
-        ensures rows { self.new ≡ slice_set self.old to (either (row_at self.old to) (row_at self.old from)) }
+        ensures rows { self.new ≡ slice_set self.old to
+            (either (row_at self.old to) (row_at self.old from)) }
         ensures shape { KeepsShape self.old self.new }
         ensures stays { OnFalse result (self.new ≡ self.old) }
         ensures changes { OnTrue result (self.new ≢ self.old) }
@@ -145,7 +146,8 @@ impl Rows {
         requires to_row { to < length self.old }
         requires from_row { from < length self.old }
         requires apart { to ≢ from }
-        ensures rows { self.new ≡ slice_set self.old to (both (row_at self.old to) (row_at self.old from)) }
+        ensures rows { self.new ≡ slice_set self.old to
+            (both (row_at self.old to) (row_at self.old from)) }
         ensures shape { KeepsShape self.old self.new }
     {
         and_words(
@@ -161,7 +163,8 @@ impl Rows {
         requires to_row { to < length self.old }
         requires from_row { from < length self.old }
         requires apart { to ≢ from }
-        ensures rows { self.new ≡ slice_set self.old to (without (row_at self.old to) (row_at self.old from)) }
+        ensures rows { self.new ≡ slice_set self.old to
+            (without (row_at self.old to) (row_at self.old from)) }
         ensures shape { KeepsShape self.old self.new }
     {
         and_not_words(

@@ -1,13 +1,12 @@
 -- Lists that lie in chains: they are read back, and no cell stands at two places.
-use Rattle.std.proofs.Common.{◌≡◌, ◌≢◌, ℕ, ◌+◌, ◌-◌, ◌<◌, ◌≤◌, zero, suc, cond, ltb, List, [], ◌∷◌, ◌++◌, length, get_or, set, take, drop, Some, All, Contains, slice_get, refl, sym, ap, ◌∙◌, subst, arith, inl, inr, ◌⊎◌}
-use Rattle.std.specs.List.{sum_by}
+use Rattle.std.proofs.Common.{◌≡◌, ◌≢◌, ℕ, ◌+◌, ◌<◌, ◌≤◌, zero, suc, cond, ltb, List, [], ◌∷◌, ◌++◌, length, get_or, set, take, drop, Some, All, Contains, slice_get, refl, sym, ap, ◌∙◌, subst, arith, inl, inr, ◌⊎◌}
 use Rattle.std.proofs.lemmas.Bool.{cases_eq, cases_lt, lt-ltb, le-ltb}
 use Rattle.std.proofs.lemmas.Option.{slice_get_within, get_or_from_slice_get}
 use Rattle.std.proofs.lemmas.List.{same_lists, get_or_default, get_or_past, get_or-set_same, get_or-set_other, get_or-take, get_or-drop, length-take, length-drop, length-set, take-append-drop, drop_more}
 use Rattle.std.proofs.lemmas.List.FromFn.{length-map-range_with_len, get_or-map-range_with_len}
 use Rattle.std.proofs.lemmas.List.Elements.{All-head, All-tail, All-get_or, All-from_get_or}
 use Rattle.std.proofs.lemmas.List.Sums.{get_or-le-sum_by}
-use Rattle.cell_pool.specs.Tables.{row_at, StandsIn, HasCells}
+use Rattle.cell_pool.specs.Tables.{row_at}
 use Rattle.cell_pool.specs.Chains.{IsChain, IsLinked, IsTable, cells_behind, table_of}
 use Rattle.cell_pool.proofs.Linked.{prev_at}
 

@@ -1,5 +1,5 @@
 -- What a move of one cell leaves.
-use Rattle.std.proofs.Common.{◌≡◌, ◌≢◌, ℕ, ◌+◌, ◌<◌, ◌≤◌, not, eqb, List, [], ◌∷◌, ◌++◌, length, get_or, set, take, drop, filter, All, Contains, refl, sym, ap, ◌∙◌, subst, arith, inl, inr}
+use Rattle.std.proofs.Common.{◌≡◌, ◌≢◌, ℕ, ◌+◌, ◌<◌, ◌≤◌, not, eqb, List, [], ◌∷◌, ◌++◌, length, get_or, set, take, drop, filter, All, Contains, sym, ap, ◌∙◌, subst, arith, inl, inr}
 use Rattle.std.specs.List.{sum_by}
 use Rattle.std.proofs.lemmas.Bool.{cases_eq}
 use Rattle.std.proofs.lemmas.List.{get_or_default, get_or-set_same, get_or-set_other, length-set, length-append}
@@ -11,7 +11,7 @@ use Rattle.cell_pool.proofs.Linked.{prev_has, next_has, next_of_prev, prev_of_ne
 use Rattle.cell_pool.proofs.Listed.{rows_of, row_first, row_second, row_third, once_at, once_in, parts_are, free_before, free_behind, contains_cases}
 
 module _ (next prev : List ℕ) (count lists : ℕ) (table : List (List ℕ)) (h : IsTable next prev count lists table) (cell from to : ℕ) (from_in : from < length table) (to_in : to < length table) (apart : from ≢ to)
-  (stands : Contains (row_at table from) cell) where
+    (stands : Contains (row_at table from) cell) where
   row : List ℕ
   row = row_at table from
 
@@ -162,9 +162,9 @@ module _ (next prev : List ℕ) (count lists : ℕ) (table : List (List ℕ)) (h
   unfolding next2 prev2
   stays2 y z not_from not_to link = (
     get_or-set_other (set next1 (get_or prev1 (count + to) 0) cell) cell y (count + to) 0 not_from
-    ∙ get_or-set_other next1 (get_or prev1 (count + to) 0) y cell 0
-    (λ e. not_to.1 (sym link.0 ∙ ap (λ m. get_or next1 m 0) e ∙ next_of_prev next1 prev1 (count + to) (row_at table to) (count + to) chain_to))
-    ∙ link.0,
+        ∙ get_or-set_other next1 (get_or prev1 (count + to) 0) y cell 0
+        (λ e. not_to.1 (sym link.0 ∙ ap (λ m. get_or next1 m 0) e ∙ next_of_prev next1 prev1 (count + to) (row_at table to) (count + to) chain_to))
+        ∙ link.0,
     get_or-set_other (set prev1 cell (get_or prev1 (count + to) 0)) (count + to) z cell 0 not_to.1 ∙ get_or-set_other prev1 cell z (get_or prev1 (count + to) 0) 0 not_to.0 ∙ link.1,
   )
 
@@ -172,9 +172,9 @@ module _ (next prev : List ℕ) (count lists : ℕ) (table : List (List ℕ)) (h
   unfolding next2 prev2
   link_last = (
     get_or-set_other (set next1 (get_or prev1 (count + to) 0) cell) cell (get_or prev1 (count + to) 0) (count + to) 0 last_other
-    ∙ get_or-set_same next1 (get_or prev1 (count + to) 0) cell 0 (omega (arith, last_low, size1)),
+        ∙ get_or-set_same next1 (get_or prev1 (count + to) 0) cell 0 (omega (arith, last_low, size1)),
     get_or-set_other (set prev1 cell (get_or prev1 (count + to) 0)) (count + to) cell cell 0 (λ e. head_other to (sym e))
-    ∙ get_or-set_same prev1 cell (get_or prev1 (count + to) 0) 0 (omega (arith, cell_low, size1')),
+        ∙ get_or-set_same prev1 cell (get_or prev1 (count + to) 0) 0 (omega (arith, cell_low, size1')),
   )
 
   link_head : IsLink next2 prev2 cell (count + to)
@@ -234,9 +234,9 @@ module _ (next prev : List ℕ) (count lists : ℕ) (table : List (List ℕ)) (h
     prev_size = length-set (set prev1 cell (get_or prev1 (count + to) 0)) (count + to) cell ∙ length-set prev1 cell (get_or prev1 (count + to) 0) ∙ size1';
     size = length-set (set table from left) to (row_at table to ++ cell ∷ []) ∙ length-set table from left ∙ h.linked.size;
     chains = rows_of (λ list r. list < lists → IsChain next2 prev2 (count + list) r (count + list)) table from to left (row_at table to ++ cell ∷ []) from_in to_in apart (λ _. chain_from2) (λ _. chain_to2)
-    (λ list not_from not_to low. chain_other2 list low not_from not_to);
+        (λ list not_from not_to low. chain_other2 list low not_from not_to);
     cells = rows_of (λ list r. list < lists → All (λ x. x < count) r) table from to left (row_at table to ++ cell ∷ []) from_in to_in apart (λ _. left_low)
-    (λ _. All-push (λ x. x < count) (row_at table to) cell (h.linked.cells to to_low) cell_low) (λ list not_from not_to low. h.linked.cells list low);
+        (λ _. All-push (λ x. x < count) (row_at table to) cell (h.linked.cells to to_low) cell_low) (λ list not_from not_to low. h.linked.cells list low);
   }
 
   total : sum_by length moved ≤ count
@@ -289,21 +289,21 @@ module _ (next prev : List ℕ) (count lists : ℕ) (table : List (List ℕ)) (h
       to,
       omega (arith, moved_long),
       subst (λ r. Contains r x) (sym (row_second table from to left (row_at table to ++ cell ∷ []) to_in))
-      (subst (λ m. Contains (row_at table to ++ cell ∷ []) m) (sym is) (Contains-push (row_at table to) cell)),
+          (subst (λ m. Contains (row_at table to ++ cell ∷ []) m) (sym is) (Contains-push (row_at table to) cell)),
     )
     | inr other ↦ elim (cases_eq has.0 to) [
       | inl at_to ↦ (
         to,
         omega (arith, moved_long),
         subst (λ r. Contains r x) (sym (row_second table from to left (row_at table to ++ cell ∷ []) to_in))
-        (Contains-append_left (row_at table to) (cell ∷ []) x (subst (λ l. Contains (row_at table l) x) at_to has.2)),
+            (Contains-append_left (row_at table to) (cell ∷ []) x (subst (λ l. Contains (row_at table l) x) at_to has.2)),
       )
       | inr not_to ↦ elim (cases_eq has.0 from) [
         | inl at_from ↦ (
           from,
           omega (arith, moved_long),
           subst (λ r. Contains r x) (sym (row_first table from to left (row_at table to ++ cell ∷ []) from_in apart))
-          (contains_left x (subst (λ l. Contains (row_at table l) x) at_from has.2) other),
+              (contains_left x (subst (λ l. Contains (row_at table l) x) at_from has.2) other),
         )
         | inr not_from ↦ (
           has.0,

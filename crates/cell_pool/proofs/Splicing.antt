@@ -5,10 +5,10 @@ use Rattle.std.proofs.lemmas.Bool.{cases_eq}
 use Rattle.std.proofs.lemmas.List.{append-nil, get_or-set_same, get_or-set_other, set-get_or, length-set, length-append}
 use Rattle.std.proofs.lemmas.List.Elements.{All-head, All-tail, All-nil, All-weaker, All-append, Contains-append_left, Contains-append_right}
 use Rattle.std.proofs.lemmas.List.Sums.{sum_by-set}
-use Rattle.cell_pool.specs.Tables.{row_at, StandsIn, HasCells, KeepsCells}
+use Rattle.cell_pool.specs.Tables.{row_at, StandsIn, KeepsCells}
 use Rattle.cell_pool.specs.Chains.{IsLink, IsChain, IsLinked, IsTable}
-use Rattle.cell_pool.proofs.Linked.{prev_has, next_has, next_of_prev, prev_of_next, chain_stays, chain_turned, chain_append}
-use Rattle.cell_pool.proofs.Listed.{rows_of, row_first, row_second, row_third, once_in}
+use Rattle.cell_pool.proofs.Linked.{prev_has, next_has, next_of_prev, chain_stays, chain_turned, chain_append}
+use Rattle.cell_pool.proofs.Listed.{rows_of, row_second, row_third, once_in}
 
 module _ (next prev : List ℕ) (count lists : ℕ) (table : List (List ℕ)) (h : IsTable next prev count lists table) (from to : ℕ) (from_in : from < length table) (to_in : to < length table) (apart : from ≢ to) where
   from_low : from < lists
@@ -49,14 +49,14 @@ module _ (next prev : List ℕ) (count lists : ℕ) (table : List (List ℕ)) (h
       to,
       omega (arith, spliced_long),
       subst (λ r. Contains r x) (sym (row_second table from to [] (row_at table to ++ row_at table from) to_in))
-      (Contains-append_left (row_at table to) (row_at table from) x (subst (λ l. Contains (row_at table l) x) at_to has.2)),
+          (Contains-append_left (row_at table to) (row_at table from) x (subst (λ l. Contains (row_at table l) x) at_to has.2)),
     )
     | inr not_to ↦ elim (cases_eq has.0 from) [
       | inl at_from ↦ (
         to,
         omega (arith, spliced_long),
         subst (λ r. Contains r x) (sym (row_second table from to [] (row_at table to ++ row_at table from) to_in))
-        (Contains-append_right (row_at table to) (row_at table from) x (subst (λ l. Contains (row_at table l) x) at_from has.2)),
+            (Contains-append_right (row_at table to) (row_at table from) x (subst (λ l. Contains (row_at table l) x) at_from has.2)),
       )
       | inr not_from ↦ (
         has.0,
@@ -181,21 +181,21 @@ module _ (next prev : List ℕ) (count lists : ℕ) (table : List (List ℕ)) (h
     unfolding next' prev'
     link_end = (
       get_or-set_other (set (set next (get_or prev (count + to) 0) f) (get_or prev (count + from) 0) (count + to)) (count + from) (get_or prev (count + to) 0) (count + from) 0 t_other
-      ∙ get_or-set_other (set next (get_or prev (count + to) 0) f) (get_or prev (count + from) 0) (get_or prev (count + to) 0) (count + to) 0
-      (λ e. heads_apart to from to_apart (sym t_next ∙ ap (λ m. get_or next m 0) e ∙ g_next))
-      ∙ get_or-set_same next (get_or prev (count + to) 0) f 0 (omega (arith, t_low, h.linked.next_size)),
+          ∙ get_or-set_other (set next (get_or prev (count + to) 0) f) (get_or prev (count + from) 0) (get_or prev (count + to) 0) (count + to) 0
+          (λ e. heads_apart to from to_apart (sym t_next ∙ ap (λ m. get_or next m 0) e ∙ g_next))
+          ∙ get_or-set_same next (get_or prev (count + to) 0) f 0 (omega (arith, t_low, h.linked.next_size)),
       get_or-set_other (set (set prev f (get_or prev (count + to) 0)) (count + to) (get_or prev (count + from) 0)) (count + from) f (count + from) 0 (f_not from)
-      ∙ get_or-set_other (set prev f (get_or prev (count + to) 0)) (count + to) f (get_or prev (count + from) 0) 0 (f_not to)
-      ∙ get_or-set_same prev f (get_or prev (count + to) 0) 0 (omega (arith, f_low, h.linked.prev_size)),
+          ∙ get_or-set_other (set prev f (get_or prev (count + to) 0)) (count + to) f (get_or prev (count + from) 0) 0 (f_not to)
+          ∙ get_or-set_same prev f (get_or prev (count + to) 0) 0 (omega (arith, f_low, h.linked.prev_size)),
     )
 
     link_last : IsLink next' prev' (get_or prev (count + from) 0) (count + to)
     unfolding next' prev'
     link_last = (
       get_or-set_other (set (set next (get_or prev (count + to) 0) f) (get_or prev (count + from) 0) (count + to)) (count + from) (get_or prev (count + from) 0) (count + from) 0 (g_not from)
-      ∙ get_or-set_same (set next (get_or prev (count + to) 0) f) (get_or prev (count + from) 0) (count + to) 0 (omega (arith, g_low, size1)),
+          ∙ get_or-set_same (set next (get_or prev (count + to) 0) f) (get_or prev (count + from) 0) (count + to) 0 (omega (arith, g_low, size1)),
       get_or-set_other (set (set prev f (get_or prev (count + to) 0)) (count + to) (get_or prev (count + from) 0)) (count + from) (count + to) (count + from) 0 (heads_apart to from to_apart)
-      ∙ get_or-set_same (set prev f (get_or prev (count + to) 0)) (count + to) (get_or prev (count + from) 0) 0 (omega (arith, to_low, size1')),
+          ∙ get_or-set_same (set prev f (get_or prev (count + to) 0)) (count + to) (get_or prev (count + from) 0) 0 (omega (arith, to_low, size1')),
     )
 
     link_empty : IsLink next' prev' (count + from) (count + from)
@@ -228,9 +228,9 @@ module _ (next prev : List ℕ) (count lists : ℕ) (table : List (List ℕ)) (h
       prev_size = length-set (set (set prev f (get_or prev (count + to) 0)) (count + to) (get_or prev (count + from) 0)) (count + from) (count + from) ∙ size2';
       size = spliced_long ∙ h.linked.size;
       chains = rows_of (λ list r. list < lists → IsChain next' prev' (count + list) r (count + list)) table from to [] (row_at table to ++ row_at table from) from_in to_in apart (λ _. link_empty) (λ _. whole)
-      (λ list not_from not_to low. other list low not_from not_to);
+          (λ list not_from not_to low. other list low not_from not_to);
       cells = rows_of (λ list r. list < lists → All (λ x. x < count) r) table from to [] (row_at table to ++ row_at table from) from_in to_in apart (λ _. All-nil (λ x. x < count))
-      (λ _. All-append (λ x. x < count) (row_at table to) (row_at table from) to_cells (h.linked.cells from from_low)) (λ list not_from not_to low. h.linked.cells list low);
+          (λ _. All-append (λ x. x < count) (row_at table to) (row_at table from) to_cells (h.linked.cells from from_low)) (λ list not_from not_to low. h.linked.cells list low);
     }
 
     total : sum_by length (set (set table from []) to (row_at table to ++ row_at table from)) ≤ count

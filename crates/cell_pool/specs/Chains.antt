@@ -7,7 +7,9 @@ use Rattle.cell_pool.specs.Tables.{row_at}
 abbrev pub cells_behind : ℕ → ℕ → List ℕ → ℕ → List ℕ
 cells_behind zero count next node = []
 cells_behind (suc more) count next node =
-    if nat_lt (slice_index next node) count then slice_index next node ∷ cells_behind more count next (slice_index next node) else []
+    if nat_lt (slice_index next node) count
+    then slice_index next node ∷ cells_behind more count next (slice_index next node)
+    else []
 
 -- each list: the cells that follow its head
 abbrev pub table_of : List ℕ → ℕ → ℕ → List (List ℕ)

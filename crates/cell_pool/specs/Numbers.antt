@@ -13,7 +13,8 @@ list_at numbers from len = take len (drop from numbers)
 
 -- each list among the old numbers stands in the new ones, at its place
 abbrev pub KeepsLists : List ℕ → List ℕ → Type 0
-KeepsLists old new = (from len : ℕ) → from + len ≤ length old → list_at new from len ≡ list_at old from len
+KeepsLists old new = (from len : ℕ) → from + len ≤ length old
+    → list_at new from len ≡ list_at old from len
 
 -- these numbers were appended, they fit the room, and the span says where they stand
 pub record Pushes (old new : Numbers) (numbers : List ℕ) (span : Span) : Type 0 where

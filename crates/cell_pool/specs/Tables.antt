@@ -1,5 +1,5 @@
 -- Lists of cells, as contracts see them.
-use Rattle.std.specs.Prelude.{ℕ, ◌≡◌, ◌<◌, ◌==◌, Bool, not, List, [], length, filter, slice_index_or, slice_get, Some, All, Contains}
+use Rattle.std.specs.Prelude.{ℕ, ◌≡◌, ◌<◌, ◌==◌, not, List, [], length, filter, slice_index_or, slice_get, Some, All, Contains}
 
 -- the list with this number; past the last it has no cell
 abbrev pub row_at : List (List ℕ) → ℕ → List ℕ
@@ -17,8 +17,8 @@ StandsIn table cell = (list : ℕ) × (list < length table) × Contains (row_at 
 pub record HasCells (table : List (List ℕ)) (count : ℕ) : Type 0 where
   pub each : (cell : ℕ) → cell < count → StandsIn table cell
   pub only : (list : ℕ) → All (λ cell. cell < count) (row_at table list)
-  pub once : (list other place place' cell : ℕ) → slice_get (row_at table list) place ≡ Some cell → slice_get (row_at table other) place' ≡ Some cell
-      → (list ≡ other) × (place ≡ place')
+  pub once : (list other place place' cell : ℕ) → slice_get (row_at table list) place ≡ Some cell
+      → slice_get (row_at table other) place' ≡ Some cell → (list ≡ other) × (place ≡ place')
 
 -- the lists still have the cells that they had, and each of them exactly once
 abbrev pub KeepsCells : List (List ℕ) → List (List ℕ) → Type 0

@@ -27,7 +27,8 @@ impl Model for Cells {
 
     ghost view = { λ s. table_of s.next.items s.cells s.lists };
 
-    ghost invariant = { λ s. IsTable s.next.items s.prev.items s.cells s.lists (table_of s.next.items s.cells s.lists) };
+    ghost invariant = { λ s. IsTable s.next.items s.prev.items s.cells s.lists
+        (table_of s.next.items s.cells s.lists) };
 }
 
 /// Makes node b follow node a.
@@ -96,9 +97,7 @@ impl Cells {
     /// `AllocError` comes where there is not enough, and where cells and lists together are 2^32 or more.
     pub fn make(alloc: Global, cells: u32, lists: u32) -> Result<Cells, AllocError>
         requires { 1 ≤ lists }
-        ensures lists {
-            IfOk result (λ made. made ≡ range_with_len 0 cells ∷ replicate (lists - 1) [])
-        }
+        ensures lists { IfOk result (λ made. made ≡ range_with_len 0 cells ∷ replicate (lists - 1) []) }
         ensures cells { IfOk result (λ made. HasCells made cells) }
     {
         let Some(nodes) = cells.checked_add(lists) else {
@@ -121,11 +120,9 @@ impl Cells {
         requires to_list { to < length self.old }
         requires apart { from ≢ to }
         requires stands { Contains (row_at self.old from) cell }
-        ensures lists {
-            self.new ≡ slice_set
-                (slice_set self.old from (without (row_at self.old from) cell))
-                to (row_at self.old to ++ cell ∷ [])
-        }
+        ensures lists { self.new ≡ slice_set
+            (slice_set self.old from (without (row_at self.old from) cell))
+            to (row_at self.old to ++ cell ∷ []) }
         ensures cells { KeepsCells self.old self.new }
     {
         let before = self.prev[cell as usize];
@@ -142,10 +139,8 @@ impl Cells {
         requires from_list { from < length self.old }
         requires to_list { to < length self.old }
         requires apart { from ≢ to }
-        ensures lists {
-            self.new ≡ slice_set (slice_set self.old from [])
-                to (row_at self.old to ++ row_at self.old from)
-        }
+        ensures lists { self.new ≡ slice_set (slice_set self.old from [])
+            to (row_at self.old to ++ row_at self.old from) }
         ensures cells { KeepsCells self.old self.new }
     {
         let source = self.cells + from;
@@ -172,10 +167,8 @@ impl Cells {
     /// The cell that follows a cell in its list; `None` for the last cell of a list.
     pub fn next(&self, cell: u32) -> Option<u32>
         requires { StandsIn self.now cell }
-        ensures {
-            (list place : ℕ) → slice_get (row_at self.now list) place ≡ Some cell
-                → result ≡ slice_get (row_at self.now list) (place + 1)
-        }
+        ensures { (list place : ℕ) → slice_get (row_at self.now list) place ≡ Some cell
+            → result ≡ slice_get (row_at self.now list) (place + 1) }
     {
         cell_of(self.next[cell as usize], self.cells)
     }

@@ -56,9 +56,17 @@ impl Model for RunLog {
 
     ghost Value = { RunLists };
 
-    ghost view = { λ s. record { splits = s.splits.items; merges = s.merges.items; blocks = s.blocks.items; split_room = s.split_room; merge_room = s.merge_room; block_room = s.block_room } };
+    ghost view = { λ s. record {
+      splits = s.splits.items;
+      merges = s.merges.items;
+      blocks = s.blocks.items;
+      split_room = s.split_room;
+      merge_room = s.merge_room;
+      block_room = s.block_room;
+    } };
 
-    ghost invariant = { λ s. HasRoom s.splits s.split_room × HasRoom s.merges s.merge_room × HasRoom s.blocks s.block_room };
+    ghost invariant = { λ s. HasRoom s.splits s.split_room
+        × HasRoom s.merges s.merge_room × HasRoom s.blocks s.block_room };
 }
 
 impl RunLog {

@@ -51,8 +51,25 @@ fn a_log_keeps_three_lists(rt: HostRuntime) -> Result<(), Fail> {
     log.add_split(5, 1, path);
     log.add_merge(2, 3);
     log.add_block(2, 4, 9, path);
-    assert!(rt; log.splits() == [SplitEntry { inv: 5, place: 1, path }].as_slice());
+    assert!(rt;
+        log.splits()
+            == [SplitEntry {
+                inv: 5,
+                place: 1,
+                path
+            }]
+            .as_slice()
+    );
     assert!(rt; log.merges() == [MergeEntry { p: 4, q: 6 }, MergeEntry { p: 2, q: 3 }].as_slice());
-    assert!(rt; log.blocks() == [BlockEntry { p: 2, q: 4, inv: 9, path }].as_slice());
+    assert!(rt;
+        log.blocks()
+            == [BlockEntry {
+                p: 2,
+                q: 4,
+                inv: 9,
+                path
+            }]
+            .as_slice()
+    );
     Ok(())
 }

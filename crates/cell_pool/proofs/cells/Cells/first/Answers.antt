@@ -1,4 +1,3 @@
-use Rattle.std.proofs.Common.{◌+◌, ◌≤◌, Some, None, cond, ltb, ap, ◌∙◌, arith}
 use Rattle.cell_pool.proofs.Done.{first_done}
 use Rattle.cell_pool.proofs.cells.Cells.first.Goals as goal
 
