@@ -17,6 +17,10 @@ pub record HasShape (table : List (List Bool)) (rows bits : ℕ) : Type 0 where
   pub count : length table ≡ rows
   pub long : (r : ℕ) → r < rows → length (row_at table r) ≡ bits
 
+-- as many rows as before, and as many truth values in each
+abbrev pub KeepsShape : List (List Bool) → List (List Bool) → Type 0
+KeepsShape old new = (rows bits : ℕ) → HasShape old rows bits → HasShape new rows bits
+
 -- each truth value of a row is false
 abbrev pub IsBlank : List Bool → Type 0
 IsBlank row = (i : ℕ) → is_set row i ≡ false
@@ -27,13 +31,15 @@ pub record IsFirstSet (row : List Bool) (i : ℕ) : Type 0 where
   pub set : is_set row i ≡ true
   pub first : (k : ℕ) → k < i → is_set row k ≡ false
 
--- place by place: in one of two rows, in both, in the first alone
+-- place by place: true in one of two rows or in both
 abbrev pub either : List Bool → List Bool → List Bool
 either = zip2 (λ x y. x || y)
 
+-- place by place: true in both rows
 abbrev pub both : List Bool → List Bool → List Bool
 both = zip2 (λ x y. x && y)
 
+-- place by place: true in the first row and not in the second
 abbrev pub without : List Bool → List Bool → List Bool
 without = zip2 (λ x y. x && not y)
 

@@ -89,8 +89,11 @@ fn or_blocks(words: &mut [u64], to: usize, from: usize, blocks: usize) -> bool
     requires from_in { from + blocks * LANES ≤ length words.old }
     requires apart { IsApart to from (blocks * LANES) }
     ensures fits { AllFit words.old }
-    ensures written { IsWritten words.old words.new to (blocks * LANES) (λ k. bit_or (word words.old to k) (word words.old from k)) }
-    ensures tells { TellsChange (blocks * LANES) (λ k. bit_or (word words.old to k) (word words.old from k)) (word words.old to) result }
+    ensures written { IsWritten words.old words.new to (blocks
+        * LANES) (λ k. bit_or (word words.old to k) (word words.old from k)) }
+    ensures tells { TellsChange (blocks * LANES)
+        (λ k. bit_or (word words.old to k) (word words.old from k))
+        (word words.old to) result }
 {
     let mut more = u64x8::splat(0);
     for b in 0..blocks {
@@ -109,8 +112,11 @@ fn or_rest(words: &mut [u64], to: usize, from: usize, count: usize) -> bool
     requires from_in { from + count ≤ length words.old }
     requires apart { IsApart to from count }
     ensures fits { AllFit words.old × AllFit words.new }
-    ensures written { IsWritten words.old words.new to count (λ k. bit_or (word words.old to k) (word words.old from k)) }
-    ensures tells { TellsChange count (λ k. bit_or (word words.old to k) (word words.old from k)) (word words.old to) result }
+    ensures written { IsWritten words.old words.new to count
+        (λ k. bit_or (word words.old to k) (word words.old from k)) }
+    ensures tells { TellsChange count
+        (λ k. bit_or (word words.old to k) (word words.old from k))
+        (word words.old to) result }
 {
     let mut more = 0;
     for k in 0..count {
@@ -128,8 +134,11 @@ pub(crate) fn or_words(words: &mut [u64], to: usize, from: usize, count: usize) 
     requires from_in { from + count ≤ length words.old }
     requires apart { IsApart to from count }
     ensures fits { AllFit words.old × AllFit words.new }
-    ensures written { IsWritten words.old words.new to count (λ k. bit_or (word words.old to k) (word words.old from k)) }
-    ensures tells { TellsChange count (λ k. bit_or (word words.old to k) (word words.old from k)) (word words.old to) result }
+    ensures written { IsWritten words.old words.new to count
+        (λ k. bit_or (word words.old to k) (word words.old from k)) }
+    ensures tells { TellsChange count
+        (λ k. bit_or (word words.old to k) (word words.old from k))
+        (word words.old to) result }
 {
     let blocks = count / LANES;
     let done = blocks * LANES;
@@ -143,7 +152,8 @@ pub(crate) fn and_words(words: &mut [u64], to: usize, from: usize, count: usize)
     requires to_in { to + count ≤ length words.old }
     requires from_in { from + count ≤ length words.old }
     requires apart { IsApart to from count }
-    ensures { IsWritten words.old words.new to count (λ k. bit_and (word words.old to k) (word words.old from k)) }
+    ensures { IsWritten words.old words.new to count
+        (λ k. bit_and (word words.old to k) (word words.old from k)) }
 {
     for k in 0..count {
         words[to + k] = words[to + k] & words[from + k];
@@ -156,7 +166,8 @@ pub(crate) fn and_not_words(words: &mut [u64], to: usize, from: usize, count: us
     requires from_in { from + count ≤ length words.old }
     requires apart { IsApart to from count }
     ensures fits { AllFit words.old }
-    ensures written { IsWritten words.old words.new to count (λ k. bit_and (word words.old to k) (bit_not w64 (word words.old from k))) }
+    ensures written { IsWritten words.old words.new to count
+        (λ k. bit_and (word words.old to k) (bit_not w64 (word words.old from k))) }
 {
     for k in 0..count {
         words[to + k] = words[to + k] & !words[from + k];
@@ -177,8 +188,11 @@ pub(crate) fn or_and_words(
     requires a_apart { IsApart to a count }
     requires mask_apart { IsApart to mask count }
     ensures fits { AllFit words.old × AllFit words.new }
-    ensures written { IsWritten words.old words.new to count (λ k. bit_or (word words.old to k) (bit_and (word words.old a k) (word words.old mask k))) }
-    ensures tells { TellsChange count (λ k. bit_or (word words.old to k) (bit_and (word words.old a k) (word words.old mask k))) (word words.old to) result }
+    ensures written { IsWritten words.old words.new to count
+        (λ k. bit_or (word words.old to k) (bit_and (word words.old a k) (word words.old mask k))) }
+    ensures tells { TellsChange count
+        (λ k. bit_or (word words.old to k) (bit_and (word words.old a k) (word words.old mask k)))
+        (word words.old to) result }
 {
     let mut more = 0;
     for k in 0..count {
@@ -204,8 +218,13 @@ pub(crate) fn or_and_not_words(
     requires a_apart { IsApart to a count }
     requires mask_apart { IsApart to mask count }
     ensures fits { AllFit words.old × AllFit words.new }
-    ensures written { IsWritten words.old words.new to count (λ k. bit_or (word words.old to k) (bit_and (word words.old a k) (bit_not w64 (word words.old mask k)))) }
-    ensures tells { TellsChange count (λ k. bit_or (word words.old to k) (bit_and (word words.old a k) (bit_not w64 (word words.old mask k)))) (word words.old to) result }
+    ensures written { IsWritten words.old words.new to count
+        (λ k. bit_or (word words.old to k)
+        (bit_and (word words.old a k) (bit_not w64 (word words.old mask k)))) }
+    ensures tells { TellsChange count
+        (λ k. bit_or (word words.old to k)
+        (bit_and (word words.old a k) (bit_not w64 (word words.old mask k))))
+        (word words.old to) result }
 {
     let mut more = 0;
     for k in 0..count {

@@ -1,7 +1,7 @@
 //! The rows, and what is done with them.
 ghost use Rattle.std.specs.Prelude.{◌≡◌, ◌≢◌, ℕ, ◌*◌, ◌^◌, ◌<◌, ◌≤◌, ◌↔◌, true, false, length, replicate, slice_set, IfOk, IsTrue, MatchOption};
 ghost use Rattle.std.specs.Bool.{OnTrue, OnFalse};
-ghost use Rattle.bit_rows.specs.Tables.{row_at, is_set, HasShape, IsBlank, IsFirstSet, either, both, without};
+ghost use Rattle.bit_rows.specs.Tables.{row_at, is_set, HasShape, KeepsShape, IsBlank, IsFirstSet, either, both, without};
 
 use crate::kernels::{
     and_not_words, and_words, clear_words, copy_words, first_word, has_bit, or_and_not_words,
@@ -13,7 +13,8 @@ use std::marker::Model;
 /// The bits of a word.
 const WORD_BITS: usize = 64;
 
-/// Rows of bits, each with the same number of bits.
+/// Rows of bits, each with the same number of bits. Contracts see them as a list of rows, and a row as the list of its
+/// truth values. Rows and places count from 0.
 #[derive(Drop)]
 pub struct Rows {
     words: Vec<u64>,
@@ -34,7 +35,8 @@ impl Model for Rows {
 }
 
 impl Rows {
-    /// Rows whose bits are all off.
+    /// This many rows of this many bits, all of them off. Rows times bits are at most 2^33, which takes a GiB. This alone takes
+    /// memory: `AllocError` comes where there is not enough.
     pub fn make(alloc: Global, rows: usize, bits: usize) -> Result<Rows, AllocError>
         requires { rows * bits ≤ 2 ^ 33 }
         ensures rows { IfOk result (λ made. made ≡ replicate rows (replicate bits false)) }
@@ -50,7 +52,7 @@ impl Rows {
         })
     }
 
-    /// Whether a bit is on.
+    /// Whether bit `i` of row `r` is on.
     pub fn get(&self, r: usize, i: usize) -> bool
         requires row { r < length self.now }
         requires place { i < length (row_at self.now r) }
@@ -62,27 +64,27 @@ impl Rows {
         )
     }
 
-    /// Turns a bit on or off.
+    /// Turns bit `i` of row `r` on or off. All other bits stay.
     pub fn put(&mut self, r: usize, i: usize, on: bool)
         requires row { r < length self.old }
         requires place { i < length (row_at self.old r) }
         ensures rows { self.new ≡ slice_set self.old r (slice_set (row_at self.old r) i on) }
-        ensures shape { (rows bits : ℕ) → HasShape self.old rows bits → HasShape self.new rows bits }
+        ensures shape { KeepsShape self.old self.new }
     {
         let place = r * self.width + i / WORD_BITS;
         self.words[place] = with_bit(self.words[place], (i % WORD_BITS) as u32, on);
     }
 
-    /// Turns the bits of a row off.
+    /// Turns all bits of row `r` off. The other rows stay.
     pub fn clear(&mut self, r: usize)
         requires { r < length self.old }
         ensures rows { self.new ≡ slice_set self.old r (replicate (length (row_at self.old r)) false) }
-        ensures shape { (rows bits : ℕ) → HasShape self.old rows bits → HasShape self.new rows bits }
+        ensures shape { KeepsShape self.old self.new }
     {
         clear_words(self.words.as_mut_slice(), r * self.width, self.width);
     }
 
-    /// Whether the bits of a row are all off.
+    /// Whether the bits of row `r` are all off.
     pub fn is_zero(&self, r: usize) -> bool
         requires { r < length self.now }
         ensures { IsTrue result ↔ IsBlank (row_at self.now r) }
@@ -90,10 +92,10 @@ impl Rows {
         first_word(self.words.as_slice(), r * self.width, self.width) == self.width
     }
 
-    /// The first bit of a row that is on; `None` where they are all off.
+    /// The place of the first bit of row `r` that is on; `None` where they are all off.
     pub fn first_set(&self, r: usize) -> Option<usize>
         requires { r < length self.now }
-        ensures { MatchOption result (IsBlank (row_at self.now r)) (λ i. IsFirstSet (row_at self.now r) i) }
+        ensures { MatchOption result (IsBlank (row_at self.now r)) (IsFirstSet (row_at self.now r)) }
     {
         let words = self.words.as_slice();
         let k = first_word(words, r * self.width, self.width);
@@ -103,13 +105,13 @@ impl Rows {
         Some(k * WORD_BITS + words[r * self.width + k].trailing_zeros() as usize)
     }
 
-    /// Makes a row the same as another.
+    /// Makes row `to` the same as row `from`, which is another. All rows but `to` stay.
     pub fn copy_into(&mut self, to: usize, from: usize)
         requires to_row { to < length self.old }
         requires from_row { from < length self.old }
         requires apart { to ≢ from }
         ensures rows { self.new ≡ slice_set self.old to (row_at self.old from) }
-        ensures shape { (rows bits : ℕ) → HasShape self.old rows bits → HasShape self.new rows bits }
+        ensures shape { KeepsShape self.old self.new }
     {
         copy_words(
             self.words.as_mut_slice(),
@@ -119,13 +121,15 @@ impl Rows {
         );
     }
 
-    /// Turns on the bits that are on in another row, and says whether that changed the row.
+    /// Turns on the bits of row `to` that are on in row `from`, which is another, and says whether that changed row `to`.
+    /// All rows but `to` stay.
     pub fn or_into(&mut self, to: usize, from: usize) -> bool
         requires to_row { to < length self.old }
         requires from_row { from < length self.old }
         requires apart { to ≢ from }
-        ensures rows { self.new ≡ slice_set self.old to (either (row_at self.old to) (row_at self.old from)) }
-        ensures shape { (rows bits : ℕ) → HasShape self.old rows bits → HasShape self.new rows bits }
+        ensures rows { self.new ≡ slice_set self.old to
+            (either (row_at self.old to) (row_at self.old from)) }
+        ensures shape { KeepsShape self.old self.new }
         ensures stays { OnFalse result (self.new ≡ self.old) }
         ensures changes { OnTrue result (self.new ≢ self.old) }
     {
@@ -137,13 +141,14 @@ impl Rows {
         )
     }
 
-    /// Turns off the bits that are off in another row.
+    /// Turns off the bits of row `to` that are off in row `from`, which is another. All rows but `to` stay.
     pub fn and_into(&mut self, to: usize, from: usize)
         requires to_row { to < length self.old }
         requires from_row { from < length self.old }
         requires apart { to ≢ from }
-        ensures rows { self.new ≡ slice_set self.old to (both (row_at self.old to) (row_at self.old from)) }
-        ensures shape { (rows bits : ℕ) → HasShape self.old rows bits → HasShape self.new rows bits }
+        ensures rows { self.new ≡ slice_set self.old to
+            (both (row_at self.old to) (row_at self.old from)) }
+        ensures shape { KeepsShape self.old self.new }
     {
         and_words(
             self.words.as_mut_slice(),
@@ -153,13 +158,14 @@ impl Rows {
         );
     }
 
-    /// Turns off the bits that are on in another row.
+    /// Turns off the bits of row `to` that are on in row `from`, which is another. All rows but `to` stay.
     pub fn and_not_into(&mut self, to: usize, from: usize)
         requires to_row { to < length self.old }
         requires from_row { from < length self.old }
         requires apart { to ≢ from }
-        ensures rows { self.new ≡ slice_set self.old to (without (row_at self.old to) (row_at self.old from)) }
-        ensures shape { (rows bits : ℕ) → HasShape self.old rows bits → HasShape self.new rows bits }
+        ensures rows { self.new ≡ slice_set self.old to
+            (without (row_at self.old to) (row_at self.old from)) }
+        ensures shape { KeepsShape self.old self.new }
     {
         and_not_words(
             self.words.as_mut_slice(),
@@ -169,15 +175,17 @@ impl Rows {
         );
     }
 
-    /// Turns on the bits that are on in a row and in a mask, and says whether that changed the row.
+    /// Turns on the bits of row `to` that are on both in row `a` and in row `mask`, and says whether that changed row `to`.
+    /// Neither is `to`; they may be one row. All rows but `to` stay.
     pub fn or_and_into(&mut self, to: usize, a: usize, mask: usize) -> bool
         requires to_row { to < length self.old }
         requires a_row { a < length self.old }
         requires mask_row { mask < length self.old }
         requires a_apart { to ≢ a }
         requires mask_apart { to ≢ mask }
-        ensures rows { self.new ≡ slice_set self.old to (either (row_at self.old to) (both (row_at self.old a) (row_at self.old mask))) }
-        ensures shape { (rows bits : ℕ) → HasShape self.old rows bits → HasShape self.new rows bits }
+        ensures rows { self.new ≡ slice_set self.old to
+            (either (row_at self.old to) (both (row_at self.old a) (row_at self.old mask))) }
+        ensures shape { KeepsShape self.old self.new }
         ensures stays { OnFalse result (self.new ≡ self.old) }
         ensures changes { OnTrue result (self.new ≢ self.old) }
     {
@@ -190,15 +198,17 @@ impl Rows {
         )
     }
 
-    /// Turns on the bits that are on in a row and off in a mask, and says whether that changed the row.
+    /// Turns on the bits of row `to` that are on in row `a` and off in row `mask`, and says whether that changed row `to`.
+    /// Neither is `to`; they may be one row. All rows but `to` stay.
     pub fn or_and_not_into(&mut self, to: usize, a: usize, mask: usize) -> bool
         requires to_row { to < length self.old }
         requires a_row { a < length self.old }
         requires mask_row { mask < length self.old }
         requires a_apart { to ≢ a }
         requires mask_apart { to ≢ mask }
-        ensures rows { self.new ≡ slice_set self.old to (either (row_at self.old to) (without (row_at self.old a) (row_at self.old mask))) }
-        ensures shape { (rows bits : ℕ) → HasShape self.old rows bits → HasShape self.new rows bits }
+        ensures rows { self.new ≡ slice_set self.old to
+            (either (row_at self.old to) (without (row_at self.old a) (row_at self.old mask))) }
+        ensures shape { KeepsShape self.old self.new }
         ensures stays { OnFalse result (self.new ≡ self.old) }
         ensures changes { OnTrue result (self.new ≢ self.old) }
     {

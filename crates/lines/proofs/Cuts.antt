@@ -39,6 +39,7 @@ pieces-last (b ∷ a ∷ bytes) past some = ⊎_elim
     (λ other. cond-false (b == 10) _ _ other ∙ ap (on_first b) (pieces-last (a ∷ bytes) (omega (arith, position-miss b (a ∷ bytes) other)) (omega arith)))
     (cases_Bool (b == 10))
 
+-- what stands from a place on, as a slice up to the end
 pub rest_is : (n : ℕ) (t : List ℕ) → take (length t - n) (drop n t) ≡ drop n t
 rest_is n t = take_all _ _ (omega (arith, length-drop n t))
 
@@ -47,6 +48,7 @@ pub first-feed : (bytes : List ℕ) (n : ℕ) → IsFirstByte (is_byte 10) bytes
 first-feed bytes n first =
     sym (position_or_len_is is_feed bytes n 0 (omega (arith, first.0.high)) (λ k below. false_from_ne_true _ (first.0.before k (omega arith) below)) (λ inside. first.1))
 
+-- where the search finds none, there is none
 pub no-feed : (bytes : List ℕ) → IsFirstByte (is_byte 10) bytes None → length bytes ≤ position_or_len is_feed bytes
 no-feed bytes none =
     omega (arith, position_or_len_is is_feed bytes (length bytes) 0 (omega arith) (λ k below. false_from_ne_true _ (none k (omega arith) below)) (λ inside. absurd (omega arith)))

@@ -14,7 +14,7 @@ use Rattle.log_reader.specs.Reading as spec
 use Rattle.log_reader.specs.Reading.{Form, Rules, Setting, setting, Decided, by_rules, decided, decided_piece, line_events, section_after, piece_events, section_at_end, key_file, next_section, file_events, events_of, first_of, piece_refusal, line_refusal, limit_refusal, at_line, pieces_refusal, bytes_refusal, files_refusal, first_refusal}
 use Rattle.log_reader.specs.declared.refusal.ReadError.{ReadError}
 use Rattle.log_reader.specs.declared.refusal.ReadError.TheVariants as refused
-use Rattle.log_reader.proofs.Bytes.{bytes-lossy}
+use Rattle.log_reader.proofs.TextIsBytes.{bytes-lossy}
 
 same-type : (rs ss : List Rule) (text : List ℕ) → AreAlike rs ss → (name : Named) → type_text rs text name ≡ type_text ss text name
 same-type rs ss text alike (named.Fixed number) = ap (λ (o : Option (List ℕ)). unwrap_or o []) (alike-name rs ss number alike)
@@ -87,10 +87,12 @@ module _ (f g : Form) (same : (piece : List ℕ) → decided_piece f piece ≡ d
       (same-pieces_refusal ignore join (nat_lt room (length bytes)) number section before 1 (pieces (take (room + 1) bytes)))
       (same-files_refusal ignore join (number + 1) (next_section t (section_at_end g section (pieces bytes))) (before ++ more) (room - length bytes) files)
 
+-- rules that are alike find one first refusal
 pub alike-refusal : (rs ss : List Rule) (ignore join : Bool) (files : List (List ℕ)) → AreAlike rs ss
     → first_refusal (setting (Rules rs) ignore join) files ≡ first_refusal (setting (Rules ss) ignore join) files
 alike-refusal rs ss ignore join files alike = same-files_refusal (Rules rs) (Rules ss) (same-piece rs ss alike) ignore join 0 0 [] MAX_INPUT_BYTES files
 
+-- and the same events
 pub alike-events : (rs ss : List Rule) (ignore join : Bool) (files : List (List ℕ)) → AreAlike rs ss
     → events_of (setting (Rules rs) ignore join) files ≡ events_of (setting (Rules ss) ignore join) files
 alike-events rs ss ignore join files alike = same-file_events (Rules rs) (Rules ss) (same-piece rs ss alike) ignore join 0 0 files

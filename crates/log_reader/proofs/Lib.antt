@@ -1,6 +1,8 @@
-pub mod Bytes
+pub mod TextIsBytes
 pub mod AlikeLogs
-pub mod Pieces
-pub mod Files
-pub mod UpTo
-pub mod Causes
+pub mod LinesOfLog
+pub mod PieceByPiece
+pub mod FirstRefusal
+pub mod OneInput
+pub mod InputByInput
+pub mod WhyRefused

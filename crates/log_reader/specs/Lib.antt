@@ -3,3 +3,4 @@ pub mod Inputs
 pub mod Views
 pub mod SoFar
 pub mod Files
+pub mod LogLines

@@ -1,5 +1,6 @@
 -- Logs over several files: the events of their lines, and the first refusal.
-use Rattle.std.specs.Prelude.{ℕ, ◌+◌, ◌-◌, ◌==◌, ◌&&◌, Bool, not, List, [], ◌∷◌, ◌++◌, length, take, nat_lt, nat_le, Option, Some, None, Result, Ok, Err, if◌then◌else◌}
+use Rattle.std.specs.Prelude.{ℕ, ◌+◌, ◌-◌, ◌==◌, ◌&&◌, Bool, not, List, [], ◌∷◌, ◌++◌, length, take}
+use Rattle.std.specs.Prelude.{nat_lt, nat_le, Option, Some, None, Result, Ok, Err, if◌then◌else◌}
 use Rattle.std.specs.List.{list_any}
 use Rattle.std.specs.Str.{bytes_eq}
 use Rattle.limits.specs.declared.TheConstants.{MAX_EVENTS, MAX_INPUT_BYTES, MAX_LINE_BYTES, MAX_TRACE_BYTES, MAX_TYPE_BYTES, MAX_TYPES}
@@ -43,7 +44,8 @@ by_fields (Some fields) = Event fields.1 fields.0 0
 
 -- by rules
 abbrev pub by_rules : List Rule → List ℕ → Result Decision DecideError → Decided
-by_rules rules text (Ok (decision.Event name from to time)) = Event (type_text rules text name) (part text from to) time
+by_rules rules text (Ok (decision.Event name from to time)) =
+    Event (type_text rules text name) (part text from to) time
 by_rules rules text (Ok decision.Skip) = Skip
 by_rules rules text (Ok decision.Separator) = Separator
 by_rules rules text (Ok decision.Undecided) = Undecided
@@ -78,12 +80,14 @@ section_after section BadTime = section
 abbrev pub piece_events : Form → ℕ → ℕ → List (List ℕ) → List KeyedEvent
 piece_events form file section [] = []
 piece_events form file section (piece ∷ rest) =
-    line_events file section (decided_piece form piece) ++ piece_events form file (section_after section (decided_piece form piece)) rest
+    line_events file section (decided_piece form piece)
+    ++ piece_events form file (section_after section (decided_piece form piece)) rest
 
 -- the section after the pieces
 abbrev pub section_at_end : Form → ℕ → List (List ℕ) → ℕ
 section_at_end form section [] = section
-section_at_end form section (piece ∷ rest) = section_at_end form (section_after section (decided_piece form piece)) rest
+section_at_end form section (piece ∷ rest) =
+    section_at_end form (section_after section (decided_piece form piece)) rest
 
 -- the number of a file in keys: files that are joined are one
 abbrev pub key_file : Setting → ℕ → ℕ
@@ -114,13 +118,15 @@ abbrev pub event_refusal : At → List (List ℕ) → ℕ → List ℕ → List 
 event_refusal at types count typ trace =
     if nat_lt MAX_TYPE_BYTES (length typ) then Some (refused.TypeTooLong at)
     else if nat_lt MAX_TRACE_BYTES (length trace) then Some (refused.TraceTooLong at)
-    else if not (list_any (bytes_eq typ) types) && nat_le MAX_TYPES (length types) then Some (refused.TypeLimit at)
+    else if not (list_any (bytes_eq typ) types) && nat_le MAX_TYPES (length types)
+    then Some (refused.TypeLimit at)
     else if nat_le MAX_EVENTS count then Some (refused.EventLimit at)
     else None
 
 -- the refusal of a line, after these events
 abbrev pub line_refusal : Bool → At → List KeyedEvent → Decided → Option ReadError
-line_refusal ignore at before (Event typ trace time) = event_refusal at (types_of before) (length before) typ trace
+line_refusal ignore at before (Event typ trace time) =
+    event_refusal at (types_of before) (length before) typ trace
 line_refusal ignore at before Skip = None
 line_refusal ignore at before Separator = None
 line_refusal ignore at before Undecided = if ignore then None else Some (refused.Undecided at)
@@ -134,31 +140,36 @@ piece_refusal s at before piece =
 
 -- the refusal of the piece in which the byte past the limit on all input stands
 abbrev pub limit_refusal : At → List ℕ → ReadError
-limit_refusal at piece = if nat_lt MAX_LINE_BYTES (length piece) then refused.LineTooLong at else refused.InputLimit
+limit_refusal at piece =
+    if nat_lt MAX_LINE_BYTES (length piece) then refused.LineTooLong at else refused.InputLimit
 
 -- a line of a file, by their numbers
 abbrev pub at_line : ℕ → ℕ → At
 at_line file line = record { file = file; line = line }
 
--- The first refusal of the pieces of the file with this number, after these events, where the first piece has this line number and section.
+-- The first refusal of the pieces of the file with this number, after these events, where the first piece has this
+-- line number and section.
 -- Where the limit on all input cuts the file, the last piece is the one with the byte past the limit.
 abbrev pub pieces_refusal : Setting → ℕ → Bool → ℕ → List KeyedEvent → ℕ → List (List ℕ) → Option ReadError
 pieces_refusal s number cut section before line [] = None
 pieces_refusal s number cut section before line (piece ∷ rest) =
     if cut && length rest == 0 then Some (limit_refusal (at_line number line) piece)
     else first_of (piece_refusal s (at_line number line) before piece)
-    (pieces_refusal s number cut (section_after section (decided_piece s.form piece)) (before ++ line_events (key_file s number) section (decided_piece s.form piece)) (line + 1) rest)
+    (pieces_refusal s number cut (section_after section (decided_piece s.form piece))
+    (before ++ line_events (key_file s number) section (decided_piece s.form piece)) (line + 1) rest)
 
 -- the first refusal of a file, where there is room for so many bytes more
 abbrev pub bytes_refusal : Setting → ℕ → ℕ → List KeyedEvent → ℕ → List ℕ → Option ReadError
-bytes_refusal s number section before room bytes = pieces_refusal s number (nat_lt room (length bytes)) section before 1 (pieces (take (room + 1) bytes))
+bytes_refusal s number section before room bytes =
+    pieces_refusal s number (nat_lt room (length bytes)) section before 1 (pieces (take (room + 1) bytes))
 
 -- the first refusal of files
 abbrev pub files_refusal : Setting → ℕ → ℕ → List KeyedEvent → ℕ → List (List ℕ) → Option ReadError
 files_refusal s number section before room [] = None
 files_refusal s number section before room (bytes ∷ files) =
     first_of (bytes_refusal s number section before room bytes)
-    (files_refusal s (number + 1) (next_section s (section_at_end s.form section (pieces bytes))) (before ++ piece_events s.form (key_file s number) section (pieces bytes)) (room - length bytes) files)
+    (files_refusal s (number + 1) (next_section s (section_at_end s.form section (pieces bytes)))
+    (before ++ piece_events s.form (key_file s number) section (pieces bytes)) (room - length bytes) files)
 
 -- the first refusal of a log, in the order of its bytes
 abbrev pub first_refusal : Setting → List (List ℕ) → Option ReadError

@@ -4,7 +4,8 @@ use Rattle.limits.specs.declared.TheConstants.{MAX_EVENTS, MAX_LINE_BYTES, MAX_T
 use Rattle.traces.specs.Words.{Event as KeyedEvent, Gathering, gathered_of, event_count_of}
 use Rattle.line_rules.specs.Views.{rules_in, matched_rules}
 use Rattle.log_reader.specs.Reading as spec
-use Rattle.log_reader.specs.Reading.{Setting, Decided, decided_piece, event_refusal, line_events, section_after, piece_events, section_at_end, key_file, pieces_refusal}
+use Rattle.log_reader.specs.Reading.{Setting, Decided, decided_piece, event_refusal, key_file, line_events, setting}
+use Rattle.log_reader.specs.Reading.{piece_events, pieces_refusal, section_after, section_at_end}
 use Rattle.log_reader.specs.declared.decider.Decider.{Decider}
 use Rattle.log_reader.specs.declared.decider.Decider.TheVariants.{Plain, Rules}
 use Rattle.log_reader.specs.declared.refusal.At.{At}
@@ -34,7 +35,8 @@ IsGatheredOf gathering events = gathering ≡ gathered_of events
 
 -- the refusal of a line after what was gathered
 abbrev pub refusal_in : Bool → At → Gathering → Decided → Option ReadError
-refusal_in ignore at gathering (spec.Event typ trace time) = event_refusal at gathering.types (event_count_of gathering.traces) typ trace
+refusal_in ignore at gathering (spec.Event typ trace time) =
+    event_refusal at gathering.types (event_count_of gathering.traces) typ trace
 refusal_in ignore at gathering spec.Skip = None
 refusal_in ignore at gathering spec.Separator = None
 refusal_in ignore at gathering spec.Undecided = if ignore then None else Some (refused.Undecided at)
@@ -46,7 +48,9 @@ IsRefusal refusal e = (e ≡ refused.Memory) ⊎ (refusal ≡ Some e)
 
 -- from what was gathered of some events, what was gathered of these and of the line's
 abbrev pub AddsLine : ℕ → ℕ → Decided → Gathering → Gathering → Type 0
-AddsLine file section d old new = (events : List KeyedEvent) → IsGatheredOf old events → IsGatheredOf new (events ++ line_events file section d)
+AddsLine file section d old new =
+    (events : List KeyedEvent) → IsGatheredOf old events
+    → IsGatheredOf new (events ++ line_events file section d)
 
 -- a line that is decided so is not refused, and its event and its section are taken in
 pub record TakesLine (at : At) (d : Decided) (old new : LogSoFar) : Type 0 where
@@ -59,7 +63,7 @@ pub record TakesLine (at : At) (d : Decided) (old new : LogSoFar) : Type 0 where
 
 -- how a reader reads
 abbrev pub setting_of : LogReader → Setting
-setting_of reader = record { form = decider_view reader.decider; ignore = reader.log.ignore; join = reader.log.join }
+setting_of reader = setting (decider_view reader.decider) reader.log.ignore reader.log.join
 
 -- a reader between two lines
 pub record IsReady (reader : LogReader) : Type 0 where
@@ -84,7 +88,8 @@ pub record ReadsPiece (at : At) (piece : List ℕ) (old new : LogReader) : Type 
   pub reads : ReadsText at (decided_piece (decider_view old.decider) piece) old new
 
 -- the pieces of a file that follows these events are not refused, and their events are taken in
-pub record PiecesAreRead (s : Setting) (number : ℕ) (cut : Bool) (section : ℕ) (ps : List (List ℕ)) (events : List KeyedEvent) (new : Gathering) : Type 0 where
+pub record PiecesAreRead (s : Setting) (number : ℕ) (cut : Bool) (section : ℕ) (ps : List (List ℕ))
+    (events : List KeyedEvent) (new : Gathering) : Type 0 where
   pub refusal : pieces_refusal s number cut section events 1 ps ≡ None
   pub log : IsGatheredOf new (events ++ piece_events s.form (key_file s number) section ps)
 
@@ -93,9 +98,11 @@ pub record ReadsPieces (number : ℕ) (cut : Bool) (ps : List (List ℕ)) (old n
   pub ready : IsReady new
   pub setting : setting_of new ≡ setting_of old
   pub section : new.log.section ≡ section_at_end (setting_of old).form old.log.section ps
-  pub log : (events : List KeyedEvent) → IsGatheredOf old.log.builder events → PiecesAreRead (setting_of old) number cut old.log.section ps events new.log.builder
+  pub log : (events : List KeyedEvent) → IsGatheredOf old.log.builder events
+      → PiecesAreRead (setting_of old) number cut old.log.section ps events new.log.builder
 
 -- the first refusal of the pieces of a file is this one, or memory was wanted
 abbrev pub IsPiecesRefusal : ℕ → Bool → List (List ℕ) → LogReader → ReadError → Type 0
 IsPiecesRefusal number cut ps old e =
-    (events : List KeyedEvent) → IsGatheredOf old.log.builder events → IsRefusal (pieces_refusal (setting_of old) number cut old.log.section events 1 ps) e
+    (events : List KeyedEvent) → IsGatheredOf old.log.builder events
+    → IsRefusal (pieces_refusal (setting_of old) number cut old.log.section events 1 ps) e

@@ -12,6 +12,9 @@ mod so_far;
 mod tests;
 
 pub use form::Form;
-pub use law::alike_rules_read_alike;
+pub use law::{
+    a_refusal_is_of_the_first_line, alike_rules_read_alike, events_are_those_of_lines,
+    one_file_passes_the_limit,
+};
 pub use reading::read_log;
 pub use refusal::{At, ReadError};

@@ -41,7 +41,8 @@ fn read_file<I: Inputs>(
     requires few { reader.old.log.section + room ≤ MAX_INPUT_BYTES }
     ensures stays { Stays (I.state inputs.old) (I.state inputs.new) }
     ensures ok { IfOk result (λ left.
-        ReadsFile (I.state inputs.old) (I.state inputs.new) name.now number room left reader.old reader.new) }
+        ReadsFile (I.state inputs.old) (I.state inputs.new) name.now number room left
+        reader.old reader.new) }
     ensures err { IfErr result
         (HasFileCause (I.state inputs.old) (I.state inputs.new) name.now number room reader.old) }
     ensures memory { result ≡ Err ReadError.Memory

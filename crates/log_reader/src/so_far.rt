@@ -77,7 +77,8 @@ impl LogSoFar {
     /// Takes in a line in the plain form.
     pub fn take_plain(&mut self, at: At, text: &str) -> Result<(), ReadError>
         requires within { IsWithin self.old.builder }
-        ensures ok { OnOk result (TakesLine at (by_fields (plain_fields_of text.now)) self.old self.new) }
+        ensures ok { OnOk result
+            (TakesLine at (by_fields (plain_fields_of text.now)) self.old self.new) }
         ensures err { IfErr result (IsRefusal (refusal_in self.old.ignore at self.old.builder
             (by_fields (plain_fields_of text.now)))) }
     {
@@ -98,7 +99,8 @@ impl LogSoFar {
         requires matchers { matched_rules kept.old.matchers ≡ rules_in kept.old.rules.now }
         requires room { self.old.section < 2 ^ 32 - 1 }
         ensures ok { OnOk result
-            (TakesLine at (decided (spec.Rules (rules_in kept.old.rules.now)) text.now) self.old self.new) }
+            (TakesLine at (decided (spec.Rules (rules_in kept.old.rules.now)) text.now)
+            self.old self.new) }
         ensures err { IfErr result (IsRefusal (refusal_in self.old.ignore at self.old.builder
             (decided (spec.Rules (rules_in kept.old.rules.now)) text.now))) }
         ensures matchers { matched_rules kept.new.matchers ≡ matched_rules kept.old.matchers }

@@ -58,7 +58,7 @@ ForeFollows =
     (g : Graph) (inv : Invariant) → Satisfies g inv
     → (step inv 0 (g.typ INITIAL) ≡ critical inv → Fore inv g INITIAL)
     × ((u v : ℕ) → IsOnPath g u → IsOnPath g v → g.edge u v ≡ true
-        → Enters inv (g.typ v) ⊎ (Stays inv (g.typ v) × Fore inv g u) → Fore inv g v)
+    → Enters inv (g.typ v) ⊎ (Stays inv (g.typ v) × Fore inv g u) → Fore inv g v)
 
 -- and they find all of it
 abbrev pub ForeIsLeast : Type 0
@@ -66,7 +66,7 @@ ForeIsLeast =
     (g : Graph) (inv : Invariant) (found : ℕ → Bool)
     → (step inv 0 (g.typ INITIAL) ≡ critical inv → found INITIAL ≡ true)
     → ((u v : ℕ) → g.edge u v ≡ true
-        → Enters inv (g.typ v) ⊎ (Stays inv (g.typ v) × (found u ≡ true)) → found v ≡ true)
+    → Enters inv (g.typ v) ⊎ (Stays inv (g.typ v) × (found u ≡ true)) → found v ≡ true)
     → (p : ℕ) → Fore inv g p → found p ≡ true
 
 -- rules that find where the bad end is ahead: at TERMINAL if the critical state is bad, and against an edge to a type that falls into the bad state or leaves the monitor where it is
@@ -75,7 +75,7 @@ BackFollows =
     (g : Graph) (inv : Invariant)
     → (critical inv ≡ bad_of inv.kind → Back inv g TERMINAL)
     × ((u v : ℕ) → IsOnPath g v → g.edge u v ≡ true
-        → Falls inv (g.typ v) ⊎ (Stays inv (g.typ v) × Back inv g v) → Back inv g u)
+    → Falls inv (g.typ v) ⊎ (Stays inv (g.typ v) × Back inv g v) → Back inv g u)
 
 -- and they find all of it on paths
 abbrev pub BackIsLeast : Type 0
@@ -83,5 +83,5 @@ BackIsLeast =
     (g : Graph) (inv : Invariant) (found : ℕ → Bool) → Satisfies g inv
     → (critical inv ≡ bad_of inv.kind → found TERMINAL ≡ true)
     → ((u v : ℕ) → g.edge u v ≡ true
-        → Falls inv (g.typ v) ⊎ (Stays inv (g.typ v) × (found v ≡ true)) → found u ≡ true)
+    → Falls inv (g.typ v) ⊎ (Stays inv (g.typ v) × (found v ≡ true)) → found u ≡ true)
     → (p : ℕ) → IsOnPath g p → Back inv g p → found p ≡ true

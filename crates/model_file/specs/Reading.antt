@@ -135,7 +135,13 @@ parts_in d =
     invariants_in (length ts) (length ps) d >>= λ ls. merges_in d >>= λ ms.
     splits_in (length ls) d >>= λ ss. blocks_in (type_of ps) (length ls) ss d >>= λ bs.
     Ok (record {
-      types = ts; partitions = ps; edges = es; invariants = ls; splits = ss; merges = ms; blocks = bs
+      types = ts;
+      partitions = ps;
+      edges = es;
+      invariants = ls;
+      splits = ss;
+      merges = ms;
+      blocks = bs;
     })
 
 -- the model of a JSON value, or its first refusal

@@ -57,6 +57,7 @@ edges_before b (c ∷ cs) ended p q k =
           rw f (omega arith)
     ]
 
+-- the edges between cells are those of their traces
 pub edges_are : (cs : List Cell) (p q : ℕ) → IsClosed true cs → edges_along 0 cs p q ≡ edge_count (traces_of cs) p q
 edges_are cs p q k = edges_before 0 cs true p q k ∙ from_start (traces_of cs) p q
 
@@ -80,6 +81,7 @@ once b c p q l =
           elim c.last as (λ x. is_edge b c.id p q + cond x (is_edge c.id 1 p q) 0 ≤ 1) [ true ↦ omega arith | false ↦ omega arith ]
     ]
 
+-- an edge stands between cells at most as often as there are cells
 pub edges_along-le : (b : ℕ) (cs : List Cell) (p q : ℕ) → AllByRecursion (λ (c : Cell). 2 ≤ c.id) cs → edges_along b cs p q ≤ length cs
 edges_along-le b [] p q a = omega arith
 edges_along-le b (c ∷ cs) p q a =

@@ -69,6 +69,7 @@ put_begins : (e : Event) (h : Assignment) → (t : List Event) × (g : Assignmen
 put_begins e [] = ([], [], refl)
 put_begins e (t ∷ h) = (t, h, refl)
 
+-- the traces of cells begin with the event of the first cell
 pub first_begins : (c : Cell) (cs : List Cell) → (t : List Event) × (h : Assignment) × (traces_of (c ∷ cs) ≡ (event_of c ∷ t) ∷ h)
 first_begins c cs =
     elim c.last as (λ b. (t : List Event) × (h : Assignment) × (cond b ((event_of c ∷ []) ∷ traces_of cs) (put_before (event_of c) (traces_of cs)) ≡ (event_of c ∷ t) ∷ h)) [
@@ -105,6 +106,7 @@ less c cs i =
       | false ↦ put_less (event_of c) (traces_of cs) i
     ]
 
+-- a cell that is not marked is not the last of its trace
 pub unmarked_is_not : (ended : Bool) (cs : List Cell) → IsClosed ended cs → (i : ℕ) (x : Cell) → slice_get cs i ≡ Some x → x.last ≡ false → IsLast (traces_of cs) i → ⊥
 unmarked_is_not ended [] k i x s m l = cc s
 unmarked_is_not ended (c ∷ cs) k zero x s m l =

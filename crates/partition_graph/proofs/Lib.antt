@@ -1,8 +1,9 @@
-pub mod Traces
+pub mod CellTraces
 pub mod Lasts
 pub mod Edges
-pub mod Ranges
-pub mod Words
+pub mod UnusedIds
+pub mod WordCells
+pub mod Counting
 pub mod Listing
 pub mod Gathered
 pub mod Moving

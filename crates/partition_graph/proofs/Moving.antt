@@ -1,5 +1,5 @@
 -- Cells that are moved to a new id, and what a graph keeps of them.
-use Rattle.std.proofs.Common.{◌≡◌, ◌≢◌, ◌⊎◌, ℕ, suc, ◌+◌, ◌<◌, ◌≤◌, ◌^◌, ◌==◌, ◌&&◌, Bool, true, false, cond, List, [], ◌∷◌, length, map, take, get_or, arith, ap, ap₂, sym, ◌∙◌, refl, subst, inl, inr, length-append}
+use Rattle.std.proofs.Common.{◌≡◌, ◌≢◌, ◌⊎◌, ℕ, suc, ◌+◌, ◌<◌, ◌≤◌, ◌^◌, ◌==◌, ◌&&◌, Bool, true, false, cond, List, [], ◌∷◌, length, map, take, arith, ap, ap₂, sym, ◌∙◌, refl, subst, inl, inr, length-append}
 use Rattle.std.proofs.lemmas.Bool.{cases_Bool}
 use Rattle.std.proofs.lemmas.List.{length-map, take-map}
 use Rattle.std.proofs.lemmas.List.Elements.{All-from_recursion}
@@ -10,14 +10,17 @@ use Rattle.partition_model.specs.Refinement.{split, split_trace}
 use Rattle.partition_model.specs.Laws.{IsFresh}
 use Rattle.partition_model.proofs.Lists.{In, In-events, events-In, all_in, all_from}
 use Rattle.partition_model.proofs.Runs.{split-typed, split-event, split-In}
+use Rattle.limits.specs.declared.TheConstants.{FIRST_TYPE, MAX_PARTITIONS}
 use Rattle.partition_graph.specs.declared.cells.Cell.{Cell}
+use Rattle.partition_graph.specs.declared.tables.Tables.{Tables}
 use Rattle.partition_graph.specs.Cells.{event_of, put_before, traces_of, IsClosed, first_id, moved_cells}
-use Rattle.partition_graph.specs.Counts.{count_at, edges_along, cells_with, last_type}
+use Rattle.partition_graph.specs.Counts.{HasId}
 use Rattle.partition_graph.specs.Kept.{IsKept}
-use Rattle.partition_graph.proofs.Traces.{events_are, types_are, members_are}
+use Rattle.partition_graph.specs.Tables.{IsCountOf}
+use Rattle.partition_graph.proofs.CellTraces.{events_are, types_are, members_are}
 use Rattle.partition_graph.proofs.Edges.{edges_are}
 use Rattle.partition_graph.proofs.Lasts.{first_begins}
-use Rattle.partition_graph.proofs.Words.{all_weaker}
+use Rattle.partition_graph.proofs.WordCells.{all_weaker}
 
 abbrev moved_event : ℕ → ℕ → ℕ → Event → ℕ → Event
 moved_event p q n e behind = record { typ = e.typ; id = cond (e.id == p && behind == q) n e.id }
@@ -38,9 +41,11 @@ traces_moved p q n ended (c ∷ cs) k =
       | inr f ↦ rw f (ap (λ (h : Assignment). put_before (moved_event p q n (event_of c) (first_id cs)) h) i ∙ put_moved p q n c cs (subst (λ (z : Bool). IsClosed z cs) f k))
     ]
 
+-- the traces of moved cells are the divided traces
 pub moved_are : (p q n : ℕ) (cs : List Cell) → IsClosed true cs → traces_of (moved_cells p q n cs) ≡ split p q n (traces_of cs)
 moved_are p q n cs k = traces_moved p q n true cs k
 
+-- there are as many cells as before
 pub length-moved_cells : (p q n : ℕ) (cs : List Cell) → length (moved_cells p q n cs) ≡ length cs
 length-moved_cells p q n [] = refl
 length-moved_cells p q n (c ∷ cs) = ap suc (length-moved_cells p q n cs)
@@ -87,40 +92,40 @@ unmapped P (c ∷ cs) a = (a.0, unmapped P cs a.1)
 all_cells : (P : Event → Type 0) (cs : List Cell) → AllByRecursion P (events (traces_of cs)) → AllByRecursion (λ (c : Cell). P (event_of c)) cs
 all_cells P cs a = unmapped P cs (subst (λ (es : List Event). AllByRecursion P es) (events_are cs) a)
 
-pub below_all : (k n : ℕ) (cs : List Cell) → n ≤ k → AreBelow n (traces_of cs) → All (λ (c : Cell). c.id < k) cs
-below_all k n cs l b =
-    All-from_recursion (λ (c : Cell). c.id < k) cs
-    (all_weaker (λ (c : Cell). c.id < n) (λ (c : Cell). c.id < k) cs (λ c m. let r : c.id < k = omega arith in r) (all_cells (λ (e : Event). e.id < n) cs b))
+both_cells : (cs : List Cell) → AllByRecursion (λ (c : Cell). FIRST_TYPE ≤ c.id) cs → AllByRecursion (λ (c : Cell). c.id < MAX_PARTITIONS) cs → AllByRecursion HasId cs
+both_cells [] a b = tt
+both_cells (c ∷ cs) a b = ((a.0, b.0), both_cells cs a.1 b.1)
 
-pub two_all : (cs : List Cell) → IsTyped (traces_of cs) → All (λ (c : Cell). 2 ≤ c.id) cs
-two_all cs t =
-    All-from_recursion (λ (c : Cell). 2 ≤ c.id) cs
-    (all_weaker (λ (c : Cell). (2 ≤ c.id) × (c.typ ≡ type_of (traces_of cs) c.id)) (λ (c : Cell). 2 ≤ c.id) cs (λ c m. m.0) (all_cells (λ (e : Event). (2 ≤ e.id) × (e.typ ≡ type_of (traces_of cs) e.id)) cs t))
+-- each cell has the id of a partition of events
+pub moved_ids : (n : ℕ) (cs : List Cell) → n ≤ MAX_PARTITIONS → AreBelow n (traces_of cs) → IsTyped (traces_of cs) → All HasId cs
+moved_ids n cs l b t =
+    All-from_recursion HasId cs
+    (both_cells cs
+    (all_weaker (λ (c : Cell). (FIRST_TYPE ≤ c.id) × (c.typ ≡ type_of (traces_of cs) c.id)) (λ (c : Cell). FIRST_TYPE ≤ c.id) cs (λ c m. m.0) (all_cells (λ (e : Event). (FIRST_TYPE ≤ e.id) × (e.typ ≡ type_of (traces_of cs) e.id)) cs t))
+    (all_weaker (λ (c : Cell). c.id < n) (λ (c : Cell). c.id < MAX_PARTITIONS) cs (λ (c : Cell) m. let r : c.id < MAX_PARTITIONS = omega arith in r) (all_cells (λ (e : Event). e.id < n) cs b)))
 
 -- what is counted anew after a split
-pub moved_typed : (p q n : ℕ) (cells moved : List Cell) (firsts types sizes counts : List ℕ) → IsKept cells firsts types sizes counts n → moved ≡ moved_cells p q n cells → IsTyped (traces_of moved)
-moved_typed p q n cells moved firsts types sizes counts k e =
+pub moved_typed : (p q n : ℕ) (cells moved : List Cell) (firsts : List ℕ) (tables : Tables) → IsKept cells firsts tables n → moved ≡ moved_cells p q n cells → IsTyped (traces_of moved)
+moved_typed p q n cells moved firsts tables k e =
     let h : traces_of moved ≡ split p q n (traces_of cells) = ap (λ (cs : List Cell). traces_of cs) e ∙ moved_are p q n cells k.closed in
     subst (λ (z : Assignment). IsTyped z) (sym h) (split-typed (traces_of cells) p q n k.typed (fresh (traces_of cells) n k.two k.below))
 
-pub moved_below : (p q n : ℕ) (cells moved : List Cell) (firsts types sizes counts : List ℕ) → IsKept cells firsts types sizes counts n → moved ≡ moved_cells p q n cells → AreBelow (n + 1) (traces_of moved)
-moved_below p q n cells moved firsts types sizes counts k e =
+-- all ids are below the next one that is not used
+pub moved_below : (p q n : ℕ) (cells moved : List Cell) (firsts : List ℕ) (tables : Tables) → IsKept cells firsts tables n → moved ≡ moved_cells p q n cells → AreBelow (n + 1) (traces_of moved)
+moved_below p q n cells moved firsts tables k e =
     let h : traces_of moved ≡ split p q n (traces_of cells) = ap (λ (cs : List Cell). traces_of cs) e ∙ moved_are p q n cells k.closed in
     subst (λ (z : Assignment). AreBelow (n + 1) z) (sym h) (split_below p q n (traces_of cells) k.below)
 
-pub still_kept : (p q n : ℕ) (cells moved : List Cell) (firsts types sizes counts new_types new_sizes new_counts : List ℕ) → IsKept cells firsts types sizes counts n → n < 1024
-    → moved ≡ moved_cells p q n cells
-    → length new_types ≡ 1024 → ((r : ℕ) → r < 1024 → get_or new_types r 0 ≡ last_type r 0 moved)
-    → length new_sizes ≡ 1024 → ((r : ℕ) → r < 1024 → get_or new_sizes r 0 ≡ cells_with r moved)
-    → length new_counts ≡ 1048576 → ((r s : ℕ) → r < 1024 → s < 1024 → count_at new_counts r s ≡ edges_along 0 moved r s)
-    → IsKept moved firsts new_types new_sizes new_counts (n + 1)
-still_kept p q n cells moved firsts types sizes counts new_types new_sizes new_counts k l e type_room typ size_room siz count_room edg =
+-- the graph after a split, with what is counted of it
+pub still_kept : (p q n : ℕ) (cells moved : List Cell) (firsts : List ℕ) (tables new : Tables) → IsKept cells firsts tables n → n < MAX_PARTITIONS
+    → moved ≡ moved_cells p q n cells → IsCountOf new moved → IsKept moved firsts new (n + 1)
+still_kept p q n cells moved firsts tables new k l e m =
     let h : traces_of moved ≡ split p q n (traces_of cells) = ap (λ (cs : List Cell). traces_of cs) e ∙ moved_are p q n cells k.closed in
-    let two : 2 ≤ n = k.two in
+    let two : FIRST_TYPE ≤ n = k.two in
     let same : length moved ≡ length cells = ap (λ (cs : List Cell). length cs) e ∙ length-moved_cells p q n cells in
     let few : length cells < 2 ^ 32 = k.few in
     let closed : IsClosed true moved = subst (λ (cs : List Cell). IsClosed true cs) (sym e) (moved_closed p q n true cells k.closed) in
-    let typed : IsTyped (traces_of moved) = moved_typed p q n cells moved firsts types sizes counts k e in
+    let typed : IsTyped (traces_of moved) = moved_typed p q n cells moved firsts tables k e in
     let T : ℕ → ℕ = λ x. type_of (traces_of moved) x in
     record {
       two = omega arith;
@@ -128,14 +133,11 @@ still_kept p q n cells moved firsts types sizes counts new_types new_sizes new_c
       few = omega arith;
       closed = closed;
       typed = typed;
-      below = moved_below p q n cells moved firsts types sizes counts k e;
+      below = moved_below p q n cells moved firsts tables k e;
       first_count = k.first_count ∙ sym (ap (λ (z : Assignment). length z) h ∙ length-map (traces_of cells) (λ (trace : List Event). split_trace p q n trace));
       firsts_are = λ t b. k.firsts_are t b ∙ sym (ap (λ (z : Assignment). first_event z t) h ∙ first_event-split p q n (traces_of cells) t);
-      type_room = type_room;
-      types_are = λ r b. typ r b ∙ types_are T r moved
+      types_are = λ r b. m.types r b ∙ types_are T r moved
           (all_weaker (λ (c : Cell). (2 ≤ c.id) × (c.typ ≡ T c.id)) (λ (c : Cell). c.typ ≡ T c.id) moved (λ c m. m.1) (all_cells (λ (e : Event). (2 ≤ e.id) × (e.typ ≡ T e.id)) moved typed));
-      size_room = size_room;
-      sizes_are = λ r b. siz r b ∙ sym (members_are r moved);
-      count_room = count_room;
-      counts_are = λ r s a b. edg r s a b ∙ edges_are moved r s closed;
+      sizes_are = λ r b. m.sizes r b ∙ sym (members_are r moved);
+      counts_are = λ r s a b. m.counts r s a b ∙ edges_are moved r s closed;
     }

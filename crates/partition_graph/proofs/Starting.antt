@@ -13,7 +13,7 @@ use Rattle.partition_model.specs.Laws.{AreTyped}
 use Rattle.partition_model.proofs.Lists.{In, In-map, map-In, all_from, events-In, In-events, count-member}
 use Rattle.partition_model.proofs.Runs.{words-typed}
 use Rattle.partition_graph.specs.Parts.{start_of, inner_words_of}
-use Rattle.partition_graph.proofs.Words.{named}
+use Rattle.partition_graph.proofs.WordCells.{named}
 
 -- members of lists
 any-In : {X : Type 0} (p : X → Bool) (xs : List X) → list_any p xs ≡ true → (x : X) × In x xs × (p x ≡ true)
@@ -178,5 +178,6 @@ words-typed-by es =
         let b : (w : List ℕ) × In w ws × In n w = word-of-event es a.0 a.1 in
         count-member (suc (suc k)) (named n) (events (by_type ws)) (word-event ws b.0 n b.1 b.2) (let q : n ≡ k + 2 = a.2 in omega arith)
 
+-- the first assignment of a log has the types of the log
 pub start-typed : (es : List LogEvent) → AreTyped (inner_words (start_of (log_of es)).traces) (start_of (log_of es)).used
 start-typed es = subst (λ (ws : List (List ℕ)). AreTyped ws (length (types_of es) + 2)) (sym (words-typed (inner_words_of (log_of es)))) (words-typed-by es)

@@ -1,8 +1,11 @@
 -- The cells of events, trace after trace.
-use Rattle.std.specs.Prelude.{ℕ, ◌≡◌, ◌<◌, ◌≤◌, ◌==◌, ◌&&◌, Bool, true, false, if◌then◌else◌, List, [], ◌∷◌, length, take, slice_index}
+use Rattle.std.specs.Prelude.{ℕ, ◌≡◌, ◌<◌, ◌≤◌, ◌==◌, ◌&&◌, Bool, true, false, ◌+◌, if◌then◌else◌, List, [], ◌∷◌, length, take, slice_index}
 use Rattle.std.specs.List.{flat_map, AllByRecursion}
+use Rattle.limits.specs.declared.TheConstants.{TERMINAL, FIRST_TYPE}
+use Rattle.traces.specs.Words.{Log}
 use Rattle.partition_model.specs.Assignments.{Event, Assignment}
 use Rattle.partition_graph.specs.declared.cells.Cell.{Cell}
+use Rattle.partition_graph.specs.Parts.{inner_words_of}
 
 -- the event of a cell
 abbrev pub event_of : Cell → Event
@@ -23,6 +26,7 @@ abbrev pub IsClosed : Bool → List Cell → Type 0
 IsClosed ended [] = ended ≡ true
 IsClosed ended (c ∷ cs) = IsClosed c.last cs
 
+-- whether no number is left
 abbrev pub is_end : List ℕ → Bool
 is_end [] = true
 is_end (n ∷ ns) = false
@@ -38,19 +42,25 @@ pub record IsGathered (bound : ℕ) (words : List (List ℕ)) (traces : ℕ) (ce
   pub count : length firsts ≡ traces
   pub firsts_are : (t : ℕ) → t < traces → slice_index firsts t ≡ length (flat_map cells_of (take t words))
   pub some : AllByRecursion (λ w. 0 < length w) (take traces words)
-  pub numbered : AllByRecursion (λ w. AllByRecursion (λ n. (2 ≤ n) × (n < bound)) w) (take traces words)
+  pub numbered : AllByRecursion (λ w. AllByRecursion (λ n. (FIRST_TYPE ≤ n) × (n < bound)) w) (take traces words)
+
+-- the same for a log, whose types have the numbers from the first number of a type on
+abbrev pub IsGatheredOf : Log → ℕ → List Cell → List ℕ → Type 0
+IsGatheredOf log traces cells firsts = IsGathered (length log.types + FIRST_TYPE) (inner_words_of log) traces cells firsts
 
 -- the id of the first cell, or else TERMINAL
 abbrev pub first_id : List Cell → ℕ
-first_id [] = 1
+first_id [] = TERMINAL
 first_id (c ∷ cs) = c.id
 
 -- the id that follows the first cell at once: that of the cell behind it, and TERMINAL where its trace ends
 abbrev pub id_behind : List Cell → ℕ
-id_behind [] = 1
-id_behind (c ∷ cs) = if c.last then 1 else first_id cs
+id_behind [] = TERMINAL
+id_behind (c ∷ cs) = if c.last then TERMINAL else first_id cs
 
 -- the same cells, where those of p that are followed at once by q have the id n
 abbrev pub moved_cells : ℕ → ℕ → ℕ → List Cell → List Cell
 moved_cells p q n [] = []
-moved_cells p q n (c ∷ cs) = record { typ = c.typ; last = c.last; id = if c.id == p && id_behind (c ∷ cs) == q then n else c.id } ∷ moved_cells p q n cs
+moved_cells p q n (c ∷ cs) =
+    record { typ = c.typ; last = c.last; id = if c.id == p && id_behind (c ∷ cs) == q then n else c.id }
+    ∷ moved_cells p q n cs

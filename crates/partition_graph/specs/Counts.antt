@@ -1,10 +1,11 @@
 -- What is counted of cells.
-use Rattle.std.specs.Prelude.{ℕ, ◌+◌, ◌*◌, ◌==◌, ◌&&◌, if◌then◌else◌, List, [], ◌∷◌, slice_index}
+use Rattle.std.specs.Prelude.{ℕ, ◌+◌, ◌==◌, ◌&&◌, ◌<◌, ◌≤◌, if◌then◌else◌, List, [], ◌∷◌}
+use Rattle.limits.specs.declared.TheConstants.{INITIAL, TERMINAL, FIRST_TYPE, MAX_PARTITIONS}
 use Rattle.partition_graph.specs.declared.cells.Cell.{Cell}
 
--- the count of the edge from p to q, in the table by targets
-abbrev pub count_at : List ℕ → ℕ → ℕ → ℕ
-count_at counts p q = slice_index counts (q * 1024 + p)
+-- the cell's id is one of a partition of events
+abbrev pub HasId : Cell → Type 0
+HasId c = (FIRST_TYPE ≤ c.id) × (c.id < MAX_PARTITIONS)
 
 -- whether the edge from a to b is the one from p to q, as a number
 abbrev pub is_edge : ℕ → ℕ → ℕ → ℕ → ℕ
@@ -12,11 +13,11 @@ is_edge a b p q = if a == p && b == q then 1 else 0
 
 -- how often the edge from p to q leads to a cell, or from it to TERMINAL
 abbrev pub edges_at : ℕ → Cell → ℕ → ℕ → ℕ
-edges_at before c p q = is_edge before c.id p q + (if c.last then is_edge c.id 1 p q else 0)
+edges_at before c p q = is_edge before c.id p q + (if c.last then is_edge c.id TERMINAL p q else 0)
 
 -- the id before the cell behind this one
 abbrev pub before_next : Cell → ℕ
-before_next c = if c.last then 0 else c.id
+before_next c = if c.last then INITIAL else c.id
 
 -- how often the edge from p to q stands in cells, the first of which follows the id before
 abbrev pub edges_along : ℕ → List Cell → ℕ → ℕ → ℕ

@@ -3,3 +3,5 @@ pub mod Counts
 pub mod Kept
 pub mod Parts
 pub mod Seen
+pub mod Starts
+pub mod Tables

@@ -1,8 +1,10 @@
 -- What contracts see of a partition graph.
 use Rattle.std.specs.Prelude.{ℕ, ◌≡◌, ◌+◌, ◌<◌, true, List, length, map}
+use Rattle.limits.specs.declared.TheConstants.{FIRST_TYPE}
 use Rattle.traces.specs.Words.{Log}
 use Rattle.partition_model.specs.Graphs.{Graph}
 use Rattle.partition_model.specs.Assignments.{Assignment, by_type}
+use Rattle.partition_model.specs.Refinement.{split}
 
 -- the traces, each event with the id of its partition, and how many ids are used: those below this number
 pub record Parts : Type 0 where
@@ -15,7 +17,11 @@ inner_words_of log = map (λ trace. trace.events) log.traces
 
 -- the first assignment of a log: a partition for each type, whose id is the type's number
 abbrev pub start_of : Log → Parts
-start_of log = record { traces = by_type (inner_words_of log); used = length log.types + 2 }
+start_of log = record { traces = by_type (inner_words_of log); used = length log.types + FIRST_TYPE }
+
+-- the events of p that are followed at once by one of next have a new id, the next one that is not used
+abbrev pub divided : ℕ → ℕ → Parts → Parts
+divided p next parts = record { traces = split p next parts.used parts.traces; used = parts.used + 1 }
 
 -- edges go between ids below this number
 abbrev pub HasEdgesBelow : Graph → ℕ → Type 0

@@ -1,9 +1,9 @@
 //! A cell for each event, trace after trace.
-ghost use Rattle.std.specs.Prelude.{◌≡◌, ◌+◌, ◌++◌, ◌<◌, OnOk, IfOk, length};
-ghost use Rattle.partition_graph.specs.Cells.{cells_of, IsGathered};
+ghost use Rattle.std.specs.Prelude.{◌≡◌, ◌++◌, ◌<◌, ◌^◌, OnOk, IfOk, length};
+ghost use Rattle.partition_graph.specs.Cells.{cells_of, IsGatheredOf};
 ghost use Rattle.partition_graph.specs.Counts.{before_next};
-ghost use Rattle.partition_graph.specs.Parts.{inner_words_of};
 
+use limits::INITIAL;
 use std::alloc::{AllocError, Global};
 use traces::TraceSet;
 
@@ -23,14 +23,15 @@ impl Cell {
     pub fn before_next(&self) -> u32
         ensures { result ≡ before_next self.now }
     {
-        if self.last { 0 } else { self.id }
+        if self.last { INITIAL } else { self.id }
     }
 }
 
 /// The cells of all traces, each with its type's number for its id, and the number of the first event of each trace.
 pub fn gather(alloc: Global, traces: &TraceSet) -> Result<(Vec<Cell>, Vec<u32>), AllocError>
-    ensures gathered { IfOk result (λ pair. IsGathered (length traces.now.types + 2) (inner_words_of traces.now) (length traces.now.traces) pair.0.items pair.1.items) }
-    ensures few { IfOk result (λ pair. length pair.0.items < 4294967296) }
+    ensures gathered { IfOk result
+        (λ pair. IsGatheredOf traces.now (length traces.now.traces) pair.0.items pair.1.items) }
+    ensures few { IfOk result (λ pair. length pair.0.items < 2 ^ 32) }
 {
     let event_count = traces.event_count();
     let mut cells = Vec::with_capacity(alloc, event_count as usize)?;

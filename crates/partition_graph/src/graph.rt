@@ -1,17 +1,18 @@
 //! The partitions of events, and the counts of edges.
-ghost use Rattle.std.specs.Prelude.{◌≡◌, ◌≤◌, ◌<◌, ◌+◌, ◌++◌, ℕ, IfOk, OnOk, length, map, filter, slice_index, slice_get, Some, MatchOption};
+ghost use Rattle.std.specs.Prelude.{◌≡◌, ◌≤◌, ◌<◌, ◌+◌, ◌++◌, IfOk, OnOk, length, slice_index, slice_get, Some, MatchOption};
 
 use crate::cells::{Cell, gather};
-use crate::counts::{MAX_IDS, edge_counts, recount, types_and_sizes};
 use crate::splitting::move_cells;
+use crate::tables::Tables;
 use invariants::{Edge, Partition, Seq};
+use limits::{FIRST_TYPE, MAX_PARTITIONS};
 use std::alloc::{AllocError, Global};
 use std::marker::Model;
 use traces::TraceSet;
 
 /// A partition for each event of some traces, and the graph that these partitions give: there is an edge from one
 /// to another wherever an event of the first is followed at once by an event of the second. Before each trace
-/// stands INITIAL, with the id 0, and behind it TERMINAL, with the id 1; all other ids are at least 2.
+/// stands INITIAL, and behind it TERMINAL, whose ids have the names of crate `limits`; all other ids are at least `FIRST_TYPE`.
 ///
 /// Contracts see the traces, each event with its type and the id of its partition, and how many ids are used.
 /// Events are numbered trace after trace, from 0.
@@ -21,12 +22,8 @@ pub struct PartGraph {
     cells: Vec<Cell>,
     /// The number of the first event of each trace.
     firsts: Vec<u32>,
-    /// The type of each id that has events, and else 0.
-    types: Vec<u16>,
-    /// How many events each id has.
-    sizes: Vec<u32>,
-    /// The counts of the edges: that from p to q stands at the place q * 1024 + p.
-    counts: Vec<u32>,
+    /// What is counted of the events.
+    tables: Tables,
     used: u32,
 }
 
@@ -39,51 +36,44 @@ impl Model for PartGraph {
 
     ghost view = { λ g. record { traces = traces_of g.cells.items; used = g.used } };
 
-    ghost invariant = { λ g. IsKept g.cells.items g.firsts.items g.types.items g.sizes.items g.counts.items g.used };
+    ghost invariant = { λ g. IsKept g.cells.items g.firsts.items g.tables g.used };
 }
 
 impl PartGraph {
     ghost use Rattle.partition_model.specs.Assignments.{edge_count, events, is_live, size, type_of, G, IsTyped};
     ghost use Rattle.partition_model.specs.Listings.{edges_below, edges_from, first_event, partitions_below, parts_of, AreBelow, IsLast};
-    ghost use Rattle.partition_model.specs.Refinement.{split};
-    ghost use Rattle.partition_graph.specs.Parts.{start_of, HasEdgesBelow};
+    ghost use Rattle.partition_graph.specs.Parts.{divided, start_of, HasEdgesBelow};
 
-    /// The graph with one partition for each type, whose id is the type's number. It takes the memory for 1,024 ids.
+    /// The graph with one partition for each type, whose id is the type's number. It takes the memory for `MAX_PARTITIONS` ids.
     pub fn open(alloc: Global, traces: &TraceSet) -> Result<PartGraph, AllocError>
         ensures { IfOk result (λ graph. graph ≡ start_of traces.now) }
     {
-        let used = traces.types().len() as u32 + 2;
+        let used = traces.types().len() as u32 + FIRST_TYPE;
         let (cells, firsts) = gather(alloc, traces)?;
-        let (types, sizes) = types_and_sizes(alloc, &cells)?;
-        let counts = edge_counts(alloc, &cells)?;
+        let tables = Tables::open(alloc, &cells)?;
         Ok(PartGraph {
             cells,
             firsts,
-            types,
-            sizes,
-            counts,
+            tables,
             used,
         })
     }
 
-    /// Moves the events of p that are followed at once by one of `next` (1 is TERMINAL) to a new id, the next one that is
-    /// not used, and answers it. None comes exactly where 1,024 ids are used, and then nothing changed. It takes no memory.
+    /// Moves the events of p that are followed at once by one of `next`, or that end their traces where `next` is
+    /// TERMINAL, to a new id, the next one that is not used, and answers it. None comes exactly where `MAX_PARTITIONS`
+    /// ids are used, and then nothing changed. It takes no memory.
     pub fn split(&mut self, p: u32, next: u32) -> Option<u32>
         ensures { MatchOption result
-            (((self.old).used ≡ 1024) × (self.new ≡ self.old))
-            (λ n. (n ≡ (self.old).used) × (n < 1024) × (self.new ≡ record { traces = split p next n (self.old).traces; used = n + 1 })) }
+            (((self.old).used ≡ MAX_PARTITIONS) × (self.new ≡ self.old))
+            (λ n. (n ≡ (self.old).used) × (n < MAX_PARTITIONS)
+            × (self.new ≡ divided p next self.old)) }
     {
-        if self.used == 1024 {
+        if self.used == MAX_PARTITIONS {
             return None;
         }
         let n = self.used;
         move_cells(&mut self.cells, p, next, n);
-        recount(
-            &self.cells,
-            &mut self.types,
-            &mut self.sizes,
-            &mut self.counts,
-        );
+        self.tables.recount(&self.cells);
         self.used = n + 1;
         Some(n)
     }
@@ -91,8 +81,10 @@ impl PartGraph {
     /// How many ids are used, the two ends counted: each id is less than this number. Some of them may have no events.
     pub fn ids_used(&self) -> u32
         ensures value { result ≡ (self.now).used }
-        ensures two { 2 ≤ result }
-        ensures limit { result ≤ 1024 }
+        ensures two { FIRST_TYPE ≤ result }
+        ensures limit { result ≤ MAX_PARTITIONS }
+
+        // What ids events have, and where edges go.
         ensures typed { IsTyped (self.now).traces }
         ensures below { AreBelow result (self.now).traces }
         ensures within { HasEdgesBelow (G (self.now).traces) result }
@@ -108,40 +100,40 @@ impl PartGraph {
         if p >= self.used || q >= self.used {
             return 0;
         }
-        self.counts[q as usize * MAX_IDS + p as usize]
+        self.tables.count_at(p, q)
     }
 
     /// How many events p has; of the two ends, how many traces there are.
     pub fn size(&self, p: u32) -> u32
         ensures { result ≡ size (self.now).traces p }
     {
-        if p < 2 {
+        if p < FIRST_TYPE {
             return self.firsts.len() as u32;
         }
         if p >= self.used {
             return 0;
         }
-        self.sizes[p as usize]
+        self.tables.size_at(p)
     }
 
-    /// The type of the events of p, and 0 where it has none. The two ends have types of their own, 0 and 1.
+    /// The type of the events of p, and 0 where it has none. The two ends have types of their own, with the numbers of their ids.
     pub fn type_of(&self, p: u32) -> u16
         ensures { result ≡ type_of (self.now).traces p }
     {
-        if p < 2 {
+        if p < FIRST_TYPE {
             return p as u16;
         }
         if p >= self.used {
             return 0;
         }
-        self.types[p as usize]
+        self.tables.type_at(p)
     }
 
     /// Whether p has events. The two ends are always live.
     pub fn is_live(&self, p: u32) -> bool
         ensures { result ≡ is_live (self.now).traces p }
     {
-        p < 2 || self.size(p) > 0
+        p < FIRST_TYPE || self.size(p) > 0
     }
 
     /// The id of the event with this number.
@@ -163,7 +155,9 @@ impl PartGraph {
     /// The number of the event behind this one in its trace, and None for the last event of a trace.
     pub fn next_event(&self, event: u32) -> Option<u32>
         requires { event < length (events (self.now).traces) }
-        ensures { MatchOption result (IsLast (self.now).traces event) (λ n. (n ≡ event + 1) × (IsLast (self.now).traces event → ⊥)) }
+        ensures { MatchOption result
+            (IsLast (self.now).traces event)
+            (λ n. (n ≡ event + 1) × (IsLast (self.now).traces event → ⊥)) }
     {
         if self.cells[event as usize].last {
             return None;
@@ -216,7 +210,8 @@ impl PartGraph {
 
     /// Puts the edges that leave p behind the others.
     fn push_edges_from(&self, p: u32, list: &mut Vec<Edge>) -> Result<(), AllocError>
-        ensures { OnOk result (list.new.items ≡ list.old.items ++ edges_from (self.now).used (self.now).traces p) }
+        ensures { OnOk result
+            (list.new.items ≡ list.old.items ++ edges_from (self.now).used (self.now).traces p) }
     {
         for q in 0..self.ids_used() {
             let count = self.edge_count(p, q);

@@ -2,10 +2,10 @@
 #![tactic(auto)]
 
 mod cells;
-mod counts;
 mod graph;
 mod law;
 mod splitting;
+mod tables;
 #[cfg(test)]
 mod tests;
 mod view;

@@ -3,13 +3,14 @@ ghost use Rattle.std.specs.Prelude.{◌≡◌, ◌<◌, length, drop};
 ghost use Rattle.partition_graph.specs.Cells.{id_behind, moved_cells};
 
 use crate::cells::Cell;
+use limits::TERMINAL;
 
-/// Moves the cells of p that are followed at once by one of `next` (1 is TERMINAL) to n.
+/// Moves the cells of p that are followed at once by one of `next`, or that end their traces where `next` is TERMINAL, to n.
 pub fn move_cells(cells: &mut [Cell], p: u32, next: u32, n: u32)
     ensures { cells.new ≡ moved_cells p next n cells.old }
 {
     for i in 0..cells.len() {
-        let behind = next_id(cells, i);
+        let behind = id_behind(cells, i);
         let cell = &mut cells[i];
         if cell.id == p && behind == next {
             cell.id = n;
@@ -17,13 +18,13 @@ pub fn move_cells(cells: &mut [Cell], p: u32, next: u32, n: u32)
     }
 }
 
-/// The id that follows the cell at this place at once: 1 where it is the last of its trace.
-fn next_id(cells: &[Cell], i: usize) -> u32
+/// The id that follows the cell at this place at once: TERMINAL where it is the last of its trace.
+fn id_behind(cells: &[Cell], i: usize) -> u32
     requires { i < length cells.now }
     ensures { result ≡ id_behind (drop i cells.now) }
 {
     if cells[i].last || i + 1 >= cells.len() {
-        return 1;
+        return TERMINAL;
     }
     cells[i + 1].id
 }

@@ -1,4 +1,5 @@
 use crate::{PartGraph, View};
+use limits::{MAX_PARTITIONS, MAX_TYPE_BYTES, TERMINAL};
 use std::alloc::Global;
 use std::process::Abort;
 use std::test::Fail;
@@ -9,7 +10,7 @@ fn log(rt: &impl Abort, alloc: Global, traces: &[&[&str]]) -> Result<TraceSet, F
     let mut builder = Builder::new(alloc);
     for (t, types) in traces.iter().enumerate() {
         for typ in types.iter() {
-            assert!(rt; !typ.is_empty() && typ.len() <= 256 && t < 10);
+            assert!(rt; !typ.is_empty() && typ.len() <= MAX_TYPE_BYTES && t < 10);
             builder.add(0, t as u32, "", typ, 0)?;
         }
     }
@@ -159,6 +160,45 @@ fn the_events_of_c_that_e_follows(rt: HostRuntime) -> Result<(), Fail> {
     assert_events(&rt, rt.alloc(), &graph, &[2, 3, 4, 5, 7, 6], &[0, 3], &next)
 }
 
+/// A partition whose events follow one another is divided by itself, and then its new part by itself.
+#[test]
+fn partitions_that_are_divided_by_themselves(rt: HostRuntime) -> Result<(), Fail> {
+    let set = log(&rt, rt.alloc(), &[&["a", "a", "a"]])?;
+    let mut graph = PartGraph::open(rt.alloc(), &set)?;
+    assert_eq!(rt; graph.split(2, 2), Some(3));
+    let partitions = [[0, 0, 1], [1, 1, 1], [2, 2, 1], [3, 2, 2]];
+    let edges = [[0, 3, 1], [2, 1, 1], [3, 2, 1], [3, 3, 1]];
+    assert_graph(&rt, rt.alloc(), &graph, &partitions, &edges)?;
+    assert_eq!(rt; graph.split(3, 3), Some(4));
+    assert_eq!(rt; graph.parts(rt.alloc())?.as_slice(), [4, 3, 2].as_slice());
+    Ok(())
+}
+
+/// The events that end their traces are divided off, each of them and no other.
+#[test]
+fn a_partition_that_is_divided_by_terminal(rt: HostRuntime) -> Result<(), Fail> {
+    let set = log(
+        &rt,
+        rt.alloc(),
+        &[&["a", "b", "a"], &["b", "a"], &["a", "a"]],
+    )?;
+    let mut graph = PartGraph::open(rt.alloc(), &set)?;
+    assert_eq!(rt; graph.split(2, TERMINAL), Some(4));
+    let partitions = [[0, 0, 3], [1, 1, 3], [2, 2, 2], [3, 3, 2], [4, 2, 3]];
+    let edges = [
+        [0, 2, 2],
+        [0, 3, 1],
+        [2, 3, 1],
+        [2, 4, 1],
+        [3, 4, 2],
+        [4, 1, 3],
+    ];
+    assert_graph(&rt, rt.alloc(), &graph, &partitions, &edges)?;
+    let next = [Some(1), Some(2), None, Some(4), None, Some(6), None];
+    let parts = [2, 3, 4, 3, 4, 2, 4];
+    assert_events(&rt, rt.alloc(), &graph, &parts, &[0, 3, 5], &next)
+}
+
 /// Adds a trace: one type, then so many letters a, then another type.
 fn add_row(
     rt: &impl Abort,
@@ -168,8 +208,8 @@ fn add_row(
     letters: u32,
     last: &str,
 ) -> Result<(), Fail> {
-    assert!(rt; !first.is_empty() && first.len() <= 256);
-    assert!(rt; !last.is_empty() && last.len() <= 256);
+    assert!(rt; !first.is_empty() && first.len() <= MAX_TYPE_BYTES);
+    assert!(rt; !last.is_empty() && last.len() <= MAX_TYPE_BYTES);
     builder.add(0, trace, "", first, 0)?;
     for _ in 0..letters {
         builder.add(0, trace, "", "a", 0)?;
@@ -187,15 +227,15 @@ fn a_row_that_is_divided_to_the_last_id(rt: HostRuntime) -> Result<(), Fail> {
     let mut graph = PartGraph::open(rt.alloc(), &builder.finish()?)?;
     assert_eq!(rt; graph.ids_used(), 7);
     let mut next = 6;
-    for n in 7..1024 {
+    for n in 7..MAX_PARTITIONS {
         assert_eq!(rt; graph.split(3, next), Some(n));
         next = n;
     }
-    assert_eq!(rt; graph.ids_used(), 1024);
+    assert_eq!(rt; graph.ids_used(), MAX_PARTITIONS);
     assert_eq!(rt; graph.split(3, next), None);
     assert_eq!(rt;
         [graph.ids_used(), graph.size(3), graph.size(next)],
-        [1024, 1017, 1]
+        [MAX_PARTITIONS, 1017, 1]
     );
     Ok(())
 }

@@ -4,6 +4,7 @@ ghost use Rattle.partition_graph.specs.Parts.{HasEdgesBelow};
 ghost use Rattle.partition_graph.specs.Seen.{parts_seen, seen};
 
 use crate::graph::PartGraph;
+use limits::{FIRST_TYPE, MAX_PARTITIONS};
 
 /// A graph to be asked for paths.
 #[derive(Clone, Copy)]
@@ -34,8 +35,8 @@ impl View<'_> {
     /// How many ids are used: edges go between ids below this number.
     pub fn ids_used(&self) -> u32
         ensures value { result ≡ (parts_seen self.now).used }
-        ensures two { 2 ≤ result }
-        ensures limit { result ≤ 1024 }
+        ensures two { FIRST_TYPE ≤ result }
+        ensures limit { result ≤ MAX_PARTITIONS }
         ensures within { HasEdgesBelow (seen self.now) result }
     {
         match self {

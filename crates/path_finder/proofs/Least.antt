@@ -6,15 +6,18 @@ use Rattle.invariants.specs.Monitors.{run, is_bad}
 use Rattle.invariants.proofs.Agree.{monitor_agrees}
 use Rattle.partition_graph.specs.Parts.{HasEdgesBelow}
 use Rattle.partition_model.specs.Graphs.{Walk, word, IsBefore, Breaks, Satisfies, IsLeastViolation}
+use Rattle.path_finder.specs.declared.table.TheConstants.{OPEN}
 use Rattle.path_finder.specs.declared.pair.Pair.{Pair}
 use Rattle.path_finder.specs.Walks.{Asked, state_at, IsPairOf, Leads, EndsBadly, Finishes, IsLeastWalk}
 use Rattle.path_finder.specs.Tables.{Entries, at, IsMeasured, IsKnown, IsNextPair}
 use Rattle.path_finder.proofs.Entering.{ends_before}
 use Rattle.path_finder.proofs.Measuring.{pair_after, after_is_pair, leads_after}
 
+-- the pair to which an edge leads is told by its id
 pub same_after : (a : Asked) (p r : Pair) → Leads a p r → r ≡ pair_after a p r.id
 same_after a p r l = ap (λ (s : ℕ). let x : Pair = record { id = r.id; state = s } in x) (sym l.step)
 
+-- a walk that ends badly goes on badly behind its first edge
 pub ends_after : (a : Asked) (p : Pair) (q : ℕ) (xs : List ℕ) → EndsBadly a p (q ∷ xs) → (a.graph.edge p.id q ≡ true) × EndsBadly a (pair_after a p q) xs
 ends_after a p q xs b = (b.walk.0, record { walk = b.walk.1; bad = b.bad })
 
@@ -22,16 +25,17 @@ ends_after a p q xs b = (b.walk.0, record { walk = b.walk.1; bad = b.bad })
 pub known_below : (a : Asked) (high low : ℕ) (e : Entries) → low ≤ high → IsKnown a high e → IsKnown a low e
 known_below a high low e l k = record { size = k.size; sound = k.sound; whole = λ r n p m f. k.whole r n p (omega arith) f }
 
+-- where the search has ended, the walks shorter than that of the start are known
 pub measured_known : (a : Asked) (start : Pair) (e : Entries) → IsMeasured a start e → IsKnown a (at e start) e
 measured_known a start e m = record { size = m.size; sound = m.sound; whole = λ r n p l f. m.whole r n p (λ h. l) f }
 
 -- a step forwards is at most one less
-pub one_less : (a : Asked) (e : Entries) (p q : Pair) (d : ℕ) → IsKnown a (suc d) e → IsPairOf a p → IsPairOf a q → Leads a p q → at e p ≡ suc d → at e q < 65535 → d ≤ at e q
+pub one_less : (a : Asked) (e : Entries) (p q : Pair) (d : ℕ) → IsKnown a (suc d) e → IsPairOf a p → IsPairOf a q → Leads a p q → at e p ≡ suc d → at e q < OPEN → d ≤ at e q
 one_less a e p q d k pp qp l v m =
     elim (cases_lt (at e q) d) [
       | inl lt ↦ absurd (
           let f : Finishes a q (at e q) = k.sound q qp m in
-          let h : (at e p ≤ suc (at e q)) × (at e p < 65535) = k.whole p (suc (at e q)) pp (omega arith) (q.id ∷ f.0, ap suc f.1, ends_before a p q f.0 l f.2) in
+          let h : (at e p ≤ suc (at e q)) × (at e p < OPEN) = k.whole p (suc (at e q)) pp (omega arith) (q.id ∷ f.0, ap suc f.1, ends_before a p q f.0 l f.2) in
           let x : at e p ≤ suc (at e q) = h.0 in
           omega arith
           )
@@ -44,12 +48,13 @@ pub next_value : (a : Asked) (e : Entries) (p : Pair) (d q : ℕ) (xs : List ℕ
 next_value a e p d q xs w k pp v l b =
     let t : (a.graph.edge p.id q ≡ true) × EndsBadly a (pair_after a p q) xs = ends_after a p q xs b in
     let qp : IsPairOf a (pair_after a p q) = after_is_pair a p q w pp t.0 in
-    let h : (at e (pair_after a p q) ≤ d) × (at e (pair_after a p q) < 65535) = k.whole (pair_after a p q) d qp (omega arith) (xs, l, t.1) in
+    let h : (at e (pair_after a p q) ≤ d) × (at e (pair_after a p q) < OPEN) = k.whole (pair_after a p q) d qp (omega arith) (xs, l, t.1) in
     let low : d ≤ at e (pair_after a p q) = one_less a e p (pair_after a p q) d k pp qp (leads_after a p q t.0) v h.1 in
     let up : at e (pair_after a p q) ≤ d = h.0 in
     omega arith
 
-pub has_next : (a : Asked) (e : Entries) (p : Pair) (d : ℕ) → HasEdgesBelow a.graph a.ids → IsKnown a (suc d) e → IsPairOf a p → at e p ≡ suc d → suc d < 65535
+-- a pair that is not at the end leads to one whose distance is one less
+pub has_next : (a : Asked) (e : Entries) (p : Pair) (d : ℕ) → HasEdgesBelow a.graph a.ids → IsKnown a (suc d) e → IsPairOf a p → at e p ≡ suc d → suc d < OPEN
     → (q : Pair) × (q.id < a.ids) × Leads a p q × (at e q ≡ d)
 has_next a e p d w k pp v l = from f.0 (f.1 ∙ v) f.2
   where
@@ -60,6 +65,7 @@ has_next a e p d w k pp v l = from f.0 (f.1 ∙ v) f.2
     from [] n b = absurd (omega arith)
     from (q ∷ xs) n b = (pair_after a p q, (w p.id q b.walk.0).1, leads_after a p q b.walk.0, next_value a e p d q xs w k pp v (omega arith) b)
 
+-- at the distance 0 the least walk has no edge
 pub least_nil : (a : Asked) (e : Entries) (p : Pair) → IsKnown a 0 e → IsPairOf a p → at e p ≡ 0 → IsLeastWalk a p []
 least_nil a e p k pp v = from f.0 (f.1 ∙ v) f.2
   where
@@ -74,14 +80,15 @@ least_nil a e p k pp v = from f.0 (f.1 ∙ v) f.2
     from [] n b = record { ends = b; shortest = λ ys c. omega arith; first = λ ys c l o. none ys o }
     from (x ∷ xs) n b = absurd (omega arith)
 
-pub least_cons : (a : Asked) (e : Entries) (p q : Pair) (d : ℕ) (xs : List ℕ) → HasEdgesBelow a.graph a.ids → IsKnown a (suc d) e → IsPairOf a p → IsPairOf a q → at e p ≡ suc d → suc d < 65535
+-- the least walk goes on along the least id whose distance is one less
+pub least_cons : (a : Asked) (e : Entries) (p q : Pair) (d : ℕ) (xs : List ℕ) → HasEdgesBelow a.graph a.ids → IsKnown a (suc d) e → IsPairOf a p → IsPairOf a q → at e p ≡ suc d → suc d < OPEN
     → IsNextPair a e p d q → IsLeastWalk a q xs → IsLeastWalk a p (q.id ∷ xs)
 least_cons a e p q d xs w k pp qp v l nx lw =
     let u : at e q ≡ d = nx.value in
     let f : Finishes a q (at e q) = k.sound q qp (omega arith) in
     let up : length xs ≤ length f.0 = lw.shortest f.0 f.2 in
     let fl : length f.0 ≡ at e q = f.1 in
-    let dn : (at e q ≤ length xs) × (at e q < 65535) = k.whole q (length xs) qp (omega arith) (xs, refl, lw.ends) in
+    let dn : (at e q ≤ length xs) × (at e q < OPEN) = k.whole q (length xs) qp (omega arith) (xs, refl, lw.ends) in
     let dl : at e q ≤ length xs = dn.0 in
     let n : length xs ≡ d = omega arith in
     record {
@@ -93,7 +100,7 @@ least_cons a e p q d xs w k pp qp v l nx lw =
     shortest : length xs ≡ d → (ys : List ℕ) → EndsBadly a p ys → suc (length xs) ≤ length ys
     shortest n ys b = elim (cases_lt (length ys) (suc d)) [
       | inl lt ↦ absurd (
-          let h : (at e p ≤ length ys) × (at e p < 65535) = k.whole p (length ys) pp lt (ys, refl, b) in
+          let h : (at e p ≤ length ys) × (at e p < OPEN) = k.whole p (length ys) pp lt (ys, refl, b) in
           let x : at e p ≤ length ys = h.0 in
           omega arith
           )
@@ -113,11 +120,13 @@ least_cons a e p q d xs w k pp qp v l nx lw =
 abbrev pub IsLedTo : Asked → Pair → List ℕ → Pair → Type 0
 IsLedTo a start front p = (ys : List ℕ) → IsLeastWalk a p ys → IsLeastWalk a start (front ++ ys)
 
-pub led_further : (a : Asked) (e : Entries) (start p q : Pair) (front : List ℕ) (d : ℕ) → HasEdgesBelow a.graph a.ids → IsKnown a (suc d) e → IsPairOf a p → IsPairOf a q → at e p ≡ suc d → suc d < 65535
+-- one id more is walked
+pub led_further : (a : Asked) (e : Entries) (start p q : Pair) (front : List ℕ) (d : ℕ) → HasEdgesBelow a.graph a.ids → IsKnown a (suc d) e → IsPairOf a p → IsPairOf a q → at e p ≡ suc d → suc d < OPEN
     → IsNextPair a e p d q → IsLedTo a start front p → IsLedTo a start (front ++ q.id ∷ []) q
 led_further a e start p q front d w k pp qp v l nx led ys lw =
     subst (λ (z : List ℕ). IsLeastWalk a start z) (sym (append_assoc front (q.id ∷ []) ys)) (led (q.id ∷ ys) (least_cons a e p q d ys w k pp qp v l nx lw))
 
+-- what was walked to the distance 0 is the least walk
 pub led_to_end : (a : Asked) (e : Entries) (start p : Pair) (front : List ℕ) → IsKnown a 0 e → IsPairOf a p → at e p ≡ 0 → IsLedTo a start front p → IsLeastWalk a start front
 led_to_end a e start p front k pp v led = subst (λ (z : List ℕ). IsLeastWalk a start z) (append-nil front) (led [] (least_nil a e p k pp v))
 
@@ -154,7 +163,8 @@ violation_from a start xs z s lw =
     first (x ∷ ys) b l (inl lt) = absurd (omega arith)
     first (x ∷ ys) b l (inr o) = lw.first ys (ends x ys b) (omega arith) o.1
 
-pub satisfied_from : (a : Asked) (start : Pair) (e : Entries) → IsPairOf a start → start.id ≡ 0 → start.state ≡ state_at a 0 0 → IsMeasured a start e → at e start ≡ 65535 → Satisfies a.graph a.inv
+-- where the start is open, the graph satisfies the invariant
+pub satisfied_from : (a : Asked) (start : Pair) (e : Entries) → IsPairOf a start → start.id ≡ 0 → start.state ≡ state_at a 0 0 → IsMeasured a start e → at e start ≡ OPEN → Satisfies a.graph a.inv
 satisfied_from a start e sp z s m o [] h = absurd h
 satisfied_from a start e sp z s m o (x ∷ xs) h =
     elim (cases_Bool (is_bad a.inv (run a.inv (state_at a 0 x) (word a.graph xs)))) [
@@ -163,7 +173,7 @@ satisfied_from a start e sp z s m o (x ∷ xs) h =
             walk = subst (λ (y : ℕ). Walk a.graph y xs 1) (h.0 ∙ sym z) h.1;
             bad = subst (λ (y : ℕ). is_bad a.inv (run a.inv y (word a.graph xs)) ≡ true) (ap (λ (y : ℕ). state_at a 0 y) h.0 ∙ sym s) t;
           } in
-          let f : (at e start ≤ length xs) × (at e start < 65535) = m.whole start (length xs) sp (λ k. absurd (omega arith)) (xs, refl, b) in
-          absurd (let k : at e start < 65535 = f.1 in omega arith)
+          let f : (at e start ≤ length xs) × (at e start < OPEN) = m.whole start (length xs) sp (λ k. absurd (omega arith)) (xs, refl, b) in
+          absurd (let k : at e start < OPEN = f.1 in omega arith)
       | inr f ↦ (monitor_agrees a.inv (word a.graph (x ∷ xs))).0 f
     ]

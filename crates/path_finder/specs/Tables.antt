@@ -1,22 +1,28 @@
 -- What the search has found: lengths of walks that end badly, and the pairs in the order in which they were entered.
 use Rattle.std.specs.Prelude.{◌≡◌, ◌==◌, ℕ, ◌+◌, ◌*◌, ◌<◌, ◌≤◌, true, List, [], ◌∷◌, ◌++◌, length, slice_index, slice_get, slice_set, count_by, Some}
+use Rattle.limits.specs.declared.TheConstants.{TERMINAL}
 use Rattle.invariants.specs.Monitors.{is_bad}
+use Rattle.path_finder.specs.declared.pair.TheConstants.{STATES}
+use Rattle.path_finder.specs.declared.table.TheConstants.{OPEN}
 use Rattle.path_finder.specs.declared.pair.Pair.{Pair}
 use Rattle.path_finder.specs.Walks.{Asked, IsPairOf, Leads, Finishes}
 
--- a distance for each pair, 65535 where it is open, and the pairs that were entered
+-- a distance for each pair, OPEN where it was not entered, and the pairs that were entered
 pub record Entries : Type 0 where
   pub distances : List ℕ
   pub entered : List Pair
 
+-- the place of a pair in the table
 abbrev pub place : Pair → ℕ
-place r = r.id * 3 + r.state
+place r = r.id * STATES + r.state
 
+-- the distance of a pair
 abbrev pub at : Entries → Pair → ℕ
 at e r = slice_index e.distances (place r)
 
+-- how many pairs are open
 abbrev pub open_count : Entries → ℕ
-open_count e = count_by (λ d. d == 65535) e.distances
+open_count e = count_by (λ d. d == OPEN) e.distances
 
 -- the pair is entered with this distance
 abbrev pub with_pair : Entries → Pair → ℕ → Entries
@@ -29,43 +35,45 @@ IsClosedAt a e q = (p : Pair) → IsPairOf a p → Leads a p q → at e p ≤ at
 -- The search, where the pairs entered before the place next are closed. The distances of pairs never fall in the order
 -- in which they were entered, and none is more than one above that of the next pair.
 pub record IsSearched (a : Asked) (next : ℕ) (e : Entries) : Type 0 where
-  pub size : length e.distances ≡ a.ids * 3
-  pub count : length e.entered + open_count e ≤ a.ids * 3
-  pub sound : (r : Pair) → IsPairOf a r → at e r < 65535 → Finishes a r (at e r)
-  pub found : (r : Pair) → IsPairOf a r → at e r < 65535 → (i : ℕ) × (slice_get e.entered i ≡ Some r)
+  pub size : length e.distances ≡ a.ids * STATES
+  pub count : length e.entered + open_count e ≤ a.ids * STATES
+  pub sound : (r : Pair) → IsPairOf a r → at e r < OPEN → Finishes a r (at e r)
+  pub found : (r : Pair) → IsPairOf a r → at e r < OPEN → (i : ℕ) × (slice_get e.entered i ≡ Some r)
   pub listed : (i : ℕ) (r : Pair) → slice_get e.entered i ≡ Some r → IsPairOf a r × (at e r ≤ i)
-  pub order : (i j : ℕ) (r s : Pair) → i ≤ j → slice_get e.entered i ≡ Some r → slice_get e.entered j ≡ Some s → at e r ≤ at e s
-  pub near : (j : ℕ) (r s : Pair) → slice_get e.entered next ≡ Some r → slice_get e.entered j ≡ Some s → at e s ≤ at e r + 1
+  pub order : (i j : ℕ) (r s : Pair) → i ≤ j
+      → slice_get e.entered i ≡ Some r → slice_get e.entered j ≡ Some s → at e r ≤ at e s
+  pub near : (j : ℕ) (r s : Pair)
+      → slice_get e.entered next ≡ Some r → slice_get e.entered j ≡ Some s → at e s ≤ at e r + 1
   pub done : (i : ℕ) (r : Pair) → i < next → slice_get e.entered i ≡ Some r → IsClosedAt a e r
 
 -- what was entered stays, with its distance and its place in the order
 pub record Grows (old new : Entries) : Type 0 where
-  pub known : (r : Pair) → at old r < 65535 → at new r ≡ at old r
+  pub known : (r : Pair) → at old r < OPEN → at new r ≡ at old r
   pub listed : (i : ℕ) (r : Pair) → slice_get old.entered i ≡ Some r → slice_get new.entered i ≡ Some r
 
 -- TERMINAL is entered with 0 in each bad state
 abbrev pub HasEnds : Asked → Entries → Type 0
-HasEnds a e = (r : Pair) → r.id ≡ 1 → r.state < 3 → is_bad a.inv r.state ≡ true → at e r ≡ 0
+HasEnds a e = (r : Pair) → r.id ≡ TERMINAL → r.state < 3 → is_bad a.inv r.state ≡ true → at e r ≡ 0
 
 -- TERMINAL is entered in the bad states below this one, and nothing else is
 pub record IsBegun (a : Asked) (state : ℕ) (e : Entries) : Type 0 where
   pub searched : IsSearched a 0 e
   pub low : (i : ℕ) (r : Pair) → slice_get e.entered i ≡ Some r → at e r ≡ 0
-  pub ends : (r : Pair) → r.id ≡ 1 → r.state < state → is_bad a.inv r.state ≡ true → at e r ≡ 0
-  pub rest : (r : Pair) → r.id ≡ 1 → state ≤ r.state → r.state < 3 → at e r ≡ 65535
+  pub ends : (r : Pair) → r.id ≡ TERMINAL → r.state < state → is_bad a.inv r.state ≡ true → at e r ≡ 0
+  pub rest : (r : Pair) → r.id ≡ TERMINAL → state ≤ r.state → r.state < 3 → at e r ≡ OPEN
 
 -- The distance of each pair is known up to that of the start, and where the start is open all are known.
 pub record IsMeasured (a : Asked) (start : Pair) (e : Entries) : Type 0 where
-  pub size : length e.distances ≡ a.ids * 3
-  pub short : (r : Pair) → IsPairOf a r → at e r < 65535 → at e r ≤ a.ids * 3
-  pub sound : (r : Pair) → IsPairOf a r → at e r < 65535 → Finishes a r (at e r)
-  pub whole : (r : Pair) (k : ℕ) → IsPairOf a r → (at e start < 65535 → k < at e start) → Finishes a r k → (at e r ≤ k) × (at e r < 65535)
+  pub size : length e.distances ≡ a.ids * STATES
+  pub short : (r : Pair) → IsPairOf a r → at e r < OPEN → at e r ≤ a.ids * STATES
+  pub sound : (r : Pair) → IsPairOf a r → at e r < OPEN → Finishes a r (at e r)
+  pub whole : (r : Pair) (k : ℕ) → IsPairOf a r → (at e start < OPEN → k < at e start) → Finishes a r k → (at e r ≤ k) × (at e r < OPEN)
 
 -- a table in which all walks shorter than this are known
 pub record IsKnown (a : Asked) (bound : ℕ) (e : Entries) : Type 0 where
-  pub size : length e.distances ≡ a.ids * 3
-  pub sound : (r : Pair) → IsPairOf a r → at e r < 65535 → Finishes a r (at e r)
-  pub whole : (r : Pair) (k : ℕ) → IsPairOf a r → k < bound → Finishes a r k → (at e r ≤ k) × (at e r < 65535)
+  pub size : length e.distances ≡ a.ids * STATES
+  pub sound : (r : Pair) → IsPairOf a r → at e r < OPEN → Finishes a r (at e r)
+  pub whole : (r : Pair) (k : ℕ) → IsPairOf a r → k < bound → Finishes a r k → (at e r ≤ k) × (at e r < OPEN)
 
 -- the pair of the least id to which p leads with the distance d
 pub record IsNextPair (a : Asked) (e : Entries) (p : Pair) (d : ℕ) (q : Pair) : Type 0 where

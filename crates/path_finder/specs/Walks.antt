@@ -1,8 +1,9 @@
 -- Pairs of an id and a state of the monitor, and the walks from them that end badly.
 use Rattle.std.specs.Prelude.{◌≡◌, ℕ, ◌<◌, ◌≤◌, true, List, length}
+use Rattle.limits.specs.declared.TheConstants.{TERMINAL}
 use Rattle.invariants.specs.declared.Invariant.{Invariant}
 use Rattle.invariants.specs.Monitors.{step, run, is_bad}
-use Rattle.partition_model.specs.Graphs.{Graph, Walk, word, IsBefore}
+use Rattle.partition_model.specs.Graphs.{Graph, Walk, word, IsBefore, IsLeastViolation}
 use Rattle.path_finder.specs.declared.pair.Pair.{Pair}
 
 -- what is asked: an invariant, of a graph whose edges go between ids below this number
@@ -10,6 +11,10 @@ pub record Asked : Type 0 where
   pub graph : Graph
   pub inv : Invariant
   pub ids : ℕ
+
+-- the path is the least violation that is asked for
+abbrev pub IsLeastOf : Asked → List ℕ → Type 0
+IsLeastOf a path = IsLeastViolation a.graph a.inv path
 
 -- the state after the type of q is read in the state s
 abbrev pub state_at : Asked → ℕ → ℕ → ℕ
@@ -27,7 +32,7 @@ pub record Leads (a : Asked) (p q : Pair) : Type 0 where
 
 -- a walk from the pair's id to TERMINAL, at whose end the monitor that was in the pair's state is in its bad state
 pub record EndsBadly (a : Asked) (r : Pair) (xs : List ℕ) : Type 0 where
-  pub walk : Walk a.graph r.id xs 1
+  pub walk : Walk a.graph r.id xs TERMINAL
   pub bad : is_bad a.inv (run a.inv r.state (word a.graph xs)) ≡ true
 
 -- there is such a walk of k edges

@@ -1,5 +1,6 @@
 //! The finder.
-ghost use Rattle.std.specs.Prelude.{◌≡◌, ◌≤◌, ◌+◌, IfSome, MatchOption, length, vec_capacity};
+ghost use Rattle.std.specs.Prelude.{◌≡◌, ◌≤◌, ◌<◌, ◌+◌, ◌*◌, IfSome, MatchOption, length, vec_capacity};
+ghost use Rattle.path_finder.specs.declared.table.TheConstants.{MAX_PAIRS};
 ghost use Rattle.partition_graph.specs.Seen.{seen};
 ghost use Rattle.partition_model.specs.Graphs.{IsLeastViolation, Satisfies};
 
@@ -9,6 +10,7 @@ use crate::search::measure;
 use crate::table::{MAX_PAIRS, OPEN, Table};
 use crate::trace::trace;
 use invariants::{Invariant, Monitor};
+use limits::{INITIAL, MAX_PARTITIONS};
 use partition_graph::View;
 use std::alloc::{AllocError, Global};
 use std::sync::ledger::Ledger;
@@ -19,7 +21,7 @@ use steps::Steps;
 pub struct Finder {
     table: Table,
     path: Vec<u32>,
-    ghost room: { 3073 ≤ vec_capacity path },
+    ghost room: { MAX_PAIRS < vec_capacity path },
 }
 
 impl Finder {
@@ -31,8 +33,8 @@ impl Finder {
     }
 
     /// The least violation of the invariant in the graph, or `None` where the graph satisfies it: of the paths that
-    /// break the invariant one of the fewest ids, and of these the first in lexicographic order. It begins with 0 and
-    /// ends with 1.
+    /// break the invariant one of the fewest ids, and of these the first in lexicographic order. It begins with
+    /// INITIAL and ends with TERMINAL, and has at most one id more than there are pairs of an id and a state of a monitor.
     ///
     /// It counts one step, and takes no memory.
     pub fn least_violation<L: Ledger>(
@@ -41,15 +43,17 @@ impl Finder {
         inv: Invariant,
         steps: &mut Steps<L>,
     ) -> Option<&[u32]>
-        ensures found { MatchOption result (Satisfies (seen view.now) inv) (λ path. IsLeastViolation (seen view.now) inv path.now) }
-        ensures short { IfSome result (λ path. length path.now ≤ 3073) }
+        ensures found { MatchOption result
+            (Satisfies (seen view.now) inv)
+            (λ path. IsLeastViolation (seen view.now) inv path.now) }
+        ensures short { IfSome result (λ path. length path.now ≤ 3 * MAX_PARTITIONS + 1) }
         ensures counted { steps.new ≡ steps.old + 1 }
     {
         steps.tick();
         let question = Question::new(view, inv);
         let start = Pair {
-            id: 0,
-            state: question.state_at(Monitor::start(), 0),
+            id: INITIAL,
+            state: question.state_at(Monitor::start(), INITIAL),
         };
         measure(&question, &mut self.table, start);
         if self.table.distance(start) == OPEN {

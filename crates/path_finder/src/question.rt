@@ -1,9 +1,11 @@
 //! What the finder is asked.
 ghost use Rattle.std.specs.Prelude.{◌≡◌, ◌≤◌, ◌<◌};
+ghost use Rattle.limits.specs.declared.TheConstants.{FIRST_TYPE, MAX_PARTITIONS};
 ghost use Rattle.partition_graph.specs.Parts.{HasEdgesBelow};
 ghost use Rattle.partition_graph.specs.Seen.{seen};
 
 use invariants::{Invariant, Monitor};
+use limits::{FIRST_TYPE, MAX_PARTITIONS};
 use partition_graph::View;
 
 /// An invariant, and a graph that may break it. Edges go between the ids below `ids`.
@@ -12,8 +14,8 @@ pub(crate) struct Question<'a> {
     view: &'a View<'a>,
     inv: Invariant,
     ids: u32,
-    ghost two: { 2 ≤ ids },
-    ghost few: { ids ≤ 1024 },
+    ghost two: { FIRST_TYPE ≤ ids },
+    ghost few: { ids ≤ MAX_PARTITIONS },
     ghost within: { HasEdgesBelow (seen view.now) ids },
 }
 
@@ -37,8 +39,8 @@ impl<'a> Question<'a> {
     /// How many ids are used.
     pub fn ids(&self) -> u32
         ensures value { result ≡ (asked self.now).ids }
-        ensures two { 2 ≤ result }
-        ensures few { result ≤ 1024 }
+        ensures two { FIRST_TYPE ≤ result }
+        ensures few { result ≤ MAX_PARTITIONS }
     {
         self.ids
     }

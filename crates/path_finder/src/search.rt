@@ -1,14 +1,14 @@
 //! The search backwards: the distances of pairs, from TERMINAL in the bad state on.
-ghost use Rattle.std.specs.Prelude.{◌≡◌, ◌≤◌, ◌<◌, ◌+◌, ◌*◌, true};
-ghost use Rattle.partition_graph.specs.Parts.{HasEdgesBelow};
+ghost use Rattle.std.specs.Prelude.{◌≡◌, ◌<◌, ◌+◌};
 ghost use Rattle.path_finder.specs.Asking.{asked};
 ghost use Rattle.path_finder.specs.Walks.{state_at, IsPairOf, Leads};
 ghost use Rattle.path_finder.specs.Tables.{at, Grows, HasEnds, IsBegun, IsMeasured, IsSearched};
 ghost use Rattle.path_finder.specs.Turns.{IsTurn};
 
-use crate::pair::Pair;
+use crate::pair::{Pair, STATES};
 use crate::question::Question;
 use crate::table::{OPEN, Table};
+use limits::TERMINAL;
 
 /// A turn of the search: the pair whose turn it is, its place in the order in which pairs were entered, and the
 /// distance of the pairs that lead to it.
@@ -26,7 +26,7 @@ fn enter_pair(question: &Question<'_>, table: &mut Table, turn: Turn, pair: Pair
     requires state { state_at (asked question.now) pair.state turn.pair.id ≡ turn.pair.state }
     ensures turn { IsTurn (asked question.now) turn table.new }
     ensures grows { Grows table.old table.new }
-    ensures entered { Leads (asked question.now) pair turn.pair → at table.new pair < 65535 }
+    ensures entered { Leads (asked question.now) pair turn.pair → at table.new pair < OPEN }
 {
     if table.distance(pair) != OPEN {
         return;
@@ -43,7 +43,8 @@ fn enter_state(question: &Question<'_>, table: &mut Table, turn: Turn, state: u8
     requires state { state < 3 }
     ensures turn { IsTurn (asked question.now) turn table.new }
     ensures grows { Grows table.old table.new }
-    ensures entered { (p : Pair) → IsPairOf (asked question.now) p → p.state ≡ state → Leads (asked question.now) p turn.pair → at table.new p < 65535 }
+    ensures entered { (p : Pair) → IsPairOf (asked question.now) p → p.state ≡ state
+        → Leads (asked question.now) p turn.pair → at table.new p < OPEN }
 {
     if question.state_at(state, turn.pair.id) != turn.pair.state {
         return;
@@ -71,7 +72,13 @@ fn enter_end(question: &Question<'_>, table: &mut Table, state: u8)
     ensures { IsBegun (asked question.now) (state + 1) table.new }
 {
     if question.is_bad(state) {
-        table.enter(Pair { id: 1, state }, 0);
+        table.enter(
+            Pair {
+                id: TERMINAL,
+                state,
+            },
+            0,
+        );
     }
 }
 
@@ -80,7 +87,7 @@ fn begin(question: &Question<'_>, table: &mut Table)
     ensures searched { IsSearched (asked question.now) 0 table.new }
     ensures ends { HasEnds (asked question.now) table.new }
 {
-    table.clear(question.ids() as usize * 3);
+    table.clear(question.ids() as usize * STATES);
     for state in 0..3 {
         enter_end(question, table, state);
     }

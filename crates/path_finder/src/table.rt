@@ -2,12 +2,13 @@
 ghost use Rattle.std.specs.Prelude.{◌≡◌, ◌≤◌, ◌<◌, ◌+◌, [], length, replicate, slice_get, IfOk};
 ghost use Rattle.path_finder.specs.Tables.{at, open_count, place, with_pair};
 
-use crate::pair::Pair;
+use crate::pair::{Pair, STATES};
+use limits::MAX_PARTITIONS;
 use std::alloc::{AllocError, Global};
 use std::marker::Model;
 
-/// The most pairs: three states for each of 1,024 ids.
-pub(crate) const MAX_PAIRS: usize = 3072;
+/// The most pairs: each state with each id.
+pub(crate) const MAX_PAIRS: usize = MAX_PARTITIONS as usize * STATES;
 
 /// The distance of a pair that was not entered.
 pub(crate) const OPEN: u16 = 65535;
@@ -23,13 +24,15 @@ pub(crate) struct Table {
 
 impl Model for Table {
     ghost use Rattle.std.specs.Prelude.{◌≤◌, vec_capacity};
+    ghost use Rattle.path_finder.specs.declared.table.TheConstants.{MAX_PAIRS};
     ghost use Rattle.path_finder.specs.Tables.{Entries};
 
     ghost Value = { Entries };
 
     ghost view = { λ t. record { distances = t.distances.items; entered = t.entered.items } };
 
-    ghost invariant = { λ t. (3072 ≤ vec_capacity t.distances) × (3072 ≤ vec_capacity t.entered) };
+    ghost invariant = { λ t.
+        (MAX_PAIRS ≤ vec_capacity t.distances) × (MAX_PAIRS ≤ vec_capacity t.entered) };
 }
 
 impl Table {
@@ -44,8 +47,8 @@ impl Table {
 
     /// Leaves this many pairs, all of them open.
     pub fn clear(&mut self, pairs: usize)
-        requires { pairs ≤ 3072 }
-        ensures distances { (self.new).distances ≡ replicate pairs 65535 }
+        requires { pairs ≤ MAX_PAIRS }
+        ensures distances { (self.new).distances ≡ replicate pairs OPEN }
         ensures entered { (self.new).entered ≡ [] }
     {
         self.entered.clear();
@@ -60,7 +63,7 @@ impl Table {
         requires { place pair < length (self.now).distances }
         ensures { result ≡ at self.now pair }
     {
-        self.distances[pair.id as usize * 3 + pair.state as usize]
+        self.distances[pair.id as usize * STATES + pair.state as usize]
     }
 
     /// The pair that was entered as this one, counted from 0.
@@ -73,14 +76,12 @@ impl Table {
     /// Enters an open pair with this distance.
     pub fn enter(&mut self, pair: Pair, distance: u16)
         requires within { place pair < length (self.old).distances }
-        requires stands_open { at self.old pair ≡ 65535 }
-        requires closes { distance < 65535 }
-        requires room { length (self.old).entered + open_count self.old ≤ 3072 }
+        requires stands_open { at self.old pair ≡ OPEN }
+        requires closes { distance < OPEN }
+        requires room { length (self.old).entered + open_count self.old ≤ MAX_PAIRS }
         ensures { self.new ≡ with_pair self.old pair distance }
     {
-        self.distances[pair.id as usize * 3 + pair.state as usize] = distance;
-        if self.entered.push(pair).is_err() {
-            unreachable!()
-        }
+        self.distances[pair.id as usize * STATES + pair.state as usize] = distance;
+        self.entered.push_reserved(pair);
     }
 }

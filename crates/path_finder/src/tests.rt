@@ -2,6 +2,7 @@ ghost use Rattle.std.specs.Prelude.{◌≡◌, ◌<◌};
 
 use crate::Finder;
 use invariants::{Invariant, Kind, candidate, candidate_count};
+use limits::{MAX_PARTITIONS, MAX_TYPE_BYTES};
 use partition_graph::{PartGraph, View};
 use std::alloc::Global;
 use std::marker::Brand;
@@ -16,7 +17,7 @@ fn graph_of(alloc: Global, traces: &[&str]) -> Result<PartGraph, Fail> {
     for (t, trace) in traces.iter().enumerate() {
         let file = u32::try_from(t)?;
         for type_text in trace.split_whitespace() {
-            if !type_text.is_empty() && type_text.len() <= 256 {
+            if !type_text.is_empty() && type_text.len() <= MAX_TYPE_BYTES {
                 builder.add(file, 0, "", type_text, 0)?;
             }
         }
@@ -222,7 +223,7 @@ fn answers_as_all_paths_in_order(rt: HostRuntime) -> Result<(), Fail> {
     Ok(())
 }
 
-/// The graph of one trace of 128 types, each once.
+/// The graph of one trace of as many types as there can be, each once.
 fn chain(alloc: Global) -> Result<PartGraph, Fail> {
     let mut trace = String::new(alloc);
     for number in 2..130u32 {
@@ -276,13 +277,13 @@ fn divided_rows(alloc: Global, letters: u32) -> Result<PartGraph, Fail> {
     Ok(graph)
 }
 
-/// In the end all 1,024 ids are used, and no edge leads from one row to the other. The second row has one path, of
+/// In the end all ids are used, and no edge leads from one row to the other. The second row has one path, of
 /// 1,021 ids: its own, with the two ends.
 #[test]
 fn a_thousand_asks_of_a_graph_of_all_ids(rt: HostRuntime) -> Result<(), Fail> {
     let alloc = rt.alloc();
     let graph = divided_rows(alloc, 1017)?;
-    assert_eq!(rt; graph.ids_used(), 1024);
+    assert_eq!(rt; graph.ids_used(), MAX_PARTITIONS);
     let cases = [
         (Kind::AF, 2, 4, 0),
         (Kind::AF, 5, 4, 1021),

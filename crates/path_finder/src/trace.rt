@@ -1,13 +1,13 @@
 //! The way forwards: from the start along the least ids to TERMINAL.
-ghost use Rattle.std.specs.Prelude.{◌≡◌, ◌≤◌, ◌<◌, ◌+◌, ◌∷◌, [], ◌++◌, IfSome, MatchOption, length, vec_capacity, vec_len};
-ghost use Rattle.partition_model.specs.Graphs.{IsLeastViolation};
+ghost use Rattle.std.specs.Prelude.{◌≡◌, ◌≤◌, ◌<◌, ◌+◌, MatchOption, length, vec_capacity};
 ghost use Rattle.path_finder.specs.Asking.{asked};
-ghost use Rattle.path_finder.specs.Walks.{state_at, IsPairOf, Leads};
+ghost use Rattle.path_finder.specs.Walks.{state_at, IsLeastOf, IsPairOf, Leads};
 ghost use Rattle.path_finder.specs.Tables.{at, IsKnown, IsMeasured, IsNextPair};
 
 use crate::pair::Pair;
 use crate::question::Question;
-use crate::table::Table;
+use crate::table::{MAX_PAIRS, OPEN, Table};
+use limits::INITIAL;
 
 /// The pair to which an edge to the id leads, if there is such an edge and the pair has this distance.
 fn next_at(
@@ -22,7 +22,8 @@ fn next_at(
     requires id { id < (asked question.now).ids }
     ensures { MatchOption result
         ((r : Pair) → r.id ≡ id → Leads (asked question.now) pair r → at table.now r ≡ distance → ⊥)
-        (λ q. (q.id ≡ id) × IsPairOf (asked question.now) q × Leads (asked question.now) pair q × (at table.now q ≡ distance)) }
+        (λ q. (q.id ≡ id) × IsPairOf (asked question.now) q × Leads (asked question.now) pair q
+        × (at table.now q ≡ distance)) }
 {
     let next = Pair {
         id,
@@ -42,7 +43,7 @@ fn next_pair(question: &Question<'_>, table: &Table, pair: Pair, distance: u16) 
     requires known { IsKnown (asked question.now) (distance + 1) table.now }
     requires pair { IsPairOf (asked question.now) pair }
     requires entry { at table.now pair ≡ distance + 1 }
-    requires stands { distance + 1 < 65535 }
+    requires stands { distance + 1 < OPEN }
     ensures pair { IsPairOf (asked question.now) result }
     ensures next { IsNextPair (asked question.now) table.now pair distance result }
 {
@@ -54,37 +55,27 @@ fn next_pair(question: &Question<'_>, table: &Table, pair: Pair, distance: u16) 
     unreachable!()
 }
 
-/// Puts an id at the end of the path, which has the memory for it.
-fn append(path: &mut Vec<u32>, id: u32)
-    requires { vec_len path.old < vec_capacity path.old }
-    ensures items { path.new.items ≡ path.old.items ++ id ∷ [] }
-    ensures len { vec_len path.new ≡ vec_len path.old + 1 }
-    ensures capacity { vec_capacity path.old ≤ vec_capacity path.new }
-{
-    if path.push(id).is_err() {
-        unreachable!()
-    }
-}
-
-/// Leaves the ids of the least violation in the path.
+/// Leaves the ids of the least violation in the path, which has the memory for them.
 pub(crate) fn trace(question: &Question<'_>, table: &Table, start: Pair, path: &mut Vec<u32>)
     requires measured { IsMeasured (asked question.now) start table.now }
     requires pair { IsPairOf (asked question.now) start }
-    requires id { start.id ≡ 0 }
-    requires state { start.state ≡ state_at (asked question.now) 0 0 }
-    requires entered { at table.now start < 65535 }
-    requires room { 3073 ≤ vec_capacity path.old }
-    ensures least { IsLeastViolation (asked question.now).graph (asked question.now).inv path.new.items }
-    ensures short { length path.new.items ≤ 3073 }
-    ensures room { 3073 ≤ vec_capacity path.new }
+    requires id { start.id ≡ INITIAL }
+    requires state { start.state ≡ state_at (asked question.now) 0 INITIAL }
+    requires entered { at table.now start < OPEN }
+    requires room { MAX_PAIRS < vec_capacity path.old }
+
+    // The memory for the next path stays.
+    ensures least { IsLeastOf (asked question.now) path.new.items }
+    ensures short { length path.new.items ≤ MAX_PAIRS + 1 }
+    ensures room { MAX_PAIRS < vec_capacity path.new }
 {
     path.clear();
-    append(path, start.id);
+    path.push_reserved(start.id);
     let mut pair = start;
     let mut left = table.distance(start);
     while left > 0 {
         left -= 1;
         pair = next_pair(question, table, pair, left);
-        append(path, pair.id);
+        path.push_reserved(pair.id);
     }
 }

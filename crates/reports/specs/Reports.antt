@@ -1,7 +1,10 @@
 -- The texts of invariants and of graphs.
-use Rattle.std.specs.Prelude.{ℕ, ◌==◌, zero, suc, List, [], ◌∷◌, ◌++◌, codes, decimal, slice_get, unwrap_or, Option}
-use Rattle.std.specs.Option.{option_map}
+use Rattle.std.specs.Prelude.{ℕ, ◌==◌, List, [], ◌∷◌, ◌++◌, codes, decimal, slice_get, unwrap_or, Option, Some, None, if◌then◌else◌, ◌-◌}
+use Rattle.std.specs.Option.{option_map, option_or}
+use Rattle.std.specs.Ordering.{nat_cmp}
+use Rattle.std.specs.BTreeMap.{BTreeMap, get_by}
 use Rattle.std.specs.List.{flat_map, find}
+use Rattle.limits.specs.declared.TheConstants.{INITIAL, TERMINAL, FIRST_TYPE}
 use Rattle.serde_json.specs.Data.{string}
 use Rattle.serde_json.specs.Written.{compact_text}
 use Rattle.invariants.specs.declared.Kind.{Kind}
@@ -12,9 +15,10 @@ use Rattle.invariants.specs.declared.records.Edge.{Edge}
 
 -- a type's name: its text as a JSON string, or that of an end
 abbrev pub name_of : List (List ℕ) → ℕ → List ℕ
-name_of types zero = codes "INITIAL"
-name_of types (suc zero) = codes "TERMINAL"
-name_of types (suc (suc n)) = unwrap_or (option_map (λ text. compact_text (string text)) (slice_get types n)) []
+name_of types n =
+    if n == INITIAL then codes "INITIAL"
+    else if n == TERMINAL then codes "TERMINAL"
+    else unwrap_or (option_map (λ text. compact_text (string text)) (slice_get types (n - FIRST_TYPE))) []
 
 -- what stands between the two types
 abbrev pub verb_of : Kind → List ℕ
@@ -34,11 +38,20 @@ invariant_report types invariants = flat_map (invariant_line types) invariants
 abbrev pub partition_with : List Partition → ℕ → Option Partition
 partition_with partitions id = find (λ p. p.id == id) partitions
 
+-- the partition that is noted under this id
+abbrev pub found_at : BTreeMap ℕ Partition → ℕ → Option Partition
+found_at places id = get_by (nat_cmp id) places
+
+-- what is found under the id, or else the partition if it has the id
+abbrev pub or_noted : Partition → ℕ → Option Partition → Option Partition
+or_noted p id found = option_or found (if p.id == id then Some p else None)
+
 -- how a partition is shown: by its type's name and its id, and an end by its name alone
 abbrev pub shown_as : List (List ℕ) → Option Partition → ℕ → List ℕ
-shown_as types found zero = codes "INITIAL"
-shown_as types found (suc zero) = codes "TERMINAL"
-shown_as types found (suc (suc n)) = unwrap_or (option_map (λ p. name_of types p.typ) found) [] ++ codes "@" ++ decimal (suc (suc n))
+shown_as types found id =
+    if id == INITIAL then codes "INITIAL"
+    else if id == TERMINAL then codes "TERMINAL"
+    else unwrap_or (option_map (λ p. name_of types p.typ) found) [] ++ codes "@" ++ decimal id
 
 -- how many events a partition has
 abbrev pub count_of : Option Partition → ℕ
@@ -47,11 +60,13 @@ count_of found = unwrap_or (option_map (λ p. p.count) found) 0
 -- the line of an edge between these partitions: from where and to where it goes, its count, and that of the events that it can come from
 abbrev pub edge_text : List (List ℕ) → Edge → Option Partition → Option Partition → List ℕ
 edge_text types e from to =
-    shown_as types from e.from ++ codes " -> " ++ shown_as types to e.to ++ codes ": " ++ decimal e.count ++ codes " of " ++ decimal (count_of from) ++ 10 ∷ []
+    shown_as types from e.from ++ codes " -> " ++ shown_as types to e.to
+    ++ codes ": " ++ decimal e.count ++ codes " of " ++ decimal (count_of from) ++ 10 ∷ []
 
 -- the line of an edge, whose partitions are found by their ids
 abbrev pub edge_line : List (List ℕ) → List Partition → Edge → List ℕ
-edge_line types partitions e = edge_text types e (partition_with partitions e.from) (partition_with partitions e.to)
+edge_line types partitions e =
+    edge_text types e (partition_with partitions e.from) (partition_with partitions e.to)
 
 -- a line for each edge, in their order
 abbrev pub graph_report : List (List ℕ) → List Partition → List Edge → List ℕ

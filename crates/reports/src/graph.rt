@@ -1,13 +1,12 @@
 //! The text of a graph.
-ghost use Rattle.std.specs.Prelude.{◌≡◌, ◌++◌, ℕ, OnOk, IfOk, decimal, option_map, unwrap_or};
-ghost use Rattle.std.specs.Ordering.{nat_cmp};
-ghost use Rattle.std.specs.BTreeMap.{get_by};
-ghost use Rattle.reports.specs.Reports.{shown_as, count_of, edge_text, edge_line, graph_report, partition_with};
+ghost use Rattle.std.specs.Prelude.{◌≡◌, ◌++◌, OnOk, IfOk, decimal};
+ghost use Rattle.reports.specs.Reports.{shown_as, count_of, edge_text, found_at, graph_report};
 
 use crate::name::push_name;
 use crate::partitions::by_id;
 use invariants::{Edge, Partition, Seq, Text};
 use itoa::Buffer;
+use limits::{INITIAL, TERMINAL};
 use std::alloc::{AllocError, Global};
 use std::collections::BTreeMap;
 
@@ -30,8 +29,8 @@ fn push_partition(
     ensures { OnOk result (text.new.items ≡ text.old.items ++ shown_as types.now found id) }
 {
     match id {
-        0 => text.extend_from_slice(b"INITIAL"),
-        1 => text.extend_from_slice(b"TERMINAL"),
+        INITIAL => text.extend_from_slice(b"INITIAL"),
+        TERMINAL => text.extend_from_slice(b"TERMINAL"),
         _ => {
             if let Some(partition) = found {
                 push_name(alloc, text, types, partition.typ)?;
@@ -82,7 +81,8 @@ fn push_line(
     places: &BTreeMap<u32, Partition>,
     edge: Edge,
 ) -> Result<(), AllocError>
-    ensures { OnOk result (text.new.items ≡ text.old.items ++ edge_text types.now edge (get_by (nat_cmp edge.from) places.now) (get_by (nat_cmp edge.to) places.now)) }
+    ensures { OnOk result (text.new.items ≡ text.old.items
+        ++ edge_text types.now edge (found_at places.now edge.from) (found_at places.now edge.to)) }
 {
     let from = places.get(&edge.from).copied();
     let to = places.get(&edge.to).copied();

@@ -1,9 +1,6 @@
 //! Partitions by their ids.
-ghost use Rattle.std.specs.Prelude.{◌≡◌, ◌==◌, ℕ, OnOk, IfOk, Some, None, if◌then◌else◌};
-ghost use Rattle.std.specs.Option.{option_or};
-ghost use Rattle.std.specs.Ordering.{nat_cmp};
-ghost use Rattle.std.specs.BTreeMap.{get_by};
-ghost use Rattle.reports.specs.Reports.{partition_with};
+ghost use Rattle.std.specs.Prelude.{◌≡◌, ℕ, OnOk, IfOk};
+ghost use Rattle.reports.specs.Reports.{found_at, or_noted, partition_with};
 
 use invariants::Partition;
 use std::alloc::{AllocError, Global};
@@ -11,7 +8,8 @@ use std::collections::BTreeMap;
 
 /// Notes a partition under its id, unless one is noted there.
 fn note(places: &mut BTreeMap<u32, Partition>, partition: Partition) -> Result<(), AllocError>
-    ensures { OnOk result ((id : ℕ) → get_by (nat_cmp id) places.new ≡ option_or (get_by (nat_cmp id) places.old) (if partition.id == id then Some partition else None)) }
+    ensures { OnOk result ((id : ℕ)
+        → found_at places.new id ≡ or_noted partition id (found_at places.old id)) }
 {
     if places.contains_key(&partition.id) {
         return Ok(());
@@ -25,7 +23,8 @@ pub fn by_id(
     alloc: Global,
     partitions: &[Partition],
 ) -> Result<BTreeMap<u32, Partition>, AllocError>
-    ensures { IfOk result (λ places. (id : ℕ) → get_by (nat_cmp id) places ≡ partition_with partitions.now id) }
+    ensures { IfOk result (λ places. (id : ℕ)
+        → found_at places id ≡ partition_with partitions.now id) }
 {
     let mut places = BTreeMap::new(alloc);
     for partition in partitions {

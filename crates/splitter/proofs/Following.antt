@@ -51,6 +51,7 @@ follow-stop (suc k) (a ∷ xs) (b ∷ ys) l d =
 abbrev pub trace_at : Assignment → ℕ → List Event
 trace_at h t = get_or h t []
 
+-- the trace with a number
 pub trace-there : (h : Assignment) (t : ℕ) → t < length h → slice_get h t ≡ Some (trace_at h t)
 trace-there [] t l = absurd (omega arith)
 trace-there (x ∷ h) zero l = refl
@@ -64,6 +65,7 @@ first-more (x ∷ h) (suc t) l =
     let i : first_event h (suc t) ≡ first_event h t + length (trace_at h t) = first-more h t (omega arith) in
     omega (arith, i, length-append x (events (take (suc t) h)), length-append x (events (take t h)))
 
+-- behind the last trace stand all events
 pub last-first : (h : Assignment) (t : ℕ) → length h ≤ t → first_event h t ≡ length (events h)
 last-first [] zero l = refl
 last-first [] (suc t) l = refl
@@ -115,6 +117,7 @@ pub record IsFollowing (h : Assignment) (path : List ℕ) (t place event : ℕ) 
   pub place_is : first_event h t + place ≡ event + 1
   pub follows : place ≤ common path (id_list (trace_at h t))
 
+-- a path that begins with INITIAL is followed by each trace for one id
 pub following-start : (h : Assignment) (path : List ℕ) (t first : ℕ) → first ≡ first_event h t → slice_get path 0 ≡ Some 0 → IsFollowing h path t 1 first
 following-start h path t first q s =
     record {
@@ -132,6 +135,7 @@ id-of h t event end (suc i) x l f p e q g =
     let w : i < length (trace_at h t) = omega arith in
     id-in (trace_at h t) i w ∙ sym (part-in h t i event l w (omega arith)) ∙ g
 
+-- one event more follows the path
 pub following-more : (h : Assignment) (path : List ℕ) (t place event end x : ℕ) → IsFollowing h path t place event → t < length h → event < end → end ≡ first_event h (t + 1)
     → slice_get (parts_of h) event ≡ Some x → slice_get path place ≡ Some x → IsFollowing h path t (place + 1) (event + 1)
 following-more h path t place event end x k l e q g s =
@@ -145,6 +149,7 @@ answer : (h : Assignment) (path : List ℕ) (t result : ℕ) → t < length h �
     → IfSome (slice_get h t) (λ trace. result ≡ common path (id_list trace))
 answer h path t result l e = rw (trace-there h t l) (sym e)
 
+-- the trace leaves the path at an event
 pub following-left : (h : Assignment) (path : List ℕ) (t place event end x : ℕ) → IsFollowing h path t place event → t < length h → event < end → end ≡ first_event h (t + 1)
     → slice_get (parts_of h) event ≡ Some x → (slice_get path place ≡ Some x → ⊥) → IfSome (slice_get h t) (λ trace. place ≡ common path (id_list trace))
 following-left h path t place event end x k l e q g d =
@@ -158,6 +163,7 @@ end-place h t event place l p q =
     let n : first_event h (t + 1) ≡ first_event h (suc t) = ap (first_event h) (let z : t + 1 ≡ suc t = omega arith in z) in
     omega arith
 
+-- the path is followed to the end of the trace
 pub following-whole : (h : Assignment) (path : List ℕ) (t place event : ℕ) → IsFollowing h path t place event → t < length h → event ≡ first_event h (t + 1)
     → slice_get path place ≡ Some 1 → IfSome (slice_get h t) (λ trace. place + 1 ≡ common path (id_list trace))
 following-whole h path t place event k l q s =
@@ -169,6 +175,7 @@ following-whole h path t place event k l q s =
     follow-stop (suc place) path (id_list tr) m (λ x a b. id-past tr place x (omega arith) b) in
     answer h path t (place + 1) l (omega arith)
 
+-- the path goes on otherwise than to TERMINAL at the end of the trace
 pub following-end : (h : Assignment) (path : List ℕ) (t place event : ℕ) → IsFollowing h path t place event → t < length h → event ≡ first_event h (t + 1)
     → (slice_get path place ≡ Some 1 → ⊥) → IfSome (slice_get h t) (λ trace. place ≡ common path (id_list trace))
 following-end h path t place event k l q d =
@@ -192,6 +199,7 @@ followed-next path (x ∷ h) (suc t) n l e =
     let f : followed (take (suc t) (x ∷ h)) path ≡ max (common path (id_list x)) (followed (take t h) path) = refl in
     omega (arith, i, d, f)
 
+-- the longest front with one trace more
 pub followed-more : (h : Assignment) (path : List ℕ) (t longest n now : ℕ) → t < length h → longest ≡ followed (take t h) path → IfSome (slice_get h t) (λ trace. n ≡ common path (id_list trace))
     → now ≡ max longest n → now ≡ followed (take (t + 1) h) path
 followed-more h path t longest n now l k e m =
@@ -203,6 +211,7 @@ take-whole [] (suc t) l = refl
 take-whole (x ∷ h) zero l = absurd (omega arith)
 take-whole (x ∷ h) (suc t) l = ap (λ (k : Assignment). x ∷ k) (take-whole h t (omega arith))
 
+-- the longest front over all traces gives the stitch
 pub longest-whole : (h : Assignment) (path : List ℕ) (t longest : ℕ) → 0 < length h → slice_get path 0 ≡ Some 0 → longest ≡ followed (take t h) path → length h ≤ t
     → (1 ≤ longest) × (longest - 1 ≡ stitch h path) × (longest - 1 < length path)
 longest-whole h path t longest s b e l =
@@ -218,6 +227,7 @@ events-take [] (suc t) = omega arith
 events-take (x ∷ h) (suc t) =
     omega (arith, events-take h t, length-append x (events (take t h)), length-append x (events h))
 
+-- an event before the end of its trace is one of the events
 pub event-there : (h : Assignment) (t event end : ℕ) → t < length h → event < end → end ≡ first_event h (t + 1) → event < length (events h)
 event-there h t event end l e q = omega (arith, events-take h (t + 1))
 
@@ -227,10 +237,12 @@ pub read : (o : Option (Bor ℕ)) (path : List ℕ) (place : ℕ) → MatchOptio
 read None path place m = sym (slice_get_past path place m)
 read (Some x) path place m = sym (slice_get_read path (length path) place x.now refl m.0 (m.1 x.now))
 
+-- an answer that is equal to one that is there is that one
 pub is-same : (o : Option ℕ) (x : ℕ) → true ≡ option_eq eqb o (Some x) → o ≡ Some x
 is-same None x e = absurd (true≢false e)
 is-same (Some y) x e = ap Some (eqb-true y x (sym e))
 
+-- an answer that is not equal to one that is there is another
 pub is-not-same : (o : Option ℕ) (x : ℕ) → false ≡ option_eq eqb o (Some x) → o ≡ Some x → ⊥
 is-not-same None x e q = none-some x q
 is-not-same (Some y) x e q = true≢false (sym (eq-eqb y x (same_Some y x q)) ∙ sym e)
@@ -243,14 +255,17 @@ ord_max-max a b =
       | inr f ↦ let l : a ≤ b = grind (arith, nat_tests) in rw f (omega arith)
     ]
 
+-- what is not so by a test that succeeds
 pub not-false : (b : Bool) → not b ≡ true → false ≡ b
 not-false true e = e
 not-false false e = refl
 
+-- what is so by a test that fails
 pub not-true : (b : Bool) → not b ≡ false → true ≡ b
 not-true true e = refl
 not-true false e = e
 
+-- the events of a trace stand before those of the next
 pub first-le : (h : Assignment) (t : ℕ) → t < length h → first_event h t ≤ first_event h (t + 1)
 first-le h t l =
     let m : first_event h (suc t) ≡ first_event h t + length (trace_at h t) = first-more h t l in

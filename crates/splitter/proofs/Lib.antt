@@ -1,3 +1,3 @@
 pub mod Following
-pub mod Steps
+pub mod RefiningTurns
 pub mod Mining

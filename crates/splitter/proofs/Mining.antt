@@ -27,6 +27,7 @@ filtered-hold traces (inv ∷ invs) =
       | inr f ↦ subst (HoldAll (map (λ trace. trace.events) traces)) (sym (cond-false _ _ _ f)) (filtered-hold traces invs)
     ]
 
+-- what is mined of a log holds of every word of its first graph
 pub mined-hold : (log : Log) (count : ℕ) → HoldAll (inner_words (start_of log).traces) (mined count (words_of log))
 mined-hold log count =
     subst (λ (ws : List (List ℕ)). HoldAll ws (mined count (words_of log))) (sym (words-typed (inner_words_of log)))

@@ -1,11 +1,13 @@
 -- What refinement needs, and what it leaves.
-use Rattle.std.specs.Prelude.{◌≡◌, ℕ, ◌+◌, ◌<◌, ◌≤◌, List, [], length}
+use Rattle.std.specs.Prelude.{◌≡◌, ℕ, ◌+◌, ◌<◌, ◌≤◌, List, [], length, slice_index}
+use Rattle.limits.specs.declared.TheConstants.{FIRST_TYPE, MAX_PARTITIONS}
 use Rattle.invariants.specs.declared.Invariant.{Invariant}
 use Rattle.invariants.specs.declared.records.Split.{Split}
 use Rattle.traces.specs.Words.{Event, log_of}
 use Rattle.partition_model.specs.Assignments.{G, events}
-use Rattle.partition_model.specs.Refinement.{Splits, Refines, SatisfiesAll, IsNextSplit}
-use Rattle.partition_graph.specs.Parts.{Parts, start_of}
+use Rattle.partition_model.specs.Laws.{NamesRests}
+use Rattle.partition_model.specs.Refinement.{Splits, Refines, SatisfiesAll, IsNextSplit, stitch}
+use Rattle.partition_graph.specs.Parts.{Parts, divided, start_of}
 
 -- the graph was opened of some log, and not changed since
 abbrev pub IsOpened : Parts → Type 0
@@ -15,20 +17,36 @@ IsOpened parts = (events : List Event) × (parts ≡ start_of (log_of events))
 abbrev pub event_count : Parts → ℕ
 event_count parts = length (events parts.traces)
 
--- the splits are the whole run of refinement, each with one new id, of which there are 1,024 at most
+-- the parts after a split: the events at its place that go on as its path does have a new id
+abbrev pub after : Split → Parts → Parts
+after s parts = divided (slice_index s.path s.place) (slice_index s.path (s.place + 1)) parts
+
+-- the split is for the invariant with this number, by this path, at the place of the path's stitch
+pub record IsSplitBy (parts : Parts) (path : List ℕ) (number : ℕ) (s : Split) : Type 0 where
+  pub inv : s.inv ≡ number
+  pub path_is : s.path ≡ path
+  pub place : s.place ≡ stitch parts.traces path
+
+-- the splits are the whole run of refinement, each with one new id, and the ids suffice
 pub record EndsRefined (invs : List Invariant) (old : Parts) (splits : List Split) (new : Parts) : Type 0 where
   pub run : Refines invs old.traces old.used splits new.traces
   pub used : new.used ≡ old.used + length splits
-  pub within : new.used ≤ 1024
+  pub within : new.used ≤ MAX_PARTITIONS
 
 -- the splits are the first steps of refinement, each with one new id
 pub record IsOnTheWay (invs : List Invariant) (old : Parts) (splits : List Split) (new : Parts) : Type 0 where
   pub run : Splits invs old.traces old.used splits new.traces
   pub used : new.used ≡ old.used + length splits
 
--- all 1,024 ids are used, and a further step is wanted
+-- refinement stopped after some number of splits, with so many steps counted and at most one for each invariant and each split
+pub record IsStopped (invs : List Invariant) (old new : Parts) (counted : ℕ) : Type 0 where
+  pub splits : List Split
+  pub on_the_way : IsOnTheWay invs old splits new
+  pub steps : counted ≤ length invs + length splits
+
+-- all ids are used, and a further step is wanted
 pub record IsFull (invs : List Invariant) (new : Parts) : Type 0 where
-  pub used : new.used ≡ 1024
+  pub used : new.used ≡ MAX_PARTITIONS
   pub broken : SatisfiesAll (G new.traces) invs → ⊥
   pub next : Split
   pub is_next : IsNextSplit invs new.traces next
@@ -37,3 +55,9 @@ pub record IsFull (invs : List Invariant) (new : Parts) : Type 0 where
 pub record AreFewer (splits : List Split) (count : ℕ) : Type 0 where
   pub some : 0 < count → length splits < count
   pub none : count ≡ 0 → splits ≡ []
+
+-- the traces end in so few different words that each of these can have an id of its own beside the two ends
+pub record HaveFewRests (parts : Parts) : Type 0 where
+  pub names : List (List ℕ)
+  pub rests : NamesRests names parts.traces
+  pub few : length names + FIRST_TYPE ≤ MAX_PARTITIONS

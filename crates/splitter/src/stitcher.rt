@@ -4,6 +4,7 @@ ghost use Rattle.partition_model.specs.Assignments.{events, id_list};
 ghost use Rattle.partition_model.specs.Listings.{first_event};
 ghost use Rattle.partition_model.specs.Refinement.{common, stitch};
 
+use limits::{INITIAL, TERMINAL};
 use partition_graph::PartGraph;
 use std::alloc::{AllocError, Global};
 use std::marker::Model;
@@ -38,9 +39,10 @@ fn end_of(graph: &PartGraph, t: u32) -> u32
 
 /// With how many of the path's first ids the ids of trace t begin, INITIAL and TERMINAL among them.
 fn followed_in(graph: &PartGraph, path: &[u32], t: u32) -> usize
-    requires starts { slice_get path.now 0 ≡ Some 0 }
+    requires starts { slice_get path.now 0 ≡ Some INITIAL }
     requires there { t < length (graph.now).traces }
-    ensures { IfSome (slice_get (graph.now).traces t) (λ trace. result ≡ common path.now (id_list trace)) }
+    ensures { IfSome (slice_get (graph.now).traces t)
+        (λ trace. result ≡ common path.now (id_list trace)) }
 {
     let mut place = 1;
     for event in graph.first_event(t)..end_of(graph, t) {
@@ -49,7 +51,7 @@ fn followed_in(graph: &PartGraph, path: &[u32], t: u32) -> usize
         }
         place += 1;
     }
-    if path.get(place).copied() == Some(1) {
+    if path.get(place).copied() == Some(TERMINAL) {
         return place + 1;
     }
     place
@@ -71,7 +73,7 @@ impl Stitcher {
     /// The place of the path's stitch: the last place, counted from 0, of its longest front with which the ids of some
     /// trace begin. They stand between those of INITIAL and TERMINAL. It takes no memory.
     pub fn place(&mut self, graph: &PartGraph, path: &[u32]) -> usize
-        requires starts { slice_get path.now 0 ≡ Some 0 }
+        requires starts { slice_get path.now 0 ≡ Some INITIAL }
         requires some { 0 < length (graph.now).traces }
         requires made { self.old ≡ length (events (graph.now).traces) }
         ensures value { result ≡ stitch (graph.now).traces path.now }

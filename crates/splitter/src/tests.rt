@@ -5,6 +5,7 @@ ghost use Rattle.splitter.specs.Refining.{IsOpened};
 use crate::{RefineError, Stitcher, refine};
 use count_miner::mine;
 use invariants::{Seq, Split};
+use limits::{INITIAL, MAX_PARTITIONS, MAX_TRACE_BYTES, MAX_TYPE_BYTES};
 use partition_graph::PartGraph;
 use path_finder::Finder;
 use std::alloc::Global;
@@ -22,7 +23,10 @@ fn set_of(alloc: Global, log: &str) -> Result<TraceSet, Fail>
     let mut builder = Builder::new(alloc);
     for line in log.lines() {
         if let Some((key, type_text)) = line.split_once(' ') {
-            if key.len() <= 1024 && !type_text.is_empty() && type_text.len() <= 256 {
+            if key.len() <= MAX_TRACE_BYTES
+                && !type_text.is_empty()
+                && type_text.len() <= MAX_TYPE_BYTES
+            {
                 builder.add(0, 0, key, type_text, 0)?;
             }
         }
@@ -156,6 +160,15 @@ const TWO_ROWS: Case<'static> = Case {
     parts: &[2, 3, 3, 4, 5, 8, 7, 6],
 };
 
+/// The same words, the second one by two traces. Neither of these follows a path as far as the first trace does, and the
+/// events of both that go on as the path does are divided off: not those at which the first trace left it.
+const TWO_ROWS_AND_ONE_AGAIN: Case<'static> = Case {
+    log: "1 p\n1 a\n1 a\n1 q\n2 r\n2 a\n2 a\n2 s\n3 r\n3 a\n3 a\n3 s\n",
+    invariants: 27,
+    splits: &[(3, 2, &[0, 2, 3, 6, 1]), (3, 2, &[0, 2, 3, 7, 6, 1])],
+    parts: &[2, 3, 3, 4, 5, 8, 7, 6, 5, 8, 7, 6],
+};
+
 #[test]
 fn splits_of_small_logs(rt: HostRuntime) -> Result<(), Fail> {
     let alloc = rt.alloc();
@@ -167,6 +180,7 @@ fn splits_of_small_logs(rt: HostRuntime) -> Result<(), Fail> {
         TURNS,
         OTHER_TURNS,
         TWO_ROWS,
+        TWO_ROWS_AND_ONE_AGAIN,
     ] {
         assert_case(&rt, alloc, &case)?;
     }
@@ -231,7 +245,7 @@ fn a_row_of_five(rt: HostRuntime) -> Result<(), Fail> {
     assert_rows(&rt, rt.alloc(), 5)
 }
 
-/// All 1,024 ids are used in the end.
+/// All ids are used in the end.
 #[test]
 fn the_longest_row(rt: HostRuntime) -> Result<(), Fail> {
     assert_rows(&rt, rt.alloc(), 1017)
@@ -243,10 +257,10 @@ fn a_row_for_which_ids_do_not_suffice(rt: HostRuntime) -> Result<(), Fail> {
     let alloc = rt.alloc();
     let ended = refine_log(&rt, alloc, &rows(alloc, 1018)?)?;
     match ended.result {
-        Ok(_) => panic!(&rt; "1,025 ids"),
+        Ok(_) => panic!(&rt; "one id too many"),
         Err(error) => assert_eq!(rt; error, RefineError::Partitions),
     }
-    assert_eq!(rt; ended.graph.ids_used(), 1024);
+    assert_eq!(rt; ended.graph.ids_used(), MAX_PARTITIONS);
     assert_eq!(rt; ended.graph.size(3), 1019);
     Ok(())
 }
@@ -295,7 +309,7 @@ fn places_of_paths(rt: HostRuntime) -> Result<(), Fail> {
         (&[0], 0),
     ];
     for (path, place) in cases {
-        assert!(rt; path.first() == Some(&0));
+        assert!(rt; path.first() == Some(&INITIAL));
         assert_eq!(rt; stitcher.place(&graph, path), place, "{path:?}");
     }
     Ok(())

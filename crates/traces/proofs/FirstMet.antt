@@ -65,8 +65,10 @@ first-met same decides xs ys =
       later = ap (take (length (first_met same xs))) (fold-append (with_new same) [] xs ys ∙ more.1) ∙ take-append_seam (first_met same xs) more.0;
     }
 
+-- so of texts
 pub types-first_met : (xs ys : List (List ℕ)) → TellsFirstMet bytes_eq xs ys
 types-first_met xs ys = first-met bytes_eq bytes_eq-Decides xs ys
 
+-- so of keys
 pub keys-first_met : (xs ys : List Key) → TellsFirstMet same_key xs ys
 keys-first_met xs ys = first-met same_key same_key-Decides xs ys

@@ -76,8 +76,10 @@ texts-more P types typ all one = ⊎_elim
     (λ new. subst (All P) (sym (cond-false _ _ _ new)) (All-push P types typ all one))
     (cases_Bool (list_any (bytes_eq typ) types))
 
+-- so of having bytes
 pub have-bytes : (types : List (List ℕ)) (typ : List ℕ) → HaveBytes types → 0 < length typ → HaveBytes (with_new bytes_eq types typ)
 have-bytes types typ all one = texts-more (λ text. 0 < length text) types typ all one
 
+-- so of the length
 pub are-short : (types : List (List ℕ)) (typ : List ℕ) → AreShort types → length typ ≤ MAX_TYPE_BYTES → AreShort (with_new bytes_eq types typ)
 are-short types typ all one = texts-more (λ text. length text ≤ MAX_TYPE_BYTES) types typ all one

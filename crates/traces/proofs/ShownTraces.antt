@@ -17,24 +17,30 @@ traces-at e s i zero (key ∷ keys) d inside = ap (λ n. Some (record { key = ke
 traces-at e s i (suc t) (key ∷ keys) d inside =
     traces-at e s (suc i) t keys d (omega arith) ∙ ap (λ n. Some (record { key = get_or keys t d; events = e n; times = s n })) (omega arith)
 
+-- the log that types and parts show
 abbrev pub log_from : List (List ℕ) → List Key → List ℕ → List ℕ → List ℕ → Log
 log_from types keys starts numbers times = record { types = types; traces = laid keys starts numbers times }
 
+-- the trace of a part
 abbrev pub trace_laid : Key → List ℕ → List ℕ → List ℕ → ℕ → Trace
 trace_laid key starts numbers times t = record { key = key; events = part_at starts t numbers; times = part_at starts t (times_beside numbers times) }
 
+-- as many traces as keys
 pub length-laid : (keys : List Key) (starts numbers times : List ℕ) → length (laid keys starts numbers times) ≡ length keys
 length-laid keys starts numbers times = length-traces_from (λ k. part_at starts k numbers) (λ k. part_at starts k (times_beside numbers times)) 0 keys
 
+-- as many traces are shown as there are keys
 pub count-shown : (log : Log) (types : List (List ℕ)) (keys : List Key) (starts numbers times : List ℕ) → log_from types keys starts numbers times ≡ log → length keys ≡ length log.traces
 count-shown log types keys starts numbers times view = sym (length-laid keys starts numbers times) ∙ ap (λ (l : Log). length l.traces) view
 
 -- the trace at a place
 
+-- it is that of the part
 pub laid-at : (keys : List Key) (starts numbers times : List ℕ) (t : ℕ) (d : Key) → t < length keys → slice_get (laid keys starts numbers times) t ≡ Some (trace_laid (get_or keys t d) starts numbers times t)
 laid-at keys starts numbers times t d inside =
     traces-at (λ k. part_at starts k numbers) (λ k. part_at starts k (times_beside numbers times)) 0 t keys d inside ∙ ap (λ n. Some (trace_laid (get_or keys t d) starts numbers times n)) (omega arith)
 
+-- it is the one that is shown
 pub trace-shown : (log : Log) (types : List (List ℕ)) (keys : List Key) (starts numbers times : List ℕ) (t : ℕ) (d : Key) → log_from types keys starts numbers times ≡ log → t < length log.traces
     → slice_get log.traces t ≡ Some (trace_laid (get_or keys t d) starts numbers times t)
 trace-shown log types keys starts numbers times t d view inside =
@@ -47,9 +53,11 @@ shown P log types keys starts numbers times t d view inside holds = subst (λ fo
 
 -- how much a part has
 
+-- from one place up to another
 pub length-part : {X : Type 0} (from to : ℕ) (xs : List X) → from ≤ to → to ≤ length xs → length (take (to - from) (drop from xs)) ≡ to - from
 length-part from to xs rise within = length-take-le (to - from) (drop from xs) (omega (arith, length-drop from xs))
 
+-- from a start up to the next
 pub part-long : {X : Type 0} (starts : List ℕ) (parts t : ℕ) (xs : List X) → AreStarts parts (length xs) starts → t < parts → length (part_at starts t xs) ≡ slice_index starts (suc t) - slice_index starts t
 part-long starts parts t xs are inside = length-part (slice_index starts t) (slice_index starts (suc t)) xs (are.rise t inside) (are.within (suc t) inside)
 
@@ -80,16 +88,19 @@ zeros-serve zeros starts numbers times parts t are suffice none inside =
 pub times-serve : (starts numbers times : List ℕ) (t : ℕ) → 0 < length times → part_at starts t times ≡ part_at starts t (times_beside numbers times)
 times-serve starts numbers times t some = ap (part_at starts t) (sym (times-kept numbers times some))
 
+-- one time for each event, where times are kept
 pub beside-kept : (numbers times : List ℕ) → 0 < length times → AreBeside numbers times → length times ≡ length numbers
 beside-kept numbers times some beside = sym (ap length (times-kept numbers times some)) ∙ beside
 
 -- what is known of the events of a part
 
+-- each has the number of a type
 pub part-numbered : (types : ℕ) (events : ℕ) (keys : List Key) (starts numbers times : List ℕ) (t : ℕ) (d : Key) → IsKept types (laid keys starts numbers times) events → t < length keys
     → All (IsTypeNumber types) (part_at starts t numbers)
 part-numbered types events keys starts numbers times t d kept inside =
     numbers-at types (laid keys starts numbers times) t (trace_laid (get_or keys t d) starts numbers times t) kept.numbered (laid-at keys starts numbers times t d inside)
 
+-- there is one
 pub part-begun : (types : ℕ) (events : ℕ) (keys : List Key) (starts numbers times : List ℕ) (t : ℕ) (d : Key) → IsKept types (laid keys starts numbers times) events → t < length keys
     → 0 < length (part_at starts t numbers)
 part-begun types events keys starts numbers times t d kept inside =

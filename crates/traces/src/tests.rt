@@ -1,4 +1,5 @@
 use crate::{AddError, Builder, TraceSet};
+use limits::{MAX_TRACE_BYTES, MAX_TYPE_BYTES};
 use std::process::Abort;
 use std::test::Fail;
 
@@ -10,7 +11,7 @@ fn add(
     typ: &str,
     time: u128,
 ) -> Result<(), AddError> {
-    assert!(rt; key.2.len() <= 1024 && !typ.is_empty() && typ.len() <= 256);
+    assert!(rt; key.2.len() <= MAX_TRACE_BYTES && !typ.is_empty() && typ.len() <= MAX_TYPE_BYTES);
     builder.add(key.0, key.1, key.2, typ, time)
 }
 

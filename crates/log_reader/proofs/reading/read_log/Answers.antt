@@ -1,8 +1,8 @@
 use Rattle.std.proofs.Common.{◌≡◌, map, length, arith}
 use Rattle.std.specs.String.{string_bytes}
 use Rattle.log_reader.specs.Views.{names_in}
-use Rattle.log_reader.proofs.UpTo.{up-to-none, up-to-more, up-to-end, stays-on, all-inputs}
-use Rattle.log_reader.proofs.Causes.{up-to-cause}
+use Rattle.log_reader.proofs.InputByInput.{up-to-none, up-to-more, up-to-end, stays-on, all-inputs}
+use Rattle.log_reader.proofs.WhyRefused.{up-to-cause}
 use Rattle.log_reader.proofs.reading.read_log.Goals as goal
 
 pub loop-number-init : goal.loop-number-init

@@ -1,6 +1,6 @@
 use Rattle.log_reader.specs.Reading.{setting}
 use Rattle.log_reader.specs.Views.{form_view, names_in}
-use Rattle.log_reader.proofs.UpTo.{IsUpTo}
+use Rattle.log_reader.proofs.InputByInput.{IsUpTo}
 use Rattle.log_reader.proofs.reading.read_log.Given as goal
 
 abbrev pub invariant-loop-number : goal.invariant-loop-number

@@ -5,7 +5,7 @@ use Rattle.traces.specs.Kept.{IsTypeNumber}
 use Rattle.traces.specs.Words.{Trace}
 use Rattle.partition_graph.specs.declared.cells.Cell.{Cell}
 use Rattle.partition_graph.specs.Parts.{inner_words_of}
-use Rattle.partition_graph.proofs.Words.{more_gathered, cells-le, word_at}
+use Rattle.partition_graph.proofs.WordCells.{more_gathered, cells-le, word_at}
 use Rattle.partition_graph.proofs.cells.gather.Goals as goal
 
 pub overflow_cast-len : goal.overflow_cast-len

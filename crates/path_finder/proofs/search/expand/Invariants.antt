@@ -1,4 +1,5 @@
 use Rattle.std.proofs.Common.{◌<◌}
+use Rattle.path_finder.specs.declared.table.TheConstants.{OPEN}
 use Rattle.path_finder.specs.declared.pair.Pair.{Pair}
 use Rattle.path_finder.specs.Asking.{asked}
 use Rattle.path_finder.specs.Walks.{IsPairOf, Leads}
@@ -11,5 +12,5 @@ invariant-loop-state l =
     record {
       turn : IsTurn (asked l.question) l.turn l.table;
       grows : Grows l.initial.table l.table;
-      entered : (p : Pair) → IsPairOf (asked l.question) p → p.state < l.state → Leads (asked l.question) p l.turn.pair → at l.table p < 65535;
+      entered : (p : Pair) → IsPairOf (asked l.question) p → p.state < l.state → Leads (asked l.question) p l.turn.pair → at l.table p < OPEN;
     }

@@ -1,4 +1,5 @@
 use Rattle.std.proofs.Common.{◌*◌, ◌-◌}
+use Rattle.path_finder.specs.declared.pair.TheConstants.{STATES}
 use Rattle.path_finder.specs.Asking.{asked}
 use Rattle.path_finder.specs.Tables.{IsSearched, HasEnds}
 use Rattle.path_finder.proofs.search.measure.Given as goal
@@ -11,4 +12,4 @@ invariant-loop-start l =
     }
 
 abbrev pub decreases-loop-start : goal.decreases-loop-start
-decreases-loop-start l = l.question.ids * 3 - l.next
+decreases-loop-start l = l.question.ids * STATES - l.next

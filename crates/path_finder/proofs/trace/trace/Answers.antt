@@ -1,6 +1,9 @@
 use Rattle.std.proofs.Common.{◌≡◌, ◌≤◌, ◌<◌, ◌+◌, ◌-◌, ◌*◌, ◌∷◌, [], ◌++◌, List, ℕ, suc, length, vec_len, vec_capacity, sym, ◌∙◌, ap, subst, arith}
-use Rattle.partition_model.specs.Graphs.{IsLeastViolation}
+use Rattle.limits.specs.declared.TheConstants.{MAX_PARTITIONS}
+use Rattle.path_finder.specs.declared.pair.TheConstants.{STATES}
+use Rattle.path_finder.specs.declared.table.TheConstants.{MAX_PAIRS, OPEN}
 use Rattle.path_finder.specs.Asking.{asked}
+use Rattle.path_finder.specs.Walks.{IsLeastOf}
 use Rattle.path_finder.specs.Tables.{at, IsKnown}
 use Rattle.std.proofs.lemmas.List.{length-append}
 use Rattle.path_finder.proofs.Least.{measured_known, known_below, led_further, led_to_end, violation_from}
@@ -9,9 +12,9 @@ use Rattle.path_finder.proofs.trace.trace.Goals as goal
 pub loop-left-init : goal.loop-left-init
 loop-left-init c =
     let v : at c.args.table.now c.args.start ≡ c.distance-left.result = sym c.distance-left.ensures in
-    let s : at c.args.table.now c.args.start ≤ (asked c.args.question.now).ids * 3 = c.requires.measured.short c.args.start c.requires.pair c.requires.entered in
-    let few : (asked c.args.question.now).ids ≤ 1024 = c.args.question.now.few in
-    let items : c.append.new.path.items ≡ c.clear.new.self.items ++ c.args.start.id ∷ [] = c.append.ensures.items in
+    let s : at c.args.table.now c.args.start ≤ (asked c.args.question.now).ids * STATES = c.requires.measured.short c.args.start c.requires.pair c.requires.entered in
+    let few : (asked c.args.question.now).ids ≤ MAX_PARTITIONS = c.args.question.now.few in
+    let items : c.push_reserved.new.self.items ≡ c.clear.new.self.items ++ c.args.start.id ∷ [] = c.push_reserved.ensures.items in
     record {
       pair = c.requires.pair;
       entry = v;
@@ -19,7 +22,7 @@ loop-left-init c =
       stands = omega arith;
       room = omega arith;
       more = omega arith;
-      few = let n : length c.append.new.path.items ≡ 1 = ap length (items ∙ ap (λ (z : List ℕ). z ++ c.args.start.id ∷ []) c.clear.ensures.items) in omega (arith, n);
+      few = let n : length c.push_reserved.new.self.items ≡ 1 = ap length (items ∙ ap (λ (z : List ℕ). z ++ c.args.start.id ∷ []) c.clear.ensures.items) in omega (arith, n);
       front = (
         [],
         items ∙ ap (λ (z : List ℕ). z ++ c.args.start.id ∷ []) c.clear.ensures.items ∙ ap (λ (i : ℕ). i ∷ []) c.requires.id,
@@ -28,7 +31,7 @@ loop-left-init c =
     }
 
 pub next_pair-pair-requires-clause-stands : goal.next_pair-pair-requires-clause-stands
-next_pair-pair-requires-clause-stands c = let s : c.loop-left.left < 65535 = c.loop-left.invariant.stands in omega arith
+next_pair-pair-requires-clause-stands c = let s : c.loop-left.left < OPEN = c.loop-left.invariant.stands in omega arith
 
 pub loop-left-preserved : goal.loop-left-preserved
 loop-left-preserved c =
@@ -38,26 +41,26 @@ loop-left-preserved c =
       pair = c.next_pair-pair.ensures.pair;
       entry = c.next_pair-pair.ensures.next.value;
       known = known_below (asked c.args.question.now) c.loop-left.left (c.loop-left.left - 1) c.args.table.now (omega arith) c.loop-left.invariant.known;
-      stands = let s : c.loop-left.left < 65535 = c.loop-left.invariant.stands in omega arith;
-      room = let r : vec_len c.loop-left.path + c.loop-left.left ≤ vec_capacity c.loop-left.path = c.loop-left.invariant.room in omega (arith, c.append-in-loop-left.ensures.len, c.append-in-loop-left.ensures.capacity);
-      more = let r : 3073 ≤ vec_capacity c.loop-left.path = c.loop-left.invariant.more in omega (arith, c.append-in-loop-left.ensures.capacity);
-      few = let b : length c.loop-left.path.items + c.loop-left.left ≤ 3073 = c.loop-left.invariant.few in let n : length c.append-in-loop-left.new.path.items ≡ length c.loop-left.path.items + 1 = ap length c.append-in-loop-left.ensures.items ∙ length-append c.loop-left.path.items (c.next_pair-pair.result.id ∷ []) in omega (arith, n, b);
+      stands = let s : c.loop-left.left < OPEN = c.loop-left.invariant.stands in omega arith;
+      room = let r : vec_len c.loop-left.path + c.loop-left.left ≤ vec_capacity c.loop-left.path = c.loop-left.invariant.room in omega (arith, c.push_reserved-in-loop-left.ensures.len, c.push_reserved-in-loop-left.ensures.capacity);
+      more = let r : MAX_PAIRS < vec_capacity c.loop-left.path = c.loop-left.invariant.more in omega (arith, c.push_reserved-in-loop-left.ensures.capacity);
+      few = let b : length c.loop-left.path.items + c.loop-left.left ≤ MAX_PAIRS + 1 = c.loop-left.invariant.few in let n : length c.push_reserved-in-loop-left.new.self.items ≡ length c.loop-left.path.items + 1 = ap length c.push_reserved-in-loop-left.ensures.items ∙ length-append c.loop-left.path.items (c.next_pair-pair.result.id ∷ []) in omega (arith, n, b);
       front = (
         c.loop-left.invariant.front.0 ++ c.next_pair-pair.result.id ∷ [],
-        c.append-in-loop-left.ensures.items ∙ ap (λ (z : List ℕ). z ++ c.next_pair-pair.result.id ∷ []) c.loop-left.invariant.front.1,
+        c.push_reserved-in-loop-left.ensures.items ∙ ap (λ (z : List ℕ). z ++ c.next_pair-pair.result.id ∷ []) c.loop-left.invariant.front.1,
         led_further (asked c.args.question.now) c.args.table.now c.args.start c.loop-left.pair c.next_pair-pair.result c.loop-left.invariant.front.0 (c.loop-left.left - 1) c.args.question.now.within k
-            c.loop-left.invariant.pair c.next_pair-pair.ensures.pair (c.loop-left.invariant.entry ∙ sym one) (let s : c.loop-left.left < 65535 = c.loop-left.invariant.stands in omega arith)
+            c.loop-left.invariant.pair c.next_pair-pair.ensures.pair (c.loop-left.invariant.entry ∙ sym one) (let s : c.loop-left.left < OPEN = c.loop-left.invariant.stands in omega arith)
             c.next_pair-pair.ensures.next c.loop-left.invariant.front.2,
       );
     }
 
 pub returns-clause-short : goal.returns-clause-short
-returns-clause-short c = let b : length c.loop-left.path.items + c.loop-left.left ≤ 3073 = c.loop-left.invariant.few in omega (arith, b)
+returns-clause-short c = let b : length c.loop-left.path.items + c.loop-left.left ≤ MAX_PAIRS + 1 = c.loop-left.invariant.few in omega (arith, b)
 
 pub returns-clause-least : goal.returns-clause-least
 returns-clause-least c =
     let z : c.loop-left.left ≡ 0 = omega (arith, c.loop-left-test.false) in
     let k : IsKnown (asked c.args.question.now) 0 c.args.table.now = subst (λ (n : ℕ). IsKnown (asked c.args.question.now) n c.args.table.now) z c.loop-left.invariant.known in
-    subst (λ (p : List ℕ). IsLeastViolation (asked c.args.question.now).graph (asked c.args.question.now).inv p) (sym c.loop-left.invariant.front.1)
+    subst (λ (p : List ℕ). IsLeastOf (asked c.args.question.now) p) (sym c.loop-left.invariant.front.1)
     (violation_from (asked c.args.question.now) c.args.start c.loop-left.invariant.front.0 c.requires.id c.requires.state
     (led_to_end (asked c.args.question.now) c.args.table.now c.args.start c.loop-left.pair c.loop-left.invariant.front.0 k c.loop-left.invariant.pair (c.loop-left.invariant.entry ∙ z) c.loop-left.invariant.front.2))

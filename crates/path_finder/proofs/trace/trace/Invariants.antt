@@ -1,4 +1,6 @@
 use Rattle.std.proofs.Common.{◌≡◌, ◌+◌, ◌≤◌, ◌<◌, List, ℕ, ◌∷◌, length, vec_len, vec_capacity}
+use Rattle.limits.specs.declared.TheConstants.{INITIAL}
+use Rattle.path_finder.specs.declared.table.TheConstants.{MAX_PAIRS, OPEN}
 use Rattle.path_finder.specs.Asking.{asked}
 use Rattle.path_finder.specs.Walks.{IsPairOf}
 use Rattle.path_finder.specs.Tables.{at, IsKnown}
@@ -11,11 +13,11 @@ invariant-loop-left l =
       pair : IsPairOf (asked l.question) l.pair;
       entry : at l.table l.pair ≡ l.left;
       known : IsKnown (asked l.question) l.left l.table;
-      stands : l.left < 65535;
+      stands : l.left < OPEN;
       room : vec_len l.path + l.left ≤ vec_capacity l.path;
-      more : 3073 ≤ vec_capacity l.path;
-      few : length l.path.items + l.left ≤ 3073;
-      front : (front : List ℕ) × (l.path.items ≡ 0 ∷ front) × IsLedTo (asked l.question) l.fn.start front l.pair;
+      more : MAX_PAIRS < vec_capacity l.path;
+      few : length l.path.items + l.left ≤ MAX_PAIRS + 1;
+      front : (front : List ℕ) × (l.path.items ≡ INITIAL ∷ front) × IsLedTo (asked l.question) l.fn.start front l.pair;
     }
 
 abbrev pub decreases-loop-left : goal.decreases-loop-left

@@ -1,4 +1,4 @@
-use Rattle.splitter.proofs.Steps.{divides-some}
+use Rattle.splitter.proofs.RefiningTurns.{divides-some}
 use Rattle.splitter.proofs.refining.place_before_end.Goals as goal
 
 pub place-requires-clause-some : goal.place-requires-clause-some

@@ -3,7 +3,7 @@ use Rattle.std.proofs.lemmas.Result.{on_ok_weaker}
 use Rattle.lines.specs.Lines.{text_of}
 use Rattle.log_reader.specs.Reading.{decided, decided_piece}
 use Rattle.log_reader.specs.SoFar.{setting_of, IsRefusal}
-use Rattle.log_reader.proofs.Pieces.{read-as_it_stands, read-as_decoded, piece-decided, piece-in, reads-piece}
+use Rattle.log_reader.proofs.PieceByPiece.{read-as_it_stands, read-as_decoded, piece-decided, piece-in, reads-piece}
 use Rattle.log_reader.proofs.reader.LogReader.read_piece.Goals as goal
 
 pub returns-in-Ok-clause-ok : goal.returns-in-Ok-clause-ok

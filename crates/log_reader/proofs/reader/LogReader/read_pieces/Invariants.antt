@@ -1,6 +1,6 @@
 use Rattle.std.proofs.Common.{◌≡◌, ◌+◌, ◌<◌, ◌≤◌, length, true}
 use Rattle.lines.specs.Lines.{pieces}
-use Rattle.log_reader.proofs.Pieces.{IsPartWay}
+use Rattle.log_reader.proofs.PieceByPiece.{IsPartWay}
 use Rattle.log_reader.proofs.reader.LogReader.read_pieces.Given as goal
 
 abbrev pub invariant-loop-rest : goal.invariant-loop-rest

@@ -2,7 +2,7 @@ use Rattle.std.proofs.Common.{◌≡◌, subst, inl, inr}
 use Rattle.partition_model.specs.Assignments.{edge_count}
 use Rattle.partition_graph.specs.Cells.{traces_of}
 use Rattle.partition_graph.specs.Parts.{Parts}
-use Rattle.partition_graph.proofs.Ranges.{no_edge}
+use Rattle.partition_graph.proofs.UnusedIds.{no_edge}
 use Rattle.partition_graph.proofs.graph.PartGraph.edge_count.Goals as goal
 use Rattle.partition_graph.proofs.graph.PartGraph.edge_count.Goals.{then-p-self-via-then-p-self, then-p-self-via-else-p-self+then-q-self}
 

@@ -2,7 +2,7 @@ use Rattle.std.proofs.Common.{◌≡◌, length, subst, arith}
 use Rattle.partition_model.specs.Assignments.{events}
 use Rattle.partition_graph.specs.Cells.{traces_of}
 use Rattle.partition_graph.specs.Parts.{Parts}
-use Rattle.partition_graph.proofs.Traces.{length-events}
+use Rattle.partition_graph.proofs.CellTraces.{length-events}
 use Rattle.partition_graph.proofs.graph.PartGraph.event_count.Goals as goal
 
 pub returns : goal.returns

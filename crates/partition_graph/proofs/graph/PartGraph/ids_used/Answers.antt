@@ -1,7 +1,7 @@
 use Rattle.partition_model.specs.Assignments.{G}
 use Rattle.partition_graph.specs.Cells.{traces_of}
 use Rattle.partition_graph.specs.Parts.{Parts, HasEdgesBelow}
-use Rattle.partition_graph.proofs.Ranges.{edges_within}
+use Rattle.partition_graph.proofs.UnusedIds.{edges_within}
 use Rattle.std.proofs.Common.{subst}
 use Rattle.partition_graph.proofs.graph.PartGraph.ids_used.Goals as goal
 

@@ -5,7 +5,7 @@ use Rattle.partition_model.specs.Assignments.{events}
 use Rattle.partition_model.specs.Listings.{IsLast}
 use Rattle.partition_graph.specs.Cells.{traces_of}
 use Rattle.partition_graph.specs.Parts.{Parts}
-use Rattle.partition_graph.proofs.Traces.{length-events}
+use Rattle.partition_graph.proofs.CellTraces.{length-events}
 use Rattle.partition_graph.proofs.Lasts.{marked_is_last, unmarked_is_not}
 use Rattle.partition_graph.proofs.graph.PartGraph.next_event.Goals as goal
 

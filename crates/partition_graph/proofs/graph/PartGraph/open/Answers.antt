@@ -1,49 +1,44 @@
-use Rattle.std.proofs.Common.{◌≡◌, ◌≤◌, ◌<◌, ◌+◌, ℕ, List, length, arith, ap, sym, ◌∙◌, subst}
+use Rattle.std.proofs.Common.{◌≡◌, ◌≤◌, ◌+◌, ℕ, List, length, arith, ap, sym, subst}
 use Rattle.std.specs.List.{All}
 use Rattle.std.proofs.lemmas.List.{length-map}
+use Rattle.limits.specs.declared.TheConstants.{FIRST_TYPE, MAX_PARTITIONS}
 use Rattle.traces.specs.Words.{Trace}
 use Rattle.partition_model.specs.Assignments.{by_type}
 use Rattle.partition_graph.specs.declared.cells.Cell.{Cell}
 use Rattle.partition_graph.specs.Cells.{traces_of}
-use Rattle.partition_graph.specs.Counts.{edges_along, cells_with, last_type}
+use Rattle.partition_graph.specs.Counts.{HasId}
 use Rattle.partition_graph.specs.Kept.{IsKept}
 use Rattle.partition_graph.specs.Parts.{inner_words_of}
-use Rattle.partition_graph.proofs.Gathered.{ids_below_all, ids_two_all, gathered_traces, kept, starts}
+use Rattle.partition_graph.specs.Tables.{IsCountOf}
+use Rattle.partition_graph.proofs.Gathered.{gathered_ids, gathered_traces, kept, starts}
 use Rattle.partition_graph.proofs.graph.PartGraph.open.Goals as goal
 
-pub types_and_sizes-requires-clause-ids : goal.types_and_sizes-requires-clause-ids
-types_and_sizes-requires-clause-ids c =
-    let types : length c.types.result.now ≡ length c.args.traces.now.types = ap (λ (ts : List (List ℕ)). length ts) c.types.ensures.value in
-    subst (λ (cs : List Cell). All (λ (c : Cell). c.id < 1024) cs) (sym c.deref.ensures.value)
-    (ids_below_all (length c.args.traces.now.types + 2) (length c.args.traces.now.traces) 1024 (inner_words_of c.args.traces.now) c.in_ok-cells.cells.items c.in_ok-cells.firsts.items (omega (arith, types, c.types.ensures.few)) c.in_ok-cells.ensures.gathered)
-
-pub edge_counts-requires-clause-ids : goal.edge_counts-requires-clause-ids
-edge_counts-requires-clause-ids c =
-    let types : length c.types.result.now ≡ length c.args.traces.now.types = ap (λ (ts : List (List ℕ)). length ts) c.types.ensures.value in
-    subst (λ (cs : List Cell). All (λ (c : Cell). c.id < 1024) cs) (sym c.deref-2.ensures.value)
-    (ids_below_all (length c.args.traces.now.types + 2) (length c.args.traces.now.traces) 1024 (inner_words_of c.args.traces.now) c.in_ok-cells.cells.items c.in_ok-cells.firsts.items (omega (arith, types, c.types.ensures.few)) c.in_ok-cells.ensures.gathered)
-
-pub edge_counts-requires-clause-two : goal.edge_counts-requires-clause-two
-edge_counts-requires-clause-two c =
-    subst (λ (cs : List Cell). All (λ (c : Cell). 2 ≤ c.id) cs) (sym c.deref-2.ensures.value)
-    (ids_two_all (length c.args.traces.now.types + 2) (length c.args.traces.now.traces) (inner_words_of c.args.traces.now) c.in_ok-cells.cells.items c.in_ok-cells.firsts.items c.in_ok-cells.ensures.gathered)
+pub open-requires-clause-ids : goal.open-requires-clause-ids
+open-requires-clause-ids c =
+    let log = c.args.traces.now in
+    let types : length c.types.result.now ≡ length log.types = ap (λ (ts : List (List ℕ)). length ts) c.types.ensures.value in
+    let few : length log.types + FIRST_TYPE ≤ MAX_PARTITIONS = omega (arith, types, c.types.ensures.few) in
+    subst (λ (cs : List Cell). All HasId cs) (sym c.deref.ensures.value)
+    (gathered_ids (length log.types + FIRST_TYPE) (length log.traces) (inner_words_of log) c.in_ok-cells.cells.items c.in_ok-cells.firsts.items few c.in_ok-cells.ensures.gathered)
 
 pub invariant_of-result : goal.invariant_of-result
 invariant_of-result c =
-    let types : length c.types.result.now ≡ length c.args.traces.now.types = ap (λ (ts : List (List ℕ)). length ts) c.types.ensures.value in
-    let used : length c.args.traces.now.types + 2 ≡ c.len.result + 2 = omega (arith, types, c.len.ensures) in
-    let words : length (inner_words_of c.args.traces.now) ≡ length c.args.traces.now.traces = length-map c.args.traces.now.traces (λ (trace : Trace). trace.events) in
-    let a : (p : ℕ) → p < 1024 → _ = λ p l. c.in_ok-types.ensures.types p l ∙ ap (λ (cs : List Cell). last_type p 0 cs) c.deref.ensures.value in
-    let b : (p : ℕ) → p < 1024 → _ = λ p l. c.in_ok-types.ensures.sizes p l ∙ ap (λ (cs : List Cell). cells_with p cs) c.deref.ensures.value in
-    let d : (p q : ℕ) → p < 1024 → q < 1024 → _ = λ p q l m. c.in_ok-counts.ensures.counts p q l m ∙ ap (λ (cs : List Cell). edges_along 0 cs p q) c.deref-2.ensures.value in
-    subst (λ n. IsKept c.in_ok-cells.cells.items c.in_ok-cells.firsts.items c.in_ok-types.types.items c.in_ok-types.sizes.items c.in_ok-counts.counts.items n) used
-    (kept (length c.args.traces.now.types + 2) (length c.args.traces.now.traces) (inner_words_of c.args.traces.now) c.in_ok-cells.cells.items c.in_ok-cells.firsts.items c.in_ok-types.types.items c.in_ok-types.sizes.items
-    c.in_ok-counts.counts.items (sym words) c.in_ok-cells.ensures.gathered (omega arith) (omega (arith, types, c.types.ensures.few)) c.in_ok-cells.ensures.few c.in_ok-types.ensures.type_room a c.in_ok-types.ensures.size_room b c.in_ok-counts.ensures.room d)
+    let log = c.args.traces.now in
+    let cells : List Cell = c.in_ok-cells.cells.items in
+    let types : length c.types.result.now ≡ length log.types = ap (λ (ts : List (List ℕ)). length ts) c.types.ensures.value in
+    let used : length log.types + FIRST_TYPE ≡ c.len.result + FIRST_TYPE = omega (arith, types, c.len.ensures) in
+    let few : length log.types + FIRST_TYPE ≤ MAX_PARTITIONS = omega (arith, types, c.types.ensures.few) in
+    let words : length (inner_words_of log) ≡ length log.traces = length-map log.traces (λ (trace : Trace). trace.events) in
+    let counted : IsCountOf c.in_ok-tables.tables cells = subst (λ (cs : List Cell). IsCountOf c.in_ok-tables.tables cs) c.deref.ensures.value c.in_ok-tables.ensures in
+    subst (λ n. IsKept cells c.in_ok-cells.firsts.items c.in_ok-tables.tables n) used
+    (kept (length log.types + FIRST_TYPE) (length log.traces) (inner_words_of log) cells c.in_ok-cells.firsts.items c.in_ok-tables.tables
+    (sym words) c.in_ok-cells.ensures.gathered (omega arith) few c.in_ok-cells.ensures.few counted)
 
 pub returns : goal.returns
 returns c =
-    let types : length c.types.result.now ≡ length c.args.traces.now.types = ap (λ (ts : List (List ℕ)). length ts) c.types.ensures.value in
-    let used : c.len.result + 2 ≡ length c.args.traces.now.types + 2 = omega (arith, types, c.len.ensures) in
-    let words : length (inner_words_of c.args.traces.now) ≡ length c.args.traces.now.traces = length-map c.args.traces.now.traces (λ (trace : Trace). trace.events) in
-    starts (traces_of c.in_ok-cells.cells.items) (by_type (inner_words_of c.args.traces.now)) (c.len.result + 2) (length c.args.traces.now.types + 2)
-    (gathered_traces (length c.args.traces.now.types + 2) (length c.args.traces.now.traces) (inner_words_of c.args.traces.now) c.in_ok-cells.cells.items c.in_ok-cells.firsts.items (sym words) c.in_ok-cells.ensures.gathered) used
+    let log = c.args.traces.now in
+    let types : length c.types.result.now ≡ length log.types = ap (λ (ts : List (List ℕ)). length ts) c.types.ensures.value in
+    let used : c.len.result + FIRST_TYPE ≡ length log.types + FIRST_TYPE = omega (arith, types, c.len.ensures) in
+    let words : length (inner_words_of log) ≡ length log.traces = length-map log.traces (λ (trace : Trace). trace.events) in
+    starts (traces_of c.in_ok-cells.cells.items) (by_type (inner_words_of log)) (c.len.result + FIRST_TYPE) (length log.types + FIRST_TYPE)
+    (gathered_traces (length log.types + FIRST_TYPE) (length log.traces) (inner_words_of log) c.in_ok-cells.cells.items c.in_ok-cells.firsts.items (sym words) c.in_ok-cells.ensures.gathered) used

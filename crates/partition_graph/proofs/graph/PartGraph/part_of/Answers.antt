@@ -5,7 +5,7 @@ use Rattle.partition_model.specs.Assignments.{events}
 use Rattle.partition_model.specs.Listings.{parts_of}
 use Rattle.partition_graph.specs.Cells.{traces_of}
 use Rattle.partition_graph.specs.Parts.{Parts}
-use Rattle.partition_graph.proofs.Traces.{length-events, part_at}
+use Rattle.partition_graph.proofs.CellTraces.{length-events, part_at}
 use Rattle.partition_graph.proofs.graph.PartGraph.part_of.Goals as goal
 use Rattle.partition_graph.proofs.graph.PartGraph.part_of.Goals.{After-index}
 

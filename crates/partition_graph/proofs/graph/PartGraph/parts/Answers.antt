@@ -1,7 +1,7 @@
 use Rattle.std.proofs.Common.{◌≡◌, subst, rules}
 use Rattle.partition_model.specs.Listings.{parts_of}
 use Rattle.partition_graph.specs.Parts.{Parts}
-use Rattle.partition_graph.proofs.Traces.{parts_are}
+use Rattle.partition_graph.proofs.CellTraces.{parts_are}
 use Rattle.partition_graph.proofs.graph.PartGraph.parts.Goals as goal
 
 pub returns : goal.returns

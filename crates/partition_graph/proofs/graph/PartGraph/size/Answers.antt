@@ -2,8 +2,8 @@ use Rattle.std.proofs.Common.{◌≡◌, subst, arith}
 use Rattle.partition_model.specs.Assignments.{size}
 use Rattle.partition_graph.specs.Cells.{traces_of}
 use Rattle.partition_graph.specs.Parts.{Parts}
-use Rattle.partition_graph.proofs.Ranges.{no_size}
-use Rattle.partition_graph.proofs.Words.{traces-le}
+use Rattle.partition_graph.proofs.UnusedIds.{no_size}
+use Rattle.partition_graph.proofs.WordCells.{traces-le}
 use Rattle.partition_graph.proofs.graph.PartGraph.size.Goals as goal
 
 pub overflow_cast-result : goal.overflow_cast-result
@@ -12,4 +12,4 @@ overflow_cast-result c = omega (arith, traces-le c.self.inside.cells.items, c.se
 pub returns-then-p-self : goal.returns-then-p-self
 returns-then-p-self c =
     subst (λ (x : Parts). 0 ≡ size x.traces c.args.p) c.self.view_is
-    (no_size (traces_of c.self.inside.cells.items) c.self.inside.used c.self.invariant.below c.args.p c.if-p-lt2.false c.if-p-self.true)
+    (no_size (traces_of c.self.inside.cells.items) c.self.inside.used c.self.invariant.below c.args.p c.if-p-lt-FIRST_TYPE.false c.if-p-self.true)

@@ -1,5 +1,5 @@
 use Rattle.std.proofs.Common.{arith}
-use Rattle.partition_graph.proofs.Words.{traces-le}
+use Rattle.partition_graph.proofs.WordCells.{traces-le}
 use Rattle.partition_graph.proofs.graph.PartGraph.trace_count.Goals as goal
 
 pub overflow_cast-result : goal.overflow_cast-result

@@ -1,9 +1,7 @@
-use Rattle.std.proofs.Common.{◌≡◌, ℕ, List, [], ◌∷◌, ◌++◌, length, ap, sym, ◌∙◌, subst, arith, String, slice_get, Ok, Some, None, false}
+use Rattle.std.proofs.Common.{◌≡◌, ℕ, [], ◌∷◌, ◌++◌, length, ap, sym, ◌∙◌, subst, arith, String, Ok, None, false}
 use Rattle.std.proofs.lemmas.Result.{on_ok_weaker}
 use Rattle.std.specs.List.{list_any}
-use Rattle.std.specs.Option.{option_map_or}
 use Rattle.std.specs.declared.alloc.Global.{Global}
-use Rattle.traces.specs.Hashes.{hash_of}
 use Rattle.traces.specs.Keys.{key_in}
 use Rattle.traces.specs.PlaceMaps.{first_place}
 use Rattle.traces.specs.Words.{same_key}

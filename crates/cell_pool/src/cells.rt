@@ -1,0 +1,175 @@
+//! Cells in lists, each in one list at any time.
+ghost use Rattle.std.specs.Prelude.{◌≡◌, ◌≢◌, ℕ, ◌+◌, ◌-◌, ◌^◌, ◌<◌, ◌≤◌, [], ◌∷◌, ◌++◌, Some, None, length, map, replicate, slice_get, slice_set, nat_lt, if◌then◌else◌, IfOk, OnOk, Contains};
+ghost use Rattle.std.specs.List.{range_with_len};
+ghost use Rattle.cell_pool.specs.Tables.{row_at, without, StandsIn, HasCells, KeepsCells};
+ghost use Rattle.cell_pool.specs.Chains.{next_at_start, prev_at_start};
+
+use std::alloc::{AllocError, Global};
+use std::marker::Model;
+
+/// Cells in lists. Cells and lists count from 0. Contracts see a list of lists of cells, in which each cell stands exactly
+/// once; what is moved goes to the end of a list. Every call but `make` takes a few steps, however long the lists are.
+#[derive(Drop)]
+pub struct Cells {
+    /// What follows each node. The nodes are the cells and, behind them, a head for each list, where it begins and ends.
+    next: Vec<u32>,
+    /// What each node follows.
+    prev: Vec<u32>,
+    cells: u32,
+    lists: u32,
+}
+
+impl Model for Cells {
+    ghost use Rattle.std.specs.Prelude.{List, ℕ};
+    ghost use Rattle.cell_pool.specs.Chains.{table_of, IsTable};
+
+    ghost Value = { List (List ℕ) };
+
+    ghost view = { λ s. table_of s.next.items s.cells s.lists };
+
+    ghost invariant = { λ s. IsTable s.next.items s.prev.items s.cells s.lists
+        (table_of s.next.items s.cells s.lists) };
+}
+
+/// Makes node b follow node a.
+fn join(next: &mut Vec<u32>, prev: &mut Vec<u32>, a: u32, b: u32)
+    requires a_in { a < length next.old.items }
+    requires b_in { b < length prev.old.items }
+    ensures next { next.new.items ≡ slice_set next.old.items a b }
+    ensures prev { prev.new.items ≡ slice_set prev.old.items b a }
+{
+    next[a as usize] = b;
+    prev[b as usize] = a;
+}
+
+/// The node, where it is a cell.
+fn cell_of(node: u32, cells: u32) -> Option<u32>
+    ensures { result ≡ (if nat_lt node cells then Some node else None) }
+{
+    if node < cells {
+        return Some(node);
+    }
+    None
+}
+
+/// What follows a node when all cells stand in list 0.
+fn next_of(cells: u32, node: u32) -> u32
+    ensures { result ≡ next_at_start cells node }
+{
+    if node < cells {
+        return node + 1;
+    }
+    if node == cells {
+        return 0;
+    }
+    node
+}
+
+/// What a node follows when all cells stand in list 0.
+fn prev_of(cells: u32, node: u32) -> u32
+    ensures { result ≡ prev_at_start cells node }
+{
+    if node == 0 {
+        return cells;
+    }
+    if node <= cells {
+        return node - 1;
+    }
+    node
+}
+
+/// What follows each node when all cells stand in list 0.
+fn all_next(alloc: Global, cells: u32, nodes: u32) -> Result<Vec<u32>, AllocError>
+    ensures { IfOk result (λ next. next.items ≡ map (next_at_start cells) (range_with_len 0 nodes)) }
+{
+    (0..nodes).map(|node| next_of(cells, node)).collect(alloc)
+}
+
+/// What each node follows when all cells stand in list 0.
+fn all_prev(alloc: Global, cells: u32, nodes: u32) -> Result<Vec<u32>, AllocError>
+    ensures { IfOk result (λ prev. prev.items ≡ map (prev_at_start cells) (range_with_len 0 nodes)) }
+{
+    (0..nodes).map(|node| prev_of(cells, node)).collect(alloc)
+}
+
+impl Cells {
+    /// This many cells, all of them in list 0 and ascending, and this many lists, at least one. This alone takes memory:
+    /// `AllocError` comes where there is not enough, and where cells and lists together are 2^32 or more.
+    pub fn make(alloc: Global, cells: u32, lists: u32) -> Result<Cells, AllocError>
+        requires { 1 ≤ lists }
+        ensures lists { IfOk result (λ made. made ≡ range_with_len 0 cells ∷ replicate (lists - 1) []) }
+        ensures cells { IfOk result (λ made. HasCells made cells) }
+    {
+        let Some(nodes) = cells.checked_add(lists) else {
+            return Err(AllocError);
+        };
+        let next = all_next(alloc, cells, nodes)?;
+        let prev = all_prev(alloc, cells, nodes)?;
+        Ok(Cells {
+            next,
+            prev,
+            cells,
+            lists,
+        })
+    }
+
+    /// Takes a cell out of list `from`, in which it stands, and appends it to list `to`, which is another. The other cells
+    /// of `from` keep their order, and all other lists stay.
+    pub fn move_to(&mut self, cell: u32, from: u32, to: u32)
+        requires from_list { from < length self.old }
+        requires to_list { to < length self.old }
+        requires apart { from ≢ to }
+        requires stands { Contains (row_at self.old from) cell }
+        ensures lists { self.new ≡ slice_set
+            (slice_set self.old from (without (row_at self.old from) cell))
+            to (row_at self.old to ++ cell ∷ []) }
+        ensures cells { KeepsCells self.old self.new }
+    {
+        let before = self.prev[cell as usize];
+        let behind = self.next[cell as usize];
+        join(&mut self.next, &mut self.prev, before, behind);
+        let head = self.cells + to;
+        let last = self.prev[head as usize];
+        join(&mut self.next, &mut self.prev, last, cell);
+        join(&mut self.next, &mut self.prev, cell, head);
+    }
+
+    /// Appends the whole list `from` to list `to`, which is another, and leaves `from` empty. All other lists stay.
+    pub fn splice(&mut self, from: u32, to: u32)
+        requires from_list { from < length self.old }
+        requires to_list { to < length self.old }
+        requires apart { from ≢ to }
+        ensures lists { self.new ≡ slice_set (slice_set self.old from [])
+            to (row_at self.old to ++ row_at self.old from) }
+        ensures cells { KeepsCells self.old self.new }
+    {
+        let source = self.cells + from;
+        let first = self.next[source as usize];
+        if first == source {
+            return;
+        }
+        let last = self.prev[source as usize];
+        let head = self.cells + to;
+        let end = self.prev[head as usize];
+        join(&mut self.next, &mut self.prev, end, first);
+        join(&mut self.next, &mut self.prev, last, head);
+        join(&mut self.next, &mut self.prev, source, source);
+    }
+
+    /// The first cell of a list; `None` for an empty list.
+    pub fn first(&self, list: u32) -> Option<u32>
+        requires { list < length self.now }
+        ensures { result ≡ slice_get (row_at self.now list) 0 }
+    {
+        cell_of(self.next[(self.cells + list) as usize], self.cells)
+    }
+
+    /// The cell that follows a cell in its list; `None` for the last cell of a list.
+    pub fn next(&self, cell: u32) -> Option<u32>
+        requires { StandsIn self.now cell }
+        ensures { (list place : ℕ) → slice_get (row_at self.now list) place ≡ Some cell
+            → result ≡ slice_get (row_at self.now list) (place + 1) }
+    {
+        cell_of(self.next[cell as usize], self.cells)
+    }
+}

@@ -1,0 +1,12 @@
+//! Stores whose memory is taken once, when they are made: cells in lists, spans of numbers, and the log of a run.
+#![tactic(auto)]
+
+mod cells;
+mod run_log;
+mod spans;
+#[cfg(test)]
+mod tests;
+
+pub use cells::Cells;
+pub use run_log::{BlockEntry, MergeEntry, RunLog, SplitEntry};
+pub use spans::{Span, Spans};

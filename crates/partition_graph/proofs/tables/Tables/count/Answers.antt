@@ -1,0 +1,12 @@
+use Rattle.partition_graph.proofs.Counting.{room-for-cell, room-for-edges}
+use Rattle.std.proofs.Common.{false}
+use Rattle.partition_graph.proofs.tables.Tables.count.Goals as goal
+
+pub count_cell-requires-clause-few : goal.count_cell-requires-clause-few
+count_cell-requires-clause-few c =
+    room-for-cell c.loop-cell.self c.loop-cell.before c.loop-cell.cell-index c.args.cells.now (record { typ = 0; last = false; id = 0 }) c.loop-cell-test.true c.requires.ids c.requires.few c.loop-cell.invariant
+
+pub count_edges_at-requires-clause-few : goal.count_edges_at-requires-clause-few
+count_edges_at-requires-clause-few c = λ p q a b.
+    room-for-edges c.loop-cell.self c.count_cell.new.self c.loop-cell.before c.loop-cell.cell-index c.args.cells.now (record { typ = 0; last = false; id = 0 }) p q c.loop-cell-test.true c.requires.ids c.requires.few
+    c.loop-cell.invariant c.count_cell.ensures.counts a b

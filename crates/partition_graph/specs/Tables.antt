@@ -1,0 +1,31 @@
+-- Tables of what is counted of cells.
+use Rattle.std.specs.Prelude.{ℕ, ◌≡◌, ◌+◌, ◌*◌, ◌<◌, List, slice_index}
+use Rattle.limits.specs.declared.TheConstants.{MAX_PARTITIONS, INITIAL}
+use Rattle.partition_graph.specs.declared.cells.Cell.{Cell}
+use Rattle.partition_graph.specs.declared.tables.Tables.{Tables}
+use Rattle.partition_graph.specs.Counts.{cells_with, last_type, edges_along}
+
+-- the type of an id
+abbrev pub type_at : Tables → ℕ → ℕ
+type_at t p = slice_index t.types.items p
+
+-- the size of an id
+abbrev pub size_at : Tables → ℕ → ℕ
+size_at t p = slice_index t.sizes.items p
+
+-- the count of the edge from p to q, in the table by targets
+abbrev pub count_at : Tables → ℕ → ℕ → ℕ
+count_at t p q = slice_index t.counts.items (q * MAX_PARTITIONS + p)
+
+-- nothing is counted
+pub record IsClear (t : Tables) : Type 0 where
+  pub types : (p : ℕ) → p < MAX_PARTITIONS → type_at t p ≡ 0
+  pub sizes : (p : ℕ) → p < MAX_PARTITIONS → size_at t p ≡ 0
+  pub counts : (p q : ℕ) → p < MAX_PARTITIONS → q < MAX_PARTITIONS → count_at t p q ≡ 0
+
+-- each id has the type and the size that it has in the cells, and each edge its count
+pub record IsCountOf (t : Tables) (cells : List Cell) : Type 0 where
+  pub types : (p : ℕ) → p < MAX_PARTITIONS → type_at t p ≡ last_type p 0 cells
+  pub sizes : (p : ℕ) → p < MAX_PARTITIONS → size_at t p ≡ cells_with p cells
+  pub counts : (p q : ℕ) → p < MAX_PARTITIONS → q < MAX_PARTITIONS
+      → count_at t p q ≡ edges_along INITIAL cells p q

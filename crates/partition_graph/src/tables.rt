@@ -1,0 +1,184 @@
+//! What is counted of cells: the type and the size of each id, and the edges between ids.
+ghost use Rattle.std.specs.Prelude.{◌≡◌, ◌+◌, ◌*◌, ◌<◌, ◌^◌, ℕ, length, slice_index, All, IfOk, if◌then◌else◌, ◌==◌};
+ghost use Rattle.limits.specs.declared.TheConstants.{MAX_PARTITIONS};
+ghost use Rattle.partition_graph.specs.Counts.{HasId, is_edge, edges_at};
+
+use crate::cells::Cell;
+use limits::{INITIAL, MAX_PARTITIONS, TERMINAL};
+use std::alloc::{AllocError, Global};
+
+/// How many ids the tables are made for.
+const IDS: usize = MAX_PARTITIONS as usize;
+
+/// What is counted of cells whose ids are below `MAX_PARTITIONS`.
+#[derive(Drop)]
+pub struct Tables {
+    /// The type of the last cell of each id, and 0 where no cell has it.
+    types: Vec<u16>,
+    /// How many cells each id has.
+    sizes: Vec<u32>,
+    /// The counts of the edges: that from p to q stands at the place q * `MAX_PARTITIONS` + p.
+    counts: Vec<u32>,
+    ghost type_room: { length types.items ≡ MAX_PARTITIONS },
+    ghost size_room: { length sizes.items ≡ MAX_PARTITIONS },
+    ghost count_room: { length counts.items ≡ MAX_PARTITIONS * MAX_PARTITIONS },
+}
+
+impl Tables {
+    ghost use Rattle.partition_graph.specs.Tables.{type_at, size_at, count_at, IsClear, IsCountOf};
+
+    /// The tables of these cells.
+    pub fn open(alloc: Global, cells: &[Cell]) -> Result<Tables, AllocError>
+        requires ids { All HasId cells.now }
+        requires few { length cells.now < 2 ^ 32 }
+        ensures { IfOk result (λ tables. IsCountOf tables cells.now) }
+    {
+        let mut tables = Tables::make(alloc)?;
+        tables.count(cells);
+        Ok(tables)
+    }
+
+    /// Counts these cells, and nothing of what was counted before.
+    pub fn recount(&mut self, cells: &[Cell])
+        requires ids { All HasId cells.now }
+        requires few { length cells.now < 2 ^ 32 }
+        ensures { IsCountOf self.new cells.now }
+    {
+        self.clear();
+        self.count(cells);
+    }
+
+    /// The type of the cells of p, and 0 where no cell has the id.
+    pub fn type_at(&self, p: u32) -> u16
+        requires { p < MAX_PARTITIONS }
+        ensures { result ≡ type_at self.now p }
+    {
+        self.types[p as usize]
+    }
+
+    /// How many cells p has.
+    pub fn size_at(&self, p: u32) -> u32
+        requires { p < MAX_PARTITIONS }
+        ensures { result ≡ size_at self.now p }
+    {
+        self.sizes[p as usize]
+    }
+
+    /// How often a cell of p is followed at once by one of q, INITIAL and TERMINAL at the ends of traces among them.
+    pub fn count_at(&self, p: u32, q: u32) -> u32
+        requires from { p < MAX_PARTITIONS }
+        requires to { q < MAX_PARTITIONS }
+        ensures { result ≡ count_at self.now p q }
+    {
+        self.counts[q as usize * IDS + p as usize]
+    }
+
+    /// Tables in which nothing is counted.
+    fn make(alloc: Global) -> Result<Tables, AllocError>
+        ensures { IfOk result (λ tables. IsClear tables) }
+    {
+        let types = no_types(alloc, IDS)?;
+        let sizes = no_counts(alloc, IDS)?;
+        let counts = no_counts(alloc, IDS * IDS)?;
+        Ok(Tables {
+            types,
+            sizes,
+            counts,
+        })
+    }
+
+    /// Leaves nothing counted.
+    fn clear(&mut self)
+        ensures { IsClear self.new }
+    {
+        self.types.fill(0);
+        set_to_zero(&mut self.sizes);
+        set_to_zero(&mut self.counts);
+    }
+
+    /// Counts the cells, where nothing is counted yet.
+    fn count(&mut self, cells: &[Cell])
+        requires ids { All HasId cells.now }
+        requires few { length cells.now < 2 ^ 32 }
+        requires clear { IsClear self.old }
+        ensures { IsCountOf self.new cells.now }
+    {
+        let mut before = INITIAL;
+        for cell in cells {
+            self.count_cell(*cell);
+            self.count_edges_at(before, *cell);
+            before = cell.before_next();
+        }
+    }
+
+    /// Notes the type of the cell's id, and adds the cell to the size of its id.
+    fn count_cell(&mut self, cell: Cell)
+        requires id { cell.id < MAX_PARTITIONS }
+        requires few { size_at self.old cell.id + 1 < 2 ^ 32 }
+        ensures types { (p : ℕ) → p < MAX_PARTITIONS
+            → type_at self.new p ≡ (if cell.id == p then cell.typ else type_at self.old p) }
+        ensures sizes { (p : ℕ) → p < MAX_PARTITIONS
+            → size_at self.new p ≡ size_at self.old p + (if cell.id == p then 1 else 0) }
+        ensures counts { (self.new).counts ≡ (self.old).counts }
+    {
+        self.types[cell.id as usize] = cell.typ;
+        self.sizes[cell.id as usize] += 1;
+    }
+
+    /// Adds the edge that leads to a cell, and the one from it to TERMINAL where its trace ends.
+    fn count_edges_at(&mut self, before: u32, cell: Cell)
+        requires before { before < MAX_PARTITIONS }
+        requires id { cell.id < MAX_PARTITIONS }
+        requires few { (p q : ℕ) → p < MAX_PARTITIONS → q < MAX_PARTITIONS
+            → count_at self.old p q + edges_at before cell p q < 2 ^ 32 }
+
+        // The types and the sizes stay.
+        ensures counts { (p q : ℕ) → p < MAX_PARTITIONS → q < MAX_PARTITIONS
+            → count_at self.new p q ≡ count_at self.old p q + edges_at before cell p q }
+        ensures types { (self.new).types ≡ (self.old).types }
+        ensures sizes { (self.new).sizes ≡ (self.old).sizes }
+    {
+        self.count_edge(before, cell.id);
+        if cell.last {
+            self.count_edge(cell.id, TERMINAL);
+        }
+    }
+
+    /// Adds an edge.
+    fn count_edge(&mut self, from: u32, to: u32)
+        requires from { from < MAX_PARTITIONS }
+        requires to { to < MAX_PARTITIONS }
+        requires few { count_at self.old from to + 1 < 2 ^ 32 }
+        ensures counts { (p q : ℕ) → p < MAX_PARTITIONS → q < MAX_PARTITIONS
+            → count_at self.new p q ≡ count_at self.old p q + is_edge from to p q }
+        ensures types { (self.new).types ≡ (self.old).types }
+        ensures sizes { (self.new).sizes ≡ (self.old).sizes }
+    {
+        self.counts[to as usize * IDS + from as usize] += 1;
+    }
+}
+
+/// So many types, none of them known.
+fn no_types(alloc: Global, room: usize) -> Result<Vec<u16>, AllocError>
+    ensures room { IfOk result (λ table. length table.items ≡ room) }
+    ensures zero { IfOk result (λ table. (k : ℕ) → slice_index table.items k ≡ 0) }
+{
+    vec![in alloc; 0; room]
+}
+
+/// So many counts of 0.
+fn no_counts(alloc: Global, room: usize) -> Result<Vec<u32>, AllocError>
+    ensures room { IfOk result (λ table. length table.items ≡ room) }
+    ensures zero { IfOk result (λ table. (k : ℕ) → slice_index table.items k ≡ 0) }
+{
+    vec![in alloc; 0; room]
+}
+
+/// Sets all counts to 0. It is no `fill`, which takes some ten times as long where code is not optimized.
+fn set_to_zero(counts: &mut [u32])
+    ensures { (k : ℕ) → slice_index counts.new k ≡ 0 }
+{
+    for count in counts.iter_mut() {
+        *count = 0;
+    }
+}
