@@ -1,5 +1,5 @@
 -- The first refusal of a log, by its lines.
-use Rattle.std.proofs.Common.{◌≡◌, ℕ, zero, suc, ◌+◌, ◌-◌, ◌<◌, ◌≤◌, ◌==◌, ◌&&◌, Bool, true, false, cond, nat_lt, List, [], ◌∷◌, ◌++◌, length, take, Option, Some, None, option_map, refl, sym, ap, ap₂, ◌∙◌, subst, arith, ⊎_elim, append_assoc, append-nil, length-append, length-take, take_all}
+use Rattle.std.proofs.Common.{◌≡◌, ℕ, suc, ◌+◌, ◌-◌, ◌<◌, ◌≤◌, ◌==◌, ◌&&◌, Bool, true, false, cond, nat_lt, List, [], ◌∷◌, ◌++◌, length, take, Option, Some, None, option_map, refl, sym, ap, ap₂, ◌∙◌, subst, arith, ⊎_elim, append_assoc, append-nil, length-append, length-take, take_all}
 use Rattle.std.proofs.lemmas.Bool.{cases_lt, cond-false, cond-true}
 use Rattle.std.proofs.lemmas.Bool.Decides.{nat_tests}
 use Rattle.std.proofs.lemmas.List.Sums.{sum_by-cons}
@@ -10,7 +10,7 @@ use Rattle.traces.specs.Words.{Event as KeyedEvent}
 use Rattle.log_reader.specs.Inputs.{file_past}
 use Rattle.log_reader.specs.Reading as spec
 use Rattle.log_reader.specs.Reading.{Form, Setting, Decided, decided_piece, section_after, section_at_end, next_section, piece_events, key_file, at_line, line_events, first_of, piece_refusal, line_refusal, limit_refusal, pieces_refusal, bytes_refusal, files_refusal, first_refusal}
-use Rattle.log_reader.specs.LogLines.{Line, lines_of, own_events, events_at, AreTaken, IsTaken, AllTaken, IsFirstRefused, TellsRefusal, TellsPast, total_bytes, up_to}
+use Rattle.log_reader.specs.LogLines.{Line, lines_of, own_events, events_at, AreTaken, IsTaken, AllTaken, TellsRefusal, TellsPast, total_bytes, up_to}
 use Rattle.log_reader.specs.declared.refusal.At.{At}
 use Rattle.log_reader.specs.declared.refusal.ReadError.{ReadError}
 use Rattle.log_reader.specs.declared.refusal.ReadError.TheVariants as refused

@@ -35,10 +35,10 @@ impl<'r> Decider<'r> {
     {
         match form {
             Form::Plain => Ok(Decider::Plain),
-            Form::Rules(rules) => match rules.matchers() {
-                Ok(matchers) => Ok(Decider::Rules(KeptRules { rules, matchers })),
-                Err(error) => Err(error),
-            },
+            Form::Rules(rules) => {
+                let matchers = rules.matchers()?;
+                Ok(Decider::Rules(KeptRules { rules, matchers }))
+            }
         }
     }
 }

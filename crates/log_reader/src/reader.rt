@@ -52,18 +52,16 @@ impl<'r> LogReader<'r> {
         ensures section { IfOk result (λ reader. reader.log.section ≡ 0) }
         ensures log { IfOk result (λ reader. reader.log.builder ≡ gathered_of []) }
     {
-        match Decider::new(form) {
-            Ok(decider) => Ok(LogReader {
-                decider,
-                log: LogSoFar {
-                    builder: Builder::new(alloc),
-                    section: 0,
-                    ignore,
-                    join,
-                },
-            }),
-            Err(error) => Err(error),
-        }
+        let decider = Decider::new(form)?;
+        Ok(LogReader {
+            decider,
+            log: LogSoFar {
+                builder: Builder::new(alloc),
+                section: 0,
+                ignore,
+                join,
+            },
+        })
     }
 
     /// Takes in the line with this text.

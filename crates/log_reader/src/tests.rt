@@ -2,7 +2,7 @@ ghost use Rattle.std.specs.Prelude.{◌≤◌, ◌<◌, ◌^◌, length, IfOk};
 
 use crate::{At, Form, ReadError, read_log};
 use line_rules::{LineRules, RegexPatterns};
-use outside::MemInputs;
+use outside::{Inputs, MemInputs};
 use std::alloc::Global;
 use std::process::Abort;
 use std::test::Fail;
@@ -114,10 +114,20 @@ fn refusals_have_their_lines(rt: HostRuntime) -> Result<(), Fail> {
 fn a_failing_read_names_its_input(rt: HostRuntime) -> Result<(), Fail> {
     let alloc = rt.alloc();
     let names = names_of(alloc, "second.log")?;
-    for (failing, number) in [(1, 0), (3, 0), (4, 1), (5, 1), (6, 1)] {
+    let cases = [
+        (1, 0, ""),
+        (3, 0, ""),
+        (4, 1, ""),
+        (5, 1, "1 b\n"),
+        (6, 1, ""),
+    ];
+    for (failing, number, left) in cases {
         let mut inputs = inputs_of(alloc, "1 a\n", "1 b\n", 7, &[failing])?;
         let found = refusal(read_log(alloc, &mut inputs, &names, Form::Plain, false, true));
         assert_eq!(rt; found, Some(ReadError::ReadFault(number)), "at {failing}");
+        let mut buf = [0u8; 7];
+        assert_eq!(rt; inputs.read(&mut buf), Ok(left.len()), "at {failing}");
+        assert!(rt; buf.starts_with(left.as_bytes()), "at {failing}");
     }
     Ok(())
 }

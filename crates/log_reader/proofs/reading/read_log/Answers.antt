@@ -1,4 +1,4 @@
-use Rattle.std.proofs.Common.{◌≡◌, map, length, arith}
+use Rattle.std.proofs.Common.{◌≡◌, length, arith}
 use Rattle.std.specs.String.{string_bytes}
 use Rattle.log_reader.specs.Views.{names_in}
 use Rattle.log_reader.proofs.InputByInput.{up-to-none, up-to-more, up-to-end, stays-on, all-inputs}
