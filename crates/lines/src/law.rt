@@ -14,5 +14,6 @@ pub fn pieces_give_the_bytes_back()
 
 /// There is one such cut: parts without a line feed that give the bytes back are the pieces.
 pub fn pieces_are_unique()
-    ensures { (bytes : List ℕ) (parts : List (List ℕ)) → HaveNoFeed parts → with_feeds parts ≡ ended bytes → parts ≡ pieces bytes }
+    ensures { (bytes : List ℕ) (parts : List (List ℕ)) → HaveNoFeed parts
+        → with_feeds parts ≡ ended bytes → parts ≡ pieces bytes }
 {}

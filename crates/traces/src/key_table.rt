@@ -159,7 +159,8 @@ impl KeyTable {
 
     /// Where the key with these parts stands. It is put at the end where it is new.
     pub fn place_or_put(&mut self, alloc: Global, parts: &KeyParts<'_>) -> Result<usize, AllocError>
-        ensures place { IfOk result (λ place. place ≡ position_or_len (same_key (key_in parts.now)) self.old) }
+        ensures place { IfOk result (λ place. place
+            ≡ position_or_len (same_key (key_in parts.now)) self.old) }
         ensures ok { OnOk result (self.new ≡ with_new same_key self.old (key_in parts.now)) }
         ensures err { OnErr result (self.new ≡ self.old) }
     {
