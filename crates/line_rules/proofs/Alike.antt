@@ -1,12 +1,8 @@
 -- Rules whose patterns give the same captures decide the same.
-use Rattle.std.proofs.Common.{◌≡◌, ℕ, zero, suc, ◌<◌, ◌≤◌, ◌*◌, ◌+◌, true, List, [], ◌∷◌, get_or, unwrap_or, chars, Option, Some, None, option_and_then, option_map, codes, is_some, refl, ap, ap₂, sym, ◌∙◌, rules}
+use Rattle.std.proofs.Common.{◌≡◌, ℕ, zero, suc, ◌<◌, ◌*◌, ◌+◌, true, List, [], ◌∷◌, get_or, unwrap_or, Option, Some, None, option_and_then, option_map, codes, is_some, refl, ap, ap₂, sym, ◌∙◌, rules}
 use Rattle.regex.proofs.ForCallers.{is_match_alike, span_alike, found_alike}
-use Rattle.regex.specs.Patterns.{Re, Match, SameCaptures, find_str, slot_of, span}
-use Rattle.std.specs.Prelude.{IsSomeAnd, Result}
-use Rattle.line_rules.specs.Patterns.{IsReadAs}
-use Rattle.regex.specs.Patterns.{default_config}
-use Rattle.regex_syntax.specs.Grammar.{read, Names}
-use Rattle.regex_syntax.specs.Brackets.{Nested}
+use Rattle.regex.specs.Patterns.{Match, find_str, slot_of, span}
+use Rattle.std.specs.Prelude.{Result}
 use Rattle.regex.specs.Writes.{both}
 use Rattle.line_rules.specs.Rules as spec
 use Rattle.line_rules.specs.Rules.{fixed_name, name_of, span_of, time_by, decided_at, decided_by, decision_from, Alike, AreAlike, group_named}

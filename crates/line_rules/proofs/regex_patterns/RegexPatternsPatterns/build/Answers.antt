@@ -1,4 +1,4 @@
-use Rattle.std.proofs.Common.{ap, sym, subst, ◌<◌, ◌^◌, arith}
+use Rattle.std.proofs.Common.{arith}
 use Rattle.line_rules.proofs.Read.{regex-gives, build-gives, stays-below}
 use Rattle.line_rules.proofs.regex_patterns.RegexPatternsPatterns.build.Goals as goal
 
