@@ -12,9 +12,11 @@ use Rattle.count_miner.specs.Seen.{IsSeen}
 abbrev pub times : ℕ → List ℕ → ℕ
 times k places = count_by (λ p. eqb p k) places
 
+-- one place further on
 pub times-more : (k : ℕ) (places : List ℕ) (i : ℕ) → i < length places → times k (take (i + 1) places) ≡ times k (take i places) + cond (eqb (get_or places i 0) k) 1 0
 times-more k places i inside = sum_by_more (λ p. cond (eqb p k) 1 0) places i 0 inside
 
+-- no more times in a front
 pub times-le : (k : ℕ) (places : List ℕ) (i : ℕ) → times k (take i places) ≤ times k places
 times-le k places i = sum_by-take-le (λ p. cond (eqb p k) 1 0) places i
 

@@ -1,9 +1,12 @@
 //! The types that were seen in a part of a trace.
 ghost use Rattle.std.specs.Prelude.{ℕ, ◌≡◌, ◌≤◌, ◌<◌, ◌+◌, ◌^◌, ◌==◌, length, slice_index, count_by, if◌then◌else◌};
+ghost use Rattle.limits.specs.declared.TheConstants.{MAX_TYPES};
 ghost use Rattle.count_miner.specs.Seen.{IsSeen, AddsFlags};
 
-/// The most types of a log.
-const MOST_TYPES: usize = 128;
+use limits::MAX_TYPES;
+
+/// How many flags there are.
+const FLAGS: usize = MAX_TYPES as usize;
 
 /// The most places of a list.
 const MOST_PLACES: usize = 16;
@@ -13,7 +16,7 @@ const MOST_PLACES: usize = 16;
 #[derive(Drop)]
 pub struct Seen {
     /// 1 at the place of each type that was seen, else 0.
-    flags: [u32; MOST_TYPES],
+    flags: [u32; FLAGS],
     /// The places of the flags that are 1, each once, as far as `listed`.
     places: [u16; MOST_PLACES],
     /// How many places are listed.
@@ -35,7 +38,8 @@ fn clear(flags: &mut [u32], types: usize)
 /// Sets the flags at the places to 0.
 fn clear_places(flags: &mut [u32], places: &[u16])
     requires { (i : ℕ) → i < length places.now → slice_index places.now i < length flags.old }
-    ensures { (k : ℕ) → slice_index flags.new k ≡ (if count_by (λ p. p == k) places.now == 0 then slice_index flags.old k else 0) }
+    ensures { (k : ℕ) → slice_index flags.new k
+        ≡ (if count_by (λ p. p == k) places.now == 0 then slice_index flags.old k else 0) }
 {
     for place in places {
         flags[*place as usize] = 0;
@@ -45,7 +49,8 @@ fn clear_places(flags: &mut [u32], places: &[u16])
 /// Adds to each count the flag beside it.
 fn add_flags(counts: &mut [u32], flags: &[u32])
     requires within { length counts.old ≤ length flags.now }
-    requires room { (k : ℕ) → k < length counts.old → slice_index counts.old k + slice_index flags.now k < 2 ^ 32 }
+    requires room { (k : ℕ) → k < length counts.old
+        → slice_index counts.old k + slice_index flags.now k < 2 ^ 32 }
     ensures { AddsFlags counts.old flags.now counts.new }
 {
     for i in 0..counts.len() {
@@ -56,8 +61,10 @@ fn add_flags(counts: &mut [u32], flags: &[u32])
 /// Adds 1 to the count at each of the places.
 fn add_places(counts: &mut [u32], places: &[u16])
     requires within { (i : ℕ) → i < length places.now → slice_index places.now i < length counts.old }
-    requires room { (k : ℕ) → k < length counts.old → slice_index counts.old k + count_by (λ p. p == k) places.now < 2 ^ 32 }
-    ensures { (k : ℕ) → k < length counts.old → slice_index counts.new k ≡ slice_index counts.old k + count_by (λ p. p == k) places.now }
+    requires room { (k : ℕ) → k < length counts.old
+        → slice_index counts.old k + count_by (λ p. p == k) places.now < 2 ^ 32 }
+    ensures { (k : ℕ) → k < length counts.old
+        → slice_index counts.new k ≡ slice_index counts.old k + count_by (λ p. p == k) places.now }
 {
     for place in places {
         counts[*place as usize] += 1;
@@ -67,11 +74,11 @@ fn add_places(counts: &mut [u32], places: &[u16])
 impl Seen {
     /// No type.
     pub fn new(types: usize) -> Seen
-        requires { types ≤ 128 }
+        requires { types ≤ MAX_TYPES }
         ensures { IsSeen result types }
     {
         Seen {
-            flags: [0; MOST_TYPES],
+            flags: [0; FLAGS],
             places: [0; MOST_PLACES],
             listed: 0,
             // A place costs about as much as eight flags, which are added many at once.
@@ -97,7 +104,8 @@ impl Seen {
     /// Adds to each count, one for each type, the flag of its type.
     pub fn add_to(&self, counts: &mut [u32])
         requires shape { IsSeen self.now (length counts.old) }
-        requires room { (k : ℕ) → k < length counts.old → slice_index counts.old k + slice_index (self.now).flags k < 2 ^ 32 }
+        requires room { (k : ℕ) → k < length counts.old
+            → slice_index counts.old k + slice_index (self.now).flags k < 2 ^ 32 }
         ensures { AddsFlags counts.old (self.now).flags counts.new }
     {
         if self.listed < self.most {
@@ -112,7 +120,8 @@ impl Seen {
         requires shape { IsSeen self.old types }
         requires within { place < types }
         ensures shape { IsSeen self.new types }
-        ensures seen { (b : ℕ) → b < types → slice_index (self.new).flags b ≡ (if place == b then 1 else slice_index (self.old).flags b) }
+        ensures seen { (b : ℕ) → b < types → slice_index (self.new).flags b
+            ≡ (if place == b then 1 else slice_index (self.old).flags b) }
     {
         if self.flags[place] != 0 {
             return;

@@ -40,6 +40,7 @@ same-decision number form a b t line (Some m) (Some n) found spans slots =
     ap₂ (λ x y. decided_at number form x y (time_by t line (option_and_then (span_of m) t))) (same-group m n slot whole a) (same-group m n slot whole b)
     ∙ ap (λ x. decided_at number form (option_and_then (span_of n) a) (option_and_then (span_of n) b) (time_by t line x)) (same-group m n slot whole t)
 
+-- so one rule decides as the other
 pub alike-decide : (number : ℕ) (r s : spec.Rule) (line : List ℕ) → ((k : ℕ) → get_or line k 0 < 256) → Alike r s → decided_by number r line ≡ decided_by number s line
 alike-decide number r s line bytes alike =
     let D : spec.Form → List (Option (List ℕ)) → Option Match → Option (Result Decision DecideError) = λ form names o.
@@ -48,6 +49,7 @@ alike-decide number r s line bytes alike =
     ∙ same-decision number s.form (group_named s.names (codes "TYPE")) (group_named s.names (codes "TRACE")) (group_named s.names (codes "TIME")) line (find_str r.re line 0) (find_str s.re line 0)
     (is_match_alike alike.captures line bytes true 0) (span_alike alike.captures line bytes true 0) (found_alike alike.captures line bytes true 0)
 
+-- and so do lists of them
 pub alike-decision : (number : ℕ) (rs ss : List spec.Rule) (line : List ℕ) → ((k : ℕ) → get_or line k 0 < 256) → AreAlike rs ss → decision_from number rs line ≡ decision_from number ss line
 alike-decision number [] [] line bytes alike = refl
 alike-decision number [] (s ∷ ss) line bytes alike = absurd alike

@@ -26,6 +26,7 @@ of-spans : (r : Rule) (number : ℕ) (form : spec.Form) (line : List ℕ) (o : O
 of-spans r number form line None = refl
 of-spans r number form line (Some m) = refl
 
+-- what the spans of a search decide is what the rule decides
 pub decided-when : (number : ℕ) (r : Rule) (re : Re) (line : List ℕ) (spans : Option Spans) → re ≡ regex_pattern r.regex → spans ≡ option_map (spans_of r) (find_str re line 0)
     → decided_by number (rule_view r) line ≡ option_and_then (λ (s : Spans). decided_at number (form_view r.form) s.typ s.trace (time_by r.time_group line s.time)) spans
 decided-when number r re line spans same found =
@@ -38,11 +39,13 @@ decided-when number r re line spans same found =
     ∙ (ap (λ t. D r.type_group r.trace_group t re) (sym r.time_is)
     ∙ (of-spans r number form line (find_str re line 0) ∙ ap (λ s. option_and_then (λ (s : Spans). decided_at number form s.typ s.trace (time_by r.time_group line s.time)) s) (sym found))))
 
+-- a matcher that keeps its rule keeps the list
 pub rules-kept : (ms : List RuleMatcher) (i : ℕ) (d new : RuleMatcher) → i < length ms → new.rule ≡ (get_or ms i d).rule → matcher_rules (set ms i new) ≡ matcher_rules ms
 rules-kept [] i d new inside same = refl
 rules-kept (m ∷ ms) zero d new inside same = ap (λ (r : _). rule_view r.now ∷ matcher_rules ms) same
 rules-kept (m ∷ ms) (suc i) d new inside same = ap (λ rs. rule_view m.rule.now ∷ rs) (rules-kept ms i d new (omega arith) same)
 
+-- the rule at a place
 pub rule-at : (ms : List RuleMatcher) (i : ℕ) (d : RuleMatcher) → get_or (matcher_rules ms) i (rule_view d.rule.now) ≡ rule_view (get_or ms i d).rule.now
 rule-at [] i d = refl
 rule-at (m ∷ ms) zero d = refl
@@ -54,6 +57,7 @@ next-rule rs i d line inside =
     let parts : drop i rs ≡ get_or rs i d ∷ drop (i + 1) rs = rw (add-one, drop-cons rs i d inside) refl in
     ap (λ ts. decision_from i ts line) parts
 
+-- the next rule is tried
 pub next-matcher : (ms : List RuleMatcher) (i : ℕ) (m : RuleMatcher) (line : List ℕ) → i < length ms → m ≡ get_or ms i m
     → decision_from i (drop i (matcher_rules ms)) line ≡ unwrap_or (decided_by i (rule_view m.rule.now) line) (decision_from (i + 1) (drop (i + 1) (matcher_rules ms)) line)
 next-matcher ms i m line inside is =
@@ -80,6 +84,7 @@ name-stands rules number r name at form =
     let named : fixed_name rules number ≡ Some name = ap (λ o. option_and_then (λ (q : spec.Rule). name_of q.form) o) at ∙ ap name_of form in
     rw named refl
 
+-- what a rule decides has parts of the line
 pub decided-parts : (rules : List spec.Rule) (line : List ℕ) → IsCharBoundary line 0 → (number : ℕ) (r : spec.Rule) (form : spec.Form) → slice_get rules number ≡ Some r → r.form ≡ form
     → (typ trace : Option (ℕ × ℕ)) (time : Option ℕ) → IfSome typ (IsSpanOf line) → IfSome trace (IsSpanOf line)
     → IfSome (decided_at number form typ trace time) (λ answer. IfOk answer (HasParts rules line))

@@ -3,6 +3,7 @@ use Rattle.std.proofs.Common.{◌≡◌, ◌<◌, ◌&&◌, ℕ, true, false, Li
 use Rattle.std.specs.Prelude.{IsSomeAnd}
 use Rattle.std.specs.Option.{option_map_or}
 use Rattle.std.proofs.lemmas.Bool.{lt-leb}
+use Rattle.limits.specs.declared.TheConstants.{MAX_RULES}
 use Rattle.line_rules.specs.Rules as spec
 use Rattle.line_rules.specs.Rules.{rule_of, group_named, Alike}
 use Rattle.line_rules.specs.Files.{spelled_by, rule_at, rule_spelled, rule_read, lacks_type, takes_type, is_event, first_time, mixes_time, differ}
@@ -18,14 +19,15 @@ same-mixes rules r s alike = ap₂ (λ form names. is_event form && option_map_o
 read-plain : (rules : List spec.Rule) (number : ℕ) (plain : spec.Rule) → lacks_type plain ≡ false → mixes_time rules plain ≡ false → rule_read rules number (Some plain) ≡ Ok plain
 read-plain rules number plain typed unmixed = rw (typed, unmixed) refl
 
-pub spelled-few : (rules : List spec.Rule) (number : ℕ) (line : List ℕ) (form : spec.Form) (pattern : List ℕ) → Some (form, pattern) ≡ spelled_by line → length rules < 32
+-- a line that is spelled, where there is room for its rule
+pub spelled-few : (rules : List spec.Rule) (number : ℕ) (line : List ℕ) (form : spec.Form) (pattern : List ℕ) → Some (form, pattern) ≡ spelled_by line → length rules < MAX_RULES
     → rule_at rules (number, line) ≡ rule_read rules number (rule_of form pattern)
 spelled-few rules number line form pattern spelled few =
-    let below : nat_le 32 (length rules) ≡ false = lt-leb 32 (length rules) few in
+    let below : nat_le MAX_RULES (length rules) ≡ false = lt-leb MAX_RULES (length rules) few in
     ap (rule_spelled rules number) (sym spelled) ∙ rw below refl
 
 -- what is built is the rule of the line
-pub line-rule : (rules : List spec.Rule) (number : ℕ) (line : List ℕ) (form : spec.Form) (pattern : List ℕ) (r : spec.Rule) → Some (form, pattern) ≡ spelled_by line → length rules < 32
+pub line-rule : (rules : List spec.Rule) (number : ℕ) (line : List ℕ) (form : spec.Form) (pattern : List ℕ) (r : spec.Rule) → Some (form, pattern) ≡ spelled_by line → length rules < MAX_RULES
     → IsSomeAnd (rule_of form pattern) (Alike r) → lacks_type r ≡ false → mixes_time rules r ≡ false → IsRuleOf rules number line r
 line-rule rules number line form pattern r spelled few built typed unmixed = by-rule (rule_of form pattern) refl built
   where
@@ -39,7 +41,7 @@ line-rule rules number line form pattern r spelled few built typed unmixed = by-
     }
 
 -- what is built is refused where it lacks a group TYPE that it needs
-pub line-lacks : (rules : List spec.Rule) (number : ℕ) (line : List ℕ) (form : spec.Form) (pattern : List ℕ) (r : spec.Rule) → Some (form, pattern) ≡ spelled_by line → length rules < 32
+pub line-lacks : (rules : List spec.Rule) (number : ℕ) (line : List ℕ) (form : spec.Form) (pattern : List ℕ) (r : spec.Rule) → Some (form, pattern) ≡ spelled_by line → length rules < MAX_RULES
     → IsSomeAnd (rule_of form pattern) (Alike r) → lacks_type r ≡ true → rule_at rules (number, line) ≡ Err (refused.NoType number)
 line-lacks rules number line form pattern r spelled few built lacks = spelled-few rules number line form pattern spelled few ∙ by-rule (rule_of form pattern) built
   where
@@ -50,7 +52,7 @@ line-lacks rules number line form pattern r spelled few built lacks = spelled-fe
         rw lacks' refl
 
 -- and where it mixes rules with a time and rules without
-pub line-mixes : (rules : List spec.Rule) (number : ℕ) (line : List ℕ) (form : spec.Form) (pattern : List ℕ) (r : spec.Rule) → Some (form, pattern) ≡ spelled_by line → length rules < 32
+pub line-mixes : (rules : List spec.Rule) (number : ℕ) (line : List ℕ) (form : spec.Form) (pattern : List ℕ) (r : spec.Rule) → Some (form, pattern) ≡ spelled_by line → length rules < MAX_RULES
     → IsSomeAnd (rule_of form pattern) (Alike r) → lacks_type r ≡ false → mixes_time rules r ≡ true → rule_at rules (number, line) ≡ Err (refused.MixedTime number)
 line-mixes rules number line form pattern r spelled few built typed mixes = spelled-few rules number line form pattern spelled few ∙ by-rule (rule_of form pattern) built
   where

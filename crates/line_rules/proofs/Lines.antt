@@ -4,7 +4,8 @@ use Rattle.std.specs.Prelude.{IsTrue, Bool, Option, Some, None, is_some, codes, 
 use Rattle.std.specs.Option.{option_map_or}
 use Rattle.std.proofs.lemmas.Bool.{le-ltb}
 use Rattle.std.specs.List.{list_any}
-use Rattle.traces.specs.Lines.{pieces, line_of}
+use Rattle.lines.specs.Lines.{pieces, line_of}
+use Rattle.limits.specs.declared.TheConstants.{MAX_RULES, MAX_RULES_BYTES}
 use Rattle.line_rules.specs.Patterns.{PatternsState, Stays, Rose, NestsTooDeep}
 use Rattle.line_rules.specs.Rules as spec
 use Rattle.line_rules.specs.Rules.{Alike, AreAlike, group_named, rule_of}
@@ -21,6 +22,7 @@ pub record ReadTo (bytes : List ℕ) (number : ℕ) (rest : List ℕ) (rules : L
   pub read : rules_from [] before ≡ Ok plain
   pub alike : AreAlike rules plain
 
+-- before the first line
 pub begin : (bytes : List ℕ) → ReadTo bytes 0 bytes []
 begin bytes = record { before = []; plain = []; lines = refl; read = refl; alike = tt }
 
@@ -67,7 +69,7 @@ read-after rs ss number (Some rule) first =
 spelled-after : (rs ss : List spec.Rule) (number : ℕ) (o : Option (spec.Form × List ℕ)) → length rs ≡ length ss → first_time rs ≡ first_time ss → rule_spelled rs number o ≡ rule_spelled ss number o
 spelled-after rs ss number None few first = refl
 spelled-after rs ss number (Some spelled) few first =
-    ap₂ (λ (n : ℕ) (r : Result spec.Rule RuleError). if nat_le 32 n then Err (refused.TooMany number) else r) few (read-after rs ss number (rule_of spelled.0 spelled.1) first)
+    ap₂ (λ (n : ℕ) (r : Result spec.Rule RuleError). if nat_le MAX_RULES n then Err (refused.TooMany number) else r) few (read-after rs ss number (rule_of spelled.0 spelled.1) first)
 
 alike-at : (rs ss : List spec.Rule) (line : ℕ × List ℕ) → AreAlike rs ss → rule_at rs line ≡ rule_at ss line
 alike-at rs ss line alike = spelled-after rs ss line.0 (spelled_by line.1) (alike-length rs ss alike) (alike-first rs ss alike)
@@ -129,10 +131,10 @@ plain-refused bytes number rest piece after rs e so next counts refusal =
     ∙ (from-rest [] so.before (line ∷ more) so.plain so.read ∙ ap (λ r. with_rule r (λ rule. rules_from (so.plain ++ rule ∷ []) more)) at)
 
 -- the line's pattern is one that is built
-built-at : (bytes : List ℕ) (number : ℕ) (rest piece after : List ℕ) (rs : List spec.Rule) (Holds : List ℕ → Type 0) → length bytes ≤ 65536 → ReadTo bytes number rest rs
+built-at : (bytes : List ℕ) (number : ℕ) (rest piece after : List ℕ) (rs : List spec.Rule) (Holds : List ℕ → Type 0) → length bytes ≤ MAX_RULES_BYTES → ReadTo bytes number rest rs
     → pieces rest ≡ piece ∷ pieces after → is_skipped (line_of piece) ≡ false → Builds rs (line_of piece) Holds → BuildsAt bytes (number + 1) Holds
 built-at bytes number rest piece after rs Holds short so next counts builds =
-    let few : length so.plain < 32 = rw (← alike-length rs so.plain so.alike) builds.few in
+    let few : length so.plain < MAX_RULES = rw (← alike-length rs so.plain so.alike) builds.few in
     record {
       pattern = builds.pattern;
       built = record {
@@ -150,6 +152,7 @@ built-at bytes number rest piece after rs Holds short so next counts builds =
       holds = builds.holds;
     }
 
+-- what stays over two steps
 pub stays-on : (old mid new : PatternsState) → Stays old mid → Stays mid new → Stays old new
 stays-on old mid new one more = record { may_refuse = more.may_refuse ∙ one.may_refuse; refusals = omega arith }
 
@@ -157,7 +160,7 @@ rose-before : (old mid new : ℕ) → old ≤ mid → Rose mid new → Rose old 
 rose-before old mid new grows rose = omega arith
 
 -- a line that is refused
-pub refuse : (bytes : List ℕ) (number : ℕ) (rest piece after : List ℕ) (rs : List spec.Rule) (old mid new : PatternsState) (e : RuleError) → length bytes ≤ 65536 → ReadTo bytes number rest rs
+pub refuse : (bytes : List ℕ) (number : ℕ) (rest piece after : List ℕ) (rs : List spec.Rule) (old mid new : PatternsState) (e : RuleError) → length bytes ≤ MAX_RULES_BYTES → ReadTo bytes number rest rs
     → pieces rest ≡ piece ∷ pieces after → is_skipped (line_of piece) ≡ false → Stays old mid → IsLineRefused mid new rs (number + 1) (line_of piece) e → AreLinesRefused bytes old new e
 refuse bytes number rest piece after rs old mid new refused.Memory short so next counts stays h = tt
 refuse bytes number rest piece after rs old mid new (refused.Syntax at) short so next counts stays h =
@@ -177,14 +180,14 @@ refuse bytes number rest piece after rs old mid new (refused.MixedTime at) short
 refuse bytes number rest piece after rs old mid new refused.NoEvent short so next counts stays h = absurd h
 
 -- a file that is short enough is read by its lines
-short-file : (bytes : List ℕ) → length bytes ≤ 65536 → rules_of bytes ≡ with_event (rules_from [] (rule_lines bytes))
-short-file bytes short = rw (le-ltb 65536 (length bytes) short) refl
+short-file : (bytes : List ℕ) → length bytes ≤ MAX_RULES_BYTES → rules_of bytes ≡ with_event (rules_from [] (rule_lines bytes))
+short-file bytes short = rw (le-ltb MAX_RULES_BYTES (length bytes) short) refl
 
-lines-refused : (bytes : List ℕ) (e : RuleError) → length bytes ≤ 65536 → rules_from [] (rule_lines bytes) ≡ Err e → rules_of bytes ≡ Err e
+lines-refused : (bytes : List ℕ) (e : RuleError) → length bytes ≤ MAX_RULES_BYTES → rules_from [] (rule_lines bytes) ≡ Err e → rules_of bytes ≡ Err e
 lines-refused bytes e short read = short-file bytes short ∙ ap with_event read
 
 -- the refusal of its lines is that of the file
-pub file-refused : (bytes : List ℕ) (old new : PatternsState) (e : RuleError) → length bytes ≤ 65536 → AreLinesRefused bytes old new e → IsRefused bytes old new e
+pub file-refused : (bytes : List ℕ) (old new : PatternsState) (e : RuleError) → length bytes ≤ MAX_RULES_BYTES → AreLinesRefused bytes old new e → IsRefused bytes old new e
 file-refused bytes old new refused.Memory short h = tt
 file-refused bytes old new (refused.Syntax at) short h =
     ⊎_elim (λ plain. inl (lines-refused bytes (refused.Syntax at) short plain)) (λ builds. inr (builds.pattern, builds.built, builds.holds)) h
@@ -196,18 +199,18 @@ file-refused bytes old new (refused.NoType at) short h = lines-refused bytes (re
 file-refused bytes old new (refused.MixedTime at) short h = lines-refused bytes (refused.MixedTime at) short h
 file-refused bytes old new refused.NoEvent short h = absurd h
 
-events-of : (bytes : List ℕ) (rs : List spec.Rule) (b : Bool) → length bytes ≤ 65536 → (of : AreRulesOf bytes rs) → list_any (λ rule. is_event rule.form) rs ≡ b
+events-of : (bytes : List ℕ) (rs : List spec.Rule) (b : Bool) → length bytes ≤ MAX_RULES_BYTES → (of : AreRulesOf bytes rs) → list_any (λ rule. is_event rule.form) rs ≡ b
     → rules_of bytes ≡ (cond b (Ok of.plain) (Err refused.NoEvent))
 events-of bytes rs b short of any =
     let same : list_any (λ rule. is_event rule.form) of.plain ≡ b = sym (alike-event rs of.plain of.alike) ∙ any in
     short-file bytes short ∙ (ap with_event of.read ∙ rw same refl)
 
 -- the rules of the lines, one of which is an event rule, are those of the file
-pub file-read : (bytes : List ℕ) (rs : List spec.Rule) → length bytes ≤ 65536 → AreRulesOf bytes rs → list_any (λ rule. is_event rule.form) rs ≡ true → AreRead bytes rs
+pub file-read : (bytes : List ℕ) (rs : List spec.Rule) → length bytes ≤ MAX_RULES_BYTES → AreRulesOf bytes rs → list_any (λ rule. is_event rule.form) rs ≡ true → AreRead bytes rs
 file-read bytes rs short of any = (of.plain, events-of bytes rs true short of any, of.alike)
 
 -- and without one there are none
-pub no-event : (bytes : List ℕ) (rs : List spec.Rule) → length bytes ≤ 65536 → AreRulesOf bytes rs → list_any (λ rule. is_event rule.form) rs ≡ false → rules_of bytes ≡ Err refused.NoEvent
+pub no-event : (bytes : List ℕ) (rs : List spec.Rule) → length bytes ≤ MAX_RULES_BYTES → AreRulesOf bytes rs → list_any (λ rule. is_event rule.form) rs ≡ false → rules_of bytes ≡ Err refused.NoEvent
 no-event bytes rs short of any = events-of bytes rs false short of any
 
 -- a refusal that keeps the count of refusals keeps an equal one

@@ -20,6 +20,7 @@ pub record AreDigits (most : ℕ) (ds : List ℕ) : Type 0 where
   pub few : length ds ≤ most
   pub digits : list_all is_digit ds ≡ true
 
+-- the parts of the test
 pub digits-parts : (most : ℕ) (ds : List ℕ) → are_digits most ds ≡ true → AreDigits most ds
 digits-parts most ds are =
     let one = and_parts (nat_lt 0 (length ds)) (nat_le (length ds) most && list_all is_digit ds) are in
@@ -35,6 +36,7 @@ pub no-point : (text : List ℕ) → position_or_len is_point text ≡ length te
 no-point [] past = refl
 no-point (b ∷ text) past = ⊎_elim (λ here. absurd (grind (arith, here, past))) (λ there. grind (arith, there, past, no-point text)) (cases_Bool (is_point b))
 
+-- none, for a weaker reason
 pub none-since : {A : Type 0} (o : Option A) (P Q : Type 0) (R : A → Type 0) → (P → Q) → MatchOption o P R → IfNone o Q
 none-since None P Q R gives p = gives p
 none-since (Some x) P Q R gives r = tt
@@ -66,6 +68,7 @@ pub record ReadsOn (ds bytes : List ℕ) (i n : ℕ) : Type 0 where
   pub value : n * 10 + (get_or bytes i 0 - 48) ≡ digits_value 10 (take (i + 1) ds)
   pub small : n * 10 + (get_or bytes i 0 - 48) < 10 ^ 18
 
+-- one digit more
 pub reads-on : (ds bytes : List ℕ) (i n : ℕ) → are_digits 18 ds ≡ true → bytes ≡ ds → i < length bytes → n ≡ digits_value 10 (take i ds) → ReadsOn ds bytes i n
 reads-on ds bytes i n are same inside so_far =
     let within : i < length ds = subst (λ (xs : List ℕ). i < length xs) same inside in

@@ -3,18 +3,20 @@ use Rattle.std.specs.Prelude.{◌≡◌, ◌≤◌, ◌<◌, ◌⊎◌, ℕ, ◌
 use Rattle.std.specs.Option.{option_map_or}
 use Rattle.std.specs.List.{list_any, before_first, after_first}
 use Rattle.std.specs.Str.{bytes_eq, is_utf8}
-use Rattle.traces.specs.Lines.{pieces, line_of}
+use Rattle.limits.specs.declared.TheConstants.{MAX_RULES, MAX_RULES_BYTES, MAX_TYPE_BYTES}
+use Rattle.lines.specs.Lines.{pieces, line_of}
 use Rattle.line_rules.specs.Patterns.{PatternsState, Rose, NestsTooDeep}
 use Rattle.line_rules.specs.Rules.{Form, Skip, Separator, Event, EventOf, Rule, rule_of, group_named, AreAlike}
 use Rattle.line_rules.specs.declared.line_rules.RuleError.{RuleError}
 use Rattle.line_rules.specs.declared.line_rules.RuleError.TheVariants as refused
 
+-- a space
 abbrev pub is_space : ℕ → Bool
 is_space b = b == 32
 
 -- `event=NAME`, where NAME has 1 to 256 bytes
 abbrev pub named_form : List ℕ → Option Form
-named_form word = if bytes_eq (take 6 word) (codes "event=") && nat_lt 6 (length word) && nat_le (length word) 262 then Some (EventOf (drop 6 word)) else None
+named_form word = if bytes_eq (take 6 word) (codes "event=") && nat_lt 6 (length word) && nat_le (length word) (6 + MAX_TYPE_BYTES) then Some (EventOf (drop 6 word)) else None
 
 -- the form of a rule that begins with this word
 abbrev pub form_of_word : List ℕ → Option Form
@@ -43,6 +45,7 @@ numbered number (piece ∷ pieces) = if is_skipped (line_of piece) then numbered
 abbrev pub rule_lines : List ℕ → List (ℕ × List ℕ)
 rule_lines bytes = numbered 1 (pieces bytes)
 
+-- an event rule is of this form
 abbrev pub is_event : Form → Bool
 is_event Skip = false
 is_event Separator = false
@@ -86,7 +89,7 @@ rule_read rules number (Some rule) = if lacks_type rule then Err (refused.NoType
 -- the rule of a line that is spelled so, after these rules, or its first refusal
 abbrev pub rule_spelled : List Rule → ℕ → Option (Form × List ℕ) → Result Rule RuleError
 rule_spelled rules number None = Err (refused.BadLine number)
-rule_spelled rules number (Some spelled) = if nat_le 32 (length rules) then Err (refused.TooMany number) else rule_read rules number (rule_of spelled.0 spelled.1)
+rule_spelled rules number (Some spelled) = if nat_le MAX_RULES (length rules) then Err (refused.TooMany number) else rule_read rules number (rule_of spelled.0 spelled.1)
 
 -- the rule of a line with its number, after these rules, or its first refusal
 abbrev pub rule_at : List Rule → ℕ × List ℕ → Result Rule RuleError
@@ -109,18 +112,18 @@ with_event (Err e) = Err e
 
 -- the rules of an expressions file as the grammar reads them, or the plain refusal
 abbrev pub rules_of : List ℕ → Result (List Rule) RuleError
-rules_of bytes = if nat_lt 65536 (length bytes) then Err refused.TooLong else with_event (rules_from [] (rule_lines bytes))
+rules_of bytes = if nat_lt MAX_RULES_BYTES (length bytes) then Err refused.TooLong else with_event (rules_from [] (rule_lines bytes))
 
 -- The pattern of the line with this number is built: the file is short enough, each line before this one is a rule, and this one spells one, at most the 32nd.
 pub record IsBuilt (bytes : List ℕ) (number : ℕ) (pattern : List ℕ) : Type 0 where
-  pub short : length bytes ≤ 65536
+  pub short : length bytes ≤ MAX_RULES_BYTES
   pub before : List (ℕ × List ℕ)
   pub line : List ℕ
   pub after : List (ℕ × List ℕ)
   pub lines : rule_lines bytes ≡ before ++ (number, line) ∷ after
   pub rules : List Rule
   pub read : rules_from [] before ≡ Ok rules
-  pub few : length rules < 32
+  pub few : length rules < MAX_RULES
   pub form : Form
   pub spelled : spelled_by line ≡ Some (form, pattern)
 
@@ -135,24 +138,12 @@ IsRefused bytes old new (refused.Syntax number) =
     (rules_of bytes ≡ Err (refused.Syntax number)) ⊎ ((pattern : List ℕ) × IsBuilt bytes number pattern × NestsTooDeep pattern)
 IsRefused bytes old new (refused.TooLarge number) =
     Rose old.refusals new.refusals × ((pattern : List ℕ) × IsBuilt bytes number pattern × IsTrue (old.may_refuse pattern))
-IsRefused bytes old new refused.TooLong = rules_of bytes ≡ Err refused.TooLong
-IsRefused bytes old new (refused.BadLine number) = rules_of bytes ≡ Err (refused.BadLine number)
-IsRefused bytes old new (refused.TooMany number) = rules_of bytes ≡ Err (refused.TooMany number)
-IsRefused bytes old new (refused.NoType number) = rules_of bytes ≡ Err (refused.NoType number)
-IsRefused bytes old new (refused.MixedTime number) = rules_of bytes ≡ Err (refused.MixedTime number)
-IsRefused bytes old new refused.NoEvent = rules_of bytes ≡ Err refused.NoEvent
+IsRefused bytes old new plain = rules_of bytes ≡ Err plain
 
 -- a refusal leaves the count of refusals, but for that of a pattern as too large
 abbrev pub KeepsAt : PatternsState → RuleError → PatternsState → Type 0
 KeepsAt old (refused.TooLarge number) new = Unit {0}
-KeepsAt old refused.Memory new = new.refusals ≡ old.refusals
-KeepsAt old (refused.Syntax number) new = new.refusals ≡ old.refusals
-KeepsAt old refused.TooLong new = new.refusals ≡ old.refusals
-KeepsAt old (refused.BadLine number) new = new.refusals ≡ old.refusals
-KeepsAt old (refused.TooMany number) new = new.refusals ≡ old.refusals
-KeepsAt old (refused.NoType number) new = new.refusals ≡ old.refusals
-KeepsAt old (refused.MixedTime number) new = new.refusals ≡ old.refusals
-KeepsAt old refused.NoEvent new = new.refusals ≡ old.refusals
+KeepsAt old other new = new.refusals ≡ old.refusals
 
 -- the count of refusals stands as it was, unless a pattern is refused as too large
 abbrev pub KeepsRefusals : {T : Type 0} → PatternsState → Result T RuleError → PatternsState → Type 0

@@ -4,6 +4,8 @@ use Rattle.regex.specs.Patterns.{default_config}
 use Rattle.regex.specs.Strings.{regex_pattern, regex_names}
 use Rattle.regex_syntax.specs.Grammar.{read}
 use Rattle.regex.specs.declared.string.regex.Regex.{Regex}
+use Rattle.regex.specs.declared.error.Error.{Error}
+use Rattle.regex.specs.declared.error.Error.TheVariants as error
 use Rattle.line_rules.specs.Patterns.{PatternsState, IsReadAs, IsNoPattern, NestsTooDeep, next_build}
 use Rattle.line_rules.specs.declared.patterns.BuildFault.{BuildFault}
 use Rattle.line_rules.specs.declared.patterns.BuildFault.TheVariants.{Syntax, TooLarge, Memory}
@@ -15,6 +17,14 @@ raised refusals = min (refusals + 1) (2 ^ 64 - 1)
 -- patterns of `regex` with this count may refuse any text as too large
 abbrev pub regex_state : ℕ → PatternsState
 regex_state refusals = record { refusals = refusals; may_refuse = λ _. true }
+
+-- what is told of an answer of `regex`, and the count then: too large and out of memory exactly where `regex` said so
+abbrev pub Tells : ℕ → Result Regex Error → Result Regex BuildFault → ℕ → Type 0
+Tells old (Ok regex) answer new = (answer ≡ Ok regex) × (new ≡ old)
+Tells old (Err (error.Syntax e)) answer new = (answer ≡ Err Syntax) × (new ≡ old)
+Tells old (Err error.OutOfMemory) answer new = (answer ≡ Err Memory) × (new ≡ old)
+Tells old (Err error.CompiledTooBig) answer new = (answer ≡ Err TooLarge) × (new ≡ raised old)
+Tells old (Err error.Internal) answer new = (answer ≡ Err TooLarge) × (new ≡ raised old)
 
 -- the grammar reads a pattern that does not nest too deep
 abbrev pub IsPattern : List ℕ → Type 0

@@ -49,7 +49,5 @@ BuildGives old text (Err Memory) new = Unit {0}
 
 -- the count of refusals stands as it was, unless the text is refused as too large
 abbrev pub KeepsCount : {T : Type 0} → PatternsState → Result T BuildFault → PatternsState → Type 0
-KeepsCount old (Ok x) new = new.refusals ≡ old.refusals
-KeepsCount old (Err Syntax) new = new.refusals ≡ old.refusals
 KeepsCount old (Err TooLarge) new = Unit {0}
-KeepsCount old (Err Memory) new = new.refusals ≡ old.refusals
+KeepsCount old other new = new.refusals ≡ old.refusals

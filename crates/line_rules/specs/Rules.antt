@@ -26,6 +26,7 @@ pub record Rule : Type 0 where
   pub re : Re
   pub names : List (Option (List ℕ))
 
+-- the group has the name
 abbrev pub has_name : List ℕ → Option (List ℕ) → Bool
 has_name name None = false
 has_name name (Some other) = bytes_eq name other
@@ -39,9 +40,11 @@ abbrev pub span_of : Match → ℕ → Option (ℕ × ℕ)
 span_of m zero = Some (span m)
 span_of m (suc n) = group_of m (suc n)
 
+-- what the first group with the name spans in a match
 abbrev pub span_of_name : Rule → List ℕ → Match → Option (ℕ × ℕ)
 span_of_name rule name m = option_and_then (span_of m) (group_named rule.names name)
 
+-- a span, unless it is empty
 abbrev pub not_empty : Option (ℕ × ℕ) → Option (ℕ × ℕ)
 not_empty None = None
 not_empty (Some s) = if nat_lt s.0 s.1 then Some s else None

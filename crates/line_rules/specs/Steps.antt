@@ -1,5 +1,6 @@
 -- What each step of reading an expressions file leaves: one line, then all lines.
 use Rattle.std.specs.Prelude.{ℕ, ◌≡◌, ◌<◌, ◌⊎◌, IsTrue, IsFalse, List, [], ◌∷◌, ◌++◌, length, Some, Ok, Err}
+use Rattle.limits.specs.declared.TheConstants.{MAX_RULES}
 use Rattle.line_rules.specs.Patterns.{PatternsState, Rose, NestsTooDeep}
 use Rattle.line_rules.specs.Rules.{Form, Rule, Alike, AreAlike}
 use Rattle.line_rules.specs.Files.{spelled_by, is_skipped, rule_at, rules_from, rule_lines, IsBuilt}
@@ -14,7 +15,7 @@ pub record IsRuleOf (rules : List Rule) (number : ℕ) (line : List ℕ) (rule :
 
 -- after these rules a line's pattern is built, and this holds of the pattern
 pub record Builds (rules : List Rule) (line : List ℕ) (Holds : List ℕ → Type 0) : Type 0 where
-  pub few : length rules < 32
+  pub few : length rules < MAX_RULES
   pub form : Form
   pub pattern : List ℕ
   pub spelled : spelled_by line ≡ Some (form, pattern)
@@ -28,11 +29,8 @@ IsLineRefused old new rules number line (refused.Syntax at) =
 IsLineRefused old new rules number line (refused.TooLarge at) =
     (at ≡ number) × Rose old.refusals new.refusals × Builds rules line (λ pattern. IsTrue (old.may_refuse pattern))
 IsLineRefused old new rules number line refused.TooLong = ⊥
-IsLineRefused old new rules number line (refused.BadLine at) = rule_at rules (number, line) ≡ Err (refused.BadLine at)
-IsLineRefused old new rules number line (refused.TooMany at) = rule_at rules (number, line) ≡ Err (refused.TooMany at)
-IsLineRefused old new rules number line (refused.NoType at) = rule_at rules (number, line) ≡ Err (refused.NoType at)
-IsLineRefused old new rules number line (refused.MixedTime at) = rule_at rules (number, line) ≡ Err (refused.MixedTime at)
 IsLineRefused old new rules number line refused.NoEvent = ⊥
+IsLineRefused old new rules number line plain = rule_at rules (number, line) ≡ Err plain
 
 -- a line with its number leaves the rules if it is skipped, and adds its rule if not
 abbrev pub AddsLine : ℕ → List ℕ → List Rule → List Rule → Type 0
@@ -57,8 +55,5 @@ AreLinesRefused bytes old new refused.Memory = Unit {0}
 AreLinesRefused bytes old new (refused.Syntax at) = (rules_from [] (rule_lines bytes) ≡ Err (refused.Syntax at)) ⊎ BuildsAt bytes at NestsTooDeep
 AreLinesRefused bytes old new (refused.TooLarge at) = Rose old.refusals new.refusals × BuildsAt bytes at (λ pattern. IsTrue (old.may_refuse pattern))
 AreLinesRefused bytes old new refused.TooLong = ⊥
-AreLinesRefused bytes old new (refused.BadLine at) = rules_from [] (rule_lines bytes) ≡ Err (refused.BadLine at)
-AreLinesRefused bytes old new (refused.TooMany at) = rules_from [] (rule_lines bytes) ≡ Err (refused.TooMany at)
-AreLinesRefused bytes old new (refused.NoType at) = rules_from [] (rule_lines bytes) ≡ Err (refused.NoType at)
-AreLinesRefused bytes old new (refused.MixedTime at) = rules_from [] (rule_lines bytes) ≡ Err (refused.MixedTime at)
 AreLinesRefused bytes old new refused.NoEvent = ⊥
+AreLinesRefused bytes old new plain = rules_from [] (rule_lines bytes) ≡ Err plain

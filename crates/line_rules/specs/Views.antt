@@ -1,10 +1,11 @@
 -- Rules and matchers as contracts see them.
 use Rattle.std.specs.Prelude.{◌<◌, ◌≤◌, length, List, map, option_and_then, string_bytes}
+use Rattle.limits.specs.declared.TheConstants.{MAX_TYPE_BYTES}
 use Rattle.regex.specs.Patterns.{Match}
 use Rattle.regex.specs.Strings.{regex_pattern, regex_names}
 use Rattle.line_rules.specs.Rules as spec
-use Rattle.line_rules.specs.declared.rule.Form.{Form}
-use Rattle.line_rules.specs.declared.rule.Form.TheVariants.{Skip, Separator, Event, EventOf}
+use Rattle.line_rules.specs.declared.rule.RuleForm.{RuleForm}
+use Rattle.line_rules.specs.declared.rule.RuleForm.TheVariants.{Skip, Separator, Event, EventOf}
 use Rattle.line_rules.specs.declared.rule.Rule.{Rule}
 use Rattle.line_rules.specs.declared.spans.Spans.{Spans}
 use Rattle.line_rules.specs.declared.spelling.Word.{Word}
@@ -14,7 +15,7 @@ use Rattle.line_rules.specs.declared.matchers.Matchers.{Matchers}
 use Rattle.line_rules.specs.declared.line_rules.LineRules.{LineRules}
 
 -- the form of a rule
-abbrev pub form_view : Form → spec.Form
+abbrev pub form_view : RuleForm → spec.Form
 form_view Skip = spec.Skip
 form_view Separator = spec.Separator
 form_view Event = spec.Event
@@ -32,7 +33,7 @@ abbrev pub HasShortName : Word → Type 0
 HasShortName word.Skip = Unit {0}
 HasShortName word.Separator = Unit {0}
 HasShortName word.Event = Unit {0}
-HasShortName (word.EventOf name) = (0 < length name.now) × (length name.now ≤ 256)
+HasShortName (word.EventOf name) = (0 < length name.now) × (length name.now ≤ MAX_TYPE_BYTES)
 
 -- a rule with its pattern and the names of its groups
 abbrev pub rule_view : Rule → spec.Rule

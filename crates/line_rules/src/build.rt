@@ -1,5 +1,6 @@
 //! The rule of one line.
 ghost use Rattle.std.specs.Prelude.{◌≡◌, ◌⊎◌, ◌<◌, Err, IfOk, IfErr, IsTrue, IsSomeAnd, length, map};
+ghost use Rattle.limits.specs.declared.TheConstants.{MAX_RULES};
 ghost use Rattle.line_rules.specs.Patterns.{IsNoPattern, NestsTooDeep, Stays, Rose, KeepsCount};
 ghost use Rattle.line_rules.specs.Rules.{rule_of, Alike};
 ghost use Rattle.line_rules.specs.Files.{first_time, mixes_time, KeepsRefusals};
@@ -8,18 +9,20 @@ ghost use Rattle.line_rules.specs.Views.{form_view, rule_view};
 
 use crate::line_rules::RuleError;
 use crate::patterns::{BuildFault, Patterns};
-use crate::rule::{Form, Rule};
+use crate::rule::{Rule, RuleForm};
 use crate::spelling::spelled;
+use limits::MAX_RULES;
 use std::alloc::Global;
 
 /// Builds a rule from the text of its pattern.
-fn build_rule<P: Patterns>(patterns: &mut P, form: Form, text: &str) -> Result<Rule, BuildFault>
+fn build_rule<P: Patterns>(patterns: &mut P, form: RuleForm, text: &str) -> Result<Rule, BuildFault>
     ensures rule { IfOk result (λ r. IsSomeAnd (rule_of (form_view form) text.now) (Alike (rule_view r))) }
     ensures syntax { result ≡ Err BuildFault.Syntax → IsNoPattern text.now ⊎ NestsTooDeep text.now }
     ensures stays { Stays (P.state patterns.old) (P.state patterns.new) }
     ensures count { KeepsCount (P.state patterns.old) result (P.state patterns.new) }
     ensures large { result ≡ Err BuildFault.TooLarge
-        → Rose (P.state patterns.old).refusals (P.state patterns.new).refusals × IsTrue ((P.state patterns.old).may_refuse text.now) }
+        → Rose (P.state patterns.old).refusals (P.state patterns.new).refusals
+        × IsTrue ((P.state patterns.old).may_refuse text.now) }
 {
     match patterns.build(text) {
         Ok(regex) => Ok(Rule::new(form, regex)),
@@ -65,14 +68,15 @@ pub(crate) fn rule_of_line<P: Patterns>(
 ) -> Result<Rule, RuleError>
     ensures stays { Stays (P.state patterns.old) (P.state patterns.new) }
     ensures count { KeepsRefusals (P.state patterns.old) result (P.state patterns.new) }
-    ensures few { IfOk result (λ _. length rules.now < 32) }
+    ensures few { IfOk result (λ _. length rules.now < MAX_RULES) }
     ensures ok { IfOk result (λ rule. IsRuleOf (map rule_view rules.now) number line.now (rule_view rule)) }
-    ensures err { IfErr result (IsLineRefused (P.state patterns.old) (P.state patterns.new) (map rule_view rules.now) number line.now) }
+    ensures err { IfErr result (IsLineRefused (P.state patterns.old) (P.state patterns.new)
+        (map rule_view rules.now) number line.now) }
 {
     let Some((word, pattern)) = spelled(line) else {
         return Err(RuleError::BadLine(number));
     };
-    if rules.len() >= 32 {
+    if rules.len() >= MAX_RULES {
         return Err(RuleError::TooMany(number));
     }
     let Ok(form) = word.to_form(alloc) else {

@@ -1,6 +1,7 @@
 //! The rules of all lines.
 ghost use Rattle.std.specs.Prelude.{◌≡◌, ◌≤◌, IfOk, IfErr, IsFalse, OnErr, OnOk, length, map, vec_len};
 ghost use Rattle.std.specs.List.{list_any};
+ghost use Rattle.limits.specs.declared.TheConstants.{MAX_RULES, MAX_RULES_BYTES};
 ghost use Rattle.line_rules.specs.Patterns.{Stays};
 ghost use Rattle.line_rules.specs.Files.{is_event, is_skipped, KeepsRefusals};
 ghost use Rattle.line_rules.specs.Steps.{AddsLine, IsLineRefused, AreRulesOf, AreLinesRefused};
@@ -11,8 +12,8 @@ use crate::line_rules::RuleError;
 use crate::patterns::Patterns;
 use crate::rule::Rule;
 use crate::spelling::is_comment;
+use lines::{next_piece, without_return};
 use std::alloc::Global;
-use traces::{next_piece, without_return};
 
 /// Adds the rule of the line with this number, if the line is not skipped.
 fn add_line<P: Patterns>(
@@ -22,13 +23,15 @@ fn add_line<P: Patterns>(
     rules: &mut Vec<Rule>,
     patterns: &mut P,
 ) -> Result<(), RuleError>
-    requires { vec_len rules.old ≤ 32 }
+    requires { vec_len rules.old ≤ MAX_RULES }
     ensures stays { Stays (P.state patterns.old) (P.state patterns.new) }
     ensures count { KeepsRefusals (P.state patterns.old) result (P.state patterns.new) }
-    ensures few { vec_len rules.new ≤ 32 }
-    ensures ok { OnOk result (AddsLine number line.now (map rule_view rules.old.items) (map rule_view rules.new.items)) }
+    ensures few { vec_len rules.new ≤ MAX_RULES }
+    ensures ok { OnOk result (AddsLine number line.now
+        (map rule_view rules.old.items) (map rule_view rules.new.items)) }
     ensures not_skipped { OnErr result (IsFalse (is_skipped line.now)) }
-    ensures err { IfErr result (IsLineRefused (P.state patterns.old) (P.state patterns.new) (map rule_view rules.old.items) number line.now) }
+    ensures err { IfErr result (IsLineRefused (P.state patterns.old) (P.state patterns.new)
+        (map rule_view rules.old.items) number line.now) }
 {
     if is_comment(line) {
         return Ok(());
@@ -49,10 +52,10 @@ pub(crate) fn read_rules<P: Patterns>(
     bytes: &[u8],
     patterns: &mut P,
 ) -> Result<Vec<Rule>, RuleError>
-    requires { length bytes.now ≤ 65536 }
+    requires { length bytes.now ≤ MAX_RULES_BYTES }
     ensures stays { Stays (P.state patterns.old) (P.state patterns.new) }
     ensures count { KeepsRefusals (P.state patterns.old) result (P.state patterns.new) }
-    ensures few { IfOk result (λ rules. vec_len rules ≤ 32) }
+    ensures few { IfOk result (λ rules. vec_len rules ≤ MAX_RULES) }
     ensures ok { IfOk result (λ rules. AreRulesOf bytes.now (map rule_view rules.items)) }
     ensures err { IfErr result (AreLinesRefused bytes.now (P.state patterns.old) (P.state patterns.new)) }
 {

@@ -1,5 +1,6 @@
 //! The rules of an expressions file.
 ghost use Rattle.std.specs.Prelude.{◌≡◌, ◌≢◌, ◌<◌, ◌≤◌, length, Some, IsSome, IfOk, IfErr, Err, vec_len};
+ghost use Rattle.limits.specs.declared.TheConstants.{MAX_RULES, MAX_TYPE_BYTES};
 ghost use Rattle.line_rules.specs.Patterns.{Stays};
 ghost use Rattle.line_rules.specs.Rules.{decision_of, fixed_name, HasParts};
 ghost use Rattle.line_rules.specs.Files.{AreRead, IsRefused, KeepsRefusals};
@@ -9,6 +10,7 @@ use crate::file::{has_event, read_rules};
 use crate::matchers::{Matchers, RuleMatcher};
 use crate::patterns::Patterns;
 use crate::rule::Rule;
+use limits::MAX_RULES_BYTES;
 use std::alloc::{AllocError, Global};
 use thiserror::Error;
 
@@ -50,7 +52,7 @@ pub enum RuleError {
 pub struct LineRules {
     alloc: Global,
     pub(crate) rules: Vec<Rule>,
-    ghost few: { vec_len rules ≤ 32 },
+    ghost few: { vec_len rules ≤ MAX_RULES },
 }
 
 impl LineRules {
@@ -71,7 +73,7 @@ impl LineRules {
         ensures ok { IfOk result (λ rules. AreRead bytes.now (rules_in rules)) }
         ensures err { IfErr result (IsRefused bytes.now (P.state patterns.old) (P.state patterns.new)) }
     {
-        if bytes.len() > 65_536 {
+        if bytes.len() > MAX_RULES_BYTES {
             return Err(RuleError::TooLong);
         }
         let rules = match read_rules(alloc, bytes, patterns) {
@@ -106,7 +108,7 @@ impl LineRules {
     {
         let mut matchers = Vec::new(self.alloc);
         for rule in &self.rules {
-            matchers.push(RuleMatcher::new(self.alloc, rule)?)?;
+            matchers.push(RuleMatcher::make(self.alloc, rule)?)?;
         }
         Ok(Matchers { rules: matchers })
     }
@@ -116,7 +118,7 @@ impl LineRules {
         requires { IsSome (fixed_name (rules_in self.now) rule) }
         ensures name { fixed_name (rules_in self.now) rule ≡ Some result.now }
         ensures stands { 0 < length result.now }
-        ensures short { length result.now ≤ 256 }
+        ensures short { length result.now ≤ MAX_TYPE_BYTES }
     {
         match self.rules[rule as usize].type_name() {
             Some(name) => name,

@@ -1,5 +1,5 @@
 //! Patterns of which listed builds are refused.
-ghost use Rattle.std.specs.Prelude.{◌≡◌};
+ghost use Rattle.std.specs.Prelude.{◌≡◌, ◌<◌, ◌^◌};
 ghost use Rattle.line_rules.specs.Patterns.{Stays, BuildGives, KeepsCount};
 ghost use Rattle.line_rules.specs.Listed.{listed_state, ListedGives};
 
@@ -48,6 +48,7 @@ impl Patterns for ListedPatterns {
 
     fn build(&mut self, text: &str) -> Result<Regex, BuildFault>
         ensures stays { Stays (listed_state self.old) (listed_state self.new) }
+        ensures bounded { (listed_state self.new).refusals < 2 ^ 64 }
         ensures gives { BuildGives (listed_state self.old) text.now result (listed_state self.new) }
         ensures count { KeepsCount (listed_state self.old) result (listed_state self.new) }
 

@@ -1,5 +1,6 @@
 //! What searches lines for the rules.
 ghost use Rattle.std.specs.Prelude.{◌≡◌, ◌≤◌, List, Some, IfOk, IfSome, vec_len, slice_get};
+ghost use Rattle.limits.specs.declared.TheConstants.{MAX_RULES};
 ghost use Rattle.regex.specs.Strings.{regex_pattern, matcher_pattern};
 ghost use Rattle.line_rules.specs.Rules as spec;
 ghost use Rattle.line_rules.specs.Rules.{decision_of, decided_by, HasParts};
@@ -22,7 +23,7 @@ impl<'r> RuleMatcher<'r> {
     ghost use Rattle.line_rules.specs.Views.{rule_view};
 
     /// What searches for the rule's pattern.
-    pub(crate) fn new(alloc: Global, rule: &'r Rule) -> Result<RuleMatcher<'r>, AllocError>
+    pub(crate) fn make(alloc: Global, rule: &'r Rule) -> Result<RuleMatcher<'r>, AllocError>
         ensures { IfOk result (λ m. m.rule.now ≡ rule.now) }
     {
         let matcher = rule.regex.matcher(alloc)?;
@@ -36,7 +37,9 @@ impl<'r> RuleMatcher<'r> {
         line: &str,
     ) -> Option<Result<Decision, DecideError>>
         ensures value { result ≡ decided_by number (rule_view self.old.rule.now) line.now }
-        ensures parts { (rules : List spec.Rule) → slice_get rules number ≡ Some (rule_view self.old.rule.now) → IfSome result (λ answer. IfOk answer (HasParts rules line.now)) }
+        ensures parts { (rules : List spec.Rule)
+            → slice_get rules number ≡ Some (rule_view self.old.rule.now)
+            → IfSome result (λ answer. IfOk answer (HasParts rules line.now)) }
         ensures same { self.new.rule ≡ self.old.rule }
     {
         let spans = spans_in(self.rule, &mut self.matcher, line)?;
@@ -48,7 +51,7 @@ impl<'r> RuleMatcher<'r> {
 #[derive(Drop)]
 pub struct Matchers<'r> {
     pub(crate) rules: Vec<RuleMatcher<'r>>,
-    ghost few: { vec_len rules ≤ 32 },
+    ghost few: { vec_len rules ≤ MAX_RULES },
 }
 
 impl<'r> Matchers<'r> {

@@ -1,5 +1,6 @@
 //! What builds the patterns of rules.
 
+ghost use Rattle.std.specs.Prelude.{◌<◌, ◌^◌};
 ghost use Rattle.line_rules.specs.Patterns.{PatternsState, Stays, BuildGives, KeepsCount};
 
 use regex::Regex;
@@ -17,7 +18,9 @@ pub enum BuildFault {
 
 /// Builds patterns, and counts those that it refused as too large.
 ///
-/// No text is promised to be built.
+/// Contracts see the count, which is below 2^64 and never falls, and the texts that may be refused so, which no
+/// call changes. The count rises at `TooLarge` alone: where a pattern was built, and at each other answer, it is as
+/// it was. At its end, 2^64 - 1, it stands still. No text is promised to be built.
 pub trait Patterns {
     ghost state: { Self → PatternsState };
 
@@ -27,6 +30,7 @@ pub trait Patterns {
     /// where the count of refusals rose and this text may be refused.
     fn build(&mut self, text: &str) -> Result<Regex, BuildFault>
         ensures stays { Stays (state self.old) (state self.new) }
+        ensures bounded { (state self.new).refusals < 2 ^ 64 }
         ensures gives { BuildGives (state self.old) text.now result (state self.new) }
         ensures count { KeepsCount (state self.old) result (state self.new) };
 }

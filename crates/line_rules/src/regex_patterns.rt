@@ -1,7 +1,7 @@
 //! Patterns as `regex` builds them.
-ghost use Rattle.std.specs.Prelude.{◌≡◌, ◌≤◌};
+ghost use Rattle.std.specs.Prelude.{◌≡◌, ◌<◌, ◌≤◌, ◌^◌};
 ghost use Rattle.line_rules.specs.Patterns.{Stays, BuildGives, KeepsCount};
-ghost use Rattle.line_rules.specs.Listed.{regex_state, RegexGives, raised};
+ghost use Rattle.line_rules.specs.Listed.{regex_state, RegexGives, Tells, raised};
 
 use crate::patterns::{BuildFault, Patterns};
 use regex::{Error, Regex};
@@ -18,11 +18,13 @@ pub struct RegexPatterns {
 }
 
 impl Model for RegexPatterns {
-    ghost use Rattle.std.specs.Prelude.{ℕ};
+    ghost use Rattle.std.specs.Prelude.{ℕ, ◌<◌, ◌^◌};
 
     ghost Value = { ℕ };
 
     ghost view = { λ p. p.refusals };
+
+    ghost invariant = { λ p. p.refusals < 2 ^ 64 };
 }
 
 impl RegexPatterns {
@@ -38,9 +40,24 @@ impl RegexPatterns {
         ensures fault { result ≡ BuildFault.TooLarge }
         ensures count { self.new ≡ raised self.old }
         ensures grows { self.old ≤ self.new }
+        ensures bounded { self.new < 2 ^ 64 }
     {
         self.refusals = self.refusals.saturating_add(1);
         BuildFault::TooLarge
+    }
+
+    /// What `regex` answered, in the words of [`Patterns`]: too large and out of memory exactly where it said so.
+    fn tell(&mut self, answer: Result<Regex, Error>) -> Result<Regex, BuildFault>
+        ensures tells { Tells self.old answer result self.new }
+        ensures grows { self.old ≤ self.new }
+    {
+        match answer {
+            Ok(regex) => Ok(regex),
+            Err(Error::Syntax(_)) => Err(BuildFault::Syntax),
+            Err(Error::OutOfMemory) => Err(BuildFault::Memory),
+            Err(Error::CompiledTooBig) => Err(self.refuse()),
+            Err(Error::Internal) => Err(self.refuse()),
+        }
     }
 }
 
@@ -49,18 +66,14 @@ impl Patterns for RegexPatterns {
 
     fn build(&mut self, text: &str) -> Result<Regex, BuildFault>
         ensures stays { Stays (regex_state self.old) (regex_state self.new) }
+        ensures bounded { (regex_state self.new).refusals < 2 ^ 64 }
         ensures gives { BuildGives (regex_state self.old) text.now result (regex_state self.new) }
         ensures count { KeepsCount (regex_state self.old) result (regex_state self.new) }
 
         // The count rises exactly at a pattern that is refused as too large.
         ensures exact { RegexGives self.old text.now result self.new }
     {
-        match Regex::new(self.alloc, text) {
-            Ok(regex) => Ok(regex),
-            Err(Error::Syntax(_)) => Err(BuildFault::Syntax),
-            Err(Error::OutOfMemory) => Err(BuildFault::Memory),
-            Err(Error::CompiledTooBig) => Err(self.refuse()),
-            Err(Error::Internal) => Err(self.refuse()),
-        }
+        let answer = Regex::new(self.alloc, text);
+        self.tell(answer)
     }
 }

@@ -1,5 +1,6 @@
 //! One rule.
 ghost use Rattle.std.specs.Prelude.{◌≡◌, ◌<◌, ◌≤◌, codes, IfSome, length, option_map, string_bytes};
+ghost use Rattle.limits.specs.declared.TheConstants.{MAX_TYPE_BYTES};
 ghost use Rattle.regex.specs.Strings.{regex_names};
 ghost use Rattle.line_rules.specs.Rules.{group_named, name_of};
 ghost use Rattle.line_rules.specs.Rules as spec;
@@ -14,12 +15,12 @@ use regex::Regex;
 pub struct TypeName {
     pub(crate) text: String,
     ghost stands: { 0 < length (string_bytes text) },
-    ghost short: { length (string_bytes text) ≤ 256 },
+    ghost short: { length (string_bytes text) ≤ MAX_TYPE_BYTES },
 }
 
 /// What a rule makes of a line in which its pattern is found.
 #[derive(Drop)]
-pub enum Form {
+pub enum RuleForm {
     /// Nothing.
     Skip,
     /// The end of a section.
@@ -33,7 +34,7 @@ pub enum Form {
 /// A rule with the numbers of the groups that it looks at.
 #[derive(Drop)]
 pub struct Rule {
-    pub(crate) form: Form,
+    pub(crate) form: RuleForm,
     pub(crate) regex: Regex,
     pub(crate) type_group: Option<usize>,
     pub(crate) trace_group: Option<usize>,
@@ -55,7 +56,7 @@ impl Rule {
     ghost use Rattle.line_rules.specs.Files.{lacks_type, has_time};
 
     /// A rule of this form for the pattern.
-    pub(crate) fn new(form: Form, regex: Regex) -> Rule
+    pub(crate) fn new(form: RuleForm, regex: Regex) -> Rule
         ensures form { result.form ≡ form }
         ensures regex { result.regex ≡ regex }
     {
@@ -75,7 +76,7 @@ impl Rule {
     pub(crate) fn lacks_type(&self) -> bool
         ensures { result ≡ lacks_type (rule_view self.now) }
     {
-        matches!(self.form, Form::Event) && self.type_group.is_none()
+        matches!(self.form, RuleForm::Event) && self.type_group.is_none()
     }
 
     /// Whether the pattern has a group TIME.
@@ -103,7 +104,8 @@ impl Rule {
     /// An event with its trace, which is empty where its group took no part, and with its time.
     fn event(&self, line: &str, spans: Spans, name: Named) -> Result<Decision, DecideError>
         requires { IfSome spans.time (spec.IsSpanOf line.now) }
-        ensures { result ≡ spec.event spans.trace name (spec.time_by self.now.time_group line.now spans.time) }
+        ensures { result
+            ≡ spec.event spans.trace name (spec.time_by self.now.time_group line.now spans.time) }
     {
         let Some(time) = self.time_in(line, spans.time) else {
             return Err(DecideError::BadTime);
@@ -125,18 +127,19 @@ impl Rule {
         spans: Spans,
     ) -> Option<Result<Decision, DecideError>>
         requires { IfSome spans.time (spec.IsSpanOf line.now) }
-        ensures { result ≡ spec.decided_at number (form_view self.now.form) spans.typ spans.trace (spec.time_by self.now.time_group line.now spans.time) }
+        ensures { result ≡ spec.decided_at number (form_view self.now.form) spans.typ spans.trace
+            (spec.time_by self.now.time_group line.now spans.time) }
     {
         match &self.form {
-            Form::Skip => Some(Ok(Decision::Skip)),
-            Form::Separator => Some(Ok(Decision::Separator)),
-            Form::Event => match spans.typ {
+            RuleForm::Skip => Some(Ok(Decision::Skip)),
+            RuleForm::Separator => Some(Ok(Decision::Separator)),
+            RuleForm::Event => match spans.typ {
                 Some((from, to)) if from < to => {
                     Some(self.event(line, spans, Named::Part(from, to)))
                 }
                 _ => None,
             },
-            Form::EventOf(_) => Some(self.event(line, spans, Named::Fixed(number))),
+            RuleForm::EventOf(_) => Some(self.event(line, spans, Named::Fixed(number))),
         }
     }
 
@@ -144,16 +147,16 @@ impl Rule {
     pub(crate) fn type_name(&self) -> Option<&str>
         ensures name { option_map (λ name. name.now) result ≡ name_of (form_view self.now.form) }
         ensures stands { IfSome result (λ name. 0 < length name.now) }
-        ensures short { IfSome result (λ name. length name.now ≤ 256) }
+        ensures short { IfSome result (λ name. length name.now ≤ MAX_TYPE_BYTES) }
     {
         match &self.form {
-            Form::EventOf(name) => Some(name.text.as_str()),
+            RuleForm::EventOf(name) => Some(name.text.as_str()),
             _ => None,
         }
     }
 }
 
-impl Form {
+impl RuleForm {
     ghost use Rattle.line_rules.specs.Views.{form_view};
     ghost use Rattle.line_rules.specs.Files.{is_event};
 
@@ -161,6 +164,6 @@ impl Form {
     pub(crate) fn is_event(&self) -> bool
         ensures { result ≡ is_event (form_view self.now) }
     {
-        matches!(self, Form::Event | Form::EventOf(_))
+        matches!(self, RuleForm::Event | RuleForm::EventOf(_))
     }
 }

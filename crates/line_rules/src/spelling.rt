@@ -4,7 +4,8 @@ ghost use Rattle.std.specs.List.{before_first, after_first};
 ghost use Rattle.line_rules.specs.Files.{is_space, named_form, form_of_word, spelled_by, is_skipped};
 ghost use Rattle.line_rules.specs.Views.{word_view, form_view, HasShortName};
 
-use crate::rule::{Form, TypeName};
+use crate::rule::{RuleForm, TypeName};
+use limits::MAX_TYPE_BYTES;
 use std::alloc::{AllocError, Global};
 
 /// The form of a rule as its line spells it.
@@ -33,7 +34,7 @@ fn named(word: &str) -> Option<Word<'_>>
     ensures short { IfSome result HasShortName }
 {
     let name = word.strip_prefix("event=")?;
-    if name.is_empty() || name.len() > 256 {
+    if name.is_empty() || name.len() > MAX_TYPE_BYTES {
         return None;
     }
     Some(Word::EventOf(name))
@@ -59,7 +60,9 @@ fn form_word(word: &str) -> Option<Word<'_>>
 /// What stands before the first space and after it, where something stands after it.
 fn word_and_rest(text: &str) -> Option<(&str, &str)>
     ensures none { IfNone result (length (after_first is_space text.now) ≡ 0) }
-    ensures some { IfSome result (λ parts. (parts.0.now ≡ before_first is_space text.now) × (parts.1.now ≡ after_first is_space text.now) × (0 < length parts.1.now)) }
+    ensures some { IfSome result (λ parts. (parts.0.now ≡ before_first is_space text.now)
+        × (parts.1.now ≡ after_first is_space text.now)
+        × (0 < length parts.1.now)) }
 {
     match text.split_once(' ') {
         Some((word, rest)) if !rest.is_empty() => Some((word, rest)),
@@ -94,17 +97,17 @@ pub(crate) fn spelled(line: &[u8]) -> Option<(Word<'_>, &str)>
 
 impl Word<'_> {
     /// The form, with a name of its own.
-    pub(crate) fn to_form(&self, alloc: Global) -> Result<Form, AllocError>
+    pub(crate) fn to_form(&self, alloc: Global) -> Result<RuleForm, AllocError>
         requires { HasShortName self.now }
         ensures { IfOk result (λ form. form_view form ≡ word_view self.now) }
     {
         match self {
-            Word::Skip => Ok(Form::Skip),
-            Word::Separator => Ok(Form::Separator),
-            Word::Event => Ok(Form::Event),
+            Word::Skip => Ok(RuleForm::Skip),
+            Word::Separator => Ok(RuleForm::Separator),
+            Word::Event => Ok(RuleForm::Event),
             Word::EventOf(name) => {
                 let text = name.to_string(alloc)?;
-                Ok(Form::EventOf(TypeName { text }))
+                Ok(RuleForm::EventOf(TypeName { text }))
             }
         }
     }

@@ -62,7 +62,9 @@ fn fractional_time(whole: &str, fraction: &str) -> Option<u128>
 /// What stands before the first point and after it, where there is a point.
 fn parts(text: &str) -> Option<(&str, &str)>
     ensures none { IfNone result (list_any is_point text.now ≡ false) }
-    ensures some { IfSome result (λ parts. (list_any is_point text.now ≡ true) × (parts.0.now ≡ before_first is_point text.now) × (parts.1.now ≡ after_first is_point text.now)) }
+    ensures some { IfSome result (λ parts. (list_any is_point text.now ≡ true)
+        × (parts.0.now ≡ before_first is_point text.now)
+        × (parts.1.now ≡ after_first is_point text.now)) }
 {
     text.split_once('.')
 }

@@ -1,6 +1,6 @@
 -- Rules that are alike read logs alike.
 use Rattle.std.proofs.Common.{◌≡◌, ℕ, ◌+◌, ◌-◌, ◌<◌, ◌==◌, ◌&&◌, Bool, List, [], ◌∷◌, ◌++◌, length, take, get_or, nat_lt, unwrap_or, Option, Some, Result, Ok, Err, cond, refl, ap, ap₂, ◌∙◌}
-use Rattle.traces.specs.Lines.{pieces, line_of, text_of}
+use Rattle.lines.specs.Lines.{pieces, line_of, text_of}
 use Rattle.traces.specs.Words.{Event as KeyedEvent}
 use Rattle.line_rules.specs.Rules.{Rule, AreAlike, decision_of, part, type_text}
 use Rattle.line_rules.specs.declared.decision.DecideError.{DecideError}

@@ -6,7 +6,7 @@ use Rattle.std.specs.Prelude.{IfSome, IsSomeAnd, IsTrue}
 use Rattle.std.specs.Str.{bytes_eq}
 use Rattle.outside.specs.Counts.{Rose}
 use Rattle.outside.specs.Inputs.{Files, InputState, Lacks}
-use Rattle.traces.specs.Lines.{pieces}
+use Rattle.lines.specs.Lines.{pieces}
 use Rattle.traces.specs.Words.{Event as KeyedEvent, types_of}
 use Rattle.log_reader.specs.Reading as spec
 use Rattle.log_reader.specs.Reading.{Setting, Decided, decided_piece, line_events, piece_events, section_after, section_at_end, key_file, next_section, at_line, first_of, event_refusal, line_refusal, piece_refusal, limit_refusal, bytes_refusal, pieces_refusal, files_refusal, first_refusal}

@@ -4,7 +4,7 @@ use Rattle.std.proofs.lemmas.Bool.{cases_lt}
 use Rattle.std.proofs.lemmas.Bool.Decides.{nat_tests}
 use Rattle.outside.specs.Inputs.{Files, InputState}
 use Rattle.outside.specs.Reading.{IfTold, ReadsInput}
-use Rattle.traces.specs.Lines.{pieces}
+use Rattle.lines.specs.Lines.{pieces}
 use Rattle.traces.specs.Words.{Event as KeyedEvent}
 use Rattle.log_reader.specs.Reading.{Setting, pieces_refusal, bytes_refusal}
 use Rattle.log_reader.specs.SoFar.{setting_of, IsPiecesRefusal}

@@ -7,7 +7,7 @@ use Rattle.std.proofs.lemmas.Str.{utf8_lossy-IsUtf8}
 use Rattle.std.specs.Str.Lossy.{utf8_lossy}
 use Rattle.bstr.specs.Utf8.{lossy_chars}
 use Rattle.bstr.proofs.lemmas.LossyLemmas.{lossy_chars-utf8_lossy}
-use Rattle.traces.specs.Lines.{pieces, on_first, line_of, text_of}
+use Rattle.lines.specs.Lines.{pieces, on_first, line_of, text_of}
 use Rattle.traces.specs.Words.{Event as KeyedEvent, Gathering, event_count_of}
 use Rattle.traces.proofs.Grown.{count-gathered_of}
 use Rattle.log_reader.specs.Reading as spec

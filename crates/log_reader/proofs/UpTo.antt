@@ -6,7 +6,7 @@ use Rattle.std.specs.List.{slice_get}
 use Rattle.std.proofs.lemmas.List.{length-map}
 use Rattle.outside.specs.Counts.{next_call}
 use Rattle.outside.specs.Inputs.{Files, InputState, Stays}
-use Rattle.traces.specs.Lines.{pieces}
+use Rattle.lines.specs.Lines.{pieces}
 use Rattle.traces.specs.Words.{Event as KeyedEvent, Log, gathered_of, in_order, log_of}
 use Rattle.log_reader.specs.Reading.{Setting, piece_events, section_at_end, key_file, next_section, file_events, events_of, first_of, files_refusal, first_refusal}
 use Rattle.log_reader.specs.Inputs.{inputs_of, with_content, told_contents, lacking, first_lacking, SomeContents, ReadsLog}

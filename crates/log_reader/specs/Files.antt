@@ -3,7 +3,7 @@ use Rattle.std.specs.Prelude.{ℕ, ◌≡◌, ◌≤◌, ◌+◌, ◌⊎◌, IsT
 use Rattle.std.specs.Io.KnownBytes.{IsAtEnd}
 use Rattle.outside.specs.Counts.{Rose, next_call}
 use Rattle.outside.specs.Inputs.{Files, InputState, Lacks, bytes_of}
-use Rattle.traces.specs.Lines.{pieces}
+use Rattle.lines.specs.Lines.{pieces}
 use Rattle.traces.specs.Words.{Event as KeyedEvent, Gathering}
 use Rattle.log_reader.specs.Reading.{Setting, piece_events, section_at_end, key_file, next_section, bytes_refusal}
 use Rattle.log_reader.specs.SoFar.{IsGatheredOf, IsReady, setting_of}

@@ -2,7 +2,7 @@
 use Rattle.std.specs.Prelude.{ℕ, ◌+◌, ◌-◌, ◌==◌, ◌&&◌, Bool, not, List, [], ◌∷◌, ◌++◌, length, take, nat_lt, nat_le, Option, Some, None, Result, Ok, Err, if◌then◌else◌}
 use Rattle.std.specs.List.{list_any}
 use Rattle.std.specs.Str.{bytes_eq}
-use Rattle.traces.specs.Lines.{pieces, line_of, text_of, plain_fields_of}
+use Rattle.lines.specs.Lines.{pieces, line_of, text_of, plain_fields_of}
 use Rattle.traces.specs.Words.{Event as KeyedEvent, event_of, types_of}
 use Rattle.line_rules.specs.Rules.{Rule, decision_of, type_text, part}
 use Rattle.line_rules.specs.declared.decision.DecideError.{DecideError}

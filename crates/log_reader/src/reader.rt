@@ -1,6 +1,6 @@
 //! Reads the lines of the files of a log.
 ghost use Rattle.std.specs.Prelude.{◌≡◌, ◌<◌, ◌≤◌, ◌+◌, ◌-◌, ◌^◌, length, OnOk, IfOk, IfErr, [], true, false};
-ghost use Rattle.traces.specs.Lines.{pieces};
+ghost use Rattle.lines.specs.Lines.{pieces};
 ghost use Rattle.traces.specs.Words.{gathered_of, in_order};
 ghost use Rattle.log_reader.specs.Views.{form_view};
 ghost use Rattle.log_reader.specs.Reading.{decided, limit_refusal, next_section};
@@ -13,7 +13,8 @@ use crate::so_far::LogSoFar;
 use bstr::ByteSlice;
 use std::alloc::{AllocError, Global};
 use std::str;
-use traces::{Builder, TraceSet, next_piece, without_return};
+use lines::{next_piece, without_return};
+use traces::{Builder, TraceSet};
 
 /// The most bytes between two line feeds.
 const MAX_PIECE: usize = 65_536;

@@ -1,6 +1,6 @@
 //! The log of the lines so far.
 ghost use Rattle.std.specs.Prelude.{◌≡◌, ◌<◌, ◌-◌, ◌^◌, length, OnOk, IfErr};
-ghost use Rattle.traces.specs.Lines.{plain_fields_of};
+ghost use Rattle.lines.specs.Lines.{plain_fields_of};
 ghost use Rattle.line_rules.specs.Rules.{decision_of};
 ghost use Rattle.line_rules.specs.Views.{rules_in, matched_rules};
 ghost use Rattle.log_reader.specs.Reading as spec;
@@ -10,7 +10,8 @@ ghost use Rattle.log_reader.specs.SoFar.{refusal_in, IsRefusal, IsWithin, TakesL
 use crate::decider::{KeptRules, type_text_of};
 use crate::refusal::{At, ReadError};
 use line_rules::{DecideError, Decision};
-use traces::{AddError, Builder, plain_fields};
+use lines::plain_fields;
+use traces::{AddError, Builder};
 
 /// The most bytes of a type text.
 const MAX_TYPE: usize = 256;

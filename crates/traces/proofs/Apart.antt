@@ -6,8 +6,9 @@ use Rattle.std.proofs.lemmas.Option.{same_Some, none-some}
 use Rattle.std.specs.Bool.{Decides}
 use Rattle.std.specs.List.{slice_get, list_any, position_or_len}
 use Rattle.traces.specs.Words.{AreApart}
-use Rattle.traces.proofs.Places.{position-hit, position-miss}
+use Rattle.traces.proofs.Positions.{position-hit, position-miss}
 
+-- no two are the same after a new one at the end
 pub apart-push : {X : Type 0} (same : X → X → Bool) (xs : List X) (x : X) → ((a b : X) → same a b ≡ false → same b a ≡ false)
     → AreApart same xs → list_any (same x) xs ≡ false → AreApart same (xs ++ x ∷ [])
 apart-push same [] x swap apart none = (refl, tt)
@@ -17,6 +18,7 @@ apart-push same (y ∷ xs) x swap apart none =
       apart-push same xs x swap apart.1 parts.1,
     )
 
+-- and not without the last
 pub apart-front : {X : Type 0} (same : X → X → Bool) (xs : List X) (x : X) → AreApart same (xs ++ x ∷ []) → AreApart same xs
 apart-front same [] x apart = tt
 apart-front same (y ∷ xs) x apart =

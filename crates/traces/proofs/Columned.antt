@@ -8,7 +8,7 @@ use Rattle.std.specs.List.{All, list_any, position_or_len}
 use Rattle.traces.specs.Columns.{times_beside, at_place, traces_from, columned, AreColumns}
 use Rattle.traces.specs.Words.{Trace, same_key, with_event, with_new}
 use Rattle.traces.specs.declared.key.Key.{Key}
-use Rattle.traces.proofs.Places.{position-hit, position-miss}
+use Rattle.traces.proofs.Positions.{position-hit, position-miss}
 
 -- what stands at a place after one item more
 
@@ -45,6 +45,7 @@ traces-same e f s t i (key ∷ keys) same =
     ∙ (ap (λ ts. made (f i) ts ∷ traces_from e s (suc i) keys) here.1
     ∙ ap (λ (rest : List Trace). made (f i) (t i) ∷ rest) (traces-same e f s t (suc i) keys (λ k after before. same k (omega arith) (omega arith))))
 
+-- as many traces as keys
 pub length-traces_from : (e t : ℕ → List ℕ) (i : ℕ) (keys : List Key) → length (traces_from e t i keys) ≡ length keys
 length-traces_from e t i [] = refl
 length-traces_from e t i (key ∷ keys) = omega (arith, length-traces_from e t (suc i) keys)
@@ -113,6 +114,7 @@ columns-grow (k ∷ keys) key i p number time ps ns ts same timed within at =
 
 -- the columns after one event more
 
+-- the traces of the columns after an event: that event is at the end of its trace
 pub columned-grows : (keys after : List Key) (key : Key) (p place number time : ℕ) (ps ns ts qs ms us : List ℕ) → AreColumns (length keys) ps ns ts
     → place ≡ position_or_len (same_key key) keys → p ≡ place → after ≡ with_new same_key keys key
     → qs ≡ ps ++ p ∷ [] → ms ≡ ns ++ number ∷ [] → times_beside ms us ≡ times_beside ns ts ++ time ∷ []
@@ -137,6 +139,7 @@ within-more (k ∷ keys) key = ⊎_elim
     (omega (arith, l, rest.0), omega (arith, l, rest.1, position-miss (same_key key) k keys differs)))
     (cases_Bool (same_key key k))
 
+-- the columns still fit one another then
 pub columns-kept : (keys after : List Key) (key : Key) (p place number time : ℕ) (ps ns ts qs ms us : List ℕ) → AreColumns (length keys) ps ns ts
     → place ≡ position_or_len (same_key key) keys → p ≡ place → after ≡ with_new same_key keys key
     → qs ≡ ps ++ p ∷ [] → ms ≡ ns ++ number ∷ [] → times_beside ms us ≡ times_beside ns ts ++ time ∷ []
@@ -159,6 +162,7 @@ columned-same keys now ps ns ts qs ms us same places numbers times =
     let C : List Key → List ℕ → List ℕ → List ℕ → List Trace = λ ks xs ys zs. traces_from (λ k. at_place k xs ys) (λ k. at_place k xs zs) 0 ks in
     ap (λ ks. C ks qs ms (times_beside ms us)) same ∙ (ap (λ xs. C keys xs ms (times_beside ms us)) places ∙ (ap (λ bs. C keys ps bs (times_beside ms us)) numbers ∙ ap (λ cs. C keys ps ns cs) times))
 
+-- columns that show the same fit one another alike
 pub columns-same : (n m : ℕ) (ps ns ts qs ms us : List ℕ) → m ≡ n → qs ≡ ps → ms ≡ ns → times_beside ms us ≡ times_beside ns ts → AreColumns n ps ns ts → AreColumns m qs ms us
 columns-same n m ps ns ts qs ms us same places numbers times kept =
     record {
@@ -167,5 +171,6 @@ columns-same n m ps ns ts qs ms us same places numbers times kept =
       within = subst (λ j. All (λ q. q < j) qs) (sym same) (subst (λ (xs : List ℕ). All (λ q. q < n) xs) (sym places) kept.within);
     }
 
+-- as many traces as keys
 pub length-columned : (keys : List Key) (ps ns ts : List ℕ) → length (columned keys ps ns ts) ≡ length keys
 length-columned keys ps ns ts = length-traces_from (λ k. at_place k ps ns) (λ k. at_place k ps (times_beside ns ts)) 0 keys

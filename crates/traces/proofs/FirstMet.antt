@@ -11,7 +11,7 @@ use Rattle.std.specs.Str.{bytes_eq}
 use Rattle.traces.specs.Words.{same_key, with_new, first_met, AreApart, TellsFirstMet}
 use Rattle.traces.specs.declared.key.Key.{Key}
 use Rattle.traces.proofs.Apart.{apart-push}
-use Rattle.traces.proofs.Placed.{same_key-Decides}
+use Rattle.traces.proofs.PlaceMaps.{same_key-Decides}
 
 or-false : (a : Bool) → (a || false) ≡ a
 or-false true = refl
@@ -65,8 +65,10 @@ first-met same decides xs ys =
       later = ap (take (length (first_met same xs))) (fold-append (with_new same) [] xs ys ∙ more.1) ∙ take-append_seam (first_met same xs) more.0;
     }
 
+-- so of texts
 pub types-first_met : (xs ys : List (List ℕ)) → TellsFirstMet bytes_eq xs ys
 types-first_met xs ys = first-met bytes_eq bytes_eq-Decides xs ys
 
+-- so of keys
 pub keys-first_met : (xs ys : List Key) → TellsFirstMet same_key xs ys
 keys-first_met xs ys = first-met same_key same_key-Decides xs ys

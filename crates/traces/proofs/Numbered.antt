@@ -2,9 +2,12 @@
 use Rattle.std.proofs.Common.{◌≡◌, ℕ, zero, suc, ◌<◌, ◌≤◌, List, [], ◌∷◌, ◌++◌, length, slice_get, Some, refl, sym, subst, ⊎_elim, arith, length-append}
 use Rattle.std.proofs.lemmas.Bool.{cases_Bool, cond-true, cond-false}
 use Rattle.std.proofs.lemmas.Option.{same_Some, none-some}
-use Rattle.std.specs.List.{All, AllByRecursion}
-use Rattle.traces.specs.Kept.{IsTypeNumber, AreNumbered, HaveTimes, HaveEvents}
-use Rattle.traces.specs.Words.{Trace, same_key, trace_with, with_event}
+use Rattle.std.specs.List.{All, AllByRecursion, list_any}
+use Rattle.std.specs.Str.{bytes_eq}
+use Rattle.std.proofs.lemmas.List.Elements.{All-push}
+use Rattle.limits.specs.declared.TheConstants.{MAX_TYPE_BYTES}
+use Rattle.traces.specs.Kept.{IsTypeNumber, AreNumbered, AreShort, HaveBytes, HaveTimes, HaveEvents}
+use Rattle.traces.specs.Words.{Trace, same_key, trace_with, with_event, with_new}
 use Rattle.traces.specs.declared.key.Key.{Key}
 
 numbers-more : (n m : ℕ) (numbers : List ℕ) → n ≤ m → AllByRecursion (IsTypeNumber n) numbers → AllByRecursion (IsTypeNumber m) numbers
@@ -65,3 +68,18 @@ pub begun-at : (traces : List Trace) (t : ℕ) (trace : Trace) → HaveEvents tr
 begun-at [] t trace all at = absurd (none-some trace at)
 begun-at (first ∷ traces) zero trace all at = subst (λ (x : Trace). 0 < length x.events) (same_Some first trace at) all.0
 begun-at (first ∷ traces) (suc t) trace all at = begun-at traces t trace all.1 at
+
+-- the texts of types after one more
+texts-more : (P : List ℕ → Type 0) (types : List (List ℕ)) (typ : List ℕ) → All P types → P typ → All P (with_new bytes_eq types typ)
+texts-more P types typ all one = ⊎_elim
+    (λ known. subst (All P) (sym (cond-true _ _ _ known)) all)
+    (λ new. subst (All P) (sym (cond-false _ _ _ new)) (All-push P types typ all one))
+    (cases_Bool (list_any (bytes_eq typ) types))
+
+-- so of having bytes
+pub have-bytes : (types : List (List ℕ)) (typ : List ℕ) → HaveBytes types → 0 < length typ → HaveBytes (with_new bytes_eq types typ)
+have-bytes types typ all one = texts-more (λ text. 0 < length text) types typ all one
+
+-- so of the length
+pub are-short : (types : List (List ℕ)) (typ : List ℕ) → AreShort types → length typ ≤ MAX_TYPE_BYTES → AreShort (with_new bytes_eq types typ)
+are-short types typ all one = texts-more (λ text. length text ≤ MAX_TYPE_BYTES) types typ all one

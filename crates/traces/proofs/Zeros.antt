@@ -3,6 +3,7 @@ use Rattle.std.proofs.Common.{◌≡◌, ℕ, zero, suc, ◌-◌, ◌<◌, ◌�
 use Rattle.std.proofs.lemmas.Bool.Decides.{Decides-eqb}
 use Rattle.traces.specs.Columns.{times_beside, AreBeside}
 
+-- so many zeros as there are events
 pub take-zeros : (count : ℕ) (events : List ℕ) → length events ≤ count → take {A = ℕ} (length events) (replicate count 0) ≡ map (λ _. 0) events
 take-zeros count [] enough = refl
 take-zeros zero (e ∷ events) enough = absurd (omega arith)

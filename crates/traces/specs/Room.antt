@@ -1,6 +1,11 @@
--- Room in columns.
-use Rattle.std.specs.Prelude.{ℕ, ◌≡◌, ◌<◌, [], length, vec_len, vec_capacity}
+-- Events in columns: their times, and room for one more.
+use Rattle.std.specs.Prelude.{ℕ, List, ◌≡◌, ◌<◌, [], length, vec_len, vec_capacity}
+use Rattle.traces.specs.Columns.{times_beside}
 use Rattle.traces.specs.declared.columns.Columns.{Columns}
+
+-- the time of each event
+abbrev pub times_in : Columns → List ℕ
+times_in columns = times_beside columns.numbers.items columns.times.items
 
 -- the time of the next event is not kept
 abbrev pub NeedsNoTime : Columns → ℕ → Type 0

@@ -1,7 +1,7 @@
 //! Events in columns, in the order added.
 ghost use Rattle.std.specs.Prelude.{◌≡◌, ◌<◌, ◌≤◌, ◌++◌, ◌∷◌, [], ℕ, List, length, OnOk, vec_len, vec_capacity};
 ghost use Rattle.traces.specs.Columns.{times_beside, AreBeside};
-ghost use Rattle.traces.specs.Room.{HasRoom};
+ghost use Rattle.traces.specs.Room.{times_in, HasRoom};
 
 use std::alloc::{AllocError, Global};
 
@@ -14,25 +14,15 @@ pub struct Columns {
     pub times: Vec<u128>,
 }
 
-/// Puts an item at the end of a list that has room for it.
-#[inline]
-fn put_within<T: Drop>(list: &mut Vec<T>, item: T)
-    requires room { vec_len list.old < vec_capacity list.old }
-    ensures { list.new.items ≡ list.old.items ++ item ∷ [] }
-{
-    match list.push(item) {
-        Ok(()) => {}
-        Err(_) => unreachable!(),
-    }
-}
-
 /// Makes room for the time of one event more, behind zeros where no time was kept. It stays a call, so that the way
 /// of an event without a time is short.
 #[inline(never)]
 fn reserve_time(times: &mut Vec<u128>, events: usize) -> Result<(), AllocError>
     requires few { length times.old.items ≤ events }
-    ensures ok { OnOk result ((length times.new.items ≡ events) × (vec_len times.new < vec_capacity times.new)) }
-    ensures same { (numbers : List ℕ) → length numbers ≡ events → AreBeside numbers times.old.items → times_beside numbers times.new.items ≡ times_beside numbers times.old.items }
+    ensures long { OnOk result (length times.new.items ≡ events) }
+    ensures room { OnOk result (vec_len times.new < vec_capacity times.new) }
+    ensures same { (numbers : List ℕ) → length numbers ≡ events → AreBeside numbers times.old.items
+        → times_beside numbers times.new.items ≡ times_beside numbers times.old.items }
 {
     if times.len() < events {
         times.resize(events, 0)?;
@@ -60,7 +50,7 @@ impl Columns {
         requires beside { AreBeside self.old.numbers.items self.old.times.items }
         ensures places { self.new.places.items ≡ self.old.places.items }
         ensures numbers { self.new.numbers.items ≡ self.old.numbers.items }
-        ensures times { times_beside self.new.numbers.items self.new.times.items ≡ times_beside self.old.numbers.items self.old.times.items }
+        ensures times { times_in self.new ≡ times_in self.old }
         ensures room { OnOk result (HasRoom self.new time) }
     {
         self.places.reserve(1)?;
@@ -77,12 +67,12 @@ impl Columns {
         requires room { HasRoom self.old time }
         ensures places { self.new.places.items ≡ self.old.places.items ++ place ∷ [] }
         ensures numbers { self.new.numbers.items ≡ self.old.numbers.items ++ number ∷ [] }
-        ensures times { times_beside self.new.numbers.items self.new.times.items ≡ times_beside self.old.numbers.items self.old.times.items ++ time ∷ [] }
+        ensures times { times_in self.new ≡ times_in self.old ++ time ∷ [] }
     {
         if time != 0 || !self.times.is_empty() {
-            put_within(&mut self.times, time);
+            self.times.push_reserved(time);
         }
-        put_within(&mut self.numbers, number);
-        put_within(&mut self.places, place);
+        self.numbers.push_reserved(number);
+        self.places.push_reserved(place);
     }
 }

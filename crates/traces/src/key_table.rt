@@ -5,11 +5,12 @@ ghost use Rattle.std.specs.Option.{option_map_or};
 ghost use Rattle.std.specs.BTreeMap.{Updates, insert_entry};
 ghost use Rattle.std.specs.Ordering.{nat_cmp};
 ghost use Rattle.traces.specs.Hashes.{hash_of};
-ghost use Rattle.traces.specs.Placed.{first_place, key_cmp};
+ghost use Rattle.traces.specs.Keys.{key_in};
+ghost use Rattle.traces.specs.PlaceMaps.{first_place, key_cmp, FindAlike};
 ghost use Rattle.traces.specs.Words.{same_key, with_new};
 
-use crate::Key;
 use crate::hints::{Hints, hash_on};
+use crate::key::{Key, KeyParts};
 use invariants::Text;
 use std::alloc::{AllocError, Global};
 use std::collections::BTreeMap;
@@ -26,7 +27,7 @@ pub struct KeyTable {
 
 impl Model for KeyTable {
     ghost use Rattle.std.specs.Prelude.{List};
-    ghost use Rattle.traces.specs.Placed.{AreKeysPlaced};
+    ghost use Rattle.traces.specs.PlaceMaps.{AreKeysPlaced};
     ghost use Rattle.traces.specs.declared.key.Key.{Key};
 
     ghost Value = { List Key };
@@ -36,30 +37,30 @@ impl Model for KeyTable {
     ghost invariant = { λ t. AreKeysPlaced t.firsts.entries t.others.entries t.keys.items };
 }
 
-/// A hash of a key.
-fn key_hash(file: u32, section: u32, text: &str) -> u64
-    ensures { result ≡ hash_of (record { file = file; section = section; text = text.now }) }
+/// A hash of the key with these parts.
+fn key_hash(key: &KeyParts<'_>) -> u64
+    ensures { result ≡ hash_of (key_in key.now) }
 {
     hash_on(
-        u64::from(file) * 0x1_0000_0000 + u64::from(section),
-        text.as_bytes(),
+        u64::from(key.file) * 0x1_0000_0000 + u64::from(key.section),
+        key.text.as_bytes(),
     )
 }
 
 /// Whether the key has these parts.
-fn is_key(key: &Key, file: u32, section: u32, text: &str) -> bool
-    ensures { result ≡ same_key (record { file = file; section = section; text = text.now }) key.now }
+fn has_parts(key: &Key, parts: &KeyParts<'_>) -> bool
+    ensures { result ≡ same_key (key_in parts.now) key.now }
 {
-    file == key.file && section == key.section && text == key.text.as_str()
+    parts.file == key.file && parts.section == key.section && parts.text == key.text.as_str()
 }
 
-/// Whether the key stands at this place.
-fn is_key_at(keys: &[Key], place: usize, file: u32, section: u32, text: &str) -> bool
-    ensures key { result ≡ option_map_or (same_key (record { file = file; section = section; text = text.now })) (slice_get keys.now place) false }
+/// Whether the key with these parts stands at this place.
+fn is_key_at(keys: &[Key], place: usize, parts: &KeyParts<'_>) -> bool
+    ensures key { result ≡ option_map_or (same_key (key_in parts.now)) (slice_get keys.now place) false }
     ensures within { result ≡ true → place < length keys.now }
 {
     match keys.get(place) {
-        Some(key) => is_key(key, file, section, text),
+        Some(key) => has_parts(key, parts),
         None => false,
     }
 }
@@ -68,7 +69,12 @@ fn is_key_at(keys: &[Key], place: usize, file: u32, section: u32, text: &str) ->
 fn note_key(alloc: Global, hints: &mut Hints, keys: &[Key], hash: u64) {
     if hints.grow(alloc, keys.len()) {
         for (place, key) in keys.iter().enumerate() {
-            hints.note(key_hash(key.file, key.section, key.text.as_str()), place);
+            let parts = KeyParts {
+                file: key.file,
+                section: key.section,
+                text: key.text.as_str(),
+            };
+            hints.note(key_hash(&parts), place);
         }
         return;
     }
@@ -77,14 +83,14 @@ fn note_key(alloc: Global, hints: &mut Hints, keys: &[Key], hash: u64) {
     }
 }
 
-/// A key with these parts.
-fn new_key(alloc: Global, file: u32, section: u32, text: &str) -> Result<Key, AllocError>
-    ensures { IfOk result (λ key. key ≡ record { file = file; section = section; text = text.now }) }
+/// A key with these parts and a text of its own.
+fn make_key(alloc: Global, parts: &KeyParts<'_>) -> Result<Key, AllocError>
+    ensures { IfOk result (λ key. key ≡ key_in parts.now) }
 {
-    let text = Text::from_string(String::from_str(alloc, text)?);
+    let text = Text::from_string(String::from_str(alloc, parts.text)?);
     Ok(Key {
-        file,
-        section,
+        file: parts.file,
+        section: parts.section,
         text,
     })
 }
@@ -98,17 +104,20 @@ fn begin_first(
     hash: u64,
 ) -> Result<Option<usize>, AllocError>
     ensures first { IfOk result (λ first. first ≡ first_place firsts.old.entries hash) }
+
+    // Where no place was known, the key is put.
     ensures keys { result ≡ Ok None → keys.new.items ≡ keys.old.items ++ key ∷ [] }
-    ensures place { result ≡ Ok None → Updates nat_cmp firsts.old firsts.new hash (Some (length keys.old.items)) }
+    ensures place { result ≡ Ok None
+        → Updates nat_cmp firsts.old firsts.new hash (Some (length keys.old.items)) }
+
+    // Else all is as it was.
     ensures taken { (result ≡ Ok None → ⊥) → keys.new.items ≡ keys.old.items }
-    ensures stays { (result ≡ Ok None → ⊥) → (h : ℕ) → first_place firsts.new.entries h ≡ first_place firsts.old.entries h }
+    ensures stays { (result ≡ Ok None → ⊥) → FindAlike firsts.old.entries firsts.new.entries }
 {
     keys.reserve(1)?;
     let Some(first) = firsts.insert(hash, keys.len())? else {
-        return match keys.push(key) {
-            Ok(()) => Ok(None),
-            Err(_) => unreachable!(),
-        };
+        keys.push_reserved(key);
+        return Ok(None);
     };
     match firsts.insert(hash, first) {
         Ok(_) => Ok(Some(first)),
@@ -124,16 +133,15 @@ fn begin_other(
     known: (u32, u32, String),
 ) -> Result<(), AllocError>
     ensures keys { OnOk result (keys.new.items ≡ keys.old.items ++ key ∷ []) }
-    ensures place { OnOk result (others.new.entries ≡ insert_entry key_cmp others.old.entries known (length keys.old.items)) }
+    ensures place { OnOk result (others.new.entries
+        ≡ insert_entry key_cmp others.old.entries known (length keys.old.items)) }
     ensures err { OnErr result (keys.new.items ≡ keys.old.items) }
     ensures err_place { OnErr result (others.new.entries ≡ others.old.entries) }
 {
     keys.reserve(1)?;
     others.insert(known, keys.len())?;
-    match keys.push(key) {
-        Ok(()) => Ok(()),
-        Err(_) => unreachable!(),
-    }
+    keys.push_reserved(key);
+    Ok(())
 }
 
 impl KeyTable {
@@ -150,40 +158,36 @@ impl KeyTable {
     }
 
     /// Where the key with these parts stands. It is put at the end where it is new.
-    pub fn place(
-        &mut self,
-        alloc: Global,
-        file: u32,
-        section: u32,
-        text: &str,
-    ) -> Result<usize, AllocError>
-        ensures place { IfOk result (λ place. place ≡ position_or_len (same_key (record { file = file; section = section; text = text.now })) self.old) }
-        ensures ok { OnOk result (self.new ≡ with_new same_key self.old (record { file = file; section = section; text = text.now })) }
+    pub fn place_or_put(&mut self, alloc: Global, parts: &KeyParts<'_>) -> Result<usize, AllocError>
+        ensures place { IfOk result (λ place. place
+            ≡ position_or_len (same_key (key_in parts.now)) self.old) }
+        ensures ok { OnOk result (self.new ≡ with_new same_key self.old (key_in parts.now)) }
         ensures err { OnErr result (self.new ≡ self.old) }
     {
-        let hash = key_hash(file, section, text);
+        let hash = key_hash(parts);
         let hint = self.hints.place(hash);
-        if is_key_at(&self.keys, hint, file, section, text) {
+        if is_key_at(&self.keys, hint, parts) {
             return Ok(hint);
         }
         let end = self.keys.len();
-        let key = new_key(alloc, file, section, text)?;
+        let key = make_key(alloc, parts)?;
         let begun = begin_first(&mut self.keys, &mut self.firsts, key, hash)?;
         let Some(first) = begun else {
             note_key(alloc, &mut self.hints, &self.keys, hash);
             return Ok(end);
         };
-        if is_key_at(&self.keys, first, file, section, text) {
+        if is_key_at(&self.keys, first, parts) {
             self.hints.note(hash, first);
             return Ok(first);
         }
-        let known = (file, section, String::from_str(alloc, text)?);
+        let text = String::from_str(alloc, parts.text)?;
+        let known = (parts.file, parts.section, text);
         if let Some(found) = self.others.get(&known) {
             let place = *found;
             self.hints.note(hash, place);
             return Ok(place);
         }
-        let key = new_key(alloc, file, section, text)?;
+        let key = make_key(alloc, parts)?;
         begin_other(&mut self.keys, &mut self.others, key, known)?;
         note_key(alloc, &mut self.hints, &self.keys, hash);
         Ok(end)

@@ -1,4 +1,5 @@
-use crate::{AddError, Builder, TraceSet, plain_fields};
+use crate::{AddError, Builder, TraceSet};
+use limits::{MAX_TRACE_BYTES, MAX_TYPE_BYTES};
 use std::process::Abort;
 use std::test::Fail;
 
@@ -10,7 +11,7 @@ fn add(
     typ: &str,
     time: u128,
 ) -> Result<(), AddError> {
-    assert!(rt; key.2.len() <= 1024 && !typ.is_empty() && typ.len() <= 256);
+    assert!(rt; key.2.len() <= MAX_TRACE_BYTES && !typ.is_empty() && typ.len() <= MAX_TYPE_BYTES);
     builder.add(key.0, key.1, key.2, typ, time)
 }
 
@@ -143,20 +144,4 @@ fn refuses_at_the_limits(rt: HostRuntime) -> Result<(), Fail> {
     assert_eq!(rt; set.trace_count(), 1);
     assert_eq!(rt; set.event_count(), 1_000_000);
     Ok(())
-}
-
-#[test]
-fn cuts_lines_at_their_first_space(rt: HostRuntime) {
-    for (line, fields) in [
-        ("1 a", Some(("1", "a"))),
-        (" a", Some(("", "a"))),
-        ("1 a b", Some(("1", "a b"))),
-        ("1  a", Some(("1", " a"))),
-        ("", None),
-        ("1a", None),
-        ("1 ", None),
-        (" ", None),
-    ] {
-        assert_eq!(rt; plain_fields(line), fields, "at {line}");
-    }
 }

@@ -1,5 +1,5 @@
 use Rattle.std.proofs.Common.{◌≡◌, ◌∙◌, ◌+◌, ℕ, List, false, refl, arith, subst, map}
-use Rattle.traces.specs.Lines.{line_of}
+use Rattle.lines.specs.Lines.{line_of}
 use Rattle.line_rules.specs.Patterns.{PatternsState}
 use Rattle.line_rules.specs.Rules as spec
 use Rattle.line_rules.specs.Files.{is_skipped}

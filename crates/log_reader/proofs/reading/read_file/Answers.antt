@@ -1,5 +1,5 @@
 use Rattle.std.proofs.Common.{◌≡◌, subst, ap, arith, length, nat_lt}
-use Rattle.traces.specs.Lines.{pieces}
+use Rattle.lines.specs.Lines.{pieces}
 use Rattle.log_reader.specs.SoFar.{IsPiecesRefusal}
 use Rattle.log_reader.proofs.Files.{file-refused}
 use Rattle.log_reader.proofs.reading.read_file.Goals as goal

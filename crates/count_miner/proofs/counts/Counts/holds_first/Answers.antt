@@ -12,7 +12,7 @@ returns c = λ traces counted.
     let words : List (List ℕ) = map (λ (trace : Trace). trace.events) traces in
     let in_b : b < types = omega (arith, c.requires.first.b_low, c.requires.first.b_high) in
     let second : b + 2 ≡ c.args.inv.b = omega (arith, c.requires.first.b_low) in
-    let left : c.index.result.now ≡ count_by (λ w. occurs (b + 2) w) words = c.index.ensures ∙ (any-default c.args.self.now.having.items b c.index.result.now (omega (arith, in_b, c.requires.shape.having)) ∙ counted.having b in_b) in
+    let left : c.index.result.now ≡ count_by (λ w. occurs (b + 2) w) words = c.index.ensures ∙ (any-default c.args.self.now.having.items b c.index.result.now (omega (arith, in_b, c.args.self.now.having_row)) ∙ counted.having b in_b) in
     ap (λ n. nat_eq n c.args.self.now.traces) left
     ∙ (ap (nat_eq (count_by (λ w. occurs (b + 2) w) words)) counted.traces
     ∙ (first-holds (b + 2) (omega arith) traces counted.inner

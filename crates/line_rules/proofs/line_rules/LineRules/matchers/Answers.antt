@@ -12,6 +12,6 @@ loop-rule-preserved c =
     let l = c.loop-rule in
     record {
       count = omega (arith, c.in_ok-push.ensures.len, l.invariant.count);
-      made = one-more l.matchers.items c.push.new.self.items c.deref-rule-items.result.now l.rule-index c.in_ok-new.field-0 c.rule-item.result l.invariant.made (omega arith) c.rule-item.is
-          c.in_ok-new.ensures c.in_ok-push.ensures.items;
+      made = one-more l.matchers.items c.push.new.self.items c.deref-rule-items.result.now l.rule-index c.in_ok-make.field-0 c.rule-item.result l.invariant.made (omega arith) c.rule-item.is
+          c.in_ok-make.ensures c.in_ok-push.ensures.items;
     }

@@ -1,6 +1,6 @@
 use Rattle.std.proofs.Common.{◌≡◌, sym, ◌∙◌, subst, arith, IfErr}
 use Rattle.std.proofs.lemmas.Result.{on_ok_weaker}
-use Rattle.traces.specs.Lines.{text_of}
+use Rattle.lines.specs.Lines.{text_of}
 use Rattle.log_reader.specs.Reading.{decided, decided_piece}
 use Rattle.log_reader.specs.SoFar.{setting_of, IsRefusal}
 use Rattle.log_reader.proofs.Pieces.{read-as_it_stands, read-as_decoded, piece-decided, piece-in, reads-piece}

@@ -1,6 +1,6 @@
 use Rattle.std.proofs.Common.{◌≡◌, ◌+◌, ◌&&◌, ◌==◌, length, sym, ◌∙◌, arith, false}
 use Rattle.std.proofs.lemmas.Bool.{and_left, and_right}
-use Rattle.traces.specs.Lines.{pieces}
+use Rattle.lines.specs.Lines.{pieces}
 use Rattle.log_reader.proofs.Pieces.{no-pieces, way-more, way-refused, few-more, some-after}
 use Rattle.log_reader.proofs.reader.LogReader.read_pieces.Goals as goal
 use Rattle.log_reader.proofs.reader.LogReader.read_pieces.Goals.{else-cut-via-then-cut+else-is_empty, else-cut-via-else-cut}

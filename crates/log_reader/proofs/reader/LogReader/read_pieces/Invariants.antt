@@ -1,5 +1,5 @@
 use Rattle.std.proofs.Common.{◌≡◌, ◌+◌, ◌<◌, ◌≤◌, length, true}
-use Rattle.traces.specs.Lines.{pieces}
+use Rattle.lines.specs.Lines.{pieces}
 use Rattle.log_reader.proofs.Pieces.{IsPartWay}
 use Rattle.log_reader.proofs.reader.LogReader.read_pieces.Given as goal
 

@@ -1,11 +1,12 @@
 use Rattle.std.proofs.Common.{◌≡◌, ℕ, List, length, map, ap, sym, ◌∙◌, subst, arith}
 use Rattle.traces.specs.Columns.{laid, AreStarts}
-use Rattle.traces.specs.Kept.{IsKept}
-use Rattle.traces.specs.Words.{Trace, Log, trace_in_order, in_order, event_count_of}
+use Rattle.std.specs.Str.{bytes_eq}
+use Rattle.traces.specs.Kept.{AreShort, HaveBytes, IsKept}
+use Rattle.traces.specs.Words.{Trace, Log, trace_in_order, in_order, event_count_of, AreApart}
 use Rattle.traces.proofs.Columned.{length-columned}
-use Rattle.traces.proofs.InOrder.{columned-count}
-use Rattle.traces.proofs.Laid.{zeros-enough}
-use Rattle.traces.proofs.Ordered.{kept-in-order}
+use Rattle.traces.proofs.ColumnsInTime.{columned-count}
+use Rattle.traces.proofs.ShownTraces.{zeros-enough}
+use Rattle.traces.proofs.TracesInTime.{kept-in-order}
 use Rattle.traces.proofs.builder.Builder.finish.Goals as goal
 
 pub lay_in_order-requires-clause-few : goal.lay_in_order-requires-clause-few
@@ -16,8 +17,8 @@ lay_in_order-requires-clause-few c =
       arith,
       columned-count keys events.places.items events.numbers.items events.times.items c.into_columns-keys.ensures.columns,
       ap event_count_of c.into_columns-keys.ensures.view,
-      c.self.invariant.count,
-      c.self.invariant.few_events,
+      c.self.invariant.0.count,
+      c.self.invariant.0.few_events,
     )
 
 pub lay_in_order-requires-clause-traces : goal.lay_in_order-requires-clause-traces
@@ -28,8 +29,8 @@ lay_in_order-requires-clause-traces c =
       arith,
       length-columned keys events.places.items events.numbers.items events.times.items,
       ap length c.into_columns-keys.ensures.view,
-      c.self.invariant.few_traces,
-      c.self.invariant.few_events,
+      c.self.invariant.0.few_traces,
+      c.self.invariant.0.few_events,
     )
 
 pub invariant_of-result : goal.invariant_of-result
@@ -39,14 +40,18 @@ invariant_of-result c =
     let done = c.in_ok-events.events in
     let order : laid keys done.starts.items done.numbers.items done.times.items ≡ map trace_in_order c.self.inside.traces =
     c.in_ok-events.ensures.order keys (omega arith) ∙ ap (map trace_in_order) c.into_columns-keys.ensures.view in
-    let types : length c.self.inside.types ≡ length c.from_vec.result = ap length (sym (c.from_vec.ensures ∙ c.into_texts.ensures)) in
+    let same : c.self.inside.types ≡ c.from_vec.result = sym (c.from_vec.ensures ∙ c.into_texts.ensures.texts) in
+    let types : length c.self.inside.types ≡ length c.from_vec.result = ap length same in
     let starts = subst (λ n. AreStarts n (length done.numbers.items) done.starts.items) (omega arith) c.in_ok-events.ensures.starts in (
       subst (λ n. IsKept n (laid keys done.starts.items done.numbers.items done.times.items) c.self.inside.event_count) types
           (subst (λ (ts : List Trace). IsKept (length c.self.inside.types) ts c.self.inside.event_count) (sym order)
-          (kept-in-order (length c.self.inside.types) c.self.inside.traces c.self.inside.event_count c.self.invariant)),
+          (kept-in-order (length c.self.inside.types) c.self.inside.traces c.self.inside.event_count c.self.invariant.0)),
       starts,
       c.in_ok-events.ensures.beside,
       zeros-enough c.in_ok-zeros.zeros.items c.zeros.result (length keys) (length done.numbers.items) done.starts.items done.times.items (c.in_ok-zeros.ensures.items_if_clones_equal (λ y same. same)) starts c.zeros.ensures,
+      subst HaveBytes same c.self.invariant.1,
+      subst AreShort same c.self.invariant.2,
+      subst (AreApart bytes_eq) (sym c.from_vec.ensures) c.into_texts.ensures.distinct,
     )
 
 pub returns : goal.returns
@@ -56,5 +61,5 @@ returns c =
     let shown : List (List ℕ) → List Trace → Log = λ types traces. record { types = types; traces = traces } in
     let order : laid keys done.starts.items done.numbers.items done.times.items ≡ map trace_in_order c.self.inside.traces =
     c.in_ok-events.ensures.order keys (omega arith) ∙ ap (map trace_in_order) c.into_columns-keys.ensures.view in
-    ap (λ types. shown types (laid keys done.starts.items done.numbers.items done.times.items)) (c.from_vec.ensures ∙ c.into_texts.ensures)
+    ap (λ types. shown types (laid keys done.starts.items done.numbers.items done.times.items)) (c.from_vec.ensures ∙ c.into_texts.ensures.texts)
     ∙ (ap (shown c.self.inside.types) order ∙ ap in_order c.self.view_is)

@@ -3,7 +3,7 @@ use Rattle.std.specs.List.{All}
 use Rattle.traces.specs.Columns.{part_at}
 use Rattle.traces.specs.Kept.{IsTypeNumber}
 use Rattle.traces.specs.Words.{Trace, Log}
-use Rattle.traces.proofs.Laid.{count-shown, shown, part-numbered, part-begun, part-is, no-key}
+use Rattle.traces.proofs.ShownTraces.{count-shown, shown, part-numbered, part-begun, part-is, no-key}
 use Rattle.traces.proofs.builder.TraceSet.events.Goals as goal
 
 pub bounds-from-requires : goal.bounds-from-requires

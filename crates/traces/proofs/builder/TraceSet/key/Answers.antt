@@ -1,6 +1,6 @@
 use Rattle.std.proofs.Common.{◌≡◌, arith}
 use Rattle.traces.specs.Words.{Trace}
-use Rattle.traces.proofs.Laid.{count-shown, shown}
+use Rattle.traces.proofs.ShownTraces.{count-shown, shown}
 use Rattle.traces.proofs.builder.TraceSet.key.Goals as goal
 
 pub index-requires : goal.index-requires

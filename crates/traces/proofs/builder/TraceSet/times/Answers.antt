@@ -1,6 +1,6 @@
 use Rattle.std.proofs.Common.{◌≡◌, ℕ, ◌<◌, length, ap, ◌∙◌, arith}
 use Rattle.traces.specs.Words.{Trace}
-use Rattle.traces.proofs.Laid.{count-shown, shown, part-is, front-is, zeros-serve, times-serve, times-each, no-key}
+use Rattle.traces.proofs.ShownTraces.{count-shown, shown, part-is, front-is, zeros-serve, times-serve, times-each, no-key}
 use Rattle.traces.proofs.Zeros.{none-kept, some-kept}
 use Rattle.traces.proofs.builder.TraceSet.times.Goals as goal
 

@@ -1,5 +1,5 @@
 use Rattle.std.proofs.Common.{arith}
-use Rattle.traces.proofs.Laid.{length-laid, count-shown}
+use Rattle.traces.proofs.ShownTraces.{length-laid, count-shown}
 use Rattle.traces.proofs.builder.TraceSet.trace_count.Goals as goal
 
 pub overflow_cast-result : goal.overflow_cast-result
