@@ -27,7 +27,7 @@ pub struct LogSoFar {
 }
 
 impl LogSoFar {
-    /// Adds the event of a line, with its time in billionths of a second.
+    /// Adds the event of a line, with its time in billionths of whatever unit the log takes.
     fn add(
         &mut self,
         at: At,

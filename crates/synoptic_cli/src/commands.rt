@@ -9,8 +9,8 @@ mod print_invariants;
 
 use crate::answer::{Answer, NoAnswer};
 use crate::material::Material;
-use std::alloc::Global;
 use command_line::{Command, Task};
+use std::alloc::Global;
 
 /// What the task's command answers of what was read.
 pub fn answer(alloc: Global, task: &Task<'_>, material: &Material) -> Result<Answer, NoAnswer>

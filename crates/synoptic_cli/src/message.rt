@@ -7,12 +7,12 @@ ghost use Rattle.synoptic_cli.specs.Messages.{shown, shown_source, rule_message,
 
 use crate::status::{LimitKind, LogFault, Source, Status};
 use crate::task::source_name;
+use command_line::Task;
 use itoa::Buffer;
 use line_rules::RuleError;
 use log_reader::At;
 use model_file::{Field, FileError};
 use outside::{Failed, Sink, write_whole};
-use command_line::Task;
 
 const USAGE: &[u8] =
     b"usage: synoptic infer|check|replay|invariants|graph|paths|bench [-e FILE] [-p] [-m FILE] [-i] [-j] [-n N] [--] [FILE]...\n";

@@ -16,13 +16,13 @@ use crate::model_stage::{ModelHalt, halt_status, read_model_file};
 use crate::reading::{read_rules, status_of};
 use crate::status::Status;
 use crate::task::{names_of, rules_name};
-use line_rules::{LineRules, Patterns};
+use command_line::Task;
 use invariants::{Model, Seq};
+use line_rules::{LineRules, Patterns};
 use log_reader::{ReadError, alike_rules_read_alike, read_log};
 use outside::Inputs;
 use std::alloc::{AllocError, Global};
 use traces::{Builder, TraceSet, gathering_in_order_is_the_log};
-use command_line::Task;
 
 /// What the stages have read so far.
 #[derive(Drop)]

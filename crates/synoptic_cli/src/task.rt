@@ -6,8 +6,8 @@ ghost use Rattle.command_line.specs.Task.{form_held, task_held};
 ghost use Rattle.synoptic_cli.specs.Task.{rules_name, source_name};
 
 use crate::status::Source;
-use std::alloc::{AllocError, Global};
 use command_line::{Form, Task};
+use std::alloc::{AllocError, Global};
 
 /// So many files are more than a log has.
 const TOO_MANY_FILES: usize = 4_294_967_296;

@@ -11,10 +11,10 @@ use crate::commands;
 use crate::message::tell;
 use crate::stages::read_material;
 use crate::status::Status;
+use command_line::{ParseError, Task, parse};
 use line_rules::Patterns;
 use outside::{Inputs, Sink, write_whole};
 use std::alloc::Global;
-use command_line::{ParseError, Task, parse};
 
 /// Does the task, and writes no message.
 fn answer<I: Inputs, P: Patterns, O: Sink>(
