@@ -17,4 +17,5 @@ pub record IsSeen (seen : Seen) (types : ℕ) : Type 0 where
   pub fits : seen.listed ≤ seen.most
   pub bits : (k : ℕ) → k < types → slice_index seen.flags k ≤ 1
   pub within : (i : ℕ) → i < seen.listed → slice_index seen.places i < types
-  pub listed : seen.listed < seen.most → (k : ℕ) → k < types → slice_index seen.flags k ≡ count_by (λ p. p == k) (take seen.listed seen.places)
+  pub listed : seen.listed < seen.most → (k : ℕ) → k < types
+      → slice_index seen.flags k ≡ count_by (λ p. p == k) (take seen.listed seen.places)

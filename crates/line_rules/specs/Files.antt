@@ -16,7 +16,8 @@ is_space b = b == 32
 
 -- `event=NAME`, where NAME has 1 to 256 bytes
 abbrev pub named_form : List ℕ → Option Form
-named_form word = if bytes_eq (take 6 word) (codes "event=") && nat_lt 6 (length word) && nat_le (length word) (6 + MAX_TYPE_BYTES) then Some (EventOf (drop 6 word)) else None
+named_form word = if bytes_eq (take 6 word) (codes "event=") && nat_lt 6 (length word)
+    && nat_le (length word) (6 + MAX_TYPE_BYTES) then Some (EventOf (drop 6 word)) else None
 
 -- the form of a rule that begins with this word
 abbrev pub form_of_word : List ℕ → Option Form
@@ -79,7 +80,8 @@ differ false b = b
 
 -- an event rule that has a group TIME where the first event rule has none, or the other way round
 abbrev pub mixes_time : List Rule → Rule → Bool
-mixes_time rules rule = is_event rule.form && option_map_or (λ timed. differ timed (has_time rule)) (first_time rules) false
+mixes_time rules rule = is_event rule.form
+    && option_map_or (λ timed. differ timed (has_time rule)) (first_time rules) false
 
 -- the rule that the grammar reads for a line, after these rules, or the refusal
 abbrev pub rule_read : List Rule → ℕ → Option Rule → Result Rule RuleError
@@ -137,7 +139,8 @@ IsRefused bytes old new refused.Memory = Unit {0}
 IsRefused bytes old new (refused.Syntax number) =
     (rules_of bytes ≡ Err (refused.Syntax number)) ⊎ ((pattern : List ℕ) × IsBuilt bytes number pattern × NestsTooDeep pattern)
 IsRefused bytes old new (refused.TooLarge number) =
-    Rose old.refusals new.refusals × ((pattern : List ℕ) × IsBuilt bytes number pattern × IsTrue (old.may_refuse pattern))
+    Rose old.refusals new.refusals
+    × ((pattern : List ℕ) × IsBuilt bytes number pattern × IsTrue (old.may_refuse pattern))
 IsRefused bytes old new plain = rules_of bytes ≡ Err plain
 
 -- a refusal leaves the count of refusals, but for that of a pattern as too large

@@ -53,7 +53,8 @@ pub record BuildsAt (bytes : List ℕ) (number : ℕ) (Holds : List ℕ → Type
 abbrev pub AreLinesRefused : List ℕ → PatternsState → PatternsState → RuleError → Type 0
 AreLinesRefused bytes old new refused.Memory = Unit {0}
 AreLinesRefused bytes old new (refused.Syntax at) = (rules_from [] (rule_lines bytes) ≡ Err (refused.Syntax at)) ⊎ BuildsAt bytes at NestsTooDeep
-AreLinesRefused bytes old new (refused.TooLarge at) = Rose old.refusals new.refusals × BuildsAt bytes at (λ pattern. IsTrue (old.may_refuse pattern))
+AreLinesRefused bytes old new (refused.TooLarge at) = Rose old.refusals new.refusals
+    × BuildsAt bytes at (λ pattern. IsTrue (old.may_refuse pattern))
 AreLinesRefused bytes old new refused.TooLong = ⊥
 AreLinesRefused bytes old new refused.NoEvent = ⊥
 AreLinesRefused bytes old new plain = rules_from [] (rule_lines bytes) ≡ Err plain

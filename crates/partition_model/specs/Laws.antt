@@ -34,12 +34,14 @@ pub record IsDivided (p n : ℕ) (h divided : Assignment) : Type 0 where
 -- every word of a path after any division of an id was a word of a path before
 abbrev pub DivisionShrinks : Type 0
 DivisionShrinks =
-    (h divided : Assignment) (p n : ℕ) → IsTyped h → IsDivided p n h divided → (w : List ℕ) → Accepts (G divided) w → Accepts (G h) w
+    (h divided : Assignment) (p n : ℕ) → IsTyped h → IsDivided p n h divided → (w : List ℕ)
+    → Accepts (G divided) w → Accepts (G h) w
 
 -- so an invariant that is satisfied stays so
 abbrev pub DivisionKeeps : Type 0
 DivisionKeeps =
-    (h divided : Assignment) (p n : ℕ) → IsTyped h → IsDivided p n h divided → (inv : Invariant) → Satisfies (G h) inv → Satisfies (G divided) inv
+    (h divided : Assignment) (p n : ℕ) → IsTyped h → IsDivided p n h divided → (inv : Invariant)
+    → Satisfies (G h) inv → Satisfies (G divided) inv
 
 -- a split is such a division
 abbrev pub SplitIsDivision : Type 0
@@ -48,27 +50,32 @@ SplitIsDivision = (h : Assignment) (p q n : ℕ) → IsFresh n h → IsDivided p
 -- every word of a path after a split was a word of a path before
 abbrev pub SplitShrinks : Type 0
 SplitShrinks =
-    (h : Assignment) (p q n : ℕ) → IsTyped h → IsFresh n h → (w : List ℕ) → Accepts (G (split p q n h)) w → Accepts (G h) w
+    (h : Assignment) (p q n : ℕ) → IsTyped h → IsFresh n h → (w : List ℕ) → Accepts (G (split p q n h)) w
+    → Accepts (G h) w
 
 -- so an invariant that is satisfied stays so
 abbrev pub SplitKeeps : Type 0
 SplitKeeps =
-    (h : Assignment) (p q n : ℕ) → IsTyped h → IsFresh n h → (inv : Invariant) → Satisfies (G h) inv → Satisfies (G (split p q n h)) inv
+    (h : Assignment) (p q n : ℕ) → IsTyped h → IsFresh n h → (inv : Invariant) → Satisfies (G h) inv
+    → Satisfies (G (split p q n h)) inv
 
 -- every word of a path is one of a path of the merged graph
 abbrev pub MergeGrows : Type 0
 MergeGrows =
-    (g : Graph) (p q : ℕ) → FIRST_TYPE ≤ p → p < q → g.typ p ≡ g.typ q → (w : List ℕ) → Accepts g w → Accepts (Merged g p q) w
+    (g : Graph) (p q : ℕ) → FIRST_TYPE ≤ p → p < q → g.typ p ≡ g.typ q → (w : List ℕ) → Accepts g w
+    → Accepts (Merged g p q) w
 
 -- so an invariant that the merged graph satisfies was satisfied before
 abbrev pub MergedKeeps : Type 0
 MergedKeeps =
-    (g : Graph) (p q : ℕ) → FIRST_TYPE ≤ p → p < q → g.typ p ≡ g.typ q → (inv : Invariant) → Satisfies (Merged g p q) inv → Satisfies g inv
+    (g : Graph) (p q : ℕ) → FIRST_TYPE ≤ p → p < q → g.typ p ≡ g.typ q → (inv : Invariant)
+    → Satisfies (Merged g p q) inv → Satisfies g inv
 
 -- no path of the merged graph names the id that was merged away
 abbrev pub MergedPathsAvoid : Type 0
 MergedPathsAvoid =
-    (g : Graph) (p q : ℕ) → FIRST_TYPE ≤ q → (path : List ℕ) → IsPath (Merged g p q) path → AllByRecursion (λ x. x ≢ q) path
+    (g : Graph) (p q : ℕ) → FIRST_TYPE ≤ q → (path : List ℕ) → IsPath (Merged g p q) path
+    → AllByRecursion (λ x. x ≢ q) path
 
 -- the same edges, the same listed ids with the same types, and the same paths with the same words
 pub record AreSame (g k : Graph) : Type 0 where
@@ -80,12 +87,14 @@ pub record AreSame (g k : Graph) : Type 0 where
 
 -- the graph of the merged assignment is the merged graph
 abbrev pub MergeIsMerged : Type 0
-MergeIsMerged = (h : Assignment) (p q : ℕ) → IsTyped h → IsPair (G h) p q → AreSame (G (merge p q h)) (Merged (G h) p q)
+MergeIsMerged = (h : Assignment) (p q : ℕ) → IsTyped h → IsPair (G h) p q
+    → AreSame (G (merge p q h)) (Merged (G h) p q)
 
 -- a pair whose merge loses an invariant loses it after a further merge, as long as its ids are there
 abbrev pub LostStaysLost : Type 0
 LostStaysLost =
-    (h : Assignment) (p q r s : ℕ) → IsTyped h → IsPair (G h) p q → IsPair (G (merge p q h)) r s → (invs : List Invariant)
+    (h : Assignment) (p q r s : ℕ) → IsTyped h → IsPair (G h) p q → IsPair (G (merge p q h)) r s
+    → (invs : List Invariant)
     → SatisfiesAll (G (merge r s (merge p q h))) invs → SatisfiesAll (G (merge r s h)) invs
 
 -- each of these merges is of a pair that is there in its turn
@@ -96,7 +105,8 @@ MergeInTurn h (m ∷ ms) = IsPair (G h) m.p m.q × MergeInTurn (merge m.p m.q h)
 -- and after any number of further merges
 abbrev pub LostThroughMerges : Type 0
 LostThroughMerges =
-    (invs : List Invariant) (h : Assignment) (ms : List Merge) (r s : ℕ) → IsTyped h → MergeInTurn h ms → IsPair (G (merged_by ms h)) r s
+    (invs : List Invariant) (h : Assignment) (ms : List Merge) (r s : ℕ) → IsTyped h → MergeInTurn h ms
+    → IsPair (G (merged_by ms h)) r s
     → IsPair (G h) r s × (SatisfiesAll (G (merge r s (merged_by ms h))) invs → SatisfiesAll (G (merge r s h)) invs)
 
 -- the graph accepts each word, by the trace's list of ids
@@ -128,7 +138,8 @@ StitchDivides =
 pub record IsLongest (h : Assignment) (path : List ℕ) (n : ℕ) : Type 0 where
   pub within : n ≤ length path
   pub begins : (trace : List Event) × Contains h trace × Begins (take n path) (id_list trace)
-  pub longest : (m : ℕ) (trace : List Event) → n < m → m ≤ length path → Contains h trace → Begins (take m path) (id_list trace) → ⊥
+  pub longest : (m : ℕ) (trace : List Event) → n < m → m ≤ length path → Contains h trace
+      → Begins (take m path) (id_list trace) → ⊥
 
 -- where there is a trace, the path follows the traces for this many ids and no more; from INITIAL on, the stitch is the last of them
 abbrev pub StitchIsLast : Type 0
@@ -139,7 +150,8 @@ StitchIsLast =
 -- where a labelling is inductive, no path breaks the invariant
 abbrev pub InductiveSatisfies : Type 0
 InductiveSatisfies =
-    (inv : Invariant) (g : Graph) (labels : ℕ → ℕ → Bool) → IsInductive inv g (λ p s. labels p s ≡ true) → Satisfies g inv
+    (inv : Invariant) (g : Graph) (labels : ℕ → ℕ → Bool) → IsInductive inv g (λ p s. labels p s ≡ true)
+    → Satisfies g inv
 
 -- where no path breaks the invariant, the reached states are inductive
 abbrev pub ReachedIsInductive : Type 0
@@ -156,7 +168,8 @@ LostBefore invs h p q = (r s : ℕ) → IsPair (G h) r s → PairBefore r s p q 
 -- a merge that keeps every invariant, where each pair before it was lost, is the next one, and each pair before it stays lost
 abbrev pub OnePassMerges : Type 0
 OnePassMerges =
-    (invs : List Invariant) (h : Assignment) (p q : ℕ) → IsTyped h → IsPair (G h) p q → LostBefore invs h p q → SatisfiesAll (G (merge p q h)) invs
+    (invs : List Invariant) (h : Assignment) (p q : ℕ) → IsTyped h → IsPair (G h) p q
+    → LostBefore invs h p q → SatisfiesAll (G (merge p q h)) invs
     → IsNextMerge invs h (record { p = p; q = q }) × LostBefore invs (merge p q h) p (q + 1) × IsTyped (merge p q h)
 
 -- the list ascends strictly from the pair on
@@ -224,7 +237,8 @@ HoldAll words invs = AllByRecursion (λ inv. AllByRecursion (λ w. Holds inv (wi
 -- every state of the run of refinement keeps it
 abbrev pub RunsKeep : Type 0
 RunsKeep =
-    (invs : List Invariant) (words : List (List ℕ)) (n : ℕ) (splits : List Split) (end : Assignment) → AreTyped words n → HoldAll words invs
+    (invs : List Invariant) (words : List (List ℕ)) (n : ℕ) (splits : List Split) (end : Assignment)
+    → AreTyped words n → HoldAll words invs
     → Splits invs (by_type words) n splits end → IsRun words end (n + length splits)
 
 -- the list names each rest of a word that is not empty
@@ -240,7 +254,8 @@ IdsWithinRests =
 -- and fewer splits than events, where there is one
 abbrev pub FewerSplitsThanEvents : Type 0
 FewerSplitsThanEvents =
-    (invs : List Invariant) (words : List (List ℕ)) (n : ℕ) (splits : List Split) (end : Assignment) → AreTyped words n → HoldAll words invs → 2 < n
+    (invs : List Invariant) (words : List (List ℕ)) (n : ℕ) (splits : List Split) (end : Assignment)
+    → AreTyped words n → HoldAll words invs → 2 < n
     → Splits invs (by_type words) n splits end → length splits < length (events end)
 
 -- the invariants before the one with number k are satisfied
@@ -286,7 +301,8 @@ pub record Keeps (invs : List Invariant) (words : List (List ℕ)) (h : Assignme
 -- so it is where refinement ends
 abbrev pub RefinementKeeps : Type 0
 RefinementKeeps =
-    (invs : List Invariant) (words : List (List ℕ)) (n : ℕ) (splits : List Split) (end : Assignment) → AreTyped words n → HoldAll words invs
+    (invs : List Invariant) (words : List (List ℕ)) (n : ℕ) (splits : List Split) (end : Assignment)
+    → AreTyped words n → HoldAll words invs
     → Refines invs (by_type words) n splits end → Keeps invs words end
 
 -- and where coarsening ends, after which no merge keeps every invariant
@@ -302,9 +318,11 @@ OneLeast = (g : Graph) (inv : Invariant) (a b : List ℕ) → IsLeastViolation g
 -- a run of refinement can end in one way alone
 abbrev pub OneRefinement : Type 0
 OneRefinement =
-    (invs : List Invariant) (h : Assignment) (n : ℕ) (a b : List Split) (end other : Assignment) → Refines invs h n a end → Refines invs h n b other → (a ≡ b) × (end ≡ other)
+    (invs : List Invariant) (h : Assignment) (n : ℕ) (a b : List Split) (end other : Assignment)
+    → Refines invs h n a end → Refines invs h n b other → (a ≡ b) × (end ≡ other)
 
 -- and so can a run of coarsening
 abbrev pub OneCoarsening : Type 0
 OneCoarsening =
-    (invs : List Invariant) (h : Assignment) (a b : List Merge) (end other : Assignment) → Coarsens invs h a end → Coarsens invs h b other → (a ≡ b) × (end ≡ other)
+    (invs : List Invariant) (h : Assignment) (a b : List Merge) (end other : Assignment)
+    → Coarsens invs h a end → Coarsens invs h b other → (a ≡ b) × (end ≡ other)

@@ -67,7 +67,8 @@ pub record IsMeasured (a : Asked) (start : Pair) (e : Entries) : Type 0 where
   pub size : length e.distances ≡ a.ids * STATES
   pub short : (r : Pair) → IsPairOf a r → at e r < OPEN → at e r ≤ a.ids * STATES
   pub sound : (r : Pair) → IsPairOf a r → at e r < OPEN → Finishes a r (at e r)
-  pub whole : (r : Pair) (k : ℕ) → IsPairOf a r → (at e start < OPEN → k < at e start) → Finishes a r k → (at e r ≤ k) × (at e r < OPEN)
+  pub whole : (r : Pair) (k : ℕ) → IsPairOf a r → (at e start < OPEN → k < at e start) → Finishes a r k
+      → (at e r ≤ k) × (at e r < OPEN)
 
 -- a table in which all walks shorter than this are known
 pub record IsKnown (a : Asked) (bound : ℕ) (e : Entries) : Type 0 where
