@@ -35,8 +35,8 @@ impl Model for Rows {
 }
 
 impl Rows {
-    /// This many rows of this many bits, all of them off. Rows times bits are at most 2^33, which takes a GiB. This alone takes
-    /// memory: `AllocError` comes where there is not enough.
+    /// This many rows of this many bits, all of them off. Rows times bits are at most 2^33. Each row takes whole words of 64
+    /// bits. This alone takes memory: `AllocError` comes where there is not enough.
     pub fn make(alloc: Global, rows: usize, bits: usize) -> Result<Rows, AllocError>
         requires { rows * bits ≤ 2 ^ 33 }
         ensures rows { IfOk result (λ made. made ≡ replicate rows (replicate bits false)) }

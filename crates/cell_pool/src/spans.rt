@@ -50,6 +50,7 @@ impl Spans {
             (((self.old).room < length (self.old).numbers + length numbers.now)
             × (self.new ≡ self.old))
             (λ span. Pushes self.old self.new numbers.now span) }
+        ensures stays { KeepsLists (self.old).numbers (self.new).numbers }
     {
         let from = self.numbers.len();
         if numbers.len() > self.room as usize - from {

@@ -1,26 +1,42 @@
 -- Telling command lines.
 use Rattle.std.specs.Prelude.{◌≡◌, Bool, true, false, List, [], ◌∷◌, Option, Some, None, codes}
 use Rattle.clap.specs.Words.{Text}
-use Rattle.command_line.specs.Task.{Form, Plain, Rules, Task, task_of}
+use Rattle.command_line.specs.Task.{LineForm, Plain, Rules, Task, task_of}
 use Rattle.command_line.specs.declared.table.Command.{Command}
 use Rattle.command_line.specs.declared.table.Command.TheVariants as commands
 
 -- a task on a log: the form, whether undecided lines are skipped and files joined, and the files
-abbrev pub on_log : Command → Form → Bool → Bool → List Text → Option Task
+abbrev pub on_log : Command → LineForm → Bool → Bool → List Text → Option Task
 on_log command form ignore join files =
-    Some (record { command = command; form = Some form; model = None; ignore = ignore; join = join; number = None; files = files })
+    Some (record {
+      command = command;
+      form = Some form;
+      model = None;
+      ignore = ignore;
+      join = join;
+      number = None;
+      files = files;
+    })
 
 -- the invariants of a log, and its graph
-abbrev pub invariants_of : Form → Bool → Bool → List Text → Option Task
+abbrev pub invariants_of : LineForm → Bool → Bool → List Text → Option Task
 invariants_of form ignore join files = on_log commands.Invariants form ignore join files
 
-abbrev pub graph_of : Form → Bool → Bool → List Text → Option Task
+abbrev pub graph_of : LineForm → Bool → Bool → List Text → Option Task
 graph_of form ignore join files = on_log commands.Graph form ignore join files
 
 -- the graph of the model in a file
 abbrev pub graph_of_model : Text → Option Task
 graph_of_model name =
-    Some (record { command = commands.GraphOfModel; form = None; model = Some name; ignore = false; join = false; number = None; files = [] })
+    Some (record {
+      command = commands.GraphOfModel;
+      form = None;
+      model = Some name;
+      ignore = false;
+      join = false;
+      number = None;
+      files = [];
+    })
 
 -- lines that ask for invariants, or for a graph
 pub record TakesLines : Type 0 where
@@ -28,12 +44,14 @@ pub record TakesLines : Type 0 where
   pub rules : task_of (codes "invariants" ∷ codes "-e" ∷ codes "x" ∷ []) ≡ invariants_of (Rules (codes "x")) false false []
   pub attached : task_of (codes "invariants" ∷ codes "-e=x" ∷ []) ≡ invariants_of (Rules (codes "x")) false false []
   pub option_first : task_of (codes "-p" ∷ codes "invariants" ∷ []) ≡ invariants_of Plain false false []
-  pub bundle : task_of (codes "invariants" ∷ codes "-pij" ∷ codes "a" ∷ codes "b" ∷ []) ≡ invariants_of Plain true true (codes "a" ∷ codes "b" ∷ [])
+  pub bundle : task_of (codes "invariants" ∷ codes "-pij" ∷ codes "a" ∷ codes "b" ∷ [])
+      ≡ invariants_of Plain true true (codes "a" ∷ codes "b" ∷ [])
   pub ends_options : task_of (codes "invariants" ∷ codes "-ie" ∷ codes "x" ∷ codes "a" ∷ codes "-j" ∷ codes "--" ∷ codes "-p" ∷ [])
       ≡ invariants_of (Rules (codes "x")) true true (codes "a" ∷ codes "-p" ∷ [])
   pub hyphen : task_of (codes "invariants" ∷ codes "-p" ∷ codes "-" ∷ []) ≡ invariants_of Plain false false (codes "-" ∷ [])
   pub graph : task_of (codes "graph" ∷ codes "-p" ∷ []) ≡ graph_of Plain false false []
-  pub graph_of_files : task_of (codes "-ij" ∷ codes "graph" ∷ codes "-e" ∷ codes "x" ∷ codes "a" ∷ codes "b" ∷ []) ≡ graph_of (Rules (codes "x")) true true (codes "a" ∷ codes "b" ∷ [])
+  pub graph_of_files : task_of (codes "-ij" ∷ codes "graph" ∷ codes "-e" ∷ codes "x" ∷ codes "a" ∷ codes "b" ∷ [])
+      ≡ graph_of (Rules (codes "x")) true true (codes "a" ∷ codes "b" ∷ [])
   pub graph_model : task_of (codes "graph" ∷ codes "-m" ∷ codes "m" ∷ []) ≡ graph_of_model (codes "m")
 
 -- lines that ask for nothing

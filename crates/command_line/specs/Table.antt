@@ -49,27 +49,15 @@ fits_form wants_form.One u = if u.plain then not (is_some u.rules) else is_some 
 fits_form wants_form.Rules u = is_some u.rules && not u.plain
 fits_form wants_form.Never u = not (is_some u.rules) && not u.plain
 
--- -i or -j
-abbrev pub has_flags : Use → Bool
-has_flags u = u.ignore || u.join
-
--- a FILE
-abbrev pub has_files : Use → Bool
-has_files u = nat_lt 0 (length u.files)
-
 -- -m
 abbrev pub has_model : Use → Bool
 has_model u = is_some u.model
 
--- -n
-abbrev pub has_number : Use → Bool
-has_number u = is_some u.number
-
 -- all that is given is what the row says
 abbrev pub passes : Row → Use → Bool
 passes row u =
-    fits_form row.form u && fits row.flags (has_flags u) && fits row.files (has_files u)
-    && fits row.model (has_model u) && fits row.number (has_number u)
+    fits_form row.form u && fits row.flags (u.ignore || u.join) && fits row.files (nat_lt 0 (length u.files))
+    && fits row.model (has_model u) && fits row.number (is_some u.number)
 
 -- the text is not empty
 abbrev pub is_word : Text → Bool

@@ -7,20 +7,20 @@ use Rattle.command_line.specs.Numbers.{number_of}
 use Rattle.command_line.specs.Table.{has_model, is_sound, passes, row_of}
 use Rattle.command_line.specs.declared.table.Command.{Command}
 use Rattle.command_line.specs.declared.table.Row.{Row}
-use Rattle.command_line.specs.declared.task.Form as rust_form
-use Rattle.command_line.specs.declared.task.Form.TheVariants as forms
+use Rattle.command_line.specs.declared.task.LineForm as rust_form
+use Rattle.command_line.specs.declared.task.LineForm.TheVariants as forms
 use Rattle.command_line.specs.declared.task.Task as rust
 
 -- how the lines of a log are read: in the plain form, or by the rules of a file
-pub data Form : Type 0 where
-  Plain : Form
-  Rules : (name : Text) → Form
+pub data LineForm : Type 0 where
+  Plain : LineForm
+  Rules : (name : Text) → LineForm
 
 -- what to do; how lines are read, if a log is; the model's file, if one is read; whether undecided lines are skipped and
 -- files are joined; the number, if one is asked for; and the log's files
 pub record Task : Type 0 where
   pub command : Command
-  pub form : Option Form
+  pub form : Option LineForm
   pub model : Option Text
   pub ignore : Bool
   pub join : Bool
@@ -28,7 +28,7 @@ pub record Task : Type 0 where
   pub files : List Text
 
 -- how lines are read: plainly where -p is given, else by the rules of -e, where that is given
-abbrev pub form_by : Option Text → Bool → Option Form
+abbrev pub form_by : Option Text → Bool → Option LineForm
 form_by rules true = Some Plain
 form_by (Some name) false = Some (Rules name)
 form_by None false = None
@@ -59,7 +59,7 @@ abbrev pub task_of : List Text → Option Task
 task_of words = if is_taken words then task_of_use (use_of (rows_for words)) else None
 
 -- the form that the program holds
-abbrev pub form_held : rust_form.Form → Form
+abbrev pub form_held : rust_form.LineForm → LineForm
 form_held forms.Plain = Plain
 form_held (forms.Rules name) = Rules name.now
 

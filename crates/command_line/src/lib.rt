@@ -15,4 +15,4 @@ mod tests;
 pub use crate::given::ParseError;
 pub use crate::law::lines_tell;
 pub use crate::table::Command;
-pub use crate::task::{Form, Task, parse};
+pub use crate::task::{LineForm, Task, parse};

@@ -2,7 +2,7 @@
 ghost use Rattle.std.specs.Prelude.{◌≡◌, map, option_map};
 ghost use Rattle.std.specs.List.{list_all};
 ghost use Rattle.command_line.specs.Given.{given_held};
-ghost use Rattle.command_line.specs.Table.{are_words, fits, fits_form, graph_row, has_files, has_flags, has_model, has_number, is_sound, is_word, log_row, model_row, option_is_number, option_is_word, passes, row_of};
+ghost use Rattle.command_line.specs.Table.{are_words, fits, fits_form, graph_row, has_model, is_sound, is_word, log_row, model_row, option_is_number, option_is_word, passes, row_of};
 
 use crate::given::Given;
 use crate::number::number_of;
@@ -128,20 +128,6 @@ fn fits_form(want: FormWant, given: &Given<'_>) -> bool
     }
 }
 
-/// Whether it is said how a log is read.
-fn has_flags(given: &Given<'_>) -> bool
-    ensures { result ≡ has_flags (given_held given.now) }
-{
-    given.ignore || given.join
-}
-
-/// Whether a file is given.
-fn has_files(given: &Given<'_>) -> bool
-    ensures { result ≡ has_files (given_held given.now) }
-{
-    given.files.len() > 0
-}
-
 /// Whether the file of a model is given.
 pub fn has_model(given: &Given<'_>) -> bool
     ensures { result ≡ has_model (given_held given.now) }
@@ -149,22 +135,15 @@ pub fn has_model(given: &Given<'_>) -> bool
     given.model.is_some()
 }
 
-/// Whether a number is given.
-fn has_number(given: &Given<'_>) -> bool
-    ensures { result ≡ has_number (given_held given.now) }
-{
-    given.number.is_some()
-}
-
 /// Whether all that is given is what the row says.
 pub fn passes(row: Row, given: &Given<'_>) -> bool
     ensures { result ≡ passes row (given_held given.now) }
 {
     fits_form(row.form, given)
-        && fits(row.flags, has_flags(given))
-        && fits(row.files, has_files(given))
+        && fits(row.flags, given.ignore || given.join)
+        && fits(row.files, given.files.len() > 0)
         && fits(row.model, has_model(given))
-        && fits(row.number, has_number(given))
+        && fits(row.number, given.number.is_some())
 }
 
 /// Whether no text is empty, of each as the program holds it.

@@ -11,7 +11,7 @@ use std::alloc::Global;
 
 /// How the lines of a log are read.
 #[derive(Clone, Copy, Debug, PartialEq, Eq)]
-pub enum Form<'a> {
+pub enum LineForm<'a> {
     /// As a trace's name, a space and a type (`-p`).
     Plain,
     /// By the rules of the file with this name, which is not empty (`-e`).
@@ -24,7 +24,7 @@ pub struct Task<'a> {
     /// What to do.
     pub command: Command,
     /// How the lines of the log are read; None where no log is read.
-    pub form: Option<Form<'a>>,
+    pub form: Option<LineForm<'a>>,
     /// The name of the file of a model (`-m`), which is not empty; None where none is read.
     pub model: Option<&'a str>,
     /// Lines that nothing decides are skipped (`-i`).
@@ -38,12 +38,12 @@ pub struct Task<'a> {
 }
 
 /// How lines are read: plainly, else by the rules of a file, where one is given.
-fn form_by<'a>(rules: Option<&'a str>, plain: bool) -> Option<Form<'a>>
+fn form_by<'a>(rules: Option<&'a str>, plain: bool) -> Option<LineForm<'a>>
     ensures { option_map form_held result ≡ form_by (option_map (λ s. s.now) rules.entry) plain }
 {
     match (rules, plain) {
-        (_, true) => Some(Form::Plain),
-        (Some(name), false) => Some(Form::Rules(name)),
+        (_, true) => Some(LineForm::Plain),
+        (Some(name), false) => Some(LineForm::Rules(name)),
         (None, false) => None,
     }
 }

@@ -1,4 +1,4 @@
-use crate::{Command, Form, ParseError, Task, parse};
+use crate::{Command, LineForm, ParseError, Task, parse};
 use std::alloc::{AllocError, Global};
 use std::mem::replace;
 use std::process::Abort;
@@ -143,10 +143,10 @@ impl<'a> Reader<'a> {
     }
 
     /// The form of a log, where one is read.
-    fn form(&self) -> Option<Form<'a>> {
+    fn form(&self) -> Option<LineForm<'a>> {
         match (self.rules, self.plain) {
-            (_, true) => Some(Form::Plain),
-            (Some(name), false) => Some(Form::Rules(name)),
+            (_, true) => Some(LineForm::Plain),
+            (Some(name), false) => Some(LineForm::Rules(name)),
             (None, false) => None,
         }
     }

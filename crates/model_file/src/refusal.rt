@@ -27,8 +27,8 @@ pub enum Field {
     Blocks,
 }
 
-/// Why a model file is refused. Of several refusals, the first in the order below is answered; of several parts, the
-/// first in the order of `Field`.
+/// Why a model file is refused. Of several refusals, the first in the order in which `read_model` names them is
+/// answered; of several lists, the first in the order of `Field`.
 #[derive(Clone, Copy, Debug, PartialEq, Eq, Error)]
 pub enum FileError {
     /// The file has more than 134,217,728 bytes.

@@ -15,7 +15,8 @@ use Rattle.models.specs.declared.parts.ReplayPart.{ReplayPart}
 use Rattle.models.specs.declared.parts.ReplayPart.TheVariants as step
 use Rattle.models.specs.Models.{TypedWords}
 
--- a split is right at h, where the next id is n: its path breaks a listed invariant, and its place is that of the stitch, before the end
+-- a split is right at h, where the next id is n and within the limit: its path breaks a listed invariant, and its place
+-- is that of the stitch, before the end
 pub record IsJustifiedSplit (m : Model) (h : Assignment) (n : ℕ) (s : Split) : Type 0 where
   pub listed : Listed
   pub names : slice_get m.invariants s.inv ≡ Some listed

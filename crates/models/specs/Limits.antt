@@ -6,7 +6,7 @@ use Rattle.model_shape.specs.Numbers.{split_numbers, block_numbers}
 use Rattle.model_shape.specs.Shapes.{AreTypes}
 use Rattle.models.specs.Models.{TypedWords}
 
--- a log within the limits: its types, its traces, of which each has an event, and its events
+-- a log within the limits: its types, its traces, and its events
 pub record IsWithinLimits (log : TypedWords) : Type 0 where
   pub types : AreTypes log.types
   pub few_traces : length log.words ≤ MAX_EVENTS

@@ -9,7 +9,8 @@ use Rattle.synoptic_cli.specs.declared.material.Material.{Material}
 use Rattle.synoptic_cli.specs.declared.status.LimitKind.{LimitKind}
 use Rattle.synoptic_cli.specs.declared.status.Status.{Status}
 use Rattle.synoptic_cli.specs.declared.status.Status.TheVariants.{Limit}
-use Rattle.synoptic_cli.specs.Stages.{SoFar, Stop, at_start, input_count, reads, stages_of, stop_after}
+use Rattle.synoptic_cli.specs.Task.{input_count, stages_of}
+use Rattle.synoptic_cli.specs.Stages.{SoFar, Stop, at_start, reads, stop_after}
 use Rattle.synoptic_cli.specs.Commands.{AnswersBy}
 use Rattle.synoptic_cli.specs.Endings.{EndsAfter, EndsAreOne, HasStatus, StatusesAreOne, end_status, told_stages}
 

@@ -2,7 +2,8 @@
 use Rattle.std.proofs.Common.{◌≡◌, ℕ, ◌+◌, List, [], ◌∷◌, ◌++◌, length, Option, Some, None, Result, Ok, Err, refl, sym, ap, ◌∙◌, subst, arith}
 use Rattle.outside.specs.Inputs.{Files}
 use Rattle.log_reader.specs.Inputs.{SomeContents, told_contents, with_content}
-use Rattle.synoptic_cli.specs.Stages.{Stage, SoFar, Stop, Filled, stage_names, stage_reads, input_count, after, and_then, reads}
+use Rattle.synoptic_cli.specs.Task.{Stage, stage_names, input_count}
+use Rattle.synoptic_cli.specs.Stages.{SoFar, Stop, Filled, stage_reads, after, and_then, reads}
 use Rattle.synoptic_cli.specs.Endings.{IsTold, SomeBytes, told_stages}
 
 pub contents-map : (files : Option Files) (names : List (List ℕ)) (P Q : List (List ℕ) → Type 0) → ((contents : List (List ℕ)) → P contents → Q contents)

@@ -14,7 +14,8 @@ use Rattle.synoptic_cli.specs.declared.status.Status.TheVariants.{Memory, ReadFa
 use Rattle.synoptic_cli.specs.declared.status.Source.{Source}
 use Rattle.synoptic_cli.specs.declared.status.Source.TheVariants as sources
 use Rattle.synoptic_cli.specs.declared.stages.SoFar as rust
-use Rattle.synoptic_cli.specs.Stages.{Filled, LogFiles, SoFar, Stage, Stop, at_start, input_count, log_stages, reads, first_stages, rules_stages, setting_by, stages_of, status_of, stop_after}
+use Rattle.synoptic_cli.specs.Task.{LogFiles, Stage, input_count, log_stages, first_stages, rules_stages, stages_of}
+use Rattle.synoptic_cli.specs.Stages.{Filled, SoFar, Stop, at_start, reads, setting_by, status_of, stop_after}
 use Rattle.synoptic_cli.specs.Endings.{EndsAfter, EndsOver, IsFirstLacking, SomeBytes}
 use Rattle.synoptic_cli.specs.Causes.{World, FailsToRead, HasCause, Stops, world}
 use Rattle.synoptic_cli.specs.Steps.{Ends, HasRead, IsHeld, LogHalts, Reads, ReadsTask, StopsReading, held_form, setting_of}
@@ -88,11 +89,8 @@ fails task s old new mid number before silent cause =
           ⊎_elim
           (λ (failed : LogFails (inputs_of task.files) mid new.inputs number).
           inl (record {
-            cause =
-                record {
-                  rose = rose-since old.inputs.faults mid.faults new.inputs.faults before.stays.faults failed.0.0;
-                  may_fail = subst (λ (may_fail : List ℕ → Bool). IsSomeAnd (slice_get (inputs_of task.files) number) (λ name. IsTrue (may_fail name))) before.stays.may_fail failed.0.1;
-                };
+            rose = rose-since old.inputs.faults mid.faults new.inputs.faults before.stays.faults failed.0.0;
+            may_fail = subst (λ (may_fail : List ℕ → Bool). IsSomeAnd (slice_get (inputs_of task.files) number) (λ name. IsTrue (may_fail name))) before.stays.may_fail failed.0.1;
             opened =
                 ⊎_elim (λ (none : StopsBefore number mid new.inputs). inl (stops-through count number old.inputs mid new.inputs before.read.inputs none))
                 (λ (within : IsSomeAnd (slice_get (inputs_of task.files) number) (StopsWithin number mid new.inputs)).

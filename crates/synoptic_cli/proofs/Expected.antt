@@ -14,8 +14,8 @@ use Rattle.synoptic_cli.specs.declared.answer.Answer.{Answer}
 use Rattle.synoptic_cli.specs.declared.status.Status.{Status}
 use Rattle.synoptic_cli.specs.declared.status.Status.TheVariants.{Done, Usage, Expressions, Log, Limit, ReadFault, WriteFault, Memory, ModelFile}
 use Rattle.synoptic_cli.specs.declared.status.Source.{Source}
-use Rattle.synoptic_cli.specs.Task.{rules_name}
-use Rattle.synoptic_cli.specs.Stages.{RulesFile, SoFar, Stage, Stop, and_then, at_start, log_stages, model_stages, reads, reads_rules, rules_stage, stages_of, stop_after, with_rules}
+use Rattle.synoptic_cli.specs.Task.{file_stage, log_stages, model_stages, rules_name, RulesFile, Stage, stages_of}
+use Rattle.synoptic_cli.specs.Stages.{SoFar, Stop, and_then, at_start, reads, reads_rules, stop_after, with_rules}
 use Rattle.synoptic_cli.specs.Endings.{EndsAfter, EndsOver, EndsTold, HasStatus, IsFirstLacking, IsStatusOf, IsTold, SomeBytes, end_status, told_stages}
 use Rattle.synoptic_cli.specs.Causes.{World, FailsToRead, HasCause, IsExpected, IsTooDeep, IsUnread, IsMissing, RefusesRules, Stops, WritesAll}
 use Rattle.synoptic_cli.proofs.Bytes.{bytes-told}
@@ -59,7 +59,7 @@ read-fault : (words : List (List ℕ)) (task : Task) (files : Files) (source : S
     → (Rose old.inputs.faults new.inputs.faults → ⊥) → FailsToRead source old new task → IsStatusOf words files (ReadFault source)
 read-fault words task files source old new some asks calm cause =
     ⊎_elim
-    (λ (failed : IsUnread source old.inputs new.inputs task). absurd (calm failed.cause.rose))
+    (λ (failed : IsUnread source old.inputs new.inputs task). absurd (calm failed.rose))
     (λ (missing : IsMissing source old.inputs new.inputs task).
     task-status words task files (ReadFault source) asks (lacking-status task files source (subst (λ (f : Option Files). IsFirstLacking f task source) some missing.lacking))) cause.why
 
@@ -74,7 +74,7 @@ plainly : (words : List (List ℕ)) (task : Task) (name bytes : List ℕ) (files
     → rules_of bytes ≡ Err e → IsStatusOf words files (Expressions e)
 plainly words task name bytes files e asks is told refusal =
     let read : reads at_start (told_stages files (stages_of task)) ≡ Err (stop_after 1 (Expressions e)) =
-    ap (λ (w : Option (List ℕ)). reads at_start (told_stages files ((rules_stage w ++ model_stages task) ++ log_stages task))) is ∙ rules-status files name bytes e (model_stages task ++ log_stages task) told refusal in
+    ap (λ (w : Option (List ℕ)). reads at_start (told_stages files ((file_stage RulesFile w ++ model_stages task) ++ log_stages task))) is ∙ rules-status files name bytes e (model_stages task ++ log_stages task) told refusal in
     task-status words task files (Expressions e) asks (told-stop task files (stop_after 1 (Expressions e)) read)
 
 -- the cause of a refusal of the file of rules, where no pattern's refusal was counted

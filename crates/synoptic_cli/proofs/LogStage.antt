@@ -18,7 +18,8 @@ use Rattle.synoptic_cli.specs.declared.status.Status.{Status}
 use Rattle.synoptic_cli.specs.declared.status.Status.TheVariants.{ReadFault}
 use Rattle.synoptic_cli.specs.declared.status.Source.TheVariants as sources
 use Rattle.synoptic_cli.specs.declared.stages.SoFar as rust
-use Rattle.synoptic_cli.specs.Stages.{LogFiles, SoFar, Stage, Stop, and_then, log_stage, log_stages, reads, reads_log, setting_by, status_of, stop_after, stop_at, with_log}
+use Rattle.synoptic_cli.specs.Task.{LogFiles, Stage, log_stage, log_stages}
+use Rattle.synoptic_cli.specs.Stages.{SoFar, Stop, and_then, reads, reads_log, setting_by, status_of, stop_after, stop_at, with_log}
 use Rattle.synoptic_cli.specs.Endings.{ReadAll, SomeBytes}
 use Rattle.synoptic_cli.specs.Steps.{AreAlikeForms, HasRead, Reads, StopsReading, held_form, setting_of}
 use Rattle.synoptic_cli.proofs.Bytes.{contents-map}
@@ -72,7 +73,7 @@ log-through so_far s names ignore join old new log alike some read =
 pub log-stage-is : (task : Task) → IsSome task.form → log_stages task ≡ LogFiles (inputs_of task.files) task.ignore task.join ∷ []
 log-stage-is task some = stage-is task.form task.files task.ignore task.join some
   where
-    stage-is : (w : Option ask.Form) (files : List (List ℕ)) (ignore join : Bool) → IsSome w → log_stage w files ignore join ≡ LogFiles (inputs_of files) ignore join ∷ []
+    stage-is : (w : Option ask.LineForm) (files : List (List ℕ)) (ignore join : Bool) → IsSome w → log_stage w files ignore join ≡ LogFiles (inputs_of files) ignore join ∷ []
     stage-is None files ignore join some = cc
     stage-is (Some lines) files ignore join some = refl
 

@@ -23,7 +23,8 @@ use Rattle.synoptic_cli.specs.declared.status.Source.TheVariants as sources
 use Rattle.synoptic_cli.specs.declared.stages.SoFar as rust
 use Rattle.synoptic_cli.specs.declared.model_stage.ModelHalt.{ModelHalt}
 use Rattle.synoptic_cli.specs.declared.model_stage.ModelHalt.TheVariants as halts
-use Rattle.synoptic_cli.specs.Stages.{Filled, ModelFile, SoFar, Stage, Stop, and_then, at_start, first_stages, input_count, log_stages, model_stage, model_stages, reads, reads_model, rules_stages, stages_of, stop_after, with_model}
+use Rattle.synoptic_cli.specs.Task.{ModelFile, Stage, first_stages, input_count, log_stages, file_stage, model_stages, rules_stages, stages_of}
+use Rattle.synoptic_cli.specs.Stages.{Filled, SoFar, Stop, and_then, at_start, reads, reads_model, stop_after, with_model}
 use Rattle.synoptic_cli.specs.Endings.{EndsAfter, EndsOver, IsFirstLacking, IsTold, ReadAll, SomeBytes}
 use Rattle.synoptic_cli.specs.Causes.{FailsToRead, RefusesModel, Stops, World, world}
 use Rattle.synoptic_cli.specs.Steps.{Ends, HasRead, IsHeld, ModelHalts, Reads, ReadsModel, RefusesFile, StopsReading, halt_of, halt_status}
@@ -77,7 +78,7 @@ pub model-refused : (old new : InputState) (name bytes : List ℕ) (e : FileErro
 model-refused old new name bytes e reads other fails =
     let read = fails-is e (file_reads bytes) other fails in
     let found = told-bytes MAX_MODEL_BYTES old.files name bytes (λ content. file_reads content ≡ Err e) _ reads.told (λ content same. sym (model-same content bytes same) ∙ read) read in
-    record { bytes = found.0; told = found.1; read = found.2; opened = record { opens = reads.opens; faults = reads.faults }; rest = told-part old.files name _ _ reads.told }
+    record { bytes = found.0; told = found.1; read = found.2; not_memory = other; opened = record { opens = reads.opens; faults = reads.faults }; rest = told-part old.files name _ _ reads.told }
 
 -- why the file gives no model
 pub model-halts : (old new : InputState) (name bytes : List ℕ) (e : FileError) → ReadsInput old new name MAX_MODEL_BYTES bytes → Fails e (file_reads bytes) → ModelHalts old new name (halt_of e)
@@ -121,7 +122,7 @@ model-stops so_far old new name e refuses = record {
 
 -- the same for the stage of the task
 stage-named : (task : Task) (name : List ℕ) (P : List Stage → Type 0) → task.model ≡ Some name → P (ModelFile name ∷ []) → P (model_stages task)
-stage-named task name P named here = subst (λ (w : Option (List ℕ)). P (model_stage w)) (sym named) here
+stage-named task name P named here = subst (λ (w : Option (List ℕ)). P (file_stage ModelFile w)) (sym named) here
 
 -- a reading that stops ends the run
 pub stopped : (task : Task) (filled : List Filled) (stop : Stop) → reads at_start filled ≡ Err stop → EndsOver task filled (Err stop)
@@ -203,11 +204,8 @@ model-ends task name old mid new before after halts.Fault here cause = λ words 
   record {
     why =
         inl (record {
-          cause =
-              record {
-                rose = rose-since old.faults mid.faults new.faults here.stays.faults cause.0;
-                may_fail = subst (λ (w : Option (List ℕ)). IsSomeAnd w (λ n. IsTrue (old.may_fail n))) (sym here.named) (subst (λ (may_fail : List ℕ → Bool). IsTrue (may_fail name)) here.stays.may_fail cause.1);
-              };
+          rose = rose-since old.faults mid.faults new.faults here.stays.faults cause.0;
+          may_fail = subst (λ (w : Option (List ℕ)). IsSomeAnd w (λ n. IsTrue (old.may_fail n))) (sym here.named) (subst (λ (may_fail : List ℕ → Bool). IsTrue (may_fail name)) here.stays.may_fail cause.1);
           opened =
               ⊎_elim
               (λ (none : OpensNone mid new). inl (subst (λ (n : ℕ). StopsBefore n old new) (omega arith) (stops-through (input_count (rules_stages task)) 0 old mid new here.read.inputs (record { opens = none.opens; closed = none.closed }))))
@@ -222,6 +220,7 @@ model-ends task name old mid new before after (halts.Refused e) here cause = λ 
   asks,
   record {
     stops = refuses task name (world old before out) (world new after out) mid e here refl cause;
+    not_memory = cause.not_memory;
     read =
         subst (λ (w : Option (List ℕ)). IsSomeAnd w (λ n. IfTold old.files n (λ content. new.rest ≡ Some (drop (MAX_MODEL_BYTES + 1) content)))) (sym here.named)
         (subst (λ (files : Option Files). IfTold files name (λ content. new.rest ≡ Some (drop (MAX_MODEL_BYTES + 1) content))) here.stays.files cause.rest);

@@ -16,8 +16,8 @@ use Rattle.line_rules.specs.declared.line_rules.RuleError.TheVariants as refused
 use Rattle.log_reader.specs.Reading as form
 use Rattle.command_line.specs.Task.{Task}
 use Rattle.log_reader.specs.Inputs.{with_content}
-use Rattle.synoptic_cli.specs.Task.{rules_name}
-use Rattle.synoptic_cli.specs.Stages.{RulesFile, SoFar, Stop, and_then, at_start, input_count, log_stages, model_stages, reads, reads_rules, rules_stage, stages_of, stop_after, with_rules}
+use Rattle.synoptic_cli.specs.Task.{file_stage, input_count, log_stages, model_stages, rules_name, RulesFile, stages_of}
+use Rattle.synoptic_cli.specs.Stages.{SoFar, Stop, and_then, at_start, reads, reads_rules, stop_after, with_rules}
 use Rattle.synoptic_cli.specs.Endings.{IsFirstLacking, IsTold, told_stages}
 use Rattle.synoptic_cli.specs.Causes.{RefusesRules, world}
 use Rattle.synoptic_cli.specs.declared.status.Status.TheVariants.{Expressions, ReadFault, Memory}
@@ -118,7 +118,7 @@ memory-ends task old new before after few = λ words out asks. record {
 -- the file of rules is one input of its task
 one-input : (task : Task) (name : List ℕ) → rules_name task.form ≡ Some name → 1 ≤ input_count (stages_of task)
 one-input task name is =
-    subst (λ (w : Option (List ℕ)). 1 ≤ input_count ((rules_stage w ++ model_stages task) ++ log_stages task)) (sym is) (omega arith)
+    subst (λ (w : Option (List ℕ)). 1 ≤ input_count ((file_stage RulesFile w ++ model_stages task) ++ log_stages task)) (sym is) (omega arith)
 
 pub memory-by-rules : (old new : InputState) (before after : PatternsState) (name : List ℕ) → new.opens ≤ old.opens + 1 → EndsByRules Memory name old new before after
 memory-by-rules old new before after name few = λ task is. memory-ends task old new before after (omega (arith, few, one-input task name is))
@@ -132,7 +132,8 @@ fault-by-rules old new before after name limit rose may opened = λ task is word
   record {
     why =
         inl (record {
-          cause = record { rose = rose; may_fail = subst (λ (w : Option (List ℕ)). IsSomeAnd w (λ name. IsTrue (old.may_fail name))) (sym is) may };
+          rose = rose;
+          may_fail = subst (λ (w : Option (List ℕ)). IsSomeAnd w (λ name. IsTrue (old.may_fail name))) (sym is) may;
           opened =
               ⊎_elim (λ (none : OpensNone old new). inl (record { opens = none.opens; closed = none.closed }))
               (λ (named : OpensNamed old new name limit). inr named.opens) opened;
@@ -147,7 +148,7 @@ rules-lack None task name is lacks = absurd lacks
 rules-lack (Some files) task name is lacks =
     let next : SoFar → Result SoFar Stop = λ s. reads s (told_stages files (model_stages task ++ log_stages task)) in
     let read : reads at_start (told_stages files (stages_of task)) ≡ Err (stop_after 0 (ReadFault sources.Expressions)) =
-    ap (λ (w : Option (List ℕ)). reads at_start (told_stages files ((rules_stage w ++ model_stages task) ++ log_stages task))) is
+    ap (λ (w : Option (List ℕ)). reads at_start (told_stages files ((file_stage RulesFile w ++ model_stages task) ++ log_stages task))) is
     ∙ ap (λ (o : Option (List ℕ)). and_then (reads_rules at_start (with_content o [])) 1 next) lacks in
     (0, read)
 

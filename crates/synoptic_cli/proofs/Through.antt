@@ -4,7 +4,8 @@ use Rattle.std.specs.Io.KnownBytes.{IsAtEnd}
 use Rattle.outside.specs.Inputs.{Files, InputState, Stays}
 use Rattle.std.proofs.lemmas.Bool.{cases_lt}
 use Rattle.log_reader.specs.Inputs.{Opened, StopsBefore, opens_after}
-use Rattle.synoptic_cli.specs.Stages.{Stage, SoFar, Stop, input_count, after, reads}
+use Rattle.synoptic_cli.specs.Task.{Stage, input_count}
+use Rattle.synoptic_cli.specs.Stages.{SoFar, Stop, after, reads}
 use Rattle.synoptic_cli.specs.Endings.{SomeBytes, OpenedAll, ReadAll}
 use Rattle.synoptic_cli.specs.declared.stages.SoFar as rust
 use Rattle.synoptic_cli.specs.Steps.{HasRead, IsHeld, Reads, StopsReading}

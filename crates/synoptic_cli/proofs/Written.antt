@@ -14,7 +14,8 @@ use Rattle.synoptic_cli.specs.declared.material.Material.{Material}
 use Rattle.synoptic_cli.specs.declared.status.LimitKind.{LimitKind}
 use Rattle.synoptic_cli.specs.declared.status.Status.{Status}
 use Rattle.synoptic_cli.specs.declared.status.Status.TheVariants.{Done, Usage, Expressions, Log, Limit, ReadFault, WriteFault, Memory, ModelFile}
-use Rattle.synoptic_cli.specs.Stages.{SoFar, Stop, at_start, input_count, reads, stages_of, stop_after}
+use Rattle.synoptic_cli.specs.Task.{input_count, stages_of}
+use Rattle.synoptic_cli.specs.Stages.{SoFar, Stop, at_start, reads, stop_after}
 use Rattle.synoptic_cli.specs.Commands.{Answers}
 use Rattle.synoptic_cli.specs.Endings.{EndsAfter, EndsOver}
 use Rattle.synoptic_cli.specs.Causes.{World, HasAnswer, HasCause, KeepsCount, WritesAll, WritesPart}

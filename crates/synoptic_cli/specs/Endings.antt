@@ -9,7 +9,8 @@ use Rattle.synoptic_cli.specs.declared.status.LimitKind.{LimitKind}
 use Rattle.synoptic_cli.specs.declared.status.Status.{Status}
 use Rattle.synoptic_cli.specs.declared.status.Status.TheVariants.{Usage, Limit, ReadFault}
 use Rattle.synoptic_cli.specs.declared.status.Source.{Source}
-use Rattle.synoptic_cli.specs.Stages.{Stage, SoFar, Stop, Filled, stage_names, input_count, stages_of, at_start, reads, stop_after}
+use Rattle.synoptic_cli.specs.Task.{Stage, stage_names, input_count, stages_of}
+use Rattle.synoptic_cli.specs.Stages.{SoFar, Stop, Filled, at_start, reads, stop_after}
 use Rattle.synoptic_cli.specs.Commands.{Answers}
 
 -- the stages with the bytes of their files, each up to the first that is not there
@@ -65,7 +66,8 @@ EndsAreOne =
 -- so the words and the files have one status alone
 abbrev pub StatusesAreOne : Type 0
 StatusesAreOne =
-    (words : List (List ℕ)) (files : Files) (a b : Status) → IsStatusOf words files a → IsStatusOf words files b → a ≡ b
+    (words : List (List ℕ)) (files : Files) (a b : Status) → IsStatusOf words files a
+    → IsStatusOf words files b → a ≡ b
 
 -- where files are told, these are the bytes of the named one
 abbrev pub IsTold : Option Files → List ℕ → List ℕ → Type 0

@@ -44,7 +44,8 @@ rule_message rule_error.Memory = codes ": out of memory\n"
 
 -- the line of a log, and what is wrong with it
 abbrev pub line_message : Option Task → At → List ℕ → List ℕ
-line_message task at what = codes "synoptic: " ++ shown_source task (sources.Log at.file) ++ codes ":" ++ decimal at.line ++ codes ": " ++ what ++ codes "\n"
+line_message task at what =
+    codes "synoptic: " ++ shown_source task (sources.Log at.file) ++ codes ":" ++ decimal at.line ++ codes ": " ++ what ++ codes "\n"
 
 abbrev pub log_message : Option Task → LogFault → List ℕ
 log_message task (faults.LineTooLong at) = line_message task at (codes "line too long")
@@ -79,10 +80,6 @@ file_fault (file_error.Shape field) = codes "bad " ++ field_name field
 file_fault (file_error.Version number) = codes "version " ++ decimal number
 file_fault file_error.Memory = codes "out of memory"
 
--- the input that could not be read
-abbrev pub read_message : Option Task → Source → List ℕ
-read_message task source = codes "synoptic: cannot read " ++ shown_source task source ++ codes "\n"
-
 -- what is written where errors go, for a status and the task that was asked for
 abbrev pub task_message : Option Task → Status → List ℕ
 task_message task Done = []
@@ -90,7 +87,7 @@ task_message task Usage = codes "usage: synoptic infer|check|replay|invariants|g
 task_message task (Expressions e) = codes "synoptic: expressions" ++ rule_message e
 task_message task (Log fault) = log_message task fault
 task_message task (Limit kind) = limit_message kind
-task_message task (ReadFault source) = read_message task source
+task_message task (ReadFault source) = codes "synoptic: cannot read " ++ shown_source task source ++ codes "\n"
 task_message task WriteFault = codes "synoptic: cannot write\n"
 task_message task Memory = codes "synoptic: out of memory\n"
 task_message task (ModelFile e) = codes "synoptic: model file: " ++ file_fault e ++ codes "\n"
@@ -101,7 +98,8 @@ message_of words status = task_message (task_of words) status
 
 -- the whole text was appended, or a front of it and the count rose
 abbrev pub Tells : List ℕ → SinkState → SinkState → Type 0
-Tells text before after = Appends before.written after.written text ⊎ (AppendsFront before text after × Rose before.faults after.faults)
+Tells text before after =
+    Appends before.written after.written text ⊎ (AppendsFront before text after × Rose before.faults after.faults)
 
 -- the status of the process
 abbrev pub code_of : Status → ℕ

@@ -1,5 +1,5 @@
--- What a run reads before it works: the stages of a task, what each makes of the bytes of its inputs, and where the reading stops.
-use Rattle.std.specs.Prelude.{ℕ, ◌+◌, Bool, List, [], ◌∷◌, ◌++◌, length, nat_lt, Option, Some, None, Result, Ok, Err, if◌then◌else◌}
+-- What each stage of a run makes of the bytes of its inputs, and where the reading stops.
+use Rattle.std.specs.Prelude.{ℕ, ◌+◌, Bool, List, [], ◌∷◌, length, nat_lt, Option, Some, None, Result, Ok, Err, if◌then◌else◌}
 use Rattle.traces.specs.Words.{log_of}
 use Rattle.invariants.specs.declared.records.Model.{Model}
 use Rattle.model_file.specs.Reading as model_file
@@ -9,76 +9,17 @@ use Rattle.line_rules.specs.Files.{rules_of}
 use Rattle.line_rules.specs.declared.line_rules.RuleError.{RuleError}
 use Rattle.log_reader.specs.Reading.{Form, Setting, events_of, first_refusal}
 use Rattle.log_reader.specs.Reading as form
-use Rattle.log_reader.specs.Inputs.{inputs_of, refused_input}
+use Rattle.log_reader.specs.Inputs.{refused_input}
 use Rattle.log_reader.specs.declared.refusal.ReadError.{ReadError}
 use Rattle.log_reader.specs.declared.refusal.ReadError.TheVariants as refused
-use Rattle.command_line.specs.Task.{Task}
-use Rattle.command_line.specs.Task as ask
-use Rattle.synoptic_cli.specs.Task.{rules_name}
+use Rattle.synoptic_cli.specs.Task.{LogFiles, ModelFile, RulesFile, Stage, stage_names}
 use Rattle.synoptic_cli.specs.declared.material.Material.{Material}
 use Rattle.synoptic_cli.specs.declared.status.Status.{Status}
 use Rattle.synoptic_cli.specs.declared.status.Status.TheVariants.{Expressions, Log, Limit, ReadFault, Memory}
 use Rattle.synoptic_cli.specs.declared.status.Status.TheVariants as statuses
 use Rattle.synoptic_cli.specs.declared.status.LogFault.TheVariants as faults
 use Rattle.synoptic_cli.specs.declared.status.LimitKind.TheVariants as limits
-use Rattle.synoptic_cli.specs.declared.status.Source.{Source}
 use Rattle.synoptic_cli.specs.declared.status.Source.TheVariants as sources
-
--- a stage of the reading: the file of rules; the file of a model; or the log in these files, and whether undecided lines
--- are skipped and files are joined
-pub data Stage : Type 0 where
-  RulesFile : (name : List ℕ) → Stage
-  ModelFile : (name : List ℕ) → Stage
-  LogFiles : (names : List (List ℕ)) (ignore join : Bool) → Stage
-
--- the names of a stage's inputs, in their order
-abbrev pub stage_names : Stage → List (List ℕ)
-stage_names (RulesFile name) = name ∷ []
-stage_names (ModelFile name) = name ∷ []
-stage_names (LogFiles names ignore join) = names
-
--- how many inputs the stages have
-abbrev pub input_count : List Stage → ℕ
-input_count [] = 0
-input_count (stage ∷ stages) = length (stage_names stage) + input_count stages
-
--- the file of rules, where lines are read by one
-abbrev pub rules_stage : Option (List ℕ) → List Stage
-rules_stage None = []
-rules_stage (Some name) = RulesFile name ∷ []
-
-abbrev pub rules_stages : Task → List Stage
-rules_stages task = rules_stage (rules_name task.form)
-
--- the file of a model, where one is read
-abbrev pub model_stage : Option (List ℕ) → List Stage
-model_stage None = []
-model_stage (Some name) = ModelFile name ∷ []
-
-abbrev pub model_stages : Task → List Stage
-model_stages task = model_stage task.model
-
--- what stands before the log
-abbrev pub first_stages : Task → List Stage
-first_stages task = rules_stages task ++ model_stages task
-
--- the log, where one is read
-abbrev pub log_stage : Option ask.Form → List (List ℕ) → (ignore join : Bool) → List Stage
-log_stage None files ignore join = []
-log_stage (Some lines) files ignore join = LogFiles (inputs_of files) ignore join ∷ []
-
-abbrev pub log_stages : Task → List Stage
-log_stages task = log_stage task.form task.files task.ignore task.join
-
--- the stages of a task, in the order in which they are read
-abbrev pub stages_of : Task → List Stage
-stages_of task = first_stages task ++ log_stages task
-
--- how many inputs of a task stand before this one
-abbrev pub inputs_before : Task → Source → ℕ
-inputs_before task sources.Expressions = 0
-inputs_before task sources.ModelFile = input_count (rules_stages task)
-inputs_before task (sources.Log number) = input_count (first_stages task) + number
 
 -- what was read so far: what decides the lines of a log, and what the command is to work on
 pub record SoFar : Type 0 where
@@ -148,7 +89,10 @@ abbrev pub with_log : SoFar → Setting → ℕ → List (List ℕ) → Option R
 with_log so_far s count contents (Some e) = Err (stop_at (refused_input e contents) (status_of e))
 with_log so_far s count contents None =
     if nat_lt (length contents) count then Err (stop_after (length contents) (ReadFault (sources.Log (length contents))))
-    else Ok (record { form = so_far.form; material = record { log = log_of (events_of s contents); model = so_far.material.model } })
+    else Ok (record {
+      form = so_far.form;
+      material = record { log = log_of (events_of s contents); model = so_far.material.model };
+    })
 
 abbrev pub reads_log : SoFar → Setting → ℕ → List (List ℕ) → Result SoFar Stop
 reads_log so_far s count contents = with_log so_far s count contents (first_refusal s contents)
@@ -157,7 +101,8 @@ reads_log so_far s count contents = with_log so_far s count contents (first_refu
 abbrev pub stage_reads : Stage → SoFar → List (List ℕ) → Result SoFar Stop
 stage_reads (RulesFile name) so_far contents = reads_rules so_far contents
 stage_reads (ModelFile name) so_far contents = reads_model so_far contents
-stage_reads (LogFiles names ignore join) so_far contents = reads_log so_far (setting_by so_far ignore join) (length names) contents
+stage_reads (LogFiles names ignore join) so_far contents =
+    reads_log so_far (setting_by so_far ignore join) (length names) contents
 
 -- a stage with the bytes of its inputs
 abbrev pub Filled : Type 0

@@ -1,5 +1,5 @@
 -- What the steps of a run leave before it writes.
-use Rattle.std.specs.Prelude.{ℕ, ◌≡◌, ◌≤◌, ◌⊎◌, List, ◌+◌, drop, length, IsTrue, Option, Some, None, IsSome, option_map, Result, Ok, Err, ⊤}
+use Rattle.std.specs.Prelude.{ℕ, ◌≡◌, ◌≢◌, ◌≤◌, ◌⊎◌, List, ◌+◌, drop, length, IsTrue, Option, Some, None, IsSome, option_map, Result, Ok, Err, ⊤}
 use Rattle.outside.specs.Counts.{Rose, next_call}
 use Rattle.outside.specs.Inputs.{InputState, Lacks}
 use Rattle.outside.specs.Reading.{IfTold, OpensNone, OpensNamed}
@@ -33,8 +33,8 @@ use Rattle.synoptic_cli.specs.declared.status.Status.TheVariants.{Done, Usage, E
 use Rattle.synoptic_cli.specs.declared.status.Source.TheVariants as sources
 use Rattle.synoptic_cli.specs.declared.model_stage.ModelHalt.{ModelHalt}
 use Rattle.synoptic_cli.specs.declared.model_stage.ModelHalt.TheVariants as halts
-use Rattle.synoptic_cli.specs.Task.{rules_name}
-use Rattle.synoptic_cli.specs.Stages.{Stage, SoFar, Stop, at_start, input_count, reads, stages_of}
+use Rattle.synoptic_cli.specs.Task.{input_count, rules_name, Stage, stages_of}
+use Rattle.synoptic_cli.specs.Stages.{SoFar, Stop, at_start, reads}
 use Rattle.synoptic_cli.specs.Endings.{IsTold, SomeBytes, OpenedAll, ReadAll}
 use Rattle.synoptic_cli.specs.Causes.{HasCause, world}
 
@@ -80,6 +80,7 @@ pub record RefusesFile (old new : InputState) (name : List ℕ) (e : FileError) 
   pub bytes : List ℕ
   pub told : IsTold old.files name bytes
   pub read : model_file.reads bytes ≡ Err e
+  pub not_memory : e ≢ file_error.Memory
   pub opened : Opened 1 old new
   pub rest : IfTold old.files name (λ content. new.rest ≡ Some (drop (MAX_MODEL_BYTES + 1) content))
 
@@ -113,8 +114,7 @@ form_with (Some rules) = form.Rules rules
 abbrev pub AreAlikeForms : Form → Form → Type 0
 AreAlikeForms form.Plain form.Plain = ⊤
 AreAlikeForms (form.Rules rules) (form.Rules others) = AreAlike rules others
-AreAlikeForms form.Plain (form.Rules others) = ⊥
-AreAlikeForms (form.Rules rules) form.Plain = ⊥
+AreAlikeForms f g = ⊥
 
 -- how the program reads its lines by what it holds
 abbrev pub held_form : rust.SoFar → Form
@@ -159,16 +159,10 @@ pub record ReadsTask (task : Task) (old new : InputState) (material : Material) 
 -- a status that comes with an answer
 abbrev pub IsVerdict : Status → Type 0
 IsVerdict Done = ⊤
-IsVerdict Usage = ⊥
-IsVerdict (Expressions e) = ⊥
-IsVerdict (Log fault) = ⊥
-IsVerdict (Limit kind) = ⊥
-IsVerdict (ReadFault source) = ⊥
-IsVerdict WriteFault = ⊥
-IsVerdict Memory = ⊥
-IsVerdict (ModelFile e) = ⊥
+IsVerdict status = ⊥
 
--- what a command gives is what it is to answer, with a verdict, or the limit that it is to stop at; where memory is wanted nothing is said
+-- what a command gives is what it is to answer, with a verdict, or the limit that it is to stop at; where memory is
+-- wanted nothing is said
 abbrev pub Gives : (Result Answer LimitKind → Type 0) → Result Answer NoAnswer → Type 0
 Gives ToAnswer (Ok a) = ToAnswer (Ok a) × IsVerdict a.status
 Gives ToAnswer (Err (no_answer.Limit kind)) = ToAnswer (Err kind)

@@ -3,7 +3,7 @@ ghost use Rattle.std.specs.Prelude.{◌≡◌, ◌++◌, Some, codes, decimal, o
 ghost use Rattle.std.specs.List.{flat_map};
 ghost use Rattle.outside.specs.Sinks.{WholeGives};
 ghost use Rattle.command_line.specs.Task.{task_held};
-ghost use Rattle.synoptic_cli.specs.Messages.{shown, shown_source, rule_message, line_message, log_message, limit_message, field_name, file_fault, read_message, task_message, Tells};
+ghost use Rattle.synoptic_cli.specs.Messages.{shown, shown_source, rule_message, line_message, log_message, limit_message, field_name, file_fault, task_message, Tells};
 
 use crate::status::{LimitKind, LogFault, Source, Status};
 use crate::task::source_name;
@@ -183,7 +183,8 @@ fn write_read_fault<E: Sink>(
     err: &mut E,
 ) -> Result<(), Failed>
     ensures { WholeGives (E.state err.old)
-        (read_message (option_map (λ t. task_held t.now) task.entry) source) result (E.state err.new) }
+        (codes "synoptic: cannot read " ++ shown_source (option_map (λ t. task_held t.now) task.entry) source
+        ++ codes "\n") result (E.state err.new) }
 {
     write_texts(
         &["synoptic: cannot read ", shown_source(task, source), "\n"],

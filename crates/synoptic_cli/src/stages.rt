@@ -8,7 +8,8 @@ ghost use Rattle.log_reader.specs.Inputs.{HasReadCause, ReadsLog, inputs_of};
 ghost use Rattle.log_reader.specs.Views.{form_view};
 ghost use Rattle.command_line.specs.Task.{task_held};
 ghost use Rattle.synoptic_cli.specs.Causes.{KeepsCounts};
-ghost use Rattle.synoptic_cli.specs.Stages.{at_start, log_stages, model_stages, no_model, rules_stages};
+ghost use Rattle.synoptic_cli.specs.Task.{log_stages, model_stages, rules_stages};
+ghost use Rattle.synoptic_cli.specs.Stages.{at_start, no_model};
 ghost use Rattle.synoptic_cli.specs.Steps.{Ends, IsHeld, LogHalts, ModelHalts, Reads, ReadsTask, form_with, held_form, setting_of};
 
 use crate::material::Material;

@@ -6,20 +6,20 @@ ghost use Rattle.command_line.specs.Task.{form_held, task_held};
 ghost use Rattle.synoptic_cli.specs.Task.{rules_name, source_name};
 
 use crate::status::Source;
-use command_line::{Form, Task};
+use command_line::{LineForm, Task};
 use std::alloc::{AllocError, Global};
 
 /// So many files are more than a log has.
 const TOO_MANY_FILES: usize = 4_294_967_296;
 
 /// The name of the file of rules, where lines are read by one.
-pub fn rules_name<'a>(form: Option<Form<'a>>) -> Option<&'a str>
+pub fn rules_name<'a>(form: Option<LineForm<'a>>) -> Option<&'a str>
     ensures { option_map (λ s. s.now) result ≡ rules_name (option_map form_held form.entry) }
 {
     match form {
         None => None,
-        Some(Form::Plain) => None,
-        Some(Form::Rules(name)) => Some(name),
+        Some(LineForm::Plain) => None,
+        Some(LineForm::Rules(name)) => Some(name),
     }
 }
 

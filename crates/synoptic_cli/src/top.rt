@@ -68,33 +68,38 @@ fn status_without_task(error: ParseError) -> Status
 /// `graph` reads the same log, and writes the edges of the graph that has one partition for each type, one
 /// a line, each with how many of the events that it leaves go along it. Without any FILE the log is
 /// standard input. With `-i` lines that nothing decides are skipped, though not those with a bad time, and
-/// with `-j` the files are one log.
+/// with `-j` the files are one log. `graph -m FILE` reads the model in that file and no log, and writes the
+/// edges that it lists.
 ///
-/// A run reads the inputs of its task stage after stage, the file of rules before the log; then the task's
-/// command answers what was read; then the answer is written.
+/// A run reads the inputs of its task stage after stage, the file of rules, the file of a model and the log,
+/// where the task has them; then the task's command answers what was read; then the answer is written.
 ///
 /// - `cause`: what each status says of the words, the inputs, the patterns and what was written.
 ///   - `Done`: each input was read to its end, and nothing in it is refused. The whole answer stands in
 ///     `out`. The invariants that `invariants` lists are exactly the candidates that hold, by places, of
 ///     every trace, in the candidates' order, none twice, and each type that they name has a text. The
 ///     partitions and edges that `graph` shows are exactly those of the traces where each event has the id
-///     that is its type's number, and each trace is the word of a path of that graph.
+///     that is its type's number, and each trace is the word of a path of that graph. What `graph -m` shows
+///     are the partitions and edges of the model that the file is read as.
 ///   - `Usage`: the words ask for nothing that is known, and nothing was opened, built or written.
 ///   - `Expressions`: the file of rules has this refusal; it was read to its end, or to one byte past its
 ///     limit. A pattern is too deep or too large only at the line that is named, where no line before it is
 ///     refused. Too large comes only where the patterns counted a refusal and may refuse this very pattern.
 ///   - `Log` and `Limit`: this is the first refusal of the log, in the order of its bytes, and the inputs
-///     up to the one with the line that is refused were opened, and no others; at the limit on all input,
-///     some of the log's.
+///     up to the one with the line that is refused, or with the byte past the limit on all input, were
+///     opened, and no others.
+///   - `ModelFile`: the file of the model has this refusal; it was read to its end, or to one byte past its
+///     limit, and no input after it was opened. It is never want of memory.
 ///   - `ReadFault`: the inputs counted a fault and may fail the input that is named, or it is the first
-///     that is not there, and nothing before it is refused. No input after it was opened.
+///     that is not there, nothing before it is refused, and no fault was counted. The inputs before it were
+///     opened, and no others but it, where its opening did not fail.
 ///   - `WriteFault`: `out` counted a fault, and has a front of the answer that `Done` would have written.
 ///   - `Memory`: memory was wanted, for the words, the inputs or the answer, or there are 2^32 files or
 ///     more; no clause says when. No more inputs were opened than the words ask for.
 ///
 ///   But for `Done` and `WriteFault`, `out` is untouched. At `Done` and `WriteFault` as many inputs were
-///   opened as were to be read, and at these and at `Expressions`, `Log` and `Limit` no fault of theirs was
-///   counted.
+///   opened as were to be read, and at these and at `Expressions`, `ModelFile`, `Log` and `Limit` no fault of
+///   theirs was counted.
 /// - `expected`: where the inputs tell their files and no fault or refusal was counted, the status is the
 ///   one that the words and the files have (`runs_end_alike`: there is one alone), but for want of memory,
 ///   and for a pattern that nests too deep at the line named.

@@ -1,6 +1,7 @@
 -- `graph`: the graph of a log that has one partition for each type.
 use Rattle.std.specs.Prelude.{ℕ, ◌≡◌, ◌≤◌, List, map, Some, Result, Ok}
 use Rattle.std.specs.List.{AllByRecursion}
+use Rattle.limits.specs.declared.TheConstants.{FIRST_TYPE}
 use Rattle.traces.specs.Words.{Log, words_of}
 use Rattle.partition_model.specs.Graphs.{Accepts}
 use Rattle.partition_model.specs.Assignments.{AllEvents, G, word_of}
@@ -33,9 +34,11 @@ pub record ShowsExactly (log : Log) : Type 0 where
   pub edges : AreEdges (edges_below (start_of log).used (start_of log).traces) (start_of log).traces
   pub accepted : AllByRecursion (Accepts (G (start_of log).traces)) (words_of log)
   -- for each edge listed, the partition that it leaves and the one that it enters are found
-  pub ends : AllByRecursion (λ e. IsFound log e.from × IsFound log e.to) (edges_below (start_of log).used (start_of log).traces)
+  pub ends : AllByRecursion (λ e. IsFound log e.from × IsFound log e.to)
+      (edges_below (start_of log).used (start_of log).traces)
   -- the type of each partition listed, but for the two ends, has a text
-  pub named : AllByRecursion (λ p. 2 ≤ p.id → HasText log.types p.typ) (partitions_below (start_of log).used (start_of log).traces)
+  pub named : AllByRecursion (λ p. FIRST_TYPE ≤ p.id → HasText log.types p.typ)
+      (partitions_below (start_of log).used (start_of log).traces)
 
 -- the answer: the graph of the log's first assignment is printed, an edge a line, and shows exactly what there is
 pub record Answers (m : Material) (r : Result Answer LimitKind) : Type 0 where

@@ -1,6 +1,7 @@
 -- `invariants`: the invariants that hold in every trace of a log.
 use Rattle.std.specs.Prelude.{ℕ, ◌≡◌, ◌↔◌, ◌⊎◌, ◌<◌, List, length, Contains, Some, slice_get, Result, Ok}
 use Rattle.std.specs.List.{AllByRecursion}
+use Rattle.limits.specs.declared.TheConstants.{INITIAL}
 use Rattle.traces.specs.Words.{Log, words_of}
 use Rattle.invariants.specs.Candidates.{candidates}
 use Rattle.invariants.specs.Mined.{mined, IsListed}
@@ -21,7 +22,8 @@ abbrev pub AreInOrder : Log → Type 0
 AreInOrder log =
     (j k m n : ℕ) (first second : Invariant)
     → slice_get (listed log) j ≡ Some first → slice_get (listed log) k ≡ Some second
-    → slice_get (candidates (length log.types)) m ≡ Some first → slice_get (candidates (length log.types)) n ≡ Some second
+    → slice_get (candidates (length log.types)) m ≡ Some first
+    → slice_get (candidates (length log.types)) n ≡ Some second
     → j < k → m < n
 
 -- no invariant is listed twice
@@ -35,7 +37,7 @@ pub record ListsExactly (log : Log) : Type 0 where
   pub members : (inv : Invariant) → Contains (listed log) inv ↔ IsListed (length log.types) (words_of log) inv
   pub order : AreInOrder log
   pub once : AreOnce log
-  pub named : AllByRecursion (λ inv. ((inv.a ≡ 0) ⊎ HasText log.types inv.a) × HasText log.types inv.b) (listed log)
+  pub named : AllByRecursion (λ inv. ((inv.a ≡ INITIAL) ⊎ HasText log.types inv.a) × HasText log.types inv.b) (listed log)
 
 -- the answer: they are printed, one a line, and are exactly those that hold
 pub record Answers (m : Material) (r : Result Answer LimitKind) : Type 0 where

@@ -1,6 +1,7 @@
 -- Types that an answer names.
 use Rattle.std.specs.Prelude.{ℕ, ◌≤◌, ◌-◌, List, IsSome, slice_get}
+use Rattle.limits.specs.declared.TheConstants.{FIRST_TYPE}
 
 -- the number is that of a type which has a text
 abbrev pub HasText : List (List ℕ) → ℕ → Type 0
-HasText types typ = (2 ≤ typ) × IsSome (slice_get types (typ - 2))
+HasText types typ = (FIRST_TYPE ≤ typ) × IsSome (slice_get types (typ - FIRST_TYPE))

@@ -3,7 +3,7 @@ use Rattle.log_reader.specs.declared.refusal.ReadError.TheVariants as refused
 use Rattle.command_line.specs.Task.{task_held}
 use Rattle.synoptic_cli.specs.declared.status.Status.{Status}
 use Rattle.synoptic_cli.specs.declared.model_stage.ModelHalt.TheVariants as halts
-use Rattle.synoptic_cli.specs.Stages.{model_stages, rules_stages}
+use Rattle.synoptic_cli.specs.Task.{model_stages, rules_stages}
 use Rattle.synoptic_cli.specs.Steps.{Ends}
 use Rattle.synoptic_cli.proofs.LogStage.{ReadAlike}
 use Rattle.synoptic_cli.proofs.ModelStage.{halt-memory, model-stage-ends}
