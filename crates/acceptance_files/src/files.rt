@@ -113,6 +113,20 @@ fn refusals_name_their_file(rt: HostRuntime) -> Result<(), Fail> {
 }
 
 #[test]
+fn many_files_are_read(rt: HostRuntime) -> Result<(), Fail> {
+    let files = [("a.log", "1 a\n")];
+    let mut words = split(rt.alloc(), "invariants -pj")?;
+    for _ in 0..300 {
+        words.push("a.log")?;
+    }
+    let ended = run_in(rt.alloc(), &over_files(&words, &files, 9, &[]))?;
+    assert_eq!(rt; ended.err.as_str(), "");
+    assert_eq!(rt; ended.status, Status::Done);
+    assert_eq!(rt; ended.out.as_str(), "INITIAL AlwaysFollowedBy \"a\"\n");
+    Ok(())
+}
+
+#[test]
 fn the_second_file_fails(rt: HostRuntime) -> Result<(), Fail> {
     let files = [("a.log", "1 a\n"), ("b.log", "1 b\n")];
     let words = ["invariants", "-p", "a.log", "b.log"];

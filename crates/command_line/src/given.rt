@@ -95,12 +95,13 @@ fn given_of<'a>(alloc: Global, matches: &ArgMatches<'a>) -> Result<Given<'a>, Al
 
 /// Whether `clap` wanted memory.
 fn is_for_memory(error: &Error) -> bool
-    ensures { result ≡ false → kind_of error.now ≢ OutOfMemory }
+    ensures wanted { result ≡ true → kind_of error.now ≡ OutOfMemory }
+    ensures other { result ≡ false → kind_of error.now ≢ OutOfMemory }
 {
     error.kind() == ErrorKind::OutOfMemory
 }
 
-/// What `clap` makes of the words; each of its faults but want of memory is `Usage`.
+/// What `clap` makes of the words; each of its faults but want of memory is answered by `Usage`.
 fn matches_of<'a>(alloc: Global, words: &'a [String]) -> Result<ArgMatches<'a>, ParseError>
     ensures taken { IfOk result (λ m. is_taken (map string_bytes words.entry.now) ≡ true) }
     ensures rows { IfOk result (λ m. rows_of (found_of m) ≡ rows_for (map string_bytes words.entry.now)) }

@@ -87,7 +87,8 @@ fn by_table<'a>(given: Given<'a>) -> Option<Task<'a>>
 
 /// The task that the words of the command line, without the program's name, ask for.
 ///
-/// `Usage` comes exactly where they ask for none, `Memory` only where memory was wanted.
+/// A task comes only where they ask for it, and `Usage` only where they ask for none. In the place of either `Memory` may
+/// come, where memory was wanted.
 pub fn parse<'a>(alloc: Global, words: &'a [String]) -> Result<Task<'a>, ParseError>
     ensures ok { IfOk result (λ t. task_of (map string_bytes words.entry.now) ≡ Some (task_held t)) }
     ensures usage { result ≡ Err ParseError.Usage → task_of (map string_bytes words.entry.now) ≡ None }

@@ -1,5 +1,5 @@
 -- What is written where errors go, and the status of the process.
-use Rattle.std.specs.Prelude.{ℕ, ◌==◌, ◌⊎◌, List, [], ◌++◌, length, codes, decimal, Option, Some, None, if◌then◌else◌}
+use Rattle.std.specs.Prelude.{ℕ, ◌≡◌, ◌==◌, ◌⊎◌, List, [], ◌++◌, length, codes, decimal, Option, Some, None, if◌then◌else◌}
 use Rattle.std.specs.Io.KnownBytes.{Appends}
 use Rattle.outside.specs.Counts.{Rose}
 use Rattle.outside.specs.Sinks.{SinkState, AppendsFront}
@@ -96,10 +96,11 @@ task_message task (ModelFile e) = codes "synoptic: model file: " ++ file_fault e
 abbrev pub message_of : List (List ℕ) → Status → List ℕ
 message_of words status = task_message (task_of words) status
 
--- the whole text was appended, or a front of it and the count rose
+-- the whole text was appended and no fault was counted, or a front of it and the count rose
 abbrev pub Tells : List ℕ → SinkState → SinkState → Type 0
 Tells text before after =
-    Appends before.written after.written text ⊎ (AppendsFront before text after × Rose before.faults after.faults)
+    (Appends before.written after.written text × (after.faults ≡ before.faults))
+    ⊎ (AppendsFront before text after × Rose before.faults after.faults)
 
 -- the status of the process
 abbrev pub code_of : Status → ℕ

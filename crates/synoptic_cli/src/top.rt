@@ -107,7 +107,7 @@ fn status_without_task(error: ParseError) -> Status
 /// - `count`: no pattern was refused for its size, but where that is the answer.
 /// - `stays`: the inputs' files, the names that they may fail and the patterns that may be refused stay as
 ///   they were.
-/// - `told`: `err` has the status's message, or a front of it where `err` failed. It changes no status.
+/// - `told`: `err` has the status's message and counted no fault, or a front of it where it counted one.
 pub fn run<I: Inputs, P: Patterns, O: Sink, E: Sink>(
     alloc: Global,
     words: &[String],

@@ -18,4 +18,4 @@ returns-in-Ok-try_get_matches_from-clause-rows c =
 pub returns-clause-usage : goal.returns-clause-usage
 returns-clause-usage c same =
     let words : List Text = map string_bytes c.args.words.now in
-    ap (λ (a : App). takes a words) (sym c.in-Ok.ensures) ∙ not_taken _ c.in-Err.error c.in-Err.ensures.passes (c.is_for_memory.ensures c.if-is_for_memory.false)
+    ap (λ (a : App). takes a words) (sym c.in-Ok.ensures) ∙ not_taken _ c.in-Err.error c.in-Err.ensures.passes (c.is_for_memory.ensures.other c.if-is_for_memory.false)
