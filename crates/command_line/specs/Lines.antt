@@ -5,38 +5,28 @@ use Rattle.command_line.specs.Task.{LineForm, Plain, Rules, Task, task_of}
 use Rattle.command_line.specs.declared.table.Command.{Command}
 use Rattle.command_line.specs.declared.table.Command.TheVariants as commands
 
--- a task on a log: the form, whether undecided lines are skipped and files joined, and the files
-abbrev pub on_log : Command → LineForm → Bool → Bool → List Text → Option Task
-on_log command form ignore join files =
+-- a task without a number: how lines are read, the model's file, what is skipped and joined, and the files
+abbrev pub asks : Command → Option LineForm → Option Text → Bool → Bool → List Text → Option Task
+asks command form model ignore join files =
     Some (record {
       command = command;
-      form = Some form;
-      model = None;
+      form = form;
+      model = model;
       ignore = ignore;
       join = join;
       number = None;
       files = files;
     })
 
--- the invariants of a log, and its graph
+-- the invariants of a log, its graph, and the graph of the model in a file
 abbrev pub invariants_of : LineForm → Bool → Bool → List Text → Option Task
-invariants_of form ignore join files = on_log commands.Invariants form ignore join files
+invariants_of form ignore join files = asks commands.Invariants (Some form) None ignore join files
 
 abbrev pub graph_of : LineForm → Bool → Bool → List Text → Option Task
-graph_of form ignore join files = on_log commands.Graph form ignore join files
+graph_of form ignore join files = asks commands.Graph (Some form) None ignore join files
 
--- the graph of the model in a file
 abbrev pub graph_of_model : Text → Option Task
-graph_of_model name =
-    Some (record {
-      command = commands.GraphOfModel;
-      form = None;
-      model = Some name;
-      ignore = false;
-      join = false;
-      number = None;
-      files = [];
-    })
+graph_of_model name = asks commands.GraphOfModel None (Some name) false false []
 
 -- lines that ask for invariants, or for a graph
 pub record TakesLines : Type 0 where

@@ -16,8 +16,7 @@ pub data LineForm : Type 0 where
   Plain : LineForm
   Rules : (name : Text) → LineForm
 
--- what to do; how lines are read, if a log is; the model's file, if one is read; whether undecided lines are skipped and
--- files are joined; the number, if one is asked for; and the log's files
+-- what to do, how lines are read, the model's file, what is skipped and joined, the number, and the log's files
 pub record Task : Type 0 where
   pub command : Command
   pub form : Option LineForm

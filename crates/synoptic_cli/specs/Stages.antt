@@ -54,8 +54,7 @@ reads_rules so_far (bytes ∷ more) = with_rules so_far (rules_of bytes)
 
 -- what the file of a model gives
 abbrev pub with_model : SoFar → Result Model FileError → Result SoFar Stop
-with_model so_far (Ok model) =
-    Ok (record { form = so_far.form; material = record { log = so_far.material.log; model = model } })
+with_model so_far (Ok model) = Ok (record so_far { material = record so_far.material { model = model } })
 with_model so_far (Err e) = Err (stop_after 1 (statuses.ModelFile e))
 
 abbrev pub reads_model : SoFar → List (List ℕ) → Result SoFar Stop
@@ -89,10 +88,7 @@ abbrev pub with_log : SoFar → Setting → ℕ → List (List ℕ) → Option R
 with_log so_far s count contents (Some e) = Err (stop_at (refused_input e contents) (status_of e))
 with_log so_far s count contents None =
     if nat_lt (length contents) count then Err (stop_after (length contents) (ReadFault (sources.Log (length contents))))
-    else Ok (record {
-      form = so_far.form;
-      material = record { log = log_of (events_of s contents); model = so_far.material.model };
-    })
+    else Ok (record so_far { material = record so_far.material { log = log_of (events_of s contents) } })
 
 abbrev pub reads_log : SoFar → Setting → ℕ → List (List ℕ) → Result SoFar Stop
 reads_log so_far s count contents = with_log so_far s count contents (first_refusal s contents)

@@ -161,8 +161,7 @@ abbrev pub IsVerdict : Status → Type 0
 IsVerdict Done = ⊤
 IsVerdict status = ⊥
 
--- what a command gives is what it is to answer, with a verdict, or the limit that it is to stop at; where memory is
--- wanted nothing is said
+-- what a command gives is what it is to answer, with a verdict, or its limit; where memory is wanted nothing is said
 abbrev pub Gives : (Result Answer LimitKind → Type 0) → Result Answer NoAnswer → Type 0
 Gives ToAnswer (Ok a) = ToAnswer (Ok a) × IsVerdict a.status
 Gives ToAnswer (Err (no_answer.Limit kind)) = ToAnswer (Err kind)
