@@ -31,6 +31,13 @@ pub record IsFirstSet (row : List Bool) (i : ℕ) : Type 0 where
   pub set : is_set row i ≡ true
   pub first : (k : ℕ) → k < i → is_set row k ≡ false
 
+-- this truth value of a row is true, at this place or behind it, and those between are false
+pub record IsNextSet (row : List Bool) (from i : ℕ) : Type 0 where
+  pub behind : from ≤ i
+  pub within : i < length row
+  pub set : is_set row i ≡ true
+  pub first : (k : ℕ) → from ≤ k → k < i → is_set row k ≡ false
+
 -- place by place: true in one of two rows or in both
 abbrev pub either : List Bool → List Bool → List Bool
 either = zip2 (λ x y. x || y)

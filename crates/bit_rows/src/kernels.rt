@@ -30,6 +30,16 @@ pub(crate) fn has_bit(word: u64, place: u32) -> bool
     (word >> place) & 1 == 1
 }
 
+/// The word without its bits below the place.
+pub(crate) fn from_place(word: u64, place: u32) -> u64
+    requires { place < 64 }
+    ensures fits { result < 2 ^ 64 }
+    ensures below { (i : ℕ) → i < place → bit_at result i ≡ 0 }
+    ensures behind { (i : ℕ) → place ≤ i → bit_at result i ≡ bit_at word i }
+{
+    word >> place << place
+}
+
 /// How many blocks of words, from the first, are 0.
 fn zero_blocks(words: &[u64], at: usize, blocks: usize) -> usize
     requires { at + blocks * LANES ≤ length words.now }

@@ -1,11 +1,11 @@
 //! The rows, and what is done with them.
 ghost use Rattle.std.specs.Prelude.{◌≡◌, ◌≢◌, ℕ, ◌*◌, ◌^◌, ◌<◌, ◌≤◌, ◌↔◌, true, false, length, replicate, slice_set, IfOk, IsTrue, MatchOption};
 ghost use Rattle.std.specs.Bool.{OnTrue, OnFalse};
-ghost use Rattle.bit_rows.specs.Tables.{row_at, is_set, HasShape, KeepsShape, IsBlank, IsFirstSet, either, both, without};
+ghost use Rattle.bit_rows.specs.Tables.{row_at, is_set, HasShape, KeepsShape, IsBlank, IsFirstSet, IsNextSet, either, both, without};
 
 use crate::kernels::{
-    and_not_words, and_words, clear_words, copy_words, first_word, has_bit, or_and_not_words,
-    or_and_words, or_words, with_bit,
+    and_not_words, and_words, clear_words, copy_words, first_word, from_place, has_bit,
+    or_and_not_words, or_and_words, or_words, with_bit,
 };
 use std::alloc::{AllocError, Global};
 use std::marker::Model;
@@ -103,6 +103,31 @@ impl Rows {
             return None;
         }
         Some(k * WORD_BITS + words[r * self.width + k].trailing_zeros() as usize)
+    }
+
+    /// The place of the first bit of row `r` that is on at place `from` or behind it; `None` where these are all off.
+    /// `from` may lie past the end of the row.
+    pub fn next_set(&self, r: usize, from: usize) -> Option<usize>
+        requires { r < length self.now }
+        ensures { MatchOption result ((i : ℕ) → from ≤ i → is_set (row_at self.now r) i ≡ false)
+            (λ i. IsNextSet (row_at self.now r) from i) }
+    {
+        if from >= self.bits {
+            return None;
+        }
+        let words = self.words.as_slice();
+        let start = r * self.width;
+        let here = from / WORD_BITS;
+        let rest = from_place(words[start + here], (from % WORD_BITS) as u32);
+        if rest != 0 {
+            return Some(here * WORD_BITS + rest.trailing_zeros() as usize);
+        }
+        let next = here + 1;
+        let k = next + first_word(words, start + next, self.width - next);
+        if k == self.width {
+            return None;
+        }
+        Some(k * WORD_BITS + words[start + k].trailing_zeros() as usize)
     }
 
     /// Makes row `to` the same as row `from`, which is another. All rows but `to` stay.

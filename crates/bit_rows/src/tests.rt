@@ -153,3 +153,44 @@ fn finds_the_first_bit(rt: HostRuntime) -> Result<(), Fail> {
     }
     Ok(())
 }
+
+/// Two rows with some bits on, on both sides of the ends of words.
+fn marked(alloc: Global) -> Result<Rows, AllocError>
+    ensures { IfOk result (λ made. HasShape made 2 1000) }
+{
+    let mut rows = Rows::make(alloc, 2, 1000)?;
+    rows.put(0, 0, true);
+    rows.put(0, 3, true);
+    rows.put(0, 63, true);
+    rows.put(0, 64, true);
+    rows.put(0, 130, true);
+    rows.put(0, 999, true);
+    rows.put(1, 5, true);
+    Ok(rows)
+}
+
+#[test]
+fn finds_the_next_bit(rt: HostRuntime) -> Result<(), Fail> {
+    let rows = marked(rt.alloc())?;
+    for (r, from, want) in [
+        (0, 0, Some(0)),
+        (0, 1, Some(3)),
+        (0, 3, Some(3)),
+        (0, 4, Some(63)),
+        (0, 63, Some(63)),
+        (0, 64, Some(64)),
+        (0, 65, Some(130)),
+        (0, 128, Some(130)),
+        (0, 131, Some(999)),
+        (0, 999, Some(999)),
+        (0, 1000, None),
+        (0, usize::MAX, None),
+        (1, 0, Some(5)),
+        (1, 6, None),
+        (1, 64, None),
+    ] {
+        assert!(rt; r < 2);
+        assert_eq!(rt; rows.next_set(r, from), want, "row {r} from {from}");
+    }
+    Ok(())
+}
