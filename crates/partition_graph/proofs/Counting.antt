@@ -40,7 +40,7 @@ pub room-for-edges : (t u : Tables) (before i : ℕ) (cells : List Cell) (d : Ce
     → u.counts ≡ t.counts → p < MAX_PARTITIONS → q < MAX_PARTITIONS → count_at u p q + edges_at before (get_or cells i d) p q < 2 ^ 32
 room-for-edges t u before i cells d p q l ids few k kept a b =
     let c : Cell = get_or cells i d in
-    let u1 : count_at u p q ≡ count_at t p q = ap (λ x. get_or x.items (q * MAX_PARTITIONS + p) 0) kept in
+    let u1 : count_at u p q ≡ count_at t p q = ap (λ (x : List ℕ). get_or x (q * MAX_PARTITIONS + p) 0) kept in
     let w : edges_along before (drop i cells) p q ≡ edges_at before c p q + edges_along (before_next c) (drop (i + 1) cells) p q = ap (λ cs. edges_along before cs p q) (rest-cons cells i d l) in
     let k1 : count_at t p q + edges_along before (drop i cells) p q ≡ edges_along INITIAL cells p q = k.counts p q a b in
     let two : AllByRecursion (λ (x : Cell). FIRST_TYPE ≤ x.id) cells = all_weaker HasId (λ (x : Cell). FIRST_TYPE ≤ x.id) cells (λ x h. h.0) (recursion_from_All HasId cells ids) in

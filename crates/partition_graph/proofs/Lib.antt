@@ -7,4 +7,9 @@ pub mod Counting
 pub mod Listing
 pub mod Gathered
 pub mod Moving
+pub mod Marking
+pub mod NextOnes
+pub mod Linked
+pub mod Clearing
+pub mod Joined
 pub mod Starting

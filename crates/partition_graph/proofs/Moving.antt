@@ -89,7 +89,7 @@ unmapped : (P : Event → Type 0) (cs : List Cell) → AllByRecursion P (map eve
 unmapped P [] a = tt
 unmapped P (c ∷ cs) a = (a.0, unmapped P cs a.1)
 
-all_cells : (P : Event → Type 0) (cs : List Cell) → AllByRecursion P (events (traces_of cs)) → AllByRecursion (λ (c : Cell). P (event_of c)) cs
+pub all_cells : (P : Event → Type 0) (cs : List Cell) → AllByRecursion P (events (traces_of cs)) → AllByRecursion (λ (c : Cell). P (event_of c)) cs
 all_cells P cs a = unmapped P cs (subst (λ (es : List Event). AllByRecursion P es) (events_are cs) a)
 
 both_cells : (cs : List Cell) → AllByRecursion (λ (c : Cell). FIRST_TYPE ≤ c.id) cs → AllByRecursion (λ (c : Cell). c.id < MAX_PARTITIONS) cs → AllByRecursion HasId cs

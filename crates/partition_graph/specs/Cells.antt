@@ -4,6 +4,7 @@ use Rattle.std.specs.List.{flat_map, AllByRecursion}
 use Rattle.limits.specs.declared.TheConstants.{TERMINAL, FIRST_TYPE}
 use Rattle.traces.specs.Words.{Log}
 use Rattle.partition_model.specs.Assignments.{Event, Assignment}
+use Rattle.partition_model.specs.Coarsening.{onto}
 use Rattle.partition_graph.specs.declared.cells.Cell.{Cell}
 use Rattle.partition_graph.specs.Parts.{inner_words_of}
 
@@ -64,3 +65,8 @@ moved_cells p q n [] = []
 moved_cells p q n (c ∷ cs) =
     record { typ = c.typ; last = c.last; id = if c.id == p && id_behind (c ∷ cs) == q then n else c.id }
     ∷ moved_cells p q n cs
+
+-- the same cells, where those of q have the id p
+abbrev pub joined_cells : ℕ → ℕ → List Cell → List Cell
+joined_cells p q [] = []
+joined_cells p q (c ∷ cs) = record { typ = c.typ; last = c.last; id = onto p q c.id } ∷ joined_cells p q cs

@@ -1,6 +1,11 @@
 pub mod Cells
 pub mod Counts
 pub mod Kept
+pub mod Links
+pub mod Marks
+pub mod MergedNeighbours
+pub mod Neighbours
+pub mod Nexts
 pub mod Parts
 pub mod Seen
 pub mod Starts

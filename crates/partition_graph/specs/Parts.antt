@@ -1,10 +1,11 @@
 -- What contracts see of a partition graph.
 use Rattle.std.specs.Prelude.{ℕ, ◌≡◌, ◌+◌, ◌<◌, true, List, length, map}
-use Rattle.limits.specs.declared.TheConstants.{FIRST_TYPE}
+use Rattle.limits.specs.declared.TheConstants.{FIRST_TYPE, MAX_PARTITIONS}
 use Rattle.traces.specs.Words.{Log}
 use Rattle.partition_model.specs.Graphs.{Graph}
 use Rattle.partition_model.specs.Assignments.{Assignment, by_type}
 use Rattle.partition_model.specs.Refinement.{split}
+use Rattle.partition_model.specs.Coarsening.{merge}
 
 -- the traces, each event with the id of its partition, and how many ids are used: those below this number
 pub record Parts : Type 0 where
@@ -22,6 +23,14 @@ start_of log = record { traces = by_type (inner_words_of log); used = length log
 -- the events of p that are followed at once by one of next have a new id, the next one that is not used
 abbrev pub divided : ℕ → ℕ → Parts → Parts
 divided p next parts = record { traces = split p next parts.used parts.traces; used = parts.used + 1 }
+
+-- the events of q go to p; all ids that were used still are
+abbrev pub joined : ℕ → ℕ → Parts → Parts
+joined p q parts = record { traces = merge p q parts.traces; used = parts.used }
+
+-- the id is used, and so one that can be
+abbrev pub IsUsed : Parts → ℕ → Type 0
+IsUsed parts p = (p < parts.used) × (p < MAX_PARTITIONS)
 
 -- edges go between ids below this number
 abbrev pub HasEdgesBelow : Graph → ℕ → Type 0

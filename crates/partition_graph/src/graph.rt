@@ -1,7 +1,8 @@
 //! The partitions of events, and the counts of edges.
-ghost use Rattle.std.specs.Prelude.{◌≡◌, ◌≤◌, ◌<◌, ◌+◌, ◌++◌, IfOk, OnOk, length, slice_index, slice_get, Some, MatchOption};
+ghost use Rattle.std.specs.Prelude.{◌≡◌, ◌≤◌, ◌<◌, ◌+◌, ◌++◌, IfOk, OnOk, length, slice_index, slice_get, Some, MatchOption, IfSome};
 
 use crate::cells::{Cell, gather};
+use crate::joining::join_cells;
 use crate::splitting::move_cells;
 use crate::tables::Tables;
 use invariants::{Edge, Partition, Seq};
@@ -42,7 +43,10 @@ impl Model for PartGraph {
 impl PartGraph {
     ghost use Rattle.partition_model.specs.Assignments.{edge_count, events, is_live, size, type_of, G, IsTyped};
     ghost use Rattle.partition_model.specs.Listings.{edges_below, edges_from, first_event, partitions_below, parts_of, AreBelow, IsLast};
-    ghost use Rattle.partition_graph.specs.Parts.{divided, start_of, HasEdgesBelow};
+    ghost use Rattle.partition_model.specs.Coarsening.{IsPair};
+    ghost use Rattle.partition_graph.specs.Parts.{divided, joined, start_of, HasEdgesBelow, IsUsed};
+    ghost use Rattle.partition_graph.specs.Nexts.{IsNextAnswer};
+    ghost use Rattle.std.specs.Bool.{OnTrue};
 
     /// The graph with one partition for each type, whose id is the type's number. It takes the memory for `MAX_PARTITIONS` ids.
     pub fn open(alloc: Global, traces: &TraceSet) -> Result<PartGraph, AllocError>
@@ -73,9 +77,19 @@ impl PartGraph {
         }
         let n = self.used;
         move_cells(&mut self.cells, p, next, n);
-        self.tables.recount(&self.cells);
+        self.tables.recount(&self.cells, n);
         self.used = n + 1;
         Some(n)
+    }
+
+    /// Gives the events of q to p, which are two partitions of one type with p before q. No event has the id q then,
+    /// and no split gives it again. It takes no memory.
+    pub fn merge(&mut self, p: u32, q: u32)
+        requires { IsPair (G (self.old).traces) p q }
+        ensures { self.new ≡ joined p q self.old }
+    {
+        join_cells(&mut self.cells, p, q);
+        self.tables.recount(&self.cells, self.used);
     }
 
     /// How many ids are used, the two ends counted: each id is less than this number. Some of them may have no events.
@@ -101,6 +115,33 @@ impl PartGraph {
             return 0;
         }
         self.tables.count_at(p, q)
+    }
+
+    /// Whether there is an edge from p to q.
+    pub(crate) fn has_edge(&self, p: u32, q: u32) -> bool
+        ensures value { result ≡ (G (self.now).traces).edge p q }
+        ensures within { OnTrue result (IsUsed self.now p × IsUsed self.now q) }
+    {
+        if p >= self.used || q >= self.used {
+            return false;
+        }
+        self.tables.count_at(p, q) > 0
+    }
+
+    /// The least id at or above `from` that has an edge to q, and None where there is none.
+    pub(crate) fn next_source(&self, q: u32, from: u32) -> Option<u32>
+        ensures next { IsNextAnswer (λ p. (G (self.now).traces).edge p q) from result }
+        ensures within { IfSome result (IsUsed self.now) }
+    {
+        self.tables.next_source(q, from)
+    }
+
+    /// The least id at or above `from` to which p has an edge, and None where there is none.
+    pub(crate) fn next_target(&self, p: u32, from: u32) -> Option<u32>
+        ensures next { IsNextAnswer (λ q. (G (self.now).traces).edge p q) from result }
+        ensures within { IfSome result (IsUsed self.now) }
+    {
+        self.tables.next_target(p, from)
     }
 
     /// How many events p has; of the two ends, how many traces there are.

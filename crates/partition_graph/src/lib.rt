@@ -2,8 +2,14 @@
 #![tactic(auto)]
 
 mod cells;
+mod edge_counts;
 mod graph;
+mod joining;
 mod law;
+mod links;
+#[cfg(test)]
+mod merge_tests;
+mod merged;
 mod splitting;
 mod tables;
 #[cfg(test)]
@@ -12,4 +18,5 @@ mod view;
 
 pub use graph::PartGraph;
 pub use law::starts_are_typed;
+pub use links::{Link, Links};
 pub use view::View;

@@ -1,9 +1,12 @@
 //! What is counted of cells: the type and the size of each id, and the edges between ids.
-ghost use Rattle.std.specs.Prelude.{◌≡◌, ◌+◌, ◌*◌, ◌<◌, ◌^◌, ℕ, length, slice_index, All, IfOk, if◌then◌else◌, ◌==◌};
+ghost use Rattle.std.specs.Prelude.{◌≡◌, ◌+◌, ◌<◌, ◌≤◌, ◌^◌, ℕ, length, slice_index, All, IfOk, if◌then◌else◌, ◌==◌};
 ghost use Rattle.limits.specs.declared.TheConstants.{MAX_PARTITIONS};
-ghost use Rattle.partition_graph.specs.Counts.{HasId, is_edge, edges_at};
+ghost use Rattle.partition_graph.specs.Counts.{HasId, edges_at};
+ghost use Rattle.partition_graph.specs.Marks.{is_counted};
+ghost use Rattle.partition_graph.specs.Nexts.{IsNextAnswer};
 
 use crate::cells::Cell;
+use crate::edge_counts::{EdgeCounts, no_counts};
 use limits::{INITIAL, MAX_PARTITIONS, TERMINAL};
 use std::alloc::{AllocError, Global};
 
@@ -17,15 +20,14 @@ pub struct Tables {
     types: Vec<u16>,
     /// How many cells each id has.
     sizes: Vec<u32>,
-    /// The counts of the edges: that from p to q stands at the place q * `MAX_PARTITIONS` + p.
-    counts: Vec<u32>,
+    /// The counts of the edges.
+    counts: EdgeCounts,
     ghost type_room: { length types.items ≡ MAX_PARTITIONS },
     ghost size_room: { length sizes.items ≡ MAX_PARTITIONS },
-    ghost count_room: { length counts.items ≡ MAX_PARTITIONS * MAX_PARTITIONS },
 }
 
 impl Tables {
-    ghost use Rattle.partition_graph.specs.Tables.{type_at, size_at, count_at, IsClear, IsCountOf};
+    ghost use Rattle.partition_graph.specs.Tables.{type_at, size_at, count_at, IsClear, IsClearFrom, IsCountOf};
 
     /// The tables of these cells.
     pub fn open(alloc: Global, cells: &[Cell]) -> Result<Tables, AllocError>
@@ -38,13 +40,15 @@ impl Tables {
         Ok(tables)
     }
 
-    /// Counts these cells, and nothing of what was counted before.
-    pub fn recount(&mut self, cells: &[Cell])
+    /// Counts these cells, and nothing of what was counted before. Nothing was counted of the ids from `used` on.
+    pub fn recount(&mut self, cells: &[Cell], used: u32)
         requires ids { All HasId cells.now }
         requires few { length cells.now < 2 ^ 32 }
+        requires limit { used ≤ MAX_PARTITIONS }
+        requires rest { IsClearFrom used self.old }
         ensures { IsCountOf self.new cells.now }
     {
-        self.clear();
+        self.clear(used as usize);
         self.count(cells);
     }
 
@@ -70,7 +74,21 @@ impl Tables {
         requires to { q < MAX_PARTITIONS }
         ensures { result ≡ count_at self.now p q }
     {
-        self.counts[q as usize * IDS + p as usize]
+        self.counts.get(p, q)
+    }
+
+    /// The least id at or above `from` from which an edge to q is counted, and None where there is none.
+    pub fn next_source(&self, q: u32, from: u32) -> Option<u32>
+        ensures { IsNextAnswer (λ p. is_counted (self.now).counts p q) from result }
+    {
+        self.counts.next_source(q, from)
+    }
+
+    /// The least id at or above `from` to which an edge from p is counted, and None where there is none.
+    pub fn next_target(&self, p: u32, from: u32) -> Option<u32>
+        ensures { IsNextAnswer (λ q. is_counted (self.now).counts p q) from result }
+    {
+        self.counts.next_target(p, from)
     }
 
     /// Tables in which nothing is counted.
@@ -79,7 +97,7 @@ impl Tables {
     {
         let types = no_types(alloc, IDS)?;
         let sizes = no_counts(alloc, IDS)?;
-        let counts = no_counts(alloc, IDS * IDS)?;
+        let counts = EdgeCounts::make(alloc)?;
         Ok(Tables {
             types,
             sizes,
@@ -87,13 +105,17 @@ impl Tables {
         })
     }
 
-    /// Leaves nothing counted.
-    fn clear(&mut self)
+    /// Leaves nothing counted, where nothing was counted of the ids from `used` on.
+    fn clear(&mut self, used: usize)
+        requires limit { used ≤ MAX_PARTITIONS }
+        requires rest { IsClearFrom used self.old }
         ensures { IsClear self.new }
     {
-        self.types.fill(0);
-        set_to_zero(&mut self.sizes);
-        set_to_zero(&mut self.counts);
+        for p in 0..used {
+            self.types[p] = 0;
+            self.sizes[p] = 0;
+        }
+        self.counts.clear(used);
     }
 
     /// Counts the cells, where nothing is counted yet.
@@ -138,23 +160,10 @@ impl Tables {
         ensures types { (self.new).types ≡ (self.old).types }
         ensures sizes { (self.new).sizes ≡ (self.old).sizes }
     {
-        self.count_edge(before, cell.id);
+        self.counts.add(before, cell.id);
         if cell.last {
-            self.count_edge(cell.id, TERMINAL);
+            self.counts.add(cell.id, TERMINAL);
         }
-    }
-
-    /// Adds an edge.
-    fn count_edge(&mut self, from: u32, to: u32)
-        requires from { from < MAX_PARTITIONS }
-        requires to { to < MAX_PARTITIONS }
-        requires few { count_at self.old from to + 1 < 2 ^ 32 }
-        ensures counts { (p q : ℕ) → p < MAX_PARTITIONS → q < MAX_PARTITIONS
-            → count_at self.new p q ≡ count_at self.old p q + is_edge from to p q }
-        ensures types { (self.new).types ≡ (self.old).types }
-        ensures sizes { (self.new).sizes ≡ (self.old).sizes }
-    {
-        self.counts[to as usize * IDS + from as usize] += 1;
     }
 }
 
@@ -164,21 +173,4 @@ fn no_types(alloc: Global, room: usize) -> Result<Vec<u16>, AllocError>
     ensures zero { IfOk result (λ table. (k : ℕ) → slice_index table.items k ≡ 0) }
 {
     vec![in alloc; 0; room]
-}
-
-/// So many counts of 0.
-fn no_counts(alloc: Global, room: usize) -> Result<Vec<u32>, AllocError>
-    ensures room { IfOk result (λ table. length table.items ≡ room) }
-    ensures zero { IfOk result (λ table. (k : ℕ) → slice_index table.items k ≡ 0) }
-{
-    vec![in alloc; 0; room]
-}
-
-/// Sets all counts to 0. It is no `fill`, which takes some ten times as long where code is not optimized.
-fn set_to_zero(counts: &mut [u32])
-    ensures { (k : ℕ) → slice_index counts.new k ≡ 0 }
-{
-    for count in counts.iter_mut() {
-        *count = 0;
-    }
 }

@@ -6,7 +6,7 @@ use std::test::Fail;
 use traces::{Builder, TraceSet};
 
 /// The traces of a log, each given as the texts of its types.
-fn log(rt: &impl Abort, alloc: Global, traces: &[&[&str]]) -> Result<TraceSet, Fail> {
+pub fn log(rt: &impl Abort, alloc: Global, traces: &[&[&str]]) -> Result<TraceSet, Fail> {
     let mut builder = Builder::new(alloc);
     for (t, types) in traces.iter().enumerate() {
         for typ in types.iter() {
@@ -18,7 +18,7 @@ fn log(rt: &impl Abort, alloc: Global, traces: &[&[&str]]) -> Result<TraceSet, F
 }
 
 /// Compares partitions and edges with rows of numbers.
-fn assert_graph(
+pub fn assert_graph(
     rt: &impl Abort,
     alloc: Global,
     graph: &PartGraph,

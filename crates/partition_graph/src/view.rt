@@ -1,16 +1,21 @@
 //! A graph as it is asked for paths.
-ghost use Rattle.std.specs.Prelude.{◌≡◌, ◌≤◌};
+ghost use Rattle.std.specs.Prelude.{◌≡◌, ◌≤◌, ◌<◌, IfSome, MatchOption};
 ghost use Rattle.partition_graph.specs.Parts.{HasEdgesBelow};
-ghost use Rattle.partition_graph.specs.Seen.{parts_seen, seen};
+ghost use Rattle.partition_graph.specs.Neighbours.{HasNoSource, HasNoTarget, IsNextSource, IsNextTarget};
+ghost use Rattle.partition_graph.specs.Seen.{parts_seen, seen, IsSound};
 
 use crate::graph::PartGraph;
+use crate::merged::{has_merged_edge, next_merged_source, next_merged_target};
 use limits::{FIRST_TYPE, MAX_PARTITIONS};
 
-/// A graph to be asked for paths.
+/// A graph to be asked for paths and for neighbours.
 #[derive(Clone, Copy)]
 pub enum View<'a> {
     /// The graph as it is.
     Plain(&'a PartGraph),
+    /// The graph as it would be after `merge(p, q)`, without the merge: the events of q are those of p. The two are
+    /// partitions of one type, p before q; where they are not, the view still shows q replaced by p in the edges.
+    Merged(&'a PartGraph, u32, u32),
 }
 
 impl View<'_> {
@@ -20,15 +25,18 @@ impl View<'_> {
     {
         match self {
             View::Plain(graph) => graph.edge_count(p, q) > 0,
+            View::Merged(graph, kept, gone) => has_merged_edge(graph, *kept, *gone, p, q),
         }
     }
 
-    /// The type of p, and 0 where p is neither an end nor has events.
+    /// The type of p, and 0 where p is neither an end nor has events. In a merged view the id that is gone still has the
+    /// type of its events.
     pub fn type_of(&self, p: u32) -> u16
         ensures { result ≡ (seen self.now).typ p }
     {
         match self {
             View::Plain(graph) => graph.type_of(p),
+            View::Merged(graph, _, _) => graph.type_of(p),
         }
     }
 
@@ -37,10 +45,37 @@ impl View<'_> {
         ensures value { result ≡ (parts_seen self.now).used }
         ensures two { FIRST_TYPE ≤ result }
         ensures limit { result ≤ MAX_PARTITIONS }
-        ensures within { HasEdgesBelow (seen self.now) result }
+        ensures within { IsSound self.now → HasEdgesBelow (seen self.now) result }
     {
         match self {
             View::Plain(graph) => graph.ids_used(),
+            View::Merged(graph, _, _) => graph.ids_used(),
+        }
+    }
+
+    /// The least id at or above `from` that has an edge to q, and None where there is none.
+    pub fn next_source(&self, q: u32, from: u32) -> Option<u32>
+        requires { IsSound self.now }
+        ensures next { MatchOption result
+            (HasNoSource (seen self.now) q from) (λ p. IsNextSource (seen self.now) q from p) }
+        ensures within { IfSome result (λ p. (p < (parts_seen self.now).used) × (p < MAX_PARTITIONS)) }
+    {
+        match self {
+            View::Plain(graph) => graph.next_source(q, from),
+            View::Merged(graph, kept, gone) => next_merged_source(graph, *kept, *gone, q, from),
+        }
+    }
+
+    /// The least id at or above `from` to which p has an edge, and None where there is none.
+    pub fn next_target(&self, p: u32, from: u32) -> Option<u32>
+        requires { IsSound self.now }
+        ensures next { MatchOption result
+            (HasNoTarget (seen self.now) p from) (λ q. IsNextTarget (seen self.now) p from q) }
+        ensures within { IfSome result (λ q. (q < (parts_seen self.now).used) × (q < MAX_PARTITIONS)) }
+    {
+        match self {
+            View::Plain(graph) => graph.next_target(p, from),
+            View::Merged(graph, kept, gone) => next_merged_target(graph, *kept, *gone, p, from),
         }
     }
 }

@@ -8,6 +8,7 @@ use Rattle.partition_graph.specs.Cells.{traces_of, moved_cells}
 use Rattle.partition_graph.specs.Kept.{IsKept}
 use Rattle.partition_graph.specs.Parts.{Parts}
 use Rattle.partition_graph.proofs.Gathered.{starts}
+use Rattle.partition_graph.proofs.Joined.{clear_from}
 use Rattle.partition_graph.proofs.Moving.{moved_are, moved_typed, moved_below, moved_ids, still_kept}
 use Rattle.partition_graph.proofs.graph.PartGraph.split.Goals as goal
 use Rattle.partition_graph.proofs.graph.PartGraph.split.Goals.{After-deref}
@@ -30,6 +31,11 @@ recount-requires-clause-ids c =
     moved_ids (g.used + 1) c.deref.result.now (let l : g.used < MAX_PARTITIONS = few_used d in omega arith)
     (moved_below c.args.p c.args.next g.used g.cells.items c.deref.result.now g.firsts.items g.tables c.self.invariant (moved d))
     (moved_typed c.args.p c.args.next g.used g.cells.items c.deref.result.now g.firsts.items g.tables c.self.invariant (moved d))
+
+pub recount-requires-clause-rest : goal.recount-requires-clause-rest
+recount-requires-clause-rest c =
+    let g = c.self.inside in
+    clear_from g.used g.cells.items g.firsts.items g.tables c.self.invariant
 
 pub invariant_of-self : goal.invariant_of-self
 invariant_of-self c =

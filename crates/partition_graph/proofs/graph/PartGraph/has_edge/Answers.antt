@@ -1,0 +1,14 @@
+use Rattle.std.proofs.Common.{◌≡◌, false, ltb, ap, subst, inl, inr}
+use Rattle.partition_model.specs.Assignments.{edge_count}
+use Rattle.partition_graph.specs.Cells.{traces_of}
+use Rattle.partition_graph.specs.Parts.{Parts}
+use Rattle.partition_graph.proofs.UnusedIds.{no_edge}
+use Rattle.partition_graph.proofs.graph.PartGraph.has_edge.Goals as goal
+use Rattle.partition_graph.proofs.graph.PartGraph.has_edge.Goals.{then-p-self-via-then-p-self, then-p-self-via-else-p-self+then-q-self}
+
+pub returns-then-p-self-clause-value : goal.returns-then-p-self-clause-value
+returns-then-p-self-clause-value c =
+    subst (λ (x : Parts). false ≡ ltb 0 (edge_count x.traces c.args.p c.args.q)) c.self.view_is
+    (ap (λ n. ltb 0 n)
+    (no_edge (traces_of c.self.inside.cells.items) c.self.inside.used c.self.invariant.two c.self.invariant.below c.args.p c.args.q
+    (elim c.then-p-self.branch [ then-p-self-via-then-p-self w ↦ inl w.if-p-self.true | then-p-self-via-else-p-self+then-q-self w ↦ inr w.if-q-self.true ])))

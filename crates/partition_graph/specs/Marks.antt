@@ -1,0 +1,37 @@
+-- The counts of edges, and the rows that tell which of them are above 0.
+use Rattle.std.specs.Prelude.{ℕ, ◌≡◌, ◌+◌, ◌*◌, ◌<◌, ◌&&◌, Bool, true, nat_lt, List, length, slice_index}
+use Rattle.limits.specs.declared.TheConstants.{MAX_PARTITIONS}
+use Rattle.bit_rows.specs.Tables.{row_at, is_set, HasShape}
+
+-- the count of the edge from p to q, in a table by targets
+abbrev pub count_in : List ℕ → ℕ → ℕ → ℕ
+count_in counts p q = slice_index counts (q * MAX_PARTITIONS + p)
+
+-- whether the edge from p to q is counted
+abbrev pub is_counted : List ℕ → ℕ → ℕ → Bool
+is_counted counts p q = nat_lt p MAX_PARTITIONS && (nat_lt q MAX_PARTITIONS && nat_lt 0 (count_in counts p q))
+
+-- no edge is counted
+abbrev pub NoneCounted : List ℕ → Type 0
+NoneCounted counts = (p q : ℕ) → p < MAX_PARTITIONS → q < MAX_PARTITIONS → count_in counts p q ≡ 0
+
+-- a row and a place for each id
+abbrev pub HasIdRows : List (List Bool) → Type 0
+HasIdRows rows = HasShape rows MAX_PARTITIONS MAX_PARTITIONS
+
+-- row q of the sources has the ids from which an edge to q is counted, and row p of the targets those to which
+-- one from p is counted
+pub record IsMarked (counts : List ℕ) (sources targets : List (List Bool)) : Type 0 where
+  pub room : length counts ≡ MAX_PARTITIONS * MAX_PARTITIONS
+  pub source_rows : HasIdRows sources
+  pub target_rows : HasIdRows targets
+  pub sources_are : (p q : ℕ) → p < MAX_PARTITIONS → q < MAX_PARTITIONS
+      → is_set (row_at sources q) p ≡ nat_lt 0 (count_in counts p q)
+  pub targets_are : (p q : ℕ) → p < MAX_PARTITIONS → q < MAX_PARTITIONS
+      → is_set (row_at targets p) q ≡ nat_lt 0 (count_in counts p q)
+
+-- the rows are the old ones, but place i of row r is on
+pub record IsWithOn (r i : ℕ) (old new : List (List Bool)) : Type 0 where
+  pub rows : HasIdRows new
+  pub here : is_set (row_at new r) i ≡ true
+  pub others : (s j : ℕ) → (s ≡ r → j ≡ i → ⊥) → is_set (row_at new s) j ≡ is_set (row_at old s) j
