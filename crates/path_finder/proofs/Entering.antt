@@ -12,7 +12,7 @@ use Rattle.path_finder.specs.declared.table.TheConstants.{OPEN}
 use Rattle.path_finder.specs.declared.pair.Pair.{Pair}
 use Rattle.path_finder.specs.declared.search.Turn.{Turn}
 use Rattle.path_finder.specs.Walks.{Asked, IsPairOf, Leads, EndsBadly, Finishes}
-use Rattle.path_finder.specs.Tables.{Entries, place, at, open_count, with_pair, IsSearched, Grows, IsBegun}
+use Rattle.path_finder.specs.Tables.{Entries, place, at, open_count, with_pair, IsClosedAt, IsSearched, Grows, IsBegun}
 use Rattle.path_finder.specs.Turns.{IsTurn}
 
 -- elements of a list with one more at its end
@@ -226,6 +226,34 @@ entered_now a t e r few tn pr o ld =
     let l : place r < a.ids * STATES = place_within a r pr in
     let v : at (with_pair e r t.distance) r ≡ t.distance = at_same e r r t.distance (omega arith) refl in
     omega arith
+
+-- the turn is over where all pairs that lead to its pair are entered
+pub turn_done : (a : Asked) (t : Turn) (e : Entries) → IsTurn a t e → ((p : Pair) → IsPairOf a p → Leads a p t.pair → at e p < OPEN) → IsSearched a (t.next + 1) e
+turn_done a t e tn all =
+    let s : IsSearched a t.next e = tn.searched in
+    record {
+      size = s.size;
+      count = s.count;
+      sound = s.sound;
+      found = s.found;
+      listed = s.listed;
+      order = s.order;
+      near = λ j r q er eq.
+          let x : at e q ≤ at e t.pair + 1 = s.near j t.pair q tn.pair eq in
+          let y : at e t.pair ≤ at e r = s.order t.next (t.next + 1) t.pair r (omega arith) tn.pair er in
+          omega arith;
+      done = λ i r l er. elim (cases_eq i t.next) [
+        | inl at-turn ↦
+            let same : t.pair ≡ r = same_Some t.pair r (sym tn.pair ∙ (ap (λ (j : ℕ). slice_get e.entered j) (sym at-turn) ∙ er)) in
+            subst (λ (q : Pair). IsClosedAt a e q) same closed
+        | inr other ↦ s.done i r (omega arith) er
+      ];
+    }
+  where
+    closed : IsClosedAt a e t.pair
+    closed p pp d =
+        let f : (i : ℕ) × (slice_get e.entered i ≡ Some p) = tn.searched.found p pp (all p pp d) in
+        tn.searched.near f.0 t.pair p tn.pair f.1
 
 -- the search has begun with one bad state more, that of TERMINAL in it
 pub end_enters : (a : Asked) (e : Entries) (s : ℕ) → 2 ≤ a.ids → s < 3 → IsBegun a s e → is_bad a.inv s ≡ true → IsBegun a (s + 1) (with_pair e (record { id = 1; state = s }) 0)

@@ -1,3 +1,5 @@
 pub mod Entering
 pub mod Measuring
 pub mod Least
+pub mod Reaching
+pub mod Narrow

@@ -1,17 +1,23 @@
 //! The finder.
-ghost use Rattle.std.specs.Prelude.{◌≡◌, ◌≤◌, ◌<◌, ◌+◌, ◌*◌, IfSome, MatchOption, length, vec_capacity};
-ghost use Rattle.path_finder.specs.declared.table.TheConstants.{MAX_PAIRS};
-ghost use Rattle.partition_graph.specs.Seen.{seen};
-ghost use Rattle.partition_model.specs.Graphs.{IsLeastViolation, Satisfies};
+ghost use Rattle.std.specs.Prelude.{◌≡◌, ◌≤◌, ◌<◌, ◌+◌, ◌*◌, IfSome, MatchOption, true, false, length, vec_capacity};
+ghost use Rattle.path_finder.specs.declared.table.TheConstants.{MAX_ENTRIES};
+ghost use Rattle.partition_graph.specs.Seen.{seen, IsSound};
+ghost use Rattle.partition_model.specs.Assignments.{G};
+ghost use Rattle.partition_model.specs.Coarsening.{IsPair};
+ghost use Rattle.partition_model.specs.Graphs.{IsLeastViolation, Satisfies, Merged as merged_graph};
+ghost use Rattle.path_finder.specs.Asking.{asked};
+ghost use Rattle.path_finder.specs.Nearness.{key_of, AvoidsGone};
+ghost use Rattle.path_finder.specs.Walks.{IsLeastOf};
 
 use crate::pair::Pair;
 use crate::question::Question;
+use crate::reach::Around;
 use crate::search::measure;
-use crate::table::{MAX_PAIRS, OPEN, Table};
+use crate::table::{MAX_ENTRIES, OPEN, Table};
 use crate::trace::trace;
-use invariants::{Invariant, Monitor};
+use invariants::{Invariant, Kind, Monitor};
 use limits::{INITIAL, MAX_PARTITIONS};
-use partition_graph::View;
+use partition_graph::{PartGraph, View};
 use std::alloc::{AllocError, Global};
 use std::sync::ledger::Ledger;
 use steps::Steps;
@@ -20,21 +26,65 @@ use steps::Steps;
 #[derive(Drop)]
 pub struct Finder {
     table: Table,
+    around: Around,
     path: Vec<u32>,
-    ghost room: { MAX_PAIRS < vec_capacity path },
+    ghost room: { MAX_ENTRIES < vec_capacity path },
+}
+
+/// Leaves the least violation in the path, and says whether there is one. It counts one step.
+fn search<L: Ledger>(
+    question: &Question<'_, '_>,
+    table: &mut Table,
+    path: &mut Vec<u32>,
+    steps: &mut Steps<L>,
+) -> bool
+    requires room { MAX_ENTRIES < vec_capacity path.old }
+    ensures satisfied { result ≡ false → Satisfies (asked question.now).graph (asked question.now).inv }
+    ensures found { result ≡ true → IsLeastOf (asked question.now) path.new.items }
+    ensures short { result ≡ true → length path.new.items ≤ MAX_ENTRIES + 1 }
+    ensures room { MAX_ENTRIES < vec_capacity path.new }
+    ensures counted { steps.new ≡ steps.old + 1 }
+{
+    steps.tick();
+    let start = Pair {
+        id: INITIAL,
+        state: question.state_at(Monitor::start(), INITIAL),
+    };
+    measure(question, table, start);
+    if table.distance(start) == OPEN {
+        return false;
+    }
+    trace(question, table, start, path);
+    true
+}
+
+/// The type that each word has which breaks the invariant.
+fn key_of(inv: Invariant) -> u16
+    ensures { result ≡ key_of inv.kind inv.a inv.b }
+{
+    match inv.kind {
+        Kind::AF | Kind::NF => inv.a,
+        Kind::AP => inv.b,
+    }
 }
 
 impl Finder {
     /// A finder with all the memory that its asks need. `AllocError` comes where there is not as much.
     pub fn make(alloc: Global) -> Result<Finder, AllocError> {
         let table = Table::make(alloc)?;
-        let path = Vec::with_capacity(alloc, MAX_PAIRS + 1)?;
-        Ok(Finder { table, path })
+        let around = Around::make(alloc)?;
+        let path = Vec::with_capacity(alloc, MAX_ENTRIES + 1)?;
+        Ok(Finder {
+            table,
+            around,
+            path,
+        })
     }
 
     /// The least violation of the invariant in the graph, or `None` where the graph satisfies it: of the paths that
     /// break the invariant one of the fewest ids, and of these the first in lexicographic order. It begins with
     /// INITIAL and ends with TERMINAL, and has at most one id more than there are pairs of an id and a state of a monitor.
+    /// In a merged view it never names the id that is gone.
     ///
     /// It counts one step, and takes no memory.
     pub fn least_violation<L: Ledger>(
@@ -43,23 +93,56 @@ impl Finder {
         inv: Invariant,
         steps: &mut Steps<L>,
     ) -> Option<&[u32]>
+        requires { IsSound view.now }
         ensures found { MatchOption result
             (Satisfies (seen view.now) inv)
             (λ path. IsLeastViolation (seen view.now) inv path.now) }
         ensures short { IfSome result (λ path. length path.now ≤ 3 * MAX_PARTITIONS + 1) }
+        ensures avoids { IfSome result (λ path. AvoidsGone view.now path.now) }
         ensures counted { steps.new ≡ steps.old + 1 }
     {
-        steps.tick();
-        let question = Question::new(view, inv);
-        let start = Pair {
-            id: INITIAL,
-            state: question.state_at(Monitor::start(), INITIAL),
-        };
-        measure(&question, &mut self.table, start);
-        if self.table.distance(start) == OPEN {
+        prove!(view.ids_used() <= MAX_PARTITIONS);
+        self.around.find_type(view, key_of(inv));
+        let question = Question::new(view, inv, &self.around);
+        if !search(&question, &mut self.table, &mut self.path, steps) {
             return None;
         }
-        trace(&question, &self.table, start, &mut self.path);
+        Some(&self.path)
+    }
+
+    /// The least violation in the graph as it would be after `merge(p, q)`, which has two partitions of one type in it,
+    /// or `None` where that graph satisfies the invariant: the answer of `least_violation` for the merged view. Where the
+    /// graph as it is is known to satisfy the invariant, a path that breaks it goes through the merged partition, and
+    /// only ids before and behind that one are looked at.
+    ///
+    /// It counts one step, and takes no memory.
+    pub fn least_loss<L: Ledger>(
+        &mut self,
+        graph: &PartGraph,
+        p: u32,
+        q: u32,
+        inv: Invariant,
+        satisfied: bool,
+        steps: &mut Steps<L>,
+    ) -> Option<&[u32]>
+        requires pair { IsPair (G (graph.now).traces) p q }
+        requires known { satisfied ≡ true → Satisfies (G (graph.now).traces) inv }
+        ensures found { MatchOption result
+            (Satisfies (merged_graph (G (graph.now).traces) p q) inv)
+            (λ path. IsLeastViolation (merged_graph (G (graph.now).traces) p q) inv path.now) }
+        ensures short { IfSome result (λ path. length path.now ≤ 3 * MAX_PARTITIONS + 1) }
+        ensures counted { steps.new ≡ steps.old + 1 }
+    {
+        if !satisfied {
+            return self.least_violation(&View::Merged(graph, p, q), inv, steps);
+        }
+        prove!(graph.ids_used() <= MAX_PARTITIONS);
+        let view = View::Merged(graph, p, q);
+        self.around.find(&view, p);
+        let question = Question::new(&view, inv, &self.around);
+        if !search(&question, &mut self.table, &mut self.path, steps) {
+            return None;
+        }
         Some(&self.path)
     }
 }

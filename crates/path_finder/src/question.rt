@@ -1,38 +1,48 @@
 //! What the finder is asked.
-ghost use Rattle.std.specs.Prelude.{◌≡◌, ◌≤◌, ◌<◌};
+ghost use Rattle.std.specs.Prelude.{◌≡◌, ◌≤◌, ◌<◌, IfSome, MatchOption};
 ghost use Rattle.limits.specs.declared.TheConstants.{FIRST_TYPE, MAX_PARTITIONS};
 ghost use Rattle.partition_graph.specs.Parts.{HasEdgesBelow};
-ghost use Rattle.partition_graph.specs.Seen.{seen};
+ghost use Rattle.partition_graph.specs.Seen.{seen, IsSound};
+ghost use Rattle.path_finder.specs.Keeping.{is_around};
+ghost use Rattle.path_finder.specs.Nearness.{narrowed};
+ghost use Rattle.path_finder.specs.Sound.{sound-prop};
 
+use crate::reach::Around;
 use invariants::{Invariant, Monitor};
 use limits::{FIRST_TYPE, MAX_PARTITIONS};
 use partition_graph::View;
 
-/// An invariant, and a graph that may break it. Edges go between the ids below `ids`.
+/// An invariant, and a graph that may break it. Edges go between the ids below `ids`, and those between some of these
+/// alone are looked at.
 #[derive(Drop)]
-pub(crate) struct Question<'a> {
-    view: &'a View<'a>,
+pub(crate) struct Question<'v, 'a> {
+    view: &'v View<'v>,
     inv: Invariant,
     ids: u32,
+    around: &'a Around,
     ghost two: { FIRST_TYPE ≤ ids },
     ghost few: { ids ≤ MAX_PARTITIONS },
-    ghost within: { HasEdgesBelow (seen view.now) ids },
+    ghost sound: { IsSound view.now } by { sound-prop view.now },
+    ghost within: { HasEdgesBelow (narrowed (is_around around.now) (seen view.now)) ids },
 }
 
-impl<'a> Question<'a> {
+impl<'v, 'a> Question<'v, 'a> {
     ghost use Rattle.invariants.specs.Monitors.{is_bad};
+    ghost use Rattle.partition_graph.specs.Neighbours.{HasNoSource, HasNoTarget, IsNextSource, IsNextTarget};
     ghost use Rattle.path_finder.specs.Asking.{asked};
     ghost use Rattle.path_finder.specs.Walks.{state_at};
 
-    /// The question whether the graph breaks the invariant.
-    pub fn new(view: &'a View<'a>, inv: Invariant) -> Question<'a>
-        ensures graph { (asked result).graph ≡ seen view.now }
+    /// The question whether the graph breaks the invariant by edges between these ids.
+    pub fn new(view: &'v View<'v>, inv: Invariant, around: &'a Around) -> Question<'v, 'a>
+        requires { IsSound view.now }
+        ensures graph { (asked result).graph ≡ narrowed (is_around around.now) (seen view.now) }
         ensures inv { (asked result).inv ≡ inv }
     {
         Question {
             view,
             inv,
             ids: view.ids_used(),
+            around,
         }
     }
 
@@ -45,11 +55,42 @@ impl<'a> Question<'a> {
         self.ids
     }
 
-    /// Whether there is an edge from p to q.
-    pub fn has_edge(&self, p: u32, q: u32) -> bool
-        ensures { result ≡ (asked self.now).graph.edge p q }
+    /// The least id at or above `from` that has an edge to q.
+    pub fn next_source(&self, q: u32, from: u32) -> Option<u32>
+        ensures next { MatchOption result
+            (HasNoSource (asked self.now).graph q from) (λ p. IsNextSource (asked self.now).graph q from p) }
+        ensures within { IfSome result (λ p. p < (asked self.now).ids) }
     {
-        self.view.has_edge(p, q)
+        if !self.around.has(q) {
+            return None;
+        }
+        let mut from = from;
+        while let Some(p) = self.view.next_source(q, from) {
+            if self.around.has(p) {
+                return Some(p);
+            }
+            from = p + 1;
+        }
+        None
+    }
+
+    /// The least id at or above `from` to which p has an edge.
+    pub fn next_target(&self, p: u32, from: u32) -> Option<u32>
+        ensures next { MatchOption result
+            (HasNoTarget (asked self.now).graph p from) (λ q. IsNextTarget (asked self.now).graph p from q) }
+        ensures within { IfSome result (λ q. q < (asked self.now).ids) }
+    {
+        if !self.around.has(p) {
+            return None;
+        }
+        let mut from = from;
+        while let Some(q) = self.view.next_target(p, from) {
+            if self.around.has(q) {
+                return Some(q);
+            }
+            from = q + 1;
+        }
+        None
     }
 
     /// The state after the type of q is read.

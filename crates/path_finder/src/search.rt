@@ -1,7 +1,7 @@
 //! The search backwards: the distances of pairs, from TERMINAL in the bad state on.
-ghost use Rattle.std.specs.Prelude.{◌≡◌, ◌<◌, ◌+◌};
+ghost use Rattle.std.specs.Prelude.{◌≡◌, ◌<◌, ◌+◌, true};
 ghost use Rattle.path_finder.specs.Asking.{asked};
-ghost use Rattle.path_finder.specs.Walks.{state_at, IsPairOf, Leads};
+ghost use Rattle.path_finder.specs.Walks.{IsPairOf, Leads};
 ghost use Rattle.path_finder.specs.Tables.{at, Grows, HasEnds, IsBegun, IsMeasured, IsSearched};
 ghost use Rattle.path_finder.specs.Turns.{IsTurn};
 
@@ -19,11 +19,11 @@ struct Turn {
     distance: u16,
 }
 
-/// Enters the pair, if it is open and an edge leads from it to the pair whose turn it is.
-fn enter_pair(question: &Question<'_>, table: &mut Table, turn: Turn, pair: Pair)
+/// Enters the pair, if it is open and its state leads to that of the pair whose turn it is.
+fn enter_pair(question: &Question<'_, '_>, table: &mut Table, turn: Turn, pair: Pair)
     requires turn { IsTurn (asked question.now) turn table.old }
     requires pair { IsPairOf (asked question.now) pair }
-    requires state { state_at (asked question.now) pair.state turn.pair.id ≡ turn.pair.state }
+    requires edge { (asked question.now).graph.edge pair.id turn.pair.id ≡ true }
     ensures turn { IsTurn (asked question.now) turn table.new }
     ensures grows { Grows table.old table.new }
     ensures entered { Leads (asked question.now) pair turn.pair → at table.new pair < OPEN }
@@ -31,42 +31,42 @@ fn enter_pair(question: &Question<'_>, table: &mut Table, turn: Turn, pair: Pair
     if table.distance(pair) != OPEN {
         return;
     }
-    if !question.has_edge(pair.id, turn.pair.id) {
+    if question.state_at(pair.state, turn.pair.id) != turn.pair.state {
         return;
     }
     table.enter(pair, turn.distance);
 }
 
-/// Enters the open pairs of the state that lead to the pair whose turn it is.
-fn enter_state(question: &Question<'_>, table: &mut Table, turn: Turn, state: u8)
+/// Enters the open pairs of the id that lead to the pair whose turn it is.
+fn enter_source(question: &Question<'_, '_>, table: &mut Table, turn: Turn, id: u32)
     requires turn { IsTurn (asked question.now) turn table.old }
-    requires state { state < 3 }
+    requires id { id < (asked question.now).ids }
+    requires edge { (asked question.now).graph.edge id turn.pair.id ≡ true }
     ensures turn { IsTurn (asked question.now) turn table.new }
     ensures grows { Grows table.old table.new }
-    ensures entered { (p : Pair) → IsPairOf (asked question.now) p → p.state ≡ state
-        → Leads (asked question.now) p turn.pair → at table.new p < OPEN }
+    ensures entered { (p : Pair) → p.id ≡ id → p.state < 3 → Leads (asked question.now) p turn.pair
+        → at table.new p < OPEN }
 {
-    if question.state_at(state, turn.pair.id) != turn.pair.state {
-        return;
-    }
-    for id in 0..question.ids() {
+    for state in 0..3 {
         enter_pair(question, table, turn, Pair { id, state });
     }
 }
 
 /// Enters the open pairs that lead to the pair whose turn it is.
-fn expand(question: &Question<'_>, table: &mut Table, turn: Turn)
+fn expand(question: &Question<'_, '_>, table: &mut Table, turn: Turn)
     requires { IsTurn (asked question.now) turn table.old }
     ensures searched { IsSearched (asked question.now) (turn.next + 1) table.new }
     ensures grows { Grows table.old table.new }
 {
-    for state in 0..3 {
-        enter_state(question, table, turn, state);
+    let mut from = 0;
+    while let Some(id) = question.next_source(turn.pair.id, from) {
+        enter_source(question, table, turn, id);
+        from = id + 1;
     }
 }
 
 /// Enters TERMINAL in the state, if that is the bad one.
-fn enter_end(question: &Question<'_>, table: &mut Table, state: u8)
+fn enter_end(question: &Question<'_, '_>, table: &mut Table, state: u8)
     requires state { state < 3 }
     requires begun { IsBegun (asked question.now) state table.old }
     ensures { IsBegun (asked question.now) (state + 1) table.new }
@@ -83,7 +83,7 @@ fn enter_end(question: &Question<'_>, table: &mut Table, state: u8)
 }
 
 /// Leaves TERMINAL in the bad state as the only pair that is entered.
-fn begin(question: &Question<'_>, table: &mut Table)
+fn begin(question: &Question<'_, '_>, table: &mut Table)
     ensures searched { IsSearched (asked question.now) 0 table.new }
     ensures ends { HasEnds (asked question.now) table.new }
 {
@@ -94,7 +94,7 @@ fn begin(question: &Question<'_>, table: &mut Table)
 }
 
 /// Finds the distances of pairs, in the order of their distances, until that of the start is found.
-pub(crate) fn measure(question: &Question<'_>, table: &mut Table, start: Pair)
+pub(crate) fn measure(question: &Question<'_, '_>, table: &mut Table, start: Pair)
     requires { IsPairOf (asked question.now) start }
     ensures { IsMeasured (asked question.now) start table.new }
 {

@@ -8,7 +8,7 @@ use std::alloc::{AllocError, Global};
 use std::marker::Model;
 
 /// The most pairs: each state with each id.
-pub(crate) const MAX_PAIRS: usize = MAX_PARTITIONS as usize * STATES;
+pub(crate) const MAX_ENTRIES: usize = MAX_PARTITIONS as usize * STATES;
 
 /// The distance of a pair that was not entered.
 pub(crate) const OPEN: u16 = 65535;
@@ -24,7 +24,7 @@ pub(crate) struct Table {
 
 impl Model for Table {
     ghost use Rattle.std.specs.Prelude.{◌≤◌, vec_capacity};
-    ghost use Rattle.path_finder.specs.declared.table.TheConstants.{MAX_PAIRS};
+    ghost use Rattle.path_finder.specs.declared.table.TheConstants.{MAX_ENTRIES};
     ghost use Rattle.path_finder.specs.Tables.{Entries};
 
     ghost Value = { Entries };
@@ -32,7 +32,7 @@ impl Model for Table {
     ghost view = { λ t. record { distances = t.distances.items; entered = t.entered.items } };
 
     ghost invariant = { λ t.
-        (MAX_PAIRS ≤ vec_capacity t.distances) × (MAX_PAIRS ≤ vec_capacity t.entered) };
+        (MAX_ENTRIES ≤ vec_capacity t.distances) × (MAX_ENTRIES ≤ vec_capacity t.entered) };
 }
 
 impl Table {
@@ -40,14 +40,14 @@ impl Table {
     pub fn make(alloc: Global) -> Result<Table, AllocError>
         ensures { IfOk result (λ table. table.entered ≡ []) }
     {
-        let distances = Vec::with_capacity(alloc, MAX_PAIRS)?;
-        let entered = Vec::with_capacity(alloc, MAX_PAIRS)?;
+        let distances = Vec::with_capacity(alloc, MAX_ENTRIES)?;
+        let entered = Vec::with_capacity(alloc, MAX_ENTRIES)?;
         Ok(Table { distances, entered })
     }
 
     /// Leaves this many pairs, all of them open.
     pub fn clear(&mut self, pairs: usize)
-        requires { pairs ≤ MAX_PAIRS }
+        requires { pairs ≤ MAX_ENTRIES }
         ensures distances { (self.new).distances ≡ replicate pairs OPEN }
         ensures entered { (self.new).entered ≡ [] }
     {
@@ -78,7 +78,7 @@ impl Table {
         requires within { place pair < length (self.old).distances }
         requires stands_open { at self.old pair ≡ OPEN }
         requires closes { distance < OPEN }
-        requires room { length (self.old).entered + open_count self.old ≤ MAX_PAIRS }
+        requires room { length (self.old).entered + open_count self.old ≤ MAX_ENTRIES }
         ensures { self.new ≡ with_pair self.old pair distance }
     {
         self.distances[pair.id as usize * STATES + pair.state as usize] = distance;

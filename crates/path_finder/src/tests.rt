@@ -1,11 +1,16 @@
 ghost use Rattle.std.specs.Prelude.{◌≡◌, ◌<◌};
+ghost use Rattle.std.specs.Bool.{OnTrue};
+ghost use Rattle.partition_graph.specs.Seen.{IsSound};
+ghost use Rattle.partition_model.specs.Assignments.{G};
+ghost use Rattle.partition_model.specs.Coarsening.{IsPair};
 
 use crate::Finder;
 use invariants::{Invariant, Kind, candidate, candidate_count};
-use limits::{MAX_PARTITIONS, MAX_TYPE_BYTES};
+use limits::{FIRST_TYPE, MAX_PARTITIONS, MAX_TYPE_BYTES, TERMINAL};
 use partition_graph::{PartGraph, View};
 use std::alloc::Global;
 use std::marker::Brand;
+use std::process::Abort;
 use std::sync::ledger::{Blank, Ledger};
 use std::test::Fail;
 use steps::Steps;
@@ -29,16 +34,17 @@ fn graph_of(alloc: Global, traces: &[&str]) -> Result<PartGraph, Fail> {
 fn ask<L: Ledger>(
     alloc: Global,
     finder: &mut Finder,
-    graph: &PartGraph,
+    view: &View<'_>,
     inv: Invariant,
     blank: Blank,
 ) -> Result<Vec<u32>, Fail>
+    requires sound { IsSound view.now }
     requires name { blank.name ≡ L.name }
     requires parts { blank.parts ≡ L.parts }
     requires stands { 0 < blank.parts }
 {
     let mut steps = Steps::<L>::open(blank);
-    match finder.least_violation(&View::Plain(graph), inv, &mut steps) {
+    match finder.least_violation(view, inv, &mut steps) {
         Some(path) => Ok(path.to_vec(alloc)?),
         None => Ok(Vec::new(alloc)),
     }
@@ -51,7 +57,29 @@ fn find(
     graph: &PartGraph,
     inv: Invariant,
 ) -> Result<Vec<u32>, Fail> {
-    ask::<Brand>(alloc, finder, graph, inv, Blank::new(1))
+    ask::<Brand>(alloc, finder, &View::Plain(graph), inv, Blank::new(1))
+}
+
+/// The least violation after a merge of a pair, asked before it, with a counter that nobody reads.
+fn ask_loss<L: Ledger>(
+    alloc: Global,
+    finder: &mut Finder,
+    graph: &PartGraph,
+    p: u32,
+    q: u32,
+    inv: Invariant,
+    blank: Blank,
+) -> Result<Vec<u32>, Fail>
+    requires pair { IsPair (G (graph.now).traces) p q }
+    requires name { blank.name ≡ L.name }
+    requires parts { blank.parts ≡ L.parts }
+    requires stands { 0 < blank.parts }
+{
+    let mut steps = Steps::<L>::open(blank);
+    match finder.least_loss(graph, p, q, inv, false, &mut steps) {
+        Some(path) => Ok(path.to_vec(alloc)?),
+        None => Ok(Vec::new(alloc)),
+    }
 }
 
 #[test]
@@ -220,6 +248,92 @@ fn answers_as_all_paths_in_order(rt: HostRuntime) -> Result<(), Fail> {
             }
         }
     }
+    Ok(())
+}
+
+/// Whether p and q are two partitions of one type, p before q.
+fn is_pair(graph: &PartGraph, p: u32, q: u32) -> bool
+    ensures { OnTrue result (IsPair (G (graph.now).traces) p q) }
+{
+    p >= FIRST_TYPE
+        && p < q
+        && graph.is_live(p)
+        && graph.is_live(q)
+        && graph.type_of(p) == graph.type_of(q)
+}
+
+/// Merges a pair.
+fn merge(graph: &mut PartGraph, p: u32, q: u32) {
+    if is_pair(graph, p, q) {
+        graph.merge(p, q);
+    }
+}
+
+/// The least violation after a merge of a pair, or no ids where it is none.
+fn find_loss(
+    alloc: Global,
+    finder: &mut Finder,
+    graph: &PartGraph,
+    p: u32,
+    q: u32,
+    inv: Invariant,
+) -> Result<Vec<u32>, Fail> {
+    if !is_pair(graph, p, q) {
+        return Ok(Vec::new(alloc));
+    }
+    ask_loss::<Brand>(alloc, finder, graph, p, q, inv, Blank::new(1))
+}
+
+/// A random graph of two types in which some partitions were divided.
+fn divided_graph(alloc: Global, seed: u64) -> Result<PartGraph, Fail> {
+    let mut random = Random { state: seed };
+    let mut graph = random_graph(alloc, &mut random, 2)?;
+    for ids in 4..8 {
+        let p = FIRST_TYPE + random.below(ids - 2) as u32;
+        let next = TERMINAL + random.below(ids - 1) as u32;
+        graph.split(p, next);
+    }
+    Ok(graph)
+}
+
+/// Compares what is asked before a merge with what is asked after it, and says how many invariants are broken.
+fn assert_losses(
+    rt: &impl Abort,
+    alloc: Global,
+    before: &PartGraph,
+    p: u32,
+    q: u32,
+    after: &PartGraph,
+) -> Result<u32, Fail> {
+    let mut finder = Finder::make(alloc)?;
+    let mut losses = 0u32;
+    for index in 0..candidate_count(2) {
+        if let Some(inv) = candidate(2, index) {
+            let found = find_loss(alloc, &mut finder, before, p, q, inv)?;
+            let wanted = find(alloc, &mut finder, after, inv)?;
+            losses = losses.wrapping_add(u32::from(!found.is_empty()));
+            assert_eq!(rt; found, wanted);
+        }
+    }
+    Ok(losses)
+}
+
+/// What a merge brings is found before it is made as it is after.
+#[test]
+fn merges_answer_as_merged_graphs(rt: HostRuntime) -> Result<(), Fail> {
+    let alloc = rt.alloc();
+    let mut losses = 0u32;
+    for seed in 1..40u64 {
+        let before = divided_graph(alloc, seed)?;
+        let q = 4 + (seed % 4) as u32;
+        let p = u32::from(before.type_of(q));
+        let mut after = divided_graph(alloc, seed)?;
+        if is_pair(&before, p, q) {
+            merge(&mut after, p, q);
+            losses = losses.wrapping_add(assert_losses(&rt, alloc, &before, p, q, &after)?);
+        }
+    }
+    assert!(rt; losses > 10);
     Ok(())
 }
 

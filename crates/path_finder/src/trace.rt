@@ -1,17 +1,17 @@
 //! The way forwards: from the start along the least ids to TERMINAL.
-ghost use Rattle.std.specs.Prelude.{◌≡◌, ◌≤◌, ◌<◌, ◌+◌, MatchOption, length, vec_capacity};
+ghost use Rattle.std.specs.Prelude.{◌≡◌, ◌≤◌, ◌<◌, ◌+◌, MatchOption, length, true, vec_capacity};
 ghost use Rattle.path_finder.specs.Asking.{asked};
 ghost use Rattle.path_finder.specs.Walks.{state_at, IsLeastOf, IsPairOf, Leads};
 ghost use Rattle.path_finder.specs.Tables.{at, IsKnown, IsMeasured, IsNextPair};
 
 use crate::pair::Pair;
 use crate::question::Question;
-use crate::table::{MAX_PAIRS, OPEN, Table};
+use crate::table::{MAX_ENTRIES, OPEN, Table};
 use limits::INITIAL;
 
-/// The pair to which an edge to the id leads, if there is such an edge and the pair has this distance.
+/// The pair to which the edge to the id leads, if the pair has this distance.
 fn next_at(
-    question: &Question<'_>,
+    question: &Question<'_, '_>,
     table: &Table,
     pair: Pair,
     distance: u16,
@@ -20,6 +20,7 @@ fn next_at(
     requires known { IsKnown (asked question.now) (distance + 1) table.now }
     requires pair { IsPairOf (asked question.now) pair }
     requires id { id < (asked question.now).ids }
+    requires edge { (asked question.now).graph.edge pair.id id ≡ true }
     ensures { MatchOption result
         ((r : Pair) → r.id ≡ id → Leads (asked question.now) pair r → at table.now r ≡ distance → ⊥)
         (λ q. (q.id ≡ id) × IsPairOf (asked question.now) q × Leads (asked question.now) pair q
@@ -32,14 +33,11 @@ fn next_at(
     if table.distance(next) != distance {
         return None;
     }
-    if !question.has_edge(pair.id, id) {
-        return None;
-    }
     Some(next)
 }
 
 /// The pair of the least id to which the pair leads, with this distance: one less than its own.
-fn next_pair(question: &Question<'_>, table: &Table, pair: Pair, distance: u16) -> Pair
+fn next_pair(question: &Question<'_, '_>, table: &Table, pair: Pair, distance: u16) -> Pair
     requires known { IsKnown (asked question.now) (distance + 1) table.now }
     requires pair { IsPairOf (asked question.now) pair }
     requires entry { at table.now pair ≡ distance + 1 }
@@ -47,27 +45,29 @@ fn next_pair(question: &Question<'_>, table: &Table, pair: Pair, distance: u16) 
     ensures pair { IsPairOf (asked question.now) result }
     ensures next { IsNextPair (asked question.now) table.now pair distance result }
 {
-    for id in 0..question.ids() {
+    let mut from = 0;
+    while let Some(id) = question.next_target(pair.id, from) {
         if let Some(next) = next_at(question, table, pair, distance, id) {
             return next;
         }
+        from = id + 1;
     }
     unreachable!()
 }
 
 /// Leaves the ids of the least violation in the path, which has the memory for them.
-pub(crate) fn trace(question: &Question<'_>, table: &Table, start: Pair, path: &mut Vec<u32>)
+pub(crate) fn trace(question: &Question<'_, '_>, table: &Table, start: Pair, path: &mut Vec<u32>)
     requires measured { IsMeasured (asked question.now) start table.now }
     requires pair { IsPairOf (asked question.now) start }
     requires id { start.id ≡ INITIAL }
     requires state { start.state ≡ state_at (asked question.now) 0 INITIAL }
     requires entered { at table.now start < OPEN }
-    requires room { MAX_PAIRS < vec_capacity path.old }
+    requires room { MAX_ENTRIES < vec_capacity path.old }
 
     // The memory for the next path stays.
     ensures least { IsLeastOf (asked question.now) path.new.items }
-    ensures short { length path.new.items ≤ MAX_PAIRS + 1 }
-    ensures room { MAX_PAIRS < vec_capacity path.new }
+    ensures short { length path.new.items ≤ MAX_ENTRIES + 1 }
+    ensures room { MAX_ENTRIES < vec_capacity path.new }
 {
     path.clear();
     path.push_reserved(start.id);

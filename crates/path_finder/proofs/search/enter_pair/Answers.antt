@@ -10,7 +10,7 @@ pub returns-clause-turn : goal.returns-clause-turn
 returns-clause-turn c =
     subst (λ (e : Entries). IsTurn (asked c.args.question.now) c.args.turn e) (sym c.enter.ensures)
     (turn_keeps (asked c.args.question.now) c.args.turn c.args.table.now c.args.pair c.args.question.now.few c.requires.turn c.requires.pair (sym c.distance.ensures ∙ c.if-distance.false)
-    (record { edge = sym c.has_edge.ensures ∙ c.if-not-has_edge.false; step = c.requires.state }))
+    (record { edge = c.requires.edge; step = sym c.state_at.ensures.value ∙ c.if-state_at-turn.false }))
 
 pub returns-clause-grows : goal.returns-clause-grows
 returns-clause-grows c =

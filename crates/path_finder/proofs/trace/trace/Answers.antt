@@ -1,7 +1,7 @@
 use Rattle.std.proofs.Common.{◌≡◌, ◌≤◌, ◌<◌, ◌+◌, ◌-◌, ◌*◌, ◌∷◌, [], ◌++◌, List, ℕ, suc, length, vec_len, vec_capacity, sym, ◌∙◌, ap, subst, arith}
 use Rattle.limits.specs.declared.TheConstants.{MAX_PARTITIONS}
 use Rattle.path_finder.specs.declared.pair.TheConstants.{STATES}
-use Rattle.path_finder.specs.declared.table.TheConstants.{MAX_PAIRS, OPEN}
+use Rattle.path_finder.specs.declared.table.TheConstants.{MAX_ENTRIES, OPEN}
 use Rattle.path_finder.specs.Asking.{asked}
 use Rattle.path_finder.specs.Walks.{IsLeastOf}
 use Rattle.path_finder.specs.Tables.{at, IsKnown}
@@ -43,8 +43,8 @@ loop-left-preserved c =
       known = known_below (asked c.args.question.now) c.loop-left.left (c.loop-left.left - 1) c.args.table.now (omega arith) c.loop-left.invariant.known;
       stands = let s : c.loop-left.left < OPEN = c.loop-left.invariant.stands in omega arith;
       room = let r : vec_len c.loop-left.path + c.loop-left.left ≤ vec_capacity c.loop-left.path = c.loop-left.invariant.room in omega (arith, c.push_reserved-in-loop-left.ensures.len, c.push_reserved-in-loop-left.ensures.capacity);
-      more = let r : MAX_PAIRS < vec_capacity c.loop-left.path = c.loop-left.invariant.more in omega (arith, c.push_reserved-in-loop-left.ensures.capacity);
-      few = let b : length c.loop-left.path.items + c.loop-left.left ≤ MAX_PAIRS + 1 = c.loop-left.invariant.few in let n : length c.push_reserved-in-loop-left.new.self.items ≡ length c.loop-left.path.items + 1 = ap length c.push_reserved-in-loop-left.ensures.items ∙ length-append c.loop-left.path.items (c.next_pair-pair.result.id ∷ []) in omega (arith, n, b);
+      more = let r : MAX_ENTRIES < vec_capacity c.loop-left.path = c.loop-left.invariant.more in omega (arith, c.push_reserved-in-loop-left.ensures.capacity);
+      few = let b : length c.loop-left.path.items + c.loop-left.left ≤ MAX_ENTRIES + 1 = c.loop-left.invariant.few in let n : length c.push_reserved-in-loop-left.new.self.items ≡ length c.loop-left.path.items + 1 = ap length c.push_reserved-in-loop-left.ensures.items ∙ length-append c.loop-left.path.items (c.next_pair-pair.result.id ∷ []) in omega (arith, n, b);
       front = (
         c.loop-left.invariant.front.0 ++ c.next_pair-pair.result.id ∷ [],
         c.push_reserved-in-loop-left.ensures.items ∙ ap (λ (z : List ℕ). z ++ c.next_pair-pair.result.id ∷ []) c.loop-left.invariant.front.1,
@@ -55,7 +55,7 @@ loop-left-preserved c =
     }
 
 pub returns-clause-short : goal.returns-clause-short
-returns-clause-short c = let b : length c.loop-left.path.items + c.loop-left.left ≤ MAX_PAIRS + 1 = c.loop-left.invariant.few in omega (arith, b)
+returns-clause-short c = let b : length c.loop-left.path.items + c.loop-left.left ≤ MAX_ENTRIES + 1 = c.loop-left.invariant.few in omega (arith, b)
 
 pub returns-clause-least : goal.returns-clause-least
 returns-clause-least c =

@@ -1,6 +1,6 @@
 use Rattle.std.proofs.Common.{◌≡◌, ◌+◌, ◌≤◌, ◌<◌, List, ℕ, ◌∷◌, length, vec_len, vec_capacity}
 use Rattle.limits.specs.declared.TheConstants.{INITIAL}
-use Rattle.path_finder.specs.declared.table.TheConstants.{MAX_PAIRS, OPEN}
+use Rattle.path_finder.specs.declared.table.TheConstants.{MAX_ENTRIES, OPEN}
 use Rattle.path_finder.specs.Asking.{asked}
 use Rattle.path_finder.specs.Walks.{IsPairOf}
 use Rattle.path_finder.specs.Tables.{at, IsKnown}
@@ -15,8 +15,8 @@ invariant-loop-left l =
       known : IsKnown (asked l.question) l.left l.table;
       stands : l.left < OPEN;
       room : vec_len l.path + l.left ≤ vec_capacity l.path;
-      more : MAX_PAIRS < vec_capacity l.path;
-      few : length l.path.items + l.left ≤ MAX_PAIRS + 1;
+      more : MAX_ENTRIES < vec_capacity l.path;
+      few : length l.path.items + l.left ≤ MAX_ENTRIES + 1;
       front : (front : List ℕ) × (l.path.items ≡ INITIAL ∷ front) × IsLedTo (asked l.question) l.fn.start front l.pair;
     }
 

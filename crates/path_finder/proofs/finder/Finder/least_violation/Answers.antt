@@ -1,16 +1,35 @@
-use Rattle.std.proofs.Common.{◌∙◌, ℕ, sym, ap, subst₂, refl, arith, rules}
+use Rattle.std.proofs.Common.{◌∙◌, ◌≤◌, ◌<◌, ℕ, List, sym, subst, subst₂, refl, rules, arith}
 use Rattle.invariants.specs.declared.Invariant.{Invariant}
-use Rattle.partition_model.specs.Graphs.{Graph, Satisfies}
-use Rattle.path_finder.specs.Asking.{asked}
-use Rattle.path_finder.specs.Walks.{state_at}
-use Rattle.path_finder.proofs.Least.{satisfied_from}
+use Rattle.partition_graph.specs.Seen.{seen, parts_seen}
+use Rattle.partition_model.specs.Graphs.{Graph, Satisfies, IsLeastViolation}
+use Rattle.path_finder.specs.Keeping.{is_around}
+use Rattle.path_finder.specs.Nearness.{is_of_type, key_of}
+use Rattle.path_finder.proofs.Narrow.{KeepsViolations, asked_keeps, avoids_gone, narrowed_least, narrowed_satisfies}
 use Rattle.path_finder.proofs.finder.Finder.least_violation.Goals as goal
 
-pub returns-then-distance : goal.returns-then-distance
-returns-then-distance g c = record {
-  found = subst₂ (λ (x : Graph) (i : Invariant). Satisfies x i) c.new-question.ensures.graph c.new-question.ensures.inv
-      (satisfied_from (asked c.new-question.result) (record { id = 0; state = c.state_at.result }) c.measure.new.table (record { id = omega (arith, c.new-question.result.two); state = c.state_at.ensures.bound }) refl
-      (c.state_at.ensures.value ∙ ap (λ (s : ℕ). state_at (asked c.new-question.result) s 0) c.start.ensures) c.measure.ensures (sym c.distance.ensures ∙ c.if-distance.true));
-  short = tt;
-  counted = search rules;
-}
+pub returns-then-not-search : goal.returns-then-not-search
+returns-then-not-search g c =
+    let k : KeepsViolations (is_around c.find_type.new.self) (seen c.args.view.now) c.args.inv =
+    asked_keeps c.args.view.now c.find_type.new.self c.args.inv c.ids_used.result c.key_of.result c.ids_used.ensures.value c.ids_used.ensures.two (c.ids_used.ensures.within c.requires) c.key_of.ensures c.find_type.ensures.ahead c.find_type.ensures.behind in
+    record {
+      found = narrowed_satisfies (is_around c.find_type.new.self) (seen c.args.view.now) c.args.inv k
+          (subst₂ (λ (x : Graph) (i : Invariant). Satisfies x i) c.new-question.ensures.graph c.new-question.ensures.inv (c.if-not-search.ensures.satisfied refl));
+      short = tt;
+      avoids = tt;
+      counted = search rules;
+    }
+
+pub returns : goal.returns
+returns g c =
+    let k : KeepsViolations (is_around c.find_type.new.self) (seen c.args.view.now) c.args.inv =
+    asked_keeps c.args.view.now c.find_type.new.self c.args.inv c.ids_used.result c.key_of.result c.ids_used.ensures.value c.ids_used.ensures.two (c.ids_used.ensures.within c.requires) c.key_of.ensures c.find_type.ensures.ahead c.find_type.ensures.behind in
+    let l : IsLeastViolation (seen c.args.view.now) c.args.inv c.deref.result.now =
+    subst (λ (p : List ℕ). IsLeastViolation (seen c.args.view.now) c.args.inv p) (sym c.deref.ensures.value)
+    (narrowed_least (is_around c.find_type.new.self) (seen c.args.view.now) c.args.inv c.search.new.path.items k
+    (subst₂ (λ (x : Graph) (i : Invariant). IsLeastViolation x i c.search.new.path.items) c.new-question.ensures.graph c.new-question.ensures.inv (c.if-not-search.ensures.found refl))) in
+    record {
+      found = l;
+      short = search rules;
+      avoids = avoids_gone c.args.view.now c.requires c.deref.result.now l.breaks.0;
+      counted = search rules;
+    }

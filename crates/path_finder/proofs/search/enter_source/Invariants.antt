@@ -5,12 +5,12 @@ use Rattle.path_finder.specs.Asking.{asked}
 use Rattle.path_finder.specs.Walks.{Leads}
 use Rattle.path_finder.specs.Tables.{at, Grows}
 use Rattle.path_finder.specs.Turns.{IsTurn}
-use Rattle.path_finder.proofs.search.enter_state.Given as goal
+use Rattle.path_finder.proofs.search.enter_source.Given as goal
 
-abbrev pub invariant-loop-id : goal.invariant-loop-id
-invariant-loop-id l =
+abbrev pub invariant-loop-state : goal.invariant-loop-state
+invariant-loop-state l =
     record {
       turn : IsTurn (asked l.question) l.turn l.table;
       grows : Grows l.initial.table l.table;
-      entered : (p : Pair) → p.id < l.id → p.state ≡ l.state → Leads (asked l.question) p l.turn.pair → at l.table p < OPEN;
+      entered : (p : Pair) → p.id ≡ l.id → p.state < l.state → Leads (asked l.question) p l.turn.pair → at l.table p < OPEN;
     }

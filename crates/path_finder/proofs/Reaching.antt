@@ -1,0 +1,141 @@
+-- What is kept when an id is met.
+use Rattle.std.proofs.Common.{◌≡◌, ◌≢◌, ◌⊎◌, ◌==◌, nat_lt, ℕ, zero, suc, ◌+◌, ◌<◌, ◌≤◌, true, false, not, Bool, List, [], ◌∷◌, ◌++◌, length, replicate, slice_get, set, get_or, count_by, Some, sym, ◌∙◌, refl, ap, subst, inl, inr, arith, get_or-set_same, get_or-set_other, length-append, if◌then◌else◌, sum_by}
+use Rattle.std.proofs.lemmas.Bool.{cases_eq, cases_Bool, and_parts, ltb-true, eqb-true}
+use Rattle.std.proofs.lemmas.List.{length-set, length-replicate}
+use Rattle.std.proofs.lemmas.List.Sums.{sum_by-set, count_by-le-length}
+use Rattle.std.proofs.lemmas.Option.{same_Some, slice_get_within, slice_get_cases}
+use Rattle.limits.specs.declared.TheConstants.{MAX_PARTITIONS}
+use Rattle.path_finder.specs.Nearness.{Met, is_met, is_of_type, IsClosed}
+use Rattle.partition_model.specs.Graphs.{Graph}
+use Rattle.path_finder.specs.Reaching.{meeting, IsCounted, IsSpreading, MeetsMore, HasNoneOn, IsNextOn}
+use Rattle.path_finder.proofs.Entering.{slice_get_kept, slice_get_last, slice_get_push}
+
+-- the id is put behind those that are met
+abbrev pub with_id : Met → ℕ → Met
+with_id m id = record { flags = set m.flags id true; list = m.list ++ id ∷ [] }
+
+-- an id that was met changes nothing
+pub met_again : (m : Met) (id : ℕ) → is_met m id ≡ true → meeting m id ≡ m
+met_again m id e = ap (λ (b : Bool). if b then m else with_id m id) e
+
+-- one that was not is put behind the others
+pub met_first : (m : Met) (id : ℕ) → is_met m id ≡ false → meeting m id ≡ with_id m id
+met_first m id e = ap (λ (b : Bool). if b then m else with_id m id) e
+
+-- where one flag more is set, there is one less that is not
+pub unmet_fewer : (xs : List Bool) (i : ℕ) → i < length xs → get_or xs i false ≡ false → count_by not (set xs i true) + 1 ≡ count_by not xs
+unmet_fewer xs i l o =
+    let f : Bool → ℕ = λ x. if not x then 1 else 0 in
+    let s : sum_by f (set xs i true) + f (get_or xs i false) ≡ sum_by f xs + f true = sum_by-set f xs i true false l in
+    let u : f (get_or xs i false) ≡ 1 = ap f o in
+    (let w : count_by not (set xs i true) + f (get_or xs i false) ≡ count_by not xs + 0 = s in omega arith)
+
+-- a flag that is set is one of those that there are
+pub met_within : (xs : List Bool) (i : ℕ) → get_or xs i false ≡ true → i < length xs
+met_within [] i e = absurd (let x : true ≡ false = sym e in cc)
+met_within (x ∷ xs) zero e = omega arith
+met_within (x ∷ xs) (suc i) e = let l : i < length xs = met_within xs i e in omega arith
+
+-- none of these flags is set
+pub none_met : (n i : ℕ) → get_or (replicate n false) i false ≡ true → ⊥
+none_met zero i e = let x : true ≡ false = sym e in cc
+none_met (suc n) zero e = let x : true ≡ false = sym e in cc
+none_met (suc n) (suc i) e = none_met n i e
+
+-- the flag of the new id is set
+pub with_met : (m : Met) (id : ℕ) → id < length m.flags → is_met (with_id m id) id ≡ true
+with_met m id l = get_or-set_same m.flags id true false l
+
+-- those that were set stay so
+pub with_more : (m : Met) (id : ℕ) → id < length m.flags → MeetsMore m (with_id m id)
+with_more m id l =
+    record {
+      met = λ p e. elim (cases_eq p id) [
+        | inl q ↦ ap (λ (x : ℕ). is_met (with_id m id) x) q ∙ with_met m id l
+        | inr n ↦ get_or-set_other m.flags id p true false n ∙ e
+      ];
+      listed = λ i p e. slice_get_kept m.list (id ∷ []) i p e;
+    }
+
+-- and they are still counted
+pub with_counted : (m : Met) (id : ℕ) → id < MAX_PARTITIONS → is_met m id ≡ false → IsCounted m → IsCounted (with_id m id)
+with_counted m id l o c =
+    let z : length m.flags ≡ MAX_PARTITIONS = c.size in
+    let k : length m.list + count_by not m.flags ≤ MAX_PARTITIONS = c.count in
+    let f : count_by not (set m.flags id true) + 1 ≡ count_by not m.flags = unmet_fewer m.flags id (omega arith) o in
+    let n : length (m.list ++ id ∷ []) ≡ length m.list + 1 = length-append m.list (id ∷ []) in
+    record { size = length-set m.flags id true ∙ c.size; count = omega arith }
+
+-- all edges of the first ones of the list are still followed
+pub with_spreading : (edge : ℕ → ℕ → Bool) (next : ℕ) (m : Met) (id : ℕ) → next ≤ length m.list → id < MAX_PARTITIONS → is_met m id ≡ false → IsSpreading edge next m
+    → IsSpreading edge next (with_id m id)
+with_spreading edge next m id w l o s =
+    let z : length m.flags ≡ MAX_PARTITIONS = s.counted.size in
+    let b : id < length m.flags = omega arith in
+    record {
+      counted = with_counted m id l o s.counted;
+      listed = λ p e. elim (cases_eq p id) [
+        | inl q ↦ (length m.list, slice_get_last m.list id ∙ ap (λ (x : ℕ). Some x) (sym q))
+        | inr n ↦
+            let f : (i : ℕ) × (slice_get m.list i ≡ Some p) = s.listed p (sym (get_or-set_other m.flags id p true false n) ∙ e) in
+            (f.0, slice_get_kept m.list (id ∷ []) f.0 p f.1)
+      ];
+      done = λ i p q lt e d. elim (slice_get_push m.list id i p e) [
+        | inl old ↦ (with_more m id b).met q (s.done i p q lt old d)
+        | inr new ↦ absurd (let x : i ≡ length m.list = new.0 in omega arith)
+      ];
+    }
+
+-- so it is whether or not the id was met before
+pub meets_spreading : (edge : ℕ → ℕ → Bool) (next : ℕ) (m : Met) (id : ℕ) → next ≤ length m.list → id < MAX_PARTITIONS → IsSpreading edge next m
+    → IsSpreading edge next (meeting m id) × MeetsMore m (meeting m id) × (is_met (meeting m id) id ≡ true)
+meets_spreading edge next m id w l s =
+    elim (cases_Bool (is_met m id)) [
+      | inl y ↦
+          subst (λ (x : Met). IsSpreading edge next x × MeetsMore m x × (is_met x id ≡ true)) (sym (met_again m id y))
+          (s, record { met = λ p e. e; listed = λ i p e. e }, y)
+      | inr n ↦
+          let z : length m.flags ≡ MAX_PARTITIONS = s.counted.size in
+          subst (λ (x : Met). IsSpreading edge next x × MeetsMore m x × (is_met x id ≡ true)) (sym (met_first m id n))
+          (with_spreading edge next m id w l n s, with_more m id (omega arith), with_met m id (omega arith))
+    ]
+
+-- at first none is met
+pub blank_spreading : (edge : ℕ → ℕ → Bool) (m : Met) (n : ℕ) → n ≡ MAX_PARTITIONS → m.flags ≡ replicate n false → m.list ≡ [] → IsSpreading edge 0 m
+blank_spreading edge m n k f l =
+    let z : length m.flags ≡ MAX_PARTITIONS = ap length f ∙ (length-replicate n false ∙ k) in
+    let c : count_by not m.flags ≤ length m.flags = count_by-le-length not m.flags in
+    let o : length m.list ≡ 0 = ap length l in
+    record {
+      counted = record { size = z; count = omega arith };
+      listed = λ p e. absurd (none_met n p (ap (λ (x : List Bool). get_or x p false) (sym f) ∙ e));
+      done = λ i p q lt e d. absurd (omega arith);
+    }
+
+-- where all edges of one more were followed
+pub followed_one : (edge : ℕ → ℕ → Bool) (next id : ℕ) (m : Met) → IsSpreading edge next m → slice_get m.list next ≡ Some id → ((q : ℕ) → edge id q ≡ true → is_met m q ≡ true)
+    → IsSpreading edge (next + 1) m
+followed_one edge next id m s e f =
+    record {
+      counted = s.counted;
+      listed = s.listed;
+      done = λ i p q lt g d. elim (cases_eq i next) [
+        | inl same ↦
+            let x : Some id ≡ Some p = sym e ∙ (ap (λ (j : ℕ). slice_get m.list j) (sym same) ∙ g) in
+            f q (ap (λ (y : ℕ). edge y q) (same_Some id p x) ∙ d)
+        | inr other ↦ s.done i p q (omega arith) g d
+      ];
+    }
+
+-- where those of all were followed, each id to which a walk leads is met
+pub all_followed : (edge : ℕ → ℕ → Bool) (next : ℕ) (m : Met) → IsSpreading edge next m → length m.list ≤ next → IsClosed (is_met m) edge
+all_followed edge next m s l p q a d =
+    let f : (i : ℕ) × (slice_get m.list i ≡ Some p) = s.listed p a in
+    let w : f.0 < length m.list = slice_get_within m.list f.0 p f.1 in
+    s.done f.0 p q (omega arith) f.1 d
+
+-- an id with the type, below the bound
+pub of_type_tells : (g : Graph) (ids typ p : ℕ) → is_of_type g ids typ p ≡ true → (p < ids) × (g.typ p ≡ typ)
+of_type_tells g ids typ p e =
+    let parts : (nat_lt p ids ≡ true) × ((g.typ p == typ) ≡ true) = and_parts (nat_lt p ids) (g.typ p == typ) e in
+    (ltb-true p ids parts.0, eqb-true (g.typ p) typ parts.1)

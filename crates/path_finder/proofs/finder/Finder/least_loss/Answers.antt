@@ -1,0 +1,39 @@
+use Rattle.std.proofs.Common.{◌≡◌, ◌==◌, ◌<◌, ◌≤◌, ◌∙◌, ℕ, Bool, true, List, sym, subst, subst₂, refl, rules, arith}
+use Rattle.limits.specs.declared.TheConstants.{MAX_PARTITIONS}
+use Rattle.invariants.specs.declared.Invariant.{Invariant}
+use Rattle.partition_model.specs.Assignments.{G}
+use Rattle.partition_model.specs.Graphs.{Graph, Satisfies, IsLeastViolation, Merged}
+use Rattle.path_finder.specs.Keeping.{is_around}
+use Rattle.path_finder.specs.Nearness.{is_met, narrowed}
+use Rattle.path_finder.proofs.Narrow.{KeepsViolations, around_keeps, loss_keeps, narrowed_least, narrowed_satisfies, live_below}
+use Rattle.path_finder.proofs.finder.Finder.least_loss.Goals as goal
+
+pub find-requires-clause-id : goal.find-requires-clause-id
+find-requires-clause-id g c =
+    let l : c.args.p < c.ids_used.result = live_below (c.args.graph.now.traces) c.ids_used.result c.args.p c.requires.pair.low c.ids_used.ensures.below c.requires.pair.has_p in
+    omega (arith, l, c.ids_used.ensures.limit)
+
+pub returns-then-not-search : goal.returns-then-not-search
+returns-then-not-search g c =
+    let m : Graph = Merged (G c.args.graph.now.traces) c.args.p c.args.q in
+    let k : KeepsViolations (is_around c.find.new.self) m c.args.inv =
+    loss_keeps (is_around c.find.new.self) (G c.args.graph.now.traces) c.args.p c.args.q c.args.inv (around_keeps c.find.new.self m (λ u. u == c.args.p) c.find.ensures.ahead c.find.ensures.behind) (c.requires.known c.if-not-satisfied.false) in
+    record {
+      found = narrowed_satisfies (is_around c.find.new.self) m c.args.inv k
+          (subst₂ (λ (x : Graph) (i : Invariant). Satisfies x i) c.new-question.ensures.graph c.new-question.ensures.inv (c.if-not-search.ensures.satisfied refl));
+      short = tt;
+      counted = search rules;
+    }
+
+pub returns : goal.returns
+returns g c =
+    let m : Graph = Merged (G c.args.graph.now.traces) c.args.p c.args.q in
+    let k : KeepsViolations (is_around c.find.new.self) m c.args.inv =
+    loss_keeps (is_around c.find.new.self) (G c.args.graph.now.traces) c.args.p c.args.q c.args.inv (around_keeps c.find.new.self m (λ u. u == c.args.p) c.find.ensures.ahead c.find.ensures.behind) (c.requires.known c.if-not-satisfied.false) in
+    record {
+      found = subst (λ (p : List ℕ). IsLeastViolation m c.args.inv p) (sym c.deref.ensures.value)
+          (narrowed_least (is_around c.find.new.self) m c.args.inv c.search.new.path.items k
+          (subst₂ (λ (x : Graph) (i : Invariant). IsLeastViolation x i c.search.new.path.items) c.new-question.ensures.graph c.new-question.ensures.inv (c.if-not-search.ensures.found refl)));
+      short = search rules;
+      counted = search rules;
+    }

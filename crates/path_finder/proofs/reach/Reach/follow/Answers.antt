@@ -1,0 +1,34 @@
+use Rattle.std.proofs.Common.{◌≡◌, ◌<◌, ◌≤◌, ◌+◌, ℕ, Bool, true, false, length, sym, ◌∙◌, ap, subst, inl, inr, arith}
+use Rattle.std.proofs.lemmas.Bool.{cases_lt}
+use Rattle.std.proofs.lemmas.Option.{slice_get_within}
+use Rattle.limits.specs.declared.TheConstants.{MAX_PARTITIONS}
+use Rattle.partition_graph.specs.Seen.{seen}
+use Rattle.path_finder.specs.Nearness.{Met, is_met}
+use Rattle.path_finder.specs.Reaching.{edge_by, IsSpreading, MeetsMore}
+use Rattle.path_finder.proofs.Reaching.{meets_spreading}
+use Rattle.path_finder.proofs.reach.Reach.follow.Goals as goal
+
+pub loop-n-preserved : goal.loop-n-preserved
+loop-n-preserved c =
+    let e : ℕ → ℕ → Bool = edge_by c.args.way (seen c.args.view.now) in
+    let i = c.loop-n.invariant in
+    let n : ℕ = c.in-Some.n in
+    let w : n < MAX_PARTITIONS = c.in-Some.ensures.within in
+    let b : c.args.next < length c.loop-n.self.list = i.place in
+    let k : IsSpreading e c.args.next c.meet.new.self × MeetsMore c.loop-n.self c.meet.new.self × (is_met c.meet.new.self n ≡ true) =
+    subst (λ (m : Met). IsSpreading e c.args.next m × MeetsMore c.loop-n.self m × (is_met m n ≡ true)) (sym c.meet.ensures)
+    (meets_spreading e c.args.next c.loop-n.self n (omega (arith, b)) w i.spreading) in
+    record {
+      place = slice_get_within c.meet.new.self.list c.args.next c.index-id.result.now (k.1.listed c.args.next c.index-id.result.now i.there);
+      there = k.1.listed c.args.next c.index-id.result.now i.there;
+      spreading = k.0;
+      more = record { met = λ p m. k.1.met p (i.more.met p m); listed = λ j p m. k.1.listed j p (i.more.listed j p m) };
+      low = omega (arith, w);
+      followed = λ q l d. elim (cases_lt q n) [
+        | inl before ↦ elim (cases_lt q c.loop-n.from) [
+          | inl old ↦ k.1.met q (i.followed q old d)
+          | inr new ↦ absurd (let x : true ≡ false = sym d ∙ c.in-Some.ensures.next.first q new before in cc)
+        ]
+        | inr at ↦ let same : q ≡ n = omega arith in ap (λ (x : ℕ). is_met c.meet.new.self x) same ∙ k.2
+      ];
+    }

@@ -1,0 +1,43 @@
+-- How the ids that walks lead to are met, one after another.
+use Rattle.std.specs.Prelude.{ℕ, ◌≡◌, ◌+◌, ◌<◌, ◌≤◌, Bool, true, false, not, List, [], ◌∷◌, ◌++◌, length, slice_get, slice_set, count_by, Some, if◌then◌else◌}
+use Rattle.limits.specs.declared.TheConstants.{MAX_PARTITIONS}
+use Rattle.partition_model.specs.Graphs.{Graph}
+use Rattle.path_finder.specs.declared.reach.Way.{Way}
+use Rattle.path_finder.specs.declared.reach.Way.TheVariants.{Ahead, Behind}
+use Rattle.path_finder.specs.Nearness.{Met, is_met}
+
+-- the edges of a graph, or the same ones backwards
+abbrev pub edge_by : Way → Graph → ℕ → ℕ → Bool
+edge_by Ahead g p q = g.edge p q
+edge_by Behind g p q = g.edge q p
+
+-- n is the least id at or above this one to which an edge leads
+pub record IsNextOn (edge : ℕ → ℕ → Bool) (id from n : ℕ) : Type 0 where
+  pub reached : from ≤ n
+  pub there : edge id n ≡ true
+  pub first : (r : ℕ) → from ≤ r → r < n → edge id r ≡ false
+
+-- no edge leads to an id at or above this one
+abbrev pub HasNoneOn : (ℕ → ℕ → Bool) → ℕ → ℕ → Type 0
+HasNoneOn edge id from = (n : ℕ) → from ≤ n → edge id n ≡ false
+
+-- the id is met, if it was not
+abbrev pub meeting : Met → ℕ → Met
+meeting m id =
+    if is_met m id then m else record { flags = slice_set m.flags id true; list = m.list ++ id ∷ [] }
+
+-- there is a flag for each id, and room in the list for all that are not met
+pub record IsCounted (m : Met) : Type 0 where
+  pub size : length m.flags ≡ MAX_PARTITIONS
+  pub count : length m.list + count_by not m.flags ≤ MAX_PARTITIONS
+
+-- what was met stays so, and what is listed stays at its place
+pub record MeetsMore (old new : Met) : Type 0 where
+  pub met : (p : ℕ) → is_met old p ≡ true → is_met new p ≡ true
+  pub listed : (i p : ℕ) → slice_get old.list i ≡ Some p → slice_get new.list i ≡ Some p
+
+-- each id that is met is listed, and all edges of the first ones of the list were followed
+pub record IsSpreading (edge : ℕ → ℕ → Bool) (next : ℕ) (m : Met) : Type 0 where
+  pub counted : IsCounted m
+  pub listed : (p : ℕ) → is_met m p ≡ true → (i : ℕ) × (slice_get m.list i ≡ Some p)
+  pub done : (i p q : ℕ) → i < next → slice_get m.list i ≡ Some p → edge p q ≡ true → is_met m q ≡ true

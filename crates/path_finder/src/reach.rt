@@ -1,0 +1,226 @@
+//! The ids that walks lead to from one id, or from which they lead to it.
+ghost use Rattle.std.specs.Prelude.{◌≡◌, ◌==◌, ℕ, ◌≤◌, ◌<◌, ◌+◌, [], Bool, true, length, replicate, IfSome, MatchOption, false};
+ghost use Rattle.limits.specs.declared.TheConstants.{MAX_PARTITIONS};
+ghost use Rattle.partition_graph.specs.Seen.{parts_seen, seen, IsSound};
+ghost use Rattle.path_finder.specs.Nearness.{is_met, is_of_type, IsClosed, IsSpread};
+ghost use Rattle.path_finder.specs.Keeping.{is_around};
+ghost use Rattle.path_finder.specs.declared.reach.Way.TheVariants.{Ahead, Behind};
+ghost use Rattle.path_finder.specs.Reaching.{edge_by, meeting, HasNoneOn, IsCounted, IsNextOn, IsSpreading, MeetsMore};
+
+use limits::MAX_PARTITIONS;
+use partition_graph::View;
+use std::alloc::{AllocError, Global};
+use std::marker::Model;
+
+/// How many ids there may be.
+const IDS: usize = MAX_PARTITIONS as usize;
+
+/// Which way walks are followed.
+#[derive(Clone, Copy)]
+pub(crate) enum Way {
+    /// From an id to those to which it has an edge.
+    Ahead,
+    /// From an id to those that have an edge to it.
+    Behind,
+}
+
+/// The ids that were met on walks from one id.
+#[derive(Drop)]
+pub(crate) struct Reach {
+    flags: Vec<bool>,
+    list: Vec<u32>,
+}
+
+impl Model for Reach {
+    ghost use Rattle.std.specs.Prelude.{◌≤◌, vec_capacity};
+    ghost use Rattle.path_finder.specs.Nearness.{Met};
+    ghost use Rattle.limits.specs.declared.TheConstants.{MAX_PARTITIONS};
+
+    ghost Value = { Met };
+
+    ghost view = { λ r. record { flags = r.flags.items; list = r.list.items } };
+
+    ghost invariant = { λ r.
+        (MAX_PARTITIONS ≤ vec_capacity r.flags) × (MAX_PARTITIONS ≤ vec_capacity r.list) };
+}
+
+/// The next neighbour of the id that way, from an id on.
+fn next_on(view: &View<'_>, way: Way, id: u32, from: u32) -> Option<u32>
+    requires { IsSound view.now }
+    ensures next { MatchOption result
+        (HasNoneOn (edge_by way (seen view.now)) id from) (λ n. IsNextOn (edge_by way (seen view.now)) id from n) }
+    ensures within { IfSome result (λ n. n < MAX_PARTITIONS) }
+{
+    match way {
+        Way::Ahead => view.next_target(id, from),
+        Way::Behind => view.next_source(id, from),
+    }
+}
+
+impl Reach {
+    /// Room for all ids, none of them met. `AllocError` comes where there is not as much.
+    pub fn make(alloc: Global) -> Result<Reach, AllocError> {
+        let flags = Vec::with_capacity(alloc, IDS)?;
+        let list = Vec::with_capacity(alloc, IDS)?;
+        Ok(Reach { flags, list })
+    }
+
+    /// Whether the id was met.
+    pub fn has(&self, id: u32) -> bool
+        ensures { result ≡ is_met self.now id }
+    {
+        match self.flags.get(id as usize) {
+            Some(flag) => *flag,
+            None => false,
+        }
+    }
+
+    /// Forgets all ids, and makes room for this many.
+    fn clear(&mut self, ids: usize)
+        requires { ids ≤ MAX_PARTITIONS }
+        ensures flags { (self.new).flags ≡ replicate ids false }
+        ensures list { (self.new).list ≡ [] }
+    {
+        self.list.clear();
+        self.flags.clear();
+        if self.flags.resize(ids, false).is_err() {
+            unreachable!()
+        }
+    }
+
+    /// Meets the id, if it was not met.
+    fn meet(&mut self, id: u32)
+        requires id { id < MAX_PARTITIONS }
+        requires counted { IsCounted self.old }
+        ensures { self.new ≡ meeting self.old id }
+    {
+        if self.has(id) {
+            return;
+        }
+        self.flags[id as usize] = true;
+        self.list.push_reserved(id);
+    }
+
+    /// Meets the ids to which an edge leads from the one at this place of the list.
+    fn follow(&mut self, view: &View<'_>, way: Way, next: usize)
+        requires sound { IsSound view.now }
+        requires place { next < length (self.old).list }
+        requires spreading { IsSpreading (edge_by way (seen view.now)) next self.old }
+        ensures spreading { IsSpreading (edge_by way (seen view.now)) (next + 1) self.new }
+        ensures more { MeetsMore self.old self.new }
+    {
+        let id = self.list[next];
+        let mut from = 0;
+        while let Some(n) = next_on(view, way, id, from) {
+            self.meet(n);
+            from = n + 1;
+        }
+    }
+
+    /// Meets all to which walks lead that way from those that are met.
+    fn follow_all(&mut self, view: &View<'_>, way: Way)
+        requires sound { IsSound view.now }
+        requires spreading { IsSpreading (edge_by way (seen view.now)) 0 self.old }
+        ensures more { MeetsMore self.old self.new }
+        ensures closed { IsClosed (is_met self.new) (edge_by way (seen view.now)) }
+    {
+        let mut next = 0;
+        while next < self.list.len() {
+            self.follow(view, way, next);
+            next += 1;
+        }
+    }
+
+    /// Meets the id, if it has the type.
+    fn meet_of_type(&mut self, view: &View<'_>, typ: u16, id: u32)
+        requires id { id < MAX_PARTITIONS }
+        requires spreading { (edge : ℕ → ℕ → Bool) → IsSpreading edge 0 self.old }
+        ensures spreading { (edge : ℕ → ℕ → Bool) → IsSpreading edge 0 self.new }
+        ensures more { MeetsMore self.old self.new }
+        ensures met { (seen view.now).typ id ≡ typ → is_met self.new id ≡ true }
+    {
+        if view.type_of(id) != typ {
+            return;
+        }
+        self.meet(id);
+    }
+
+    /// Meets the ids of the type, and no others before.
+    fn begin_with_type(&mut self, view: &View<'_>, typ: u16)
+        ensures spreading { (edge : ℕ → ℕ → Bool) → IsSpreading edge 0 self.new }
+        ensures first { (p : ℕ) → is_of_type (seen view.now) (parts_seen view.now).used typ p ≡ true
+            → is_met self.new p ≡ true }
+    {
+        self.clear(IDS);
+        for id in 0..view.ids_used() {
+            self.meet_of_type(view, typ, id);
+        }
+    }
+
+    /// Meets the id and all to which walks lead from it that way.
+    fn spread(&mut self, view: &View<'_>, way: Way, start: u32)
+        requires sound { IsSound view.now }
+        requires start { start < MAX_PARTITIONS }
+        ensures { IsSpread (is_met self.new) (λ p. p == start) (edge_by way (seen view.now)) }
+    {
+        self.clear(IDS);
+        self.meet(start);
+        self.follow_all(view, way);
+    }
+
+    /// Meets the ids of the type and all to which walks lead from them that way.
+    fn spread_type(&mut self, view: &View<'_>, way: Way, typ: u16)
+        requires sound { IsSound view.now }
+        ensures { IsSpread (is_met self.new) (is_of_type (seen view.now) (parts_seen view.now).used typ)
+            (edge_by way (seen view.now)) }
+    {
+        self.begin_with_type(view, typ);
+        self.follow_all(view, way);
+    }
+}
+
+/// The ids to which walks lead from some ids, and those from which they lead to these.
+#[derive(Drop)]
+pub(crate) struct Around {
+    ahead: Reach,
+    behind: Reach,
+}
+
+impl Around {
+    /// Room for all ids. `AllocError` comes where there is not as much.
+    pub fn make(alloc: Global) -> Result<Around, AllocError> {
+        let ahead = Reach::make(alloc)?;
+        let behind = Reach::make(alloc)?;
+        Ok(Around { ahead, behind })
+    }
+
+    /// Finds those around this id, which is one of both.
+    pub fn find(&mut self, view: &View<'_>, id: u32)
+        requires sound { IsSound view.now }
+        requires id { id < MAX_PARTITIONS }
+        ensures ahead { IsSpread (is_met (self.new).ahead) (λ p. p == id) (edge_by Ahead (seen view.now)) }
+        ensures behind { IsSpread (is_met (self.new).behind) (λ p. p == id) (edge_by Behind (seen view.now)) }
+    {
+        self.ahead.spread(view, Way::Ahead, id);
+        self.behind.spread(view, Way::Behind, id);
+    }
+
+    /// Finds those around the ids of this type.
+    pub fn find_type(&mut self, view: &View<'_>, typ: u16)
+        requires { IsSound view.now }
+        ensures ahead { IsSpread (is_met (self.new).ahead)
+            (is_of_type (seen view.now) (parts_seen view.now).used typ) (edge_by Ahead (seen view.now)) }
+        ensures behind { IsSpread (is_met (self.new).behind)
+            (is_of_type (seen view.now) (parts_seen view.now).used typ) (edge_by Behind (seen view.now)) }
+    {
+        self.ahead.spread_type(view, Way::Ahead, typ);
+        self.behind.spread_type(view, Way::Behind, typ);
+    }
+
+    /// Whether the id is one of either.
+    pub fn has(&self, id: u32) -> bool
+        ensures { result ≡ is_around self.now id }
+    {
+        self.ahead.has(id) || self.behind.has(id)
+    }
+}
