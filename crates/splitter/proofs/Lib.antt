@@ -1,3 +1,4 @@
 pub mod Following
 pub mod RefiningTurns
 pub mod Mining
+pub mod WritingTurns

@@ -1,5 +1,5 @@
 -- What each turn of refinement keeps, and what stands where it ends.
-use Rattle.std.proofs.Common.{◌≡◌, ◌⊎◌, ℕ, zero, suc, ◌+◌, ◌<◌, ◌≤◌, List, [], ◌∷◌, ◌++◌, length, slice_get, Some, get_or, sym, refl, ap, ap₂, ◌∙◌, subst, inl, inr, arith, add-zero, length-append}
+use Rattle.std.proofs.Common.{◌≡◌, ◌⊎◌, ℕ, zero, suc, ◌+◌, ◌*◌, ◌<◌, ◌≤◌, List, [], ◌∷◌, ◌++◌, length, slice_get, Some, get_or, sym, refl, ap, ap₂, ◌∙◌, subst, inl, inr, arith, add-zero, length-append}
 use Rattle.std.proofs.lemmas.Bool.{cases_lt}
 use Rattle.std.specs.List.{AllByRecursion, flat_map}
 use Rattle.limits.specs.declared.TheConstants.{INITIAL, FIRST_TYPE, MAX_PARTITIONS}
@@ -9,14 +9,17 @@ use Rattle.invariants.specs.Holds.{Holds}
 use Rattle.traces.specs.Words.{log_of}
 use Rattle.partition_model.specs.Graphs.{Graph, Satisfies, IsLeastViolation}
 use Rattle.partition_model.specs.Assignments.{Event, Assignment, G, IsTyped, word_of, by_type, inner_words, types_of, events, members}
-use Rattle.partition_model.specs.Refinement.{Splits, Refines, SatisfiesAll, IsNextSplit, after_split, stitch}
+use Rattle.partition_model.specs.Refinement.{Splits, Refines, SatisfiesAll, IsNextSplit, after_split}
 use Rattle.partition_model.specs.Laws.{SatisfiesBefore, IsFresh, IsRun, AreTyped, HoldAll, Divides, EndsIn, NamesRests, IsOneOf}
 use Rattle.partition_model.proofs.Lists.{In, all_in, member-of}
 use Rattle.partition_model.proofs.Stitching.{stitch_divides}
 use Rattle.partition_model.proofs.Runs.{start-run, one_pass_splits, words-typed, fresh-run, traces-hold, ids_within_rests, fewer_splits}
+use Rattle.model_shape.specs.Numbers.{split_numbers}
+use Rattle.partition_bounds.proofs.SplitPaths.{split_paths_within_limit}
+use Rattle.partition_bounds.proofs.Steps.{steps_exclude}
 use Rattle.partition_graph.specs.Parts.{Parts, inner_words_of}
 use Rattle.partition_graph.proofs.Starting.{start-typed}
-use Rattle.splitter.specs.Refining.{IsOpened, event_count, after, EndsRefined, IsSplitBy, IsStopped, IsFull, AreFewer}
+use Rattle.splitter.specs.Refining.{IsOpened, event_count, after, split_by, EndsRefined, IsStopped, IsFull, WantsMoreIds, AreFewer}
 
 -- a violation divides at the place of its stitch
 pub violation-divides : (h : Assignment) (inv : Invariant) (path : List ℕ) (n : ℕ) → IsTyped h → IsFresh n h → AllByRecursion (λ trace. Holds inv (word_of trace)) h
@@ -151,17 +154,13 @@ refining-none invs old now k ss d r l s =
       so_far = r.so_far;
     }
 
--- the split that is next
-abbrev next_split : ℕ → Assignment → List ℕ → Split
-next_split k h path = record { inv = k; place = stitch h path; path = path }
-
 abbrev IsNextStep : List Invariant → Parts → Parts → ℕ → Split → Type 0
 IsNextStep invs old now k s =
     IsNextSplit invs now.traces s × IsRun (inner_words old.traces) (after_split now.used s now.traces) (now.used + 1)
     × SatisfiesBefore (G (after_split now.used s now.traces)) invs k
 
 next-step : (invs : List Invariant) (old now : Parts) (k : ℕ) (ss : List Split) (d : Invariant) (path : List ℕ) → IsOpened old → HoldAll (inner_words old.traces) invs → IsRefining invs old now k ss
-    → k < length invs → IsLeastViolation (G now.traces) (get_or invs k d) path → IsNextStep invs old now k (next_split k now.traces path)
+    → k < length invs → IsLeastViolation (G now.traces) (get_or invs k d) path → IsNextStep invs old now k (split_by now path k)
 next-step invs old now k ss d path o a r l v =
     one_pass_splits invs (inner_words old.traces) now.traces now.used k (get_or invs k d) path r.run (two-used invs old now k ss o r) a (get_of invs k d l) r.before v
 
@@ -173,15 +172,14 @@ more-splits invs old now k ss s r n =
     (splits_push invs ss s old.traces old.used now.traces r.so_far n)
 
 -- a turn with a split
-pub refining-some : (invs : List Invariant) (old now new : Parts) (k : ℕ) (ss : List Split) (d : Invariant) (path : List ℕ) (s : Split)
+pub refining-some : (invs : List Invariant) (old now new : Parts) (k : ℕ) (ss : List Split) (d : Invariant) (path : List ℕ)
     → IsOpened old → HoldAll (inner_words old.traces) invs → IsRefining invs old now k ss → k < length invs → now.used < MAX_PARTITIONS
-    → IsLeastViolation (G now.traces) (get_or invs k d) path → IsSplitBy now path k s → new ≡ after s now
-    → IsRefining invs old new k (ss ++ s ∷ [])
-refining-some invs old now new k ss d path s o a r l few v b e =
+    → IsLeastViolation (G now.traces) (get_or invs k d) path → new ≡ after (split_by now path k) now
+    → IsRefining invs old new k (ss ++ split_by now path k ∷ [])
+refining-some invs old now new k ss d path o a r l few v e =
+    let s : Split = split_by now path k in
     let u : now.used ≡ old.used + length ss = r.used in
-    let same : next_split k now.traces path ≡ s =
-    ap₂ (λ (x y : ℕ). record { inv = x; place = y; path = path }) (sym b.inv) (sym b.place) ∙ ap (λ (z : List ℕ). record { inv = s.inv; place = s.place; path = z }) (sym b.path_is) in
-    let n : IsNextStep invs old now k s = subst (λ (x : Split). IsNextStep invs old now k x) same (next-step invs old now k ss d path o a r l v) in
+    let n : IsNextStep invs old now k s = next-step invs old now k ss d path o a r l v in
     let len : length (ss ++ s ∷ []) ≡ length ss + 1 = length-append ss (s ∷ []) in
     subst (λ (p : Parts). IsRefining invs old p k (ss ++ s ∷ [])) (sym e)
     (record {
@@ -194,8 +192,8 @@ refining-some invs old now new k ss d path s o a r l few v b e =
     })
 
 -- where it stops
-pub refining-stopped : (invs : List Invariant) (old now : Parts) (k counted : ℕ) (ss : List Split) → IsRefining invs old now k ss → counted ≤ length invs + length ss → IsStopped invs old now counted
-refining-stopped invs old now k counted ss r l = record { splits = ss; on_the_way = record { run = r.so_far; used = r.used }; steps = l }
+pub refining-stopped : (invs : List Invariant) (old now : Parts) (k counted : ℕ) (ss : List Split) → IsRefining invs old now k ss → counted ≤ length invs + length ss → IsStopped invs old now ss counted
+refining-stopped invs old now k counted ss r l = record { run = r.so_far; used = r.used; steps = l }
 
 -- the end
 pub refining-end : (invs : List Invariant) (old now : Parts) (k : ℕ) (ss : List Split) → IsRefining invs old now k ss → length invs ≤ k → EndsRefined invs old ss now
@@ -209,9 +207,29 @@ refining-full invs old now k ss d path o a r l u v =
     record {
       used = u;
       broken = λ all. v.breaks.1 (all_at (G now.traces) invs k (get_or invs k d) (get_of invs k d l) all path v.breaks.0);
-      next = next_split k now.traces path;
+      next = split_by now path k;
       is_next = (next-step invs old now k ss d path o a r l v).0;
     }
+
+-- so no whole run keeps within the ids
+pub refining-excludes : (invs : List Invariant) (old now : Parts) (k : ℕ) (ss : List Split) (d : Invariant) (path : List ℕ) → IsOpened old → HoldAll (inner_words old.traces) invs → IsRefining invs old now k ss
+    → k < length invs → now.used ≡ MAX_PARTITIONS → IsLeastViolation (G now.traces) (get_or invs k d) path → WantsMoreIds invs old
+refining-excludes invs old now k ss d path o a r l u v splits end whole =
+    let q : now.used ≡ old.used + length ss = r.used in
+    let m : length ss < length splits = steps_exclude invs old.traces now.traces end old.used ss splits (split_by now path k) r.so_far (next-step invs old now k ss d path o a r l v).0 whole in
+    omega arith
+
+-- the paths of the splits are short
+pub refining-numbers : (invs : List Invariant) (old now : Parts) (k : ℕ) (ss : List Split) → IsOpened old → HoldAll (inner_words old.traces) invs → IsRefining invs old now k ss
+    → (split_numbers ss ≤ 3067 * length ss) × (length ss + FIRST_TYPE ≤ now.used)
+refining-numbers invs old now k ss o a r =
+    let words : List (List ℕ) = inner_words old.traces in
+    let t : AreTyped words old.used = opened-typed old o in
+    let w : Splits invs (by_type words) old.used ss now.traces = subst (λ (h : Assignment). Splits invs h old.used ss now.traces) (opened-start old o) r.so_far in
+    let u : now.used ≡ old.used + length ss = r.used in
+    let low : FIRST_TYPE ≤ old.used = t.two in
+    let lim : now.used ≤ MAX_PARTITIONS = r.limit in
+    (split_paths_within_limit invs words old.used ss now.traces t a (omega arith) w, omega arith)
 
 -- rests of words
 one-before : (y : Event) (before behind u : List Event) → before ++ behind ≡ u → (y ∷ before) ++ behind ≡ y ∷ u
@@ -253,7 +271,7 @@ pub refining-rests : (invs : List Invariant) (old now : Parts) (k : ℕ) (ss : L
     → IsLeastViolation (G now.traces) (get_or invs k d) path → NamesRests names old.traces → length names + FIRST_TYPE ≤ MAX_PARTITIONS → ⊥
 refining-rests invs old now k ss d path names o a r l u v n few =
     let words : List (List ℕ) = inner_words old.traces in
-    let s : Split = next_split k now.traces path in
+    let s : Split = split_by now path k in
     let m : IsNextStep invs old now k s = next-step invs old now k ss d path o a r l v in
     let end : Assignment = after_split now.used s now.traces in
     let w : Splits invs old.traces old.used (ss ++ s ∷ []) end = more-splits invs old now k ss s r m.0 in

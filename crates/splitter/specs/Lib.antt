@@ -1,1 +1,2 @@
 pub mod Refining
+pub mod Writing

@@ -3,9 +3,10 @@ use Rattle.std.specs.Prelude.{◌≡◌, ℕ, ◌+◌, ◌<◌, ◌≤◌, List,
 use Rattle.limits.specs.declared.TheConstants.{FIRST_TYPE, MAX_PARTITIONS}
 use Rattle.invariants.specs.declared.Invariant.{Invariant}
 use Rattle.invariants.specs.declared.records.Split.{Split}
-use Rattle.traces.specs.Words.{Event, log_of}
-use Rattle.partition_model.specs.Assignments.{G, events}
-use Rattle.partition_model.specs.Laws.{NamesRests}
+use Rattle.invariants.specs.Mined.{mined}
+use Rattle.traces.specs.Words.{Event, Log, log_of, words_of}
+use Rattle.partition_model.specs.Assignments.{Assignment, G, events, inner_words}
+use Rattle.partition_model.specs.Laws.{HoldAll, NamesRests}
 use Rattle.partition_model.specs.Refinement.{Splits, Refines, SatisfiesAll, IsNextSplit, stitch}
 use Rattle.partition_graph.specs.Parts.{Parts, divided, start_of}
 
@@ -21,11 +22,9 @@ event_count parts = length (events parts.traces)
 abbrev pub after : Split → Parts → Parts
 after s parts = divided (slice_index s.path s.place) (slice_index s.path (s.place + 1)) parts
 
--- the split is for the invariant with this number, by this path, at the place of the path's stitch
-pub record IsSplitBy (parts : Parts) (path : List ℕ) (number : ℕ) (s : Split) : Type 0 where
-  pub inv : s.inv ≡ number
-  pub path_is : s.path ≡ path
-  pub place : s.place ≡ stitch parts.traces path
+-- the split for the invariant with this number, by this path, at the place of the path's stitch
+abbrev pub split_by : Parts → List ℕ → ℕ → Split
+split_by parts path number = record { inv = number; place = stitch parts.traces path; path = path }
 
 -- the splits are the whole run of refinement, each with one new id, and the ids suffice
 pub record EndsRefined (invs : List Invariant) (old : Parts) (splits : List Split) (new : Parts) : Type 0 where
@@ -33,15 +32,11 @@ pub record EndsRefined (invs : List Invariant) (old : Parts) (splits : List Spli
   pub used : new.used ≡ old.used + length splits
   pub within : new.used ≤ MAX_PARTITIONS
 
--- the splits are the first steps of refinement, each with one new id
-pub record IsOnTheWay (invs : List Invariant) (old : Parts) (splits : List Split) (new : Parts) : Type 0 where
+-- the splits are the first steps of refinement, each with one new id, and so many steps were counted: at most one for
+-- each invariant and one for each split
+pub record IsStopped (invs : List Invariant) (old new : Parts) (splits : List Split) (counted : ℕ) : Type 0 where
   pub run : Splits invs old.traces old.used splits new.traces
   pub used : new.used ≡ old.used + length splits
-
--- refinement stopped after some number of splits, with so many steps counted and at most one for each invariant and each split
-pub record IsStopped (invs : List Invariant) (old new : Parts) (counted : ℕ) : Type 0 where
-  pub splits : List Split
-  pub on_the_way : IsOnTheWay invs old splits new
   pub steps : counted ≤ length invs + length splits
 
 -- all ids are used, and a further step is wanted
@@ -50,6 +45,12 @@ pub record IsFull (invs : List Invariant) (new : Parts) : Type 0 where
   pub broken : SatisfiesAll (G new.traces) invs → ⊥
   pub next : Split
   pub is_next : IsNextSplit invs new.traces next
+
+-- each whole run of refinement wants more ids than there may be
+abbrev pub WantsMoreIds : List Invariant → Parts → Type 0
+WantsMoreIds invs old =
+    (splits : List Split) (end : Assignment) → Refines invs old.traces old.used splits end
+    → MAX_PARTITIONS < old.used + length splits
 
 -- there are fewer splits than events, and none where there is no event
 pub record AreFewer (splits : List Split) (count : ℕ) : Type 0 where
@@ -61,3 +62,7 @@ pub record HaveFewRests (parts : Parts) : Type 0 where
   pub names : List (List ℕ)
   pub rests : NamesRests names parts.traces
   pub few : length names + FIRST_TYPE ≤ MAX_PARTITIONS
+
+-- what is mined of a log holds of each word of its first graph
+abbrev pub MinedHold : Type 0
+MinedHold = (log : Log) (types : ℕ) → HoldAll (inner_words (start_of log).traces) (mined types (words_of log))

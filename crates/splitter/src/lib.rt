@@ -5,10 +5,12 @@
 //! path up to the place of its stitch and no further; the events there that go on as the path does get a new id.
 #![tactic(auto)]
 
+mod law;
 mod refining;
 mod stitcher;
 #[cfg(test)]
 mod tests;
 
-pub use refining::{RefineError, refine};
+pub use law::mined_hold;
+pub use refining::{PartitionLimit, refine};
 pub use stitcher::Stitcher;

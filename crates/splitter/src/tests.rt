@@ -2,12 +2,16 @@ ghost use Rattle.std.specs.Prelude.{◌≡◌, ◌<◌, IfOk, length};
 ghost use Rattle.partition_graph.specs.Parts.{start_of};
 ghost use Rattle.splitter.specs.Refining.{IsOpened};
 
-use crate::{RefineError, Stitcher, refine};
+use crate::{PartitionLimit, Stitcher, refine};
+use cell_pool::{RunLog, Spans};
 use count_miner::mine;
 use invariants::{Seq, Split};
-use limits::{INITIAL, MAX_PARTITIONS, MAX_TRACE_BYTES, MAX_TYPE_BYTES};
+use limits::{
+    INITIAL, MAX_PARTITIONS, MAX_PATH_NUMBERS, MAX_STEPS, MAX_TRACE_BYTES, MAX_TYPE_BYTES,
+};
 use partition_graph::PartGraph;
 use path_finder::Finder;
+use run_history::splits;
 use std::alloc::Global;
 use std::marker::Brand;
 use std::process::Abort;
@@ -39,8 +43,11 @@ fn set_of(alloc: Global, log: &str) -> Result<TraceSet, Fail>
 #[derive(Drop)]
 struct Ended {
     invariants: usize,
-    result: Result<Seq<Split>, RefineError>,
-    /// How many steps were counted; at an error 0.
+    result: Result<(), PartitionLimit>,
+    splits: Seq<Split>,
+    /// How many numbers the spans have.
+    numbers: u32,
+    /// How many steps were counted; at the limit 0.
     asks: usize,
     graph: PartGraph,
 }
@@ -70,25 +77,27 @@ fn refine_counted<L: Ledger>(
     assert!(rt; invs.len() < 100_000);
     let mut finder = Finder::make(alloc)?;
     let mut stitcher = Stitcher::make(alloc, &graph)?;
+    let mut spans = Spans::make(alloc, MAX_PATH_NUMBERS)?;
+    let mut log = RunLog::make(alloc, MAX_STEPS, 0, 0)?;
     let mut steps = Steps::<L>::open(blank);
     let result = refine(
-        alloc,
         &mut graph,
         &mut finder,
         &mut stitcher,
         invs.as_slice(),
+        &mut spans,
+        &mut log,
         &mut steps,
     );
-    let asks = match &result {
-        Err(_) => 0,
-        Ok(splits) => {
-            assert!(rt; splits.len() < 100_000);
-            stands_at(&steps, invs.len() + splits.len())
-        }
+    let asks = match result {
+        Err(PartitionLimit) => 0,
+        Ok(()) => stands_at(&steps, invs.len() + log.splits().len()),
     };
     Ok(Ended {
         invariants: invs.len(),
         result,
+        splits: splits(alloc, &log, &spans)?,
+        numbers: spans.used(),
         asks,
         graph,
     })
@@ -193,16 +202,15 @@ fn assert_case(rt: &impl Abort, alloc: Global, case: &Case<'_>) -> Result<(), Fa
     let log = case.log;
     assert_eq!(rt; ended.invariants, case.invariants, "{log}");
     assert_eq!(rt; ended.graph.parts(alloc)?.as_slice(), case.parts, "{log}");
-    match &ended.result {
-        Err(error) => panic!(rt; "{error:?} at {log}"),
-        Ok(splits) => {
-            assert_eq!(rt; splits.len(), case.splits.len(), "{log}");
-            for (split, (inv, place, path)) in splits.as_slice().iter().zip(case.splits) {
-                assert_eq!(rt; (split.inv, split.place), (*inv, *place), "{log}");
-                assert_eq!(rt; split.path.as_slice(), *path, "{log}");
-            }
-        }
+    assert!(rt; ended.result.is_ok(), "{log}");
+    assert_eq!(rt; ended.splits.len(), case.splits.len(), "{log}");
+    let mut numbers = 0usize;
+    for (split, (inv, place, path)) in ended.splits.as_slice().iter().zip(case.splits) {
+        assert_eq!(rt; (split.inv, split.place), (*inv, *place), "{log}");
+        assert_eq!(rt; split.path.as_slice(), *path, "{log}");
+        numbers = numbers.wrapping_add(path.len());
     }
+    assert_eq!(rt; ended.numbers as usize, numbers, "{log}");
     Ok(())
 }
 
@@ -222,18 +230,14 @@ fn rows(alloc: Global, letters: u32) -> Result<String, Fail> {
 /// A split divides off one letter of the second row, from its end on.
 fn assert_rows(rt: &impl Abort, alloc: Global, letters: u32) -> Result<(), Fail> {
     let ended = refine_log(rt, alloc, &rows(alloc, letters)?)?;
-    match &ended.result {
-        Err(error) => panic!(rt; "{error:?} at {letters}"),
-        Ok(splits) => {
-            assert_eq!(rt; splits.len(), letters as usize);
-            assert_eq!(rt; ended.asks, letters as usize + 27);
-            for (n, split) in splits.as_slice().iter().enumerate() {
-                assert_eq!(rt; (split.inv, split.place), (3, 2));
-                let path = split.path.as_slice();
-                assert_eq!(rt; path.len(), n + 5);
-                assert_eq!(rt; path.get(3).copied(), u32::try_from(n + 6).ok());
-            }
-        }
+    assert!(rt; ended.result.is_ok(), "{letters}");
+    assert_eq!(rt; ended.splits.len(), letters as usize);
+    assert_eq!(rt; ended.asks, letters as usize + 27);
+    for (n, split) in ended.splits.as_slice().iter().enumerate() {
+        assert_eq!(rt; (split.inv, split.place), (3, 2));
+        let path = split.path.as_slice();
+        assert_eq!(rt; path.len(), n + 5);
+        assert_eq!(rt; path.get(3).copied(), u32::try_from(n + 6).ok());
     }
     assert_eq!(rt; u64::from(ended.graph.ids_used()), u64::from(letters) + 7);
     assert_eq!(rt; ended.graph.size(3), letters);
@@ -256,10 +260,8 @@ fn the_longest_row(rt: HostRuntime) -> Result<(), Fail> {
 fn a_row_for_which_ids_do_not_suffice(rt: HostRuntime) -> Result<(), Fail> {
     let alloc = rt.alloc();
     let ended = refine_log(&rt, alloc, &rows(alloc, 1018)?)?;
-    match ended.result {
-        Ok(_) => panic!(&rt; "one id too many"),
-        Err(error) => assert_eq!(rt; error, RefineError::Partitions),
-    }
+    assert_eq!(rt; ended.result, Err(PartitionLimit));
+    assert_eq!(rt; ended.splits.len(), 1017);
     assert_eq!(rt; ended.graph.ids_used(), MAX_PARTITIONS);
     assert_eq!(rt; ended.graph.size(3), 1019);
     Ok(())

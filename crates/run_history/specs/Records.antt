@@ -1,0 +1,48 @@
+-- What the log of a run says, as the records of a model.
+use Rattle.std.specs.Prelude.{ℕ, ◌≤◌, ◌+◌, List, length, map, All}
+use Rattle.invariants.specs.declared.records.Split.{Split}
+use Rattle.invariants.specs.declared.records.Merge.{Merge}
+use Rattle.invariants.specs.declared.records.Block.{Block}
+use Rattle.cell_pool.specs.declared.spans.Span.{Span}
+use Rattle.cell_pool.specs.declared.run_log.SplitEntry.{SplitEntry}
+use Rattle.cell_pool.specs.declared.run_log.MergeEntry.{MergeEntry}
+use Rattle.cell_pool.specs.declared.run_log.BlockEntry.{BlockEntry}
+use Rattle.cell_pool.specs.Numbers.{Numbers, list_at}
+use Rattle.cell_pool.specs.RunLists.{RunLists}
+
+-- the numbers of the span
+abbrev pub path_of : List ℕ → Span → List ℕ
+path_of numbers span = list_at numbers span.from span.len
+
+-- an entry of a split, with its path
+abbrev pub split_of : List ℕ → SplitEntry → Split
+split_of numbers e = record { inv = e.inv; place = e.place; path = path_of numbers e.path }
+
+-- an entry of a merge
+abbrev pub merge_of : MergeEntry → Merge
+merge_of e = record { p = e.p; q = e.q }
+
+-- an entry of a block, with its path
+abbrev pub block_of : List ℕ → BlockEntry → Block
+block_of numbers e = record { p = e.p; q = e.q; inv = e.inv; path = path_of numbers e.path }
+
+-- the splits of the log, in their order
+abbrev pub splits_of : RunLists → Numbers → List Split
+splits_of log spans = map (split_of spans.numbers) log.splits
+
+-- the merges of the log, in their order
+abbrev pub merges_of : RunLists → List Merge
+merges_of log = map merge_of log.merges
+
+-- the blocks of the log, in their order
+abbrev pub blocks_of : RunLists → Numbers → List Block
+blocks_of log spans = map (block_of spans.numbers) log.blocks
+
+-- the span lies within the numbers
+abbrev pub IsWithin : List ℕ → Span → Type 0
+IsWithin numbers span = span.from + span.len ≤ length numbers
+
+-- the numbers hold the path of each split and of each block
+pub record HoldsPaths (log : RunLists) (spans : Numbers) : Type 0 where
+  pub splits : All (λ e. IsWithin spans.numbers e.path) log.splits
+  pub blocks : All (λ e. IsWithin spans.numbers e.path) log.blocks

@@ -1,0 +1,75 @@
+//! What the log of a run says, as the records of a model: the splits, merges and blocks, each with the numbers of its
+//! path in memory of its own.
+#![tactic(auto)]
+
+ghost use Rattle.std.specs.Prelude.{◌≡◌, IfOk};
+ghost use Rattle.cell_pool.specs.Numbers.{Numbers};
+ghost use Rattle.run_history.specs.Records.{path_of, splits_of, merges_of, blocks_of, IsWithin, HoldsPaths};
+
+use cell_pool::{RunLog, Span, Spans};
+use invariants::{Block, Merge, Seq, Split};
+use std::alloc::{AllocError, Global};
+
+#[cfg(test)]
+mod tests;
+
+/// A copy of the numbers of the span, which lies within those that were pushed.
+fn copy_of(alloc: Global, spans: &Spans, span: Span) -> Result<Seq<u32>, AllocError>
+    requires { IsWithin (spans.now).numbers span }
+    ensures { IfOk result (λ path. path ≡ path_of (spans.now).numbers span) }
+{
+    let path = spans.get(span).to_vec(alloc)?;
+    Ok(Seq::from_vec(path))
+}
+
+/// The splits of the log, in their order, each with its path. The spans hold the paths of the log. `AllocError` comes
+/// where there is not the memory for the list and for each path.
+pub fn splits(alloc: Global, log: &RunLog, spans: &Spans) -> Result<Seq<Split>, AllocError>
+    requires { HoldsPaths log.now spans.now }
+    ensures { IfOk result (λ list. list ≡ splits_of log.now spans.now) }
+{
+    let entries = log.splits();
+    let mut list = Vec::with_capacity(alloc, entries.len())?;
+    for split in entries {
+        list.push_reserved(Split {
+            inv: split.inv,
+            place: split.place,
+            path: copy_of(alloc, spans, split.path)?,
+        });
+    }
+    Ok(Seq::from_vec(list))
+}
+
+/// The merges of the log, in their order. `AllocError` comes where there is not the memory for the list.
+pub fn merges(alloc: Global, log: &RunLog) -> Result<Seq<Merge>, AllocError>
+    ensures { IfOk result (λ list. list ≡ merges_of log.now) }
+{
+    let entries = log.merges();
+    let mut list = Vec::with_capacity(alloc, entries.len())?;
+    for merge in entries {
+        list.push_reserved(Merge {
+            p: merge.p,
+            q: merge.q,
+        });
+    }
+    Ok(Seq::from_vec(list))
+}
+
+/// The blocks of the log, in their order, each with its path. The spans hold the paths of the log. `AllocError` comes
+/// where there is not the memory for the list and for each path.
+pub fn blocks(alloc: Global, log: &RunLog, spans: &Spans) -> Result<Seq<Block>, AllocError>
+    requires { HoldsPaths log.now spans.now }
+    ensures { IfOk result (λ list. list ≡ blocks_of log.now spans.now) }
+{
+    let entries = log.blocks();
+    let mut list = Vec::with_capacity(alloc, entries.len())?;
+    for block in entries {
+        list.push_reserved(Block {
+            p: block.p,
+            q: block.q,
+            inv: block.inv,
+            path: copy_of(alloc, spans, block.path)?,
+        });
+    }
+    Ok(Seq::from_vec(list))
+}
