@@ -1,0 +1,10 @@
+pub mod Bits
+pub mod Offs
+pub mod Laid
+pub mod First
+pub mod Columns
+pub mod Named
+pub mod Sound
+pub mod Passing
+pub mod Joining
+pub mod Telling

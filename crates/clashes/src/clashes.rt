@@ -1,0 +1,88 @@
+//! What a merge loses, for all invariants at once.
+ghost use Rattle.std.specs.Prelude.{◌≡◌, ◌≢◌, ◌<◌, ◌≤◌, length, IfOk, MatchOption};
+ghost use Rattle.partition_model.specs.Assignments.{Assignment, G, IsTyped};
+ghost use Rattle.partition_model.specs.Coarsening.{merge, IsPair};
+ghost use Rattle.clashes.specs.Rules.{AreNamedUpTo};
+
+use crate::board::Board;
+use crate::growing::{grow, grow_from};
+use crate::{MAX_KEPT, MAX_NAMED};
+use invariants::Invariant;
+use limits::MAX_PARTITIONS;
+use partition_graph::{Links, PartGraph, View};
+use std::alloc::{AllocError, Global};
+use std::marker::Model;
+
+/// For each of some invariants and each id of a graph two marks: whether some walk from INITIAL to the id brings the
+/// monitor into its critical state, and whether some walk from there to TERMINAL brings it from that state into its bad
+/// one. A merge of two ids loses an invariant that the graph satisfies exactly where one of them has the first mark and
+/// the other has the second. Of invariants that the graph does not satisfy, and of ids on no path, marks tell nothing.
+///
+/// Contracts see the list of the invariants, and for each id two rows of marks, with one for each of them. Invariants
+/// go by their numbers in the list, which count from 0.
+#[derive(Drop)]
+pub struct Clashes {
+    board: Board,
+    /// The edges of the graph, gathered anew for each call.
+    links: Links,
+}
+
+impl Model for Clashes {
+    ghost use Rattle.clashes.specs.Marks.{Marks};
+
+    ghost Value = { Marks };
+
+    ghost view = { λ s. s.board };
+}
+
+impl Clashes {
+    ghost use Rattle.clashes.specs.Marks.{AreMarksOf, NoClash, IsFirstClash};
+
+    /// Room for the marks of at most `MAX_KEPT` invariants, which name numbers of types up to `MAX_NAMED`, at
+    /// `MAX_PARTITIONS` ids. This alone takes memory: `AllocError` comes where there is not enough.
+    pub fn make(alloc: Global, invs: &[Invariant]) -> Result<Clashes, AllocError>
+        requires few { length invs.now ≤ MAX_KEPT }
+        requires named { AreNamedUpTo MAX_NAMED invs.now }
+        ensures { IfOk result (λ made. made.invs ≡ invs.now) }
+    {
+        let board = Board::make(alloc, invs)?;
+        let links = Links::make(alloc)?;
+        Ok(Clashes { board, links })
+    }
+
+    /// Finds the marks of this graph. What was marked before plays no part.
+    pub fn find(&mut self, graph: &PartGraph)
+        ensures invs { (self.new).invs ≡ (self.old).invs }
+        ensures marks { AreMarksOf self.new (G (graph.now).traces) }
+    {
+        self.links.gather(&View::Plain(graph));
+        self.board.clear(graph.ids_used());
+        grow(&mut self.board, self.links.as_slice(), graph);
+    }
+
+    /// Where the marks were those of a graph of which `merge(p, q)` made this one, makes them those of this one: the
+    /// marks of q go to p, and spread from there.
+    pub fn join(&mut self, graph: &PartGraph, p: u32, q: u32)
+        requires kept { p < MAX_PARTITIONS }
+        requires gone { q < MAX_PARTITIONS }
+        requires apart { p ≢ q }
+        ensures invs { (self.new).invs ≡ (self.old).invs }
+        ensures marks { (h : Assignment) → IsTyped h → IsPair (G h) p q → (graph.now).traces ≡ merge p q h
+            → AreMarksOf self.old (G h) → AreMarksOf self.new (G (graph.now).traces) }
+    {
+        self.links.gather(&View::Plain(graph));
+        self.board.join(p, q);
+        grow_from(&mut self.board, self.links.as_slice(), graph, p);
+    }
+
+    /// The number of the first invariant for which p and q clash, and None where they do for none. No mark changes.
+    /// Only invariants that the graph satisfies and ids on its paths count for anything.
+    pub fn first_clash(&mut self, p: u32, q: u32) -> Option<usize>
+        requires one { p < MAX_PARTITIONS }
+        requires other { q < MAX_PARTITIONS }
+        ensures same { self.new ≡ self.old }
+        ensures first { MatchOption result (NoClash self.old p q) (IsFirstClash self.old p q) }
+    {
+        self.board.first_clash(p, q)
+    }
+}

@@ -1,0 +1,131 @@
+//! How marks spread over a graph until nothing changes.
+ghost use Rattle.std.specs.Prelude.{◌≡◌, ◌<◌, ℕ, true, false, length};
+ghost use Rattle.bit_rows.specs.Tables.{is_set};
+ghost use Rattle.partition_model.specs.Assignments.{G, IsTyped};
+ghost use Rattle.partition_graph.specs.Links.{AreLinksOf, HasIds};
+ghost use Rattle.clashes.specs.Changes.{TellsGrowth};
+ghost use Rattle.clashes.specs.Marks.{AreMarksOf};
+ghost use Rattle.clashes.specs.Growing.{AreSound, AreEntered, HasBegun, IsClosed, IsClosedBeside};
+ghost use Rattle.clashes.specs.Growing.{IsClosedBut, IsFollowedIfNew, IsGrown, IsNoted, IsStill};
+
+use crate::board::Board;
+use crate::places::IDS;
+use limits::MAX_PARTITIONS;
+use partition_graph::{Link, PartGraph};
+
+/// Finds all marks of the graph, where each mark so far tells what is so.
+pub(crate) fn grow(board: &mut Board, links: &[Link], graph: &PartGraph)
+    requires { AreLinksOf links.now (G (graph.now).traces) }
+    ensures invs { (board.new).invs ≡ (board.old).invs }
+    ensures marks { IsTyped (graph.now).traces → AreSound board.old (G (graph.now).traces)
+        → AreMarksOf board.new (G (graph.now).traces) }
+{
+    board.begin();
+    seed(board, links, graph);
+    spread(board, links, graph, everywhere());
+}
+
+/// Finds all marks of the graph, where each mark so far tells what is so and only those at p have not spread.
+pub(crate) fn grow_from(board: &mut Board, links: &[Link], graph: &PartGraph, p: u32)
+    requires links { AreLinksOf links.now (G (graph.now).traces) }
+    requires id { p < MAX_PARTITIONS }
+    ensures invs { (board.new).invs ≡ (board.old).invs }
+    ensures marks { IsTyped (graph.now).traces → AreSound board.old (G (graph.now).traces)
+        → HasBegun board.old (G (graph.now).traces) → AreEntered board.old (G (graph.now).traces)
+        → IsClosedBeside board.old (G (graph.now).traces) p → AreMarksOf board.new (G (graph.now).traces) }
+{
+    let mut recent = nowhere();
+    recent[p as usize] = true;
+    spread(board, links, graph, recent);
+}
+
+/// Spreads marks along the links of the graph, from the ids where they are new, until nothing changes.
+fn spread(board: &mut Board, links: &[Link], graph: &PartGraph, mut recent: [bool; IDS])
+    requires links { AreLinksOf links.now (G (graph.now).traces) }
+    requires room { length recent ≡ MAX_PARTITIONS }
+    ensures grown { IsGrown board.old board.new (G (graph.now).traces) }
+    ensures closed { IsClosedBut board.old (G (graph.now).traces) recent
+        → IsClosed board.new (G (graph.now).traces) }
+{
+    let mut now = nowhere();
+    'passes: while pass(board, links, graph, &recent, &mut now) {
+        recent = now;
+        now = nowhere();
+    }
+}
+
+/// Tells marks to be new at no id.
+fn nowhere() -> [bool; IDS]
+    ensures room { length result ≡ MAX_PARTITIONS }
+    ensures still { (p : ℕ) → IsStill result p }
+{
+    [false; IDS]
+}
+
+/// Tells marks to be new at all ids.
+fn everywhere() -> [bool; IDS]
+    ensures room { length result ≡ MAX_PARTITIONS }
+    ensures fresh { (p : ℕ) → p < MAX_PARTITIONS → is_set result p ≡ true }
+{
+    [true; IDS]
+}
+
+/// Gives the ends of each link the marks that it brings at once.
+fn seed(board: &mut Board, links: &[Link], graph: &PartGraph)
+    requires { AreLinksOf links.now (G (graph.now).traces) }
+    ensures grown { IsGrown board.old board.new (G (graph.now).traces) }
+    ensures entered { AreEntered board.new (G (graph.now).traces) }
+{
+    for link in links {
+        board.enter(link.from, link.to, graph.type_of(link.to));
+    }
+}
+
+/// Takes marks along each link once where they are new at one of its ends, and says whether that changed any.
+/// `recent` tells at which ids they are new before this pass, and `now` at which since.
+fn pass(
+    board: &mut Board,
+    links: &[Link],
+    graph: &PartGraph,
+    recent: &[bool],
+    now: &mut [bool],
+) -> bool
+    requires links { AreLinksOf links.now (G (graph.now).traces) }
+    requires recent_room { length recent.now ≡ MAX_PARTITIONS }
+    requires now_room { length now.old ≡ MAX_PARTITIONS }
+    requires none { (p : ℕ) → IsStill now.old p }
+    ensures grown { IsGrown board.old board.new (G (graph.now).traces) }
+    ensures tells { TellsGrowth board.old board.new result }
+    ensures after { IsClosedBut board.old (G (graph.now).traces) recent.now
+        → IsClosedBut board.new (G (graph.now).traces) now.new }
+    ensures still { result ≡ false → (p : ℕ) → IsStill now.new p }
+{
+    let mut changed = false;
+    for link in links {
+        let more = follow(board, *link, graph.type_of(link.to), recent, now);
+        changed = changed | more;
+    }
+    changed
+}
+
+/// Takes marks along a link where they are new at one of its ends.
+fn follow(board: &mut Board, link: Link, typ: u16, recent: &[bool], now: &mut [bool]) -> bool
+    requires ids { HasIds link }
+    requires recent_room { length recent.now ≡ MAX_PARTITIONS }
+    requires now_room { length now.old ≡ MAX_PARTITIONS }
+    ensures followed { IsFollowedIfNew board.old board.new link.from link.to typ recent.now now.old }
+    ensures tells { TellsGrowth board.old board.new result }
+    ensures noted { result ≡ true → IsNoted now.old now.new link.from link.to }
+    ensures still { result ≡ false → now.new ≡ now.old }
+{
+    let (from, to) = (link.from as usize, link.to as usize);
+    if !(recent[from] | recent[to] | now[from] | now[to]) {
+        return false;
+    }
+    if !board.follow(link.from, link.to, typ) {
+        return false;
+    }
+    now[from] = true;
+    now[to] = true;
+    true
+}

@@ -1,0 +1,8 @@
+//! What marks say of merges.
+ghost use Rattle.clashes.specs.Laws.{ClashesTell};
+
+/// A merge of two partitions of one type keeps an invariant that the graph satisfies exactly where they do not clash
+/// for it.
+pub fn clashes_tell()
+    ensures { ClashesTell }
+{}

@@ -1,0 +1,25 @@
+//! Which invariant a merge of two partitions loses, told by two rows of bits and without a search of the merged graph.
+//!
+//! Each monitor has a critical state, from which the bad end is still to come. A merge of two ids loses an invariant
+//! exactly where the critical state meets one of the two and the bad end is ahead of the other (crate `merge_law`).
+//! So this crate keeps for each id a row of what is met and a row of what is ahead, with a bit for each invariant.
+#![tactic(auto)]
+
+mod board;
+mod clashes;
+mod growing;
+mod law;
+mod masks;
+mod places;
+mod rules;
+#[cfg(test)]
+mod tests;
+
+pub use clashes::Clashes;
+pub use law::clashes_tell;
+
+/// How many invariants there are at most.
+pub const MAX_KEPT: usize = 262_144;
+
+/// The greatest number that an invariant names at most.
+pub const MAX_NAMED: u16 = 257;

@@ -1,0 +1,72 @@
+//! Where each row stands: a row of what is met for each id, a row of what is ahead for each id, and then the masks.
+ghost use Rattle.std.specs.Prelude.{◌≡◌, ◌+◌, ◌<◌, ◌≤◌};
+ghost use Rattle.clashes.specs.Layout.{back_row, enters_row, stays_row, falls_row, row_count};
+ghost use Rattle.limits.specs.declared.TheConstants.{MAX_PARTITIONS};
+
+use crate::MAX_NAMED;
+use limits::MAX_PARTITIONS;
+
+/// How many ids have rows.
+pub(crate) const IDS: usize = MAX_PARTITIONS as usize;
+
+/// The row of the invariants that INITIAL brings into their critical state.
+pub(crate) const START: usize = 2 * IDS;
+
+/// The row of the invariants whose critical state is the bad one.
+pub(crate) const BAD: usize = 2 * IDS + 1;
+
+/// A row to write into.
+pub(crate) const SCRATCH: usize = 2 * IDS + 2;
+
+/// The first mask of the first type.
+pub(crate) const FIRST_MASK: usize = 2 * IDS + 3;
+
+/// How many masks a type has.
+pub(crate) const MASKS: usize = 3;
+
+/// The row that says which invariants' critical states meet the id.
+pub(crate) fn fore_row(p: u32) -> usize
+    ensures { result ≡ p }
+{
+    p as usize
+}
+
+/// The row that says for which invariants the bad end is ahead of the id.
+pub(crate) fn back_row(p: u32) -> usize
+    requires { p < MAX_PARTITIONS }
+    ensures { result ≡ back_row p }
+{
+    IDS + p as usize
+}
+
+/// The row of the invariants that the type brings into their critical state.
+pub(crate) fn enters_row(x: u16) -> usize
+    requires { x ≤ MAX_NAMED + 1 }
+    ensures { result ≡ enters_row x }
+{
+    FIRST_MASK + usize::from(x) * MASKS
+}
+
+/// The row of the invariants that the type leaves in their critical state.
+pub(crate) fn stays_row(x: u16) -> usize
+    requires { x ≤ MAX_NAMED + 1 }
+    ensures { result ≡ stays_row x }
+{
+    FIRST_MASK + usize::from(x) * MASKS + 1
+}
+
+/// The row of the invariants that the type brings from their critical state into their bad one.
+pub(crate) fn falls_row(x: u16) -> usize
+    requires { x ≤ MAX_NAMED + 1 }
+    ensures { result ≡ falls_row x }
+{
+    FIRST_MASK + usize::from(x) * MASKS + 2
+}
+
+/// How many rows there are, where the last masks are those of `others`.
+pub(crate) fn row_count(others: u16) -> usize
+    requires { others ≤ MAX_NAMED + 1 }
+    ensures { result ≡ row_count others }
+{
+    FIRST_MASK + (usize::from(others) + 1) * MASKS
+}
