@@ -1,0 +1,165 @@
+-- What is found when a row has got what another one passes.
+use Rattle.std.proofs.Common.{◌≡◌, ◌≢◌, ◌↔◌, ℕ, ◌<◌, ◌≤◌, ◌==◌, Bool, true, false, not, cond, List, [], ◌∷◌, ◌++◌, slice_get, Some, refl, sym, ap, ◌∙◌, subst, subst₂, arith, inl, inr}
+use Rattle.std.proofs.lemmas.Bool.{cases_eq, or_cases, and_parts, or_left, or_right, and_from, eqb-true, eq-eqb}
+use Rattle.limits.specs.declared.TheConstants.{MAX_PARTITIONS, INITIAL, TERMINAL}
+use Rattle.invariants.specs.declared.Kind.{Kind}
+use Rattle.invariants.specs.declared.Kind.TheVariants.{AF, NF, AP}
+use Rattle.invariants.specs.declared.Invariant.{Invariant}
+use Rattle.invariants.specs.Monitors.{step, bad_of}
+use Rattle.partition_model.specs.Graphs.{Graph}
+use Rattle.partition_model.specs.Labels.{Reached}
+use Rattle.partition_model.proofs.Labelling.{walk_more, run_more}
+use Rattle.bit_rows.specs.Tables.{row_at, is_set, KeepsShape}
+use Rattle.labelling.specs.declared.layout.TheConstants.{STATES, LABEL_ROWS, BROKEN_ROW, ALL_ROW}
+use Rattle.labelling.specs.Boards.{found_in}
+use Rattle.labelling.specs.Carried.{passes, IsPassed}
+use Rattle.labelling.specs.Found.{Grows, StartsAt, FollowsAlong, HasStart, IsCarried, IsSameBut, AreNoted}
+use Rattle.labelling.specs.Layout.{is_on, label_row, bad_row, move_row, AreMarked}
+use Rattle.labelling.proofs.Marking.{move_tells, marked_same}
+use Rattle.labelling.proofs.Passing.{IsBadBelow}
+
+-- ---- rows of labels
+
+-- different places have different rows
+pub same_label : (p s q t : ℕ) → s < STATES → t < STATES → label_row p s ≡ label_row q t → (p ≡ q) × (s ≡ t)
+same_label p s q t low next e = (omega (arith, low, next, e), omega (arith, low, next, e))
+
+-- the marks stay where only labels and notes change
+pub kept_marked : (bound : ℕ) (invs : List Invariant) (old new : List (List Bool)) → KeepsShape old new
+    → ((r : ℕ) → LABEL_ROWS ≤ r → r ≢ BROKEN_ROW → row_at new r ≡ row_at old r) → AreMarked bound invs old → AreMarked bound invs new
+kept_marked bound invs old new shape same h = record {
+  limit = h.limit;
+  named = h.named;
+  shape = shape _ _ h.shape;
+  marked = λ k inv at. marked_same bound old new k inv (λ r above other. ap (λ (x : List Bool). is_set x k) (same r above other)) (h.marked k inv at);
+}
+
+pub passed_marked : (bound : ℕ) (invs : List Invariant) (old new : List (List Bool)) (from to mask : ℕ) (back changed : Bool) → to < LABEL_ROWS
+    → IsPassed old new from to mask back changed → AreMarked bound invs old → AreMarked bound invs new
+passed_marked bound invs old new from to mask back changed low h =
+    kept_marked bound invs old new h.shape (λ r above other. h.others r (λ e. absurd (omega (arith, above, e, low))))
+
+module _ (invs : List Invariant) (old new : List (List Bool)) (from to mask : ℕ) (back changed : Bool) (h : IsPassed old new from to mask back changed) where
+  -- what is on stays on
+  stays_on : (r k : ℕ) → is_on old r k ≡ true → is_on new r k ≡ true
+  stays_on r k on = elim (cases_eq r to) [
+    | inl same ↦
+        ap (λ (x : ℕ). is_on new x k) same ∙ h.here k
+        ∙ or_left (is_on old to k) (passes old from mask back k) (ap (λ (x : ℕ). is_on old x k) (sym same) ∙ on)
+    | inr ne ↦ ap (λ (x : List Bool). is_set x k) (h.others r ne) ∙ on
+  ]
+
+  pub passed_grows : Grows (found_in invs old) (found_in invs new) changed
+  passed_grows = record {
+    same = refl;
+    keeps = λ k p s on. stays_on (label_row p s) k on;
+    fewer = h.fewer;
+    still = λ off. ap (λ (t : List (List Bool)). found_in invs t) (h.still off);
+    falls = h.falls;
+  }
+
+-- only one id has more
+pub passed_but : (invs : List Invariant) (old new : List (List Bool)) (from q t mask : ℕ) (back changed : Bool) → t < STATES
+    → IsPassed old new from (label_row q t) mask back changed → IsSameBut q (found_in invs old) (found_in invs new)
+passed_but invs old new from q t mask back changed next h k p s ne low on =
+    ap (λ (x : List Bool). is_set x k) (sym (h.others (label_row p s) (λ e. ne (same_label p s q t low next e).0))) ∙ on
+
+-- ---- what goes along an edge
+
+pub reached_more : (inv : Invariant) (g : Graph) (p s q : ℕ) → Reached inv g p s → g.edge p q ≡ true → Reached inv g q (step inv s (g.typ q))
+reached_more inv g p s q r e =
+    (r.0 ++ q ∷ [], walk_more g INITIAL r.0 p q r.1 e, run_more inv g 0 (INITIAL ∷ r.0) q ∙ ap (λ (x : ℕ). step inv x (g.typ q)) r.2)
+
+-- what the mask of a move lets through
+mask_step : (bound : ℕ) (invs : List Invariant) (table : List (List Bool)) (k x typ s t : ℕ) (inv : Invariant) → AreMarked bound invs table → slice_get invs k ≡ Some inv
+    → x ≤ bound → step inv s x ≡ step inv s typ → s < STATES → t < STATES
+    → cond (s == t) (not (is_on table (move_row x s t) k)) (is_on table (move_row x s t) k) ≡ (step inv s typ == t)
+mask_step bound invs table k x typ s t inv h at le acts low next =
+    move_tells (s == t) (step inv s x == t) (is_on table (move_row x s t) k) ((h.marked k inv at).moves x s t le low next)
+    ∙ ap (λ (z : ℕ). z == t) acts
+
+module _ (bound : ℕ) (invs : List Invariant) (old new : List (List Bool)) (p q x typ s t : ℕ) (changed : Bool)
+    (marked : AreMarked bound invs old) (le : x ≤ bound) (acts : (k : ℕ) (inv : Invariant) (z : ℕ) → slice_get invs k ≡ Some inv → step inv z x ≡ step inv z typ)
+    (in_p : p < MAX_PARTITIONS) (in_q : q < MAX_PARTITIONS) (low : s < STATES) (next : t < STATES)
+    (h : IsPassed old new (label_row p s) (label_row q t) (move_row x s t) (s == t) changed) where
+  pub carried_follows : FollowsAlong p q typ (found_in invs old) (found_in invs new)
+  carried_follows g edge is_typ before k inv r z at in_r in_z on = elim (cases_eq (label_row r z) (label_row q t)) [
+    | inr ne ↦ before k inv r z at in_r in_z (ap (λ (y : List Bool). is_set y k) (sym (h.others (label_row r z) ne)) ∙ on)
+    | inl same ↦
+        let e = same_label r z q t in_z next same in
+        elim (or_cases (is_on old (label_row q t) k) (passes old (label_row p s) (move_row x s t) (s == t) k) (sym (h.here k) ∙ ap (λ (y : ℕ). is_on new y k) (sym same) ∙ on)) [
+          | inl was ↦ before k inv r z at in_r in_z (ap (λ (y : ℕ). is_on old y k) same ∙ was)
+          | inr now ↦
+              let b = and_parts (is_on old (label_row p s) k) (cond (s == t) (not (is_on old (move_row x s t) k)) (is_on old (move_row x s t) k)) now in
+              let made : step inv s typ ≡ t = eqb-true (step inv s typ) t (sym (mask_step bound invs old k x typ s t inv marked at le (acts k inv s at) low next) ∙ b.1) in
+              let more : Reached inv g q (step inv s (g.typ q)) = reached_more inv g p s q (before k inv p s at in_p low b.0) edge in
+              subst₂ (λ (a b : ℕ). Reached inv g a b) (sym e.0) (ap (λ (y : ℕ). step inv s y) is_typ ∙ made ∙ sym e.1) more
+        ]
+  ]
+
+  pub carried_over : IsCarried p s typ q t (found_in invs old) (found_in invs new)
+  carried_over k inv at on made =
+      h.here k
+      ∙ or_right (is_on old (label_row q t) k) (passes old (label_row p s) (move_row x s t) (s == t) k)
+      (and_from (is_on old (label_row p s) k) (cond (s == t) (not (is_on old (move_row x s t) k)) (is_on old (move_row x s t) k)) on
+      (mask_step bound invs old k x typ s t inv marked at le (acts k inv s at) low next ∙ eq-eqb (step inv s typ) t made))
+
+-- ---- what INITIAL begins with
+
+module _ (bound : ℕ) (invs : List Invariant) (old new : List (List Bool)) (x typ t : ℕ) (changed : Bool)
+    (marked : AreMarked bound invs old) (le : x ≤ bound) (acts : (k : ℕ) (inv : Invariant) (z : ℕ) → slice_get invs k ≡ Some inv → step inv z x ≡ step inv z typ)
+    (next : t < STATES) (h : IsPassed old new ALL_ROW (label_row INITIAL t) (move_row x 0 t) (0 == t) changed) where
+  pub started_at : StartsAt typ (found_in invs old) (found_in invs new)
+  started_at g is_typ before k inv r z at in_r in_z on = elim (cases_eq (label_row r z) (label_row INITIAL t)) [
+    | inr ne ↦ before k inv r z at in_r in_z (ap (λ (y : List Bool). is_set y k) (sym (h.others (label_row r z) ne)) ∙ on)
+    | inl same ↦
+        let e = same_label r z INITIAL t in_z next same in
+        elim (or_cases (is_on old (label_row INITIAL t) k) (passes old ALL_ROW (move_row x 0 t) (0 == t) k) (sym (h.here k) ∙ ap (λ (y : ℕ). is_on new y k) (sym same) ∙ on)) [
+          | inl was ↦ before k inv r z at in_r in_z (ap (λ (y : ℕ). is_on old y k) same ∙ was)
+          | inr now ↦
+              let b = and_parts (is_on old ALL_ROW k) (cond (0 == t) (not (is_on old (move_row x 0 t) k)) (is_on old (move_row x 0 t) k)) now in
+              let made : step inv 0 typ ≡ t = eqb-true (step inv 0 typ) t (sym (mask_step bound invs old k x typ 0 t inv marked at le (acts k inv 0 at) (omega arith) next) ∙ b.1) in
+              let begin : Reached inv g INITIAL (step inv 0 (g.typ INITIAL)) = ([], refl, refl) in
+              subst₂ (λ (a b : ℕ). Reached inv g a b) (sym e.0) (ap (λ (y : ℕ). step inv 0 y) is_typ ∙ made ∙ sym e.1) begin
+        ]
+  ]
+
+  pub started : HasStart typ t (found_in invs new)
+  started k inv at made =
+      h.here k
+      ∙ or_right (is_on old (label_row INITIAL t) k) (passes old ALL_ROW (move_row x 0 t) (0 == t) k)
+      (and_from (is_on old ALL_ROW k) (cond (0 == t) (not (is_on old (move_row x 0 t) k)) (is_on old (move_row x 0 t) k)) (marked.marked k inv at).all
+      (mask_step bound invs old k x typ 0 t inv marked at le (acts k inv 0 at) (omega arith) next ∙ eq-eqb (step inv 0 typ) t made))
+
+-- rows by their places
+pub passed_at : (old new : List (List Bool)) (a b to at mask by : ℕ) (back changed : Bool) → a ≡ b → to ≡ at → mask ≡ by
+    → IsPassed old new a to mask back changed → IsPassed old new b at by back changed
+passed_at old new a b to at mask by back changed e f d h =
+    subst (λ (x : ℕ). IsPassed old new b at x back changed) d (subst₂ (λ (x y : ℕ). IsPassed old new x y mask back changed) e f h)
+
+-- ---- what is noted
+
+same_truth : (a b : Bool) → (a ≡ true → b ≡ true) → (b ≡ true → a ≡ true) → a ≡ b
+same_truth true b f g = sym (f refl)
+same_truth false true f g = g refl
+same_truth false false f g = refl
+
+pub bad_low : (kind : Kind) → bad_of kind < STATES
+bad_low AF = omega arith
+bad_low NF = omega arith
+bad_low AP = omega arith
+
+pub noted : (bound : ℕ) (invs : List Invariant) (old new : List (List Bool)) → AreMarked bound invs old
+    → ((k : ℕ) → (is_on new BROKEN_ROW k ≡ true) ↔ IsBadBelow old k STATES)
+    → ((r : ℕ) → r ≢ BROKEN_ROW → row_at new r ≡ row_at old r) → AreNoted (found_in invs new)
+noted bound invs old new marked broken others k inv at =
+    let row : ℕ = label_row TERMINAL (bad_of inv.kind) in
+    let low : bad_of inv.kind < STATES = bad_low inv.kind in
+    let stays : is_on new row k ≡ is_on old row k = ap (λ (x : List Bool). is_set x k) (others row (λ e. absurd (omega (arith, e, low)))) in
+    let bad : (s : ℕ) → s < STATES → is_on old (bad_row s) k ≡ (s == bad_of inv.kind) = (marked.marked k inv at).bad in
+    same_truth (is_on new BROKEN_ROW k) (is_on new row k)
+    (λ on.
+    let w : IsBadBelow old k STATES = (broken k).0 on in
+    let e : w.0 ≡ bad_of inv.kind = eqb-true w.0 (bad_of inv.kind) (sym (bad w.0 w.1) ∙ w.3) in
+    stays ∙ ap (λ (s : ℕ). is_on old (label_row TERMINAL s) k) (sym e) ∙ w.2)
+    (λ on. (broken k).1 (bad_of inv.kind, low, sym stays ∙ on, bad (bad_of inv.kind) low ∙ eq-eqb (bad_of inv.kind) (bad_of inv.kind) refl))

@@ -1,0 +1,5 @@
+pub mod Passing
+pub mod Marking
+pub mod Finding
+pub mod Growing
+pub mod Telling

@@ -1,0 +1,139 @@
+-- Marks of invariants.
+use Rattle.std.proofs.Common.{◌≡◌, ◌≢◌, ℕ, ◌+◌, ◌*◌, ◌/◌, ◌%◌, ◌<◌, ◌≤◌, ◌==◌, Bool, true, false, not, cond, eqb, List, [], set, refl, sym, ap, ap₂, ◌∙◌, subst, arith, inl, inr}
+use Rattle.std.proofs.lemmas.List.{get_or-set_same, get_or-set_other}
+use Rattle.std.proofs.lemmas.Bool.{cases_eq, cases_lt, ne_eqb}
+use Rattle.invariants.specs.declared.Kind.{Kind}
+use Rattle.invariants.specs.declared.Kind.TheVariants.{AF, NF, AP}
+use Rattle.invariants.specs.declared.Invariant.{Invariant}
+use Rattle.invariants.specs.Monitors.{step, step_of, is_bad}
+use Rattle.bit_rows.specs.Tables.{row_at, is_set, HasShape}
+use Rattle.labelling.specs.declared.layout.TheConstants.{STATES, LABEL_ROWS, BROKEN_ROW, ALL_ROW, MOVE_ROWS, MOVES}
+use Rattle.labelling.specs.Layout.{is_on, bad_row, move_row, is_move, IsApart, IsMarked}
+
+-- ---- one truth value is put
+
+pub put_here : (old new : List (List Bool)) (n m r k : ℕ) (on : Bool) → HasShape old n m → r < n → k < m
+    → new ≡ set old r (set (row_at old r) k on) → is_on new r k ≡ on
+put_here old new n m r k on shape below inside is =
+    ap (λ (t : List (List Bool)). is_on t r k) is
+    ∙ ap (λ (x : List Bool). is_set x k) (get_or-set_same old r (set (row_at old r) k on) [] (omega (arith, below, shape.count)))
+    ∙ get_or-set_same (row_at old r) k on false (omega (arith, inside, shape.long r below))
+
+pub put_row : (old new : List (List Bool)) (r s j k : ℕ) (on : Bool) → new ≡ set old r (set (row_at old r) k on) → s ≢ r → is_on new s j ≡ is_on old s j
+put_row old new r s j k on is ne =
+    ap (λ (t : List (List Bool)). is_on t s j) is ∙ ap (λ (x : List Bool). is_set x j) (get_or-set_other old r s (set (row_at old r) k on) [] ne)
+
+pub put_other : (old new : List (List Bool)) (n m r s j k : ℕ) (on : Bool) → HasShape old n m → r < n → k < m
+    → new ≡ set old r (set (row_at old r) k on) → j ≢ k → is_on new s j ≡ is_on old s j
+put_other old new n m r s j k on shape below inside is ne = elim (cases_eq s r) [
+  | inl same ↦
+      ap (λ (x : ℕ). is_on new x j) same ∙ ap (λ (t : List (List Bool)). is_on t r j) is
+      ∙ ap (λ (x : List Bool). is_set x j) (get_or-set_same old r (set (row_at old r) k on) [] (omega (arith, below, shape.count)))
+      ∙ get_or-set_other (row_at old r) k j on false ne ∙ sym (ap (λ (x : ℕ). is_on old x j) same)
+  | inr other ↦ put_row old new r s j k on is other
+]
+
+-- ---- what a type does to a state
+
+step_other_of : (kind : Kind) (a b s x : ℕ) → x ≢ a → x ≢ b → step_of kind a b s x ≡ s
+step_other_of AF a b s x na nb = let e : eqb x a ≡ false = ne_eqb x a na in let f : eqb x b ≡ false = ne_eqb x b nb in rw (e, f) refl
+step_other_of NF a b s x na nb = let e : eqb x a ≡ false = ne_eqb x a na in let f : eqb x b ≡ false = ne_eqb x b nb in rw (e, f) refl
+step_other_of AP a b s x na nb = let e : eqb x a ≡ false = ne_eqb x a na in let f : eqb x b ≡ false = ne_eqb x b nb in rw (e, f) refl
+
+-- a type that an invariant does not name leaves the state
+pub step_other : (inv : Invariant) (s x : ℕ) → x ≢ inv.a → x ≢ inv.b → step inv s x ≡ s
+step_other inv s x na nb = step_other_of inv.kind inv.a inv.b s x na nb
+
+differs : (b : Bool) → cond b (not b) b ≡ false
+differs true = refl
+differs false = refl
+
+-- and makes no move
+pub no_move : (inv : Invariant) (x s t : ℕ) → x ≢ inv.a → x ≢ inv.b → is_move inv x s t ≡ false
+no_move inv x s t na nb = ap (λ (z : ℕ). cond (s == t) (not (z == t)) (z == t)) (step_other inv s x na nb) ∙ differs (s == t)
+
+-- and what a mask lets through is the step
+pub move_tells : (b made m : Bool) → m ≡ cond b (not made) made → cond b (not m) m ≡ made
+move_tells true true m e = ap not e
+move_tells true false m e = ap not e
+move_tells false made m e = e
+
+-- ---- the marks of one invariant
+
+pub apart_moves : (x y s t k : ℕ) → y ≢ x → s < STATES → t < STATES → IsApart x k (move_row y s t) k
+apart_moves x y s t k ne low next = elim (cases_lt y x) [
+  | inl less ↦ inr (inl (omega (arith, less)))
+  | inr more ↦ inr (inr (omega (arith, more, ne)))
+]
+
+-- marks stay where the values of the invariant stay
+pub marked_same : (bound : ℕ) (old new : List (List Bool)) (k : ℕ) (inv : Invariant) → ((r : ℕ) → LABEL_ROWS ≤ r → r ≢ BROKEN_ROW → is_on new r k ≡ is_on old r k)
+    → IsMarked bound old k inv → IsMarked bound new k inv
+marked_same bound old new k inv same h = record {
+  all = same ALL_ROW (omega arith) (λ e. absurd (omega (arith, e))) ∙ h.all;
+  bad = λ s low. same (bad_row s) (omega arith) (λ e. absurd (omega (arith, e))) ∙ h.bad s low;
+  moves = λ x s t le low next. same (move_row x s t) (omega arith) (λ e. absurd (omega (arith, e))) ∙ h.moves x s t le low next;
+}
+
+pub marked_more : (bound : ℕ) (first one other : List (List Bool)) (k : ℕ) (inv : Invariant)
+    → is_on first ALL_ROW k ≡ true → ((s : ℕ) → s < STATES → is_on first (bad_row s) k ≡ is_bad inv s)
+    → ((r : ℕ) → MOVE_ROWS ≤ r → is_on first r k ≡ false)
+    → ((s t : ℕ) → s < STATES → t < STATES → is_on one (move_row inv.a s t) k ≡ is_move inv inv.a s t)
+    → ((r j : ℕ) → IsApart inv.a k r j → is_on one r j ≡ is_on first r j)
+    → ((s t : ℕ) → s < STATES → t < STATES → is_on other (move_row inv.b s t) k ≡ is_move inv inv.b s t)
+    → ((r j : ℕ) → IsApart inv.b k r j → is_on other r j ≡ is_on one r j) → IsMarked bound other k inv
+marked_more bound first one other k inv all bad blank a apart_a b apart_b = record {
+  all = apart_b ALL_ROW k (inr (inl (omega arith))) ∙ apart_a ALL_ROW k (inr (inl (omega arith))) ∙ all;
+  bad = λ s low. apart_b (bad_row s) k (inr (inl (omega arith))) ∙ apart_a (bad_row s) k (inr (inl (omega arith))) ∙ bad s low;
+  moves = λ x s t le low next. elim (cases_eq x inv.b) [
+    | inl same ↦ subst (λ (z : ℕ). is_on other (move_row z s t) k ≡ is_move inv z s t) (sym same) (b s t low next)
+    | inr not_b ↦
+        apart_b (move_row x s t) k (apart_moves inv.b x s t k not_b low next)
+        ∙ elim (cases_eq x inv.a) [
+          | inl same ↦ subst (λ (z : ℕ). is_on one (move_row z s t) k ≡ is_move inv z s t) (sym same) (a s t low next)
+          | inr not_a ↦
+              apart_a (move_row x s t) k (apart_moves inv.a x s t k not_a low next)
+              ∙ blank (move_row x s t) (omega arith) ∙ sym (no_move inv x s t not_a not_b)
+        ]
+  ];
+}
+
+-- ---- one move after another
+
+-- what rows say of the first moves at a type
+abbrev pub HasMoves : List (List Bool) → ℕ → Invariant → ℕ → ℕ → Type 0
+HasMoves table k inv x bound =
+    (m : ℕ) → m < bound → is_on table (MOVE_ROWS + x * MOVES + m) k ≡ is_move inv x (m / STATES) (m % STATES)
+
+pub moves_more : (old new : List (List Bool)) (n count x k place row : ℕ) (inv : Invariant) (on : Bool) → HasShape old n count
+    → MOVE_ROWS + (x + 1) * MOVES ≤ n → k < count → place < MOVES → row ≡ move_row x (place / STATES) (place % STATES) → on ≡ is_move inv x (place / STATES) (place % STATES)
+    → new ≡ set old row (set (row_at old row) k on) → HasMoves old k inv x place → HasMoves new k inv x (place + 1)
+moves_more old new n count x k place row inv on shape room number low at is_on_is is before m below =
+    let here : row ≡ MOVE_ROWS + x * MOVES + place = omega (arith, at) in
+    elim (cases_eq m place) [
+      | inl same ↦
+          ap (λ (z : ℕ). is_on new (MOVE_ROWS + x * MOVES + z) k) same ∙ ap (λ (z : ℕ). is_on new z k) (sym here)
+          ∙ put_here old new n count row k on shape (omega (arith, here)) number is ∙ is_on_is
+          ∙ ap (λ (z : ℕ). is_move inv x (z / STATES) (z % STATES)) (sym same)
+      | inr ne ↦
+          put_row old new row (MOVE_ROWS + x * MOVES + m) k k on is (λ e. absurd (omega (arith, e, here, ne)))
+          ∙ before m (omega (arith, below, ne))
+    ]
+
+pub moves_all : (table : List (List Bool)) (k x : ℕ) (inv : Invariant) → HasMoves table k inv x MOVES
+    → (s t : ℕ) → s < STATES → t < STATES → is_on table (move_row x s t) k ≡ is_move inv x s t
+moves_all table k x inv h s t low next =
+    let place : MOVE_ROWS + x * MOVES + (s * STATES + t) ≡ move_row x s t = omega arith in
+    let first : (s * STATES + t) / STATES ≡ s = omega arith in
+    let second : (s * STATES + t) % STATES ≡ t = omega arith in
+    ap (λ (z : ℕ). is_on table z k) (sym place) ∙ h (s * STATES + t) (omega arith) ∙ ap₂ (λ (y z : ℕ). is_move inv x y z) first second
+
+pub moves_apart : (old new : List (List Bool)) (n count x k place row : ℕ) (on : Bool) → HasShape old n count
+    → MOVE_ROWS + (x + 1) * MOVES ≤ n → k < count → place < MOVES → row ≡ move_row x (place / STATES) (place % STATES)
+    → new ≡ set old row (set (row_at old row) k on) → (r j : ℕ) → IsApart x k r j → is_on new r j ≡ is_on old r j
+moves_apart old new n count x k place row on shape room number low at is r j apart =
+    let here : row ≡ MOVE_ROWS + x * MOVES + place = omega (arith, at) in
+    elim apart [
+      | inl other ↦ put_other old new n count row r j k on shape (omega (arith, here)) number is other
+      | inr outside ↦ put_row old new row r j k on is (λ e. elim outside [ inl before ↦ omega (arith, before, e, here) | inr behind ↦ omega (arith, behind, e, here) ])
+    ]

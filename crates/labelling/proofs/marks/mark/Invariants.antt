@@ -1,0 +1,17 @@
+use Rattle.std.proofs.Common.{◌≡◌, ◌≢◌, ◌≤◌, ◌<◌, ℕ, true, false}
+use Rattle.invariants.specs.Monitors.{is_bad}
+use Rattle.bit_rows.specs.Tables.{KeepsShape}
+use Rattle.labelling.specs.declared.layout.TheConstants.{MOVE_ROWS, ALL_ROW}
+use Rattle.labelling.specs.Layout.{is_on, bad_row, IsFree}
+use Rattle.labelling.proofs.marks.mark.Given as goal
+
+abbrev pub invariant-loop-state : goal.invariant-loop-state
+invariant-loop-state l =
+    record {
+      shape : KeepsShape l.fn.rows l.rows;
+      all : is_on l.rows ALL_ROW l.k ≡ true;
+      bad : (s : ℕ) → s < l.state → is_on l.rows (bad_row s) l.k ≡ is_bad l.inv s;
+      moves : (r : ℕ) → MOVE_ROWS ≤ r → is_on l.rows r l.k ≡ false;
+      free : (r : ℕ) → IsFree r → is_on l.rows r l.k ≡ false;
+      others : (r j : ℕ) → j ≢ l.k → is_on l.rows r j ≡ is_on l.fn.rows r j;
+    }

@@ -1,0 +1,36 @@
+use Rattle.std.proofs.Common.{arith}
+use Rattle.labelling.specs.Boards.{found}
+use Rattle.labelling.proofs.Growing.{grows_none, grows_more, carried_on, moves_on, same_but_more, spread_of_moves}
+use Rattle.labelling.proofs.spreading.spread.Goals as goal
+
+pub loop-place-init : goal.loop-place-init
+loop-place-init c = record {
+  grows = c.carry-changed.ensures.grows;
+  sound = c.carry-changed.ensures.sound;
+  last = c.carry-changed.ensures.carried;
+  others = c.carry-changed.ensures.others;
+  moves = λ m none. absurd (omega (arith, none));
+}
+
+pub loop-place-preserved : goal.loop-place-preserved
+loop-place-preserved c =
+    let first = found c.args.board.now in
+    let old = found c.loop-place.board in
+    let new = found c.carry-more.new.self in
+    let i = c.loop-place.invariant in
+    let e = c.carry-more.ensures in
+    record {
+      grows = grows_more first old new c.loop-place.changed c.carry-more.result i.grows e.grows;
+      sound = λ g edge is h. e.sound g edge is (i.sound g edge is h);
+      last = carried_on first first old new _ c.carry-more.result c.args.link.from _ c.args.typ c.args.link.to _ (grows_none first) i.last e.grows;
+      others = same_but_more c.args.link.to first old new i.others e.others;
+      moves = moves_on c.args.link.from c.args.link.to c.args.typ c.loop-place.place first old new c.loop-place.changed c.carry-more.result i.grows e.grows i.moves e.carried;
+    }
+
+pub returns : goal.returns
+returns c = record {
+  grows = c.loop-place.invariant.grows;
+  sound = c.loop-place.invariant.sound;
+  spread = spread_of_moves c.args.link.from c.args.link.to c.args.typ (found c.args.board.now) (found c.loop-place.board) c.loop-place.invariant.last (λ m below. c.loop-place.invariant.moves m (omega arith));
+  others = c.loop-place.invariant.others;
+}

@@ -1,0 +1,45 @@
+-- The labels of invariants: at each id the states that a monitor reaches there, as a number.
+use Rattle.std.specs.Prelude.{◌≡◌, ◌↔◌, ℕ, ◌+◌, ◌<◌, ◌≤◌, Bool, true, if◌then◌else◌, List, take, slice_get, Some}
+use Rattle.limits.specs.declared.TheConstants.{MAX_PARTITIONS}
+use Rattle.invariants.specs.declared.Invariant.{Invariant}
+use Rattle.partition_model.specs.Graphs.{Graph}
+use Rattle.partition_model.specs.Labels.{Reached}
+use Rattle.clashes.specs.Marks.{Marks}
+use Rattle.models.specs.Models.{has_state}
+use Rattle.labelling.specs.declared.layout.TheConstants.{LABEL_ROWS}
+use Rattle.labelling.specs.Layout.{is_on, label_row}
+
+-- the invariants; for each id and state, in their order, a row with a truth value for each invariant; and marks that tell
+-- what merges lose
+pub record Labelling : Type 0 where
+  pub invs : List Invariant
+  pub rows : List (List Bool)
+  pub clashes : Marks
+
+-- whether the state s of the invariant with number k is found at p
+abbrev pub is_found : Labelling → ℕ → ℕ → ℕ → Bool
+is_found labels k p s = is_on labels.rows (label_row p s) k
+
+-- the number of a set of states: 1 for the state 0, plus 2 for the state 1, plus 4 for the state 2
+abbrev pub number_of : Bool → Bool → Bool → ℕ
+number_of zeroth first second = (if zeroth then 1 else 0) + (if first then 2 else 0) + (if second then 4 else 0)
+
+-- the label of the invariant with number k at p: the set of the states that are found there
+abbrev pub digit : Labelling → ℕ → ℕ → ℕ
+digit labels k p = number_of (is_found labels k p 0) (is_found labels k p 1) (is_found labels k p 2)
+
+-- the labels say the states that are reached in the graph, and no more
+pub record AreLabelsOf (labels : Labelling) (g : Graph) : Type 0 where
+  pub states : (k : ℕ) (inv : Invariant) (p s : ℕ) → slice_get labels.invs k ≡ Some inv → p < MAX_PARTITIONS → s < 3
+      → (has_state (digit labels k p) s ≡ true) ↔ Reached inv g p s
+  pub small : (k p : ℕ) → digit labels k p ≤ 7
+
+-- the labels among the rows of a table, with marks
+abbrev pub labelling_in : List Invariant → List (List Bool) → Marks → Labelling
+labelling_in invs table marks = record { invs = invs; rows = take LABEL_ROWS table; clashes = marks }
+
+-- only the marks may differ, and they are of the same invariants
+pub record KeepsLabels (old new : Labelling) : Type 0 where
+  pub invs : new.invs ≡ old.invs
+  pub rows : new.rows ≡ old.rows
+  pub listed : new.clashes.invs ≡ new.invs

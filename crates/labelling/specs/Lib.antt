@@ -1,0 +1,6 @@
+pub mod Boards
+pub mod Carried
+pub mod Found
+pub mod Labelled
+pub mod Layout
+pub mod Rounds

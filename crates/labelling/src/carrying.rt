@@ -1,0 +1,63 @@
+//! What is done with whole rows.
+ghost use Rattle.std.specs.Prelude.{◌≡◌, ◌≢◌, ◌≤◌, ◌<◌, ◌↔◌, ℕ, true, false, length};
+ghost use Rattle.limits.specs.declared.TheConstants.{TERMINAL};
+ghost use Rattle.bit_rows.specs.Tables.{row_at, HasShape, KeepsShape};
+ghost use Rattle.labelling.specs.Carried.{IsPassed};
+ghost use Rattle.labelling.specs.Layout.{is_on, label_row, bad_row};
+
+use crate::layout::{BROKEN_ROW, LABEL_ROWS, bad_row, label_row};
+use bit_rows::Rows;
+use limits::TERMINAL;
+
+/// Puts into row `to` what goes from row `from` through the mask, and says whether that is more than it had. The mask
+/// tells what stays back, or else what goes.
+pub(crate) fn pass(rows: &mut Rows, from: usize, to: usize, mask: usize, back: bool) -> bool
+    requires shape { HasShape rows.old (length rows.old) (length (row_at rows.old to)) }
+    requires from_row { from < length rows.old }
+    requires to_row { to < length rows.old }
+    requires mask_row { mask < length rows.old }
+    requires apart { to ≢ mask }
+    ensures { IsPassed rows.old rows.new from to mask back result }
+{
+    if from == to {
+        return false;
+    }
+    if back {
+        return rows.or_and_not_into(to, from, mask);
+    }
+    rows.or_and_into(to, from, mask)
+}
+
+/// Leaves no state at any id.
+pub(crate) fn clear_labels(rows: &mut Rows)
+    requires { LABEL_ROWS ≤ length rows.old }
+    ensures shape { KeepsShape rows.old rows.new }
+    ensures labels { (r k : ℕ) → r < LABEL_ROWS → is_on rows.new r k ≡ false }
+    ensures others { (r : ℕ) → LABEL_ROWS ≤ r → row_at rows.new r ≡ row_at rows.old r }
+{
+    for row in 0..LABEL_ROWS {
+        rows.clear(row);
+    }
+}
+
+/// Notes for which invariants a bad state is found at TERMINAL.
+pub(crate) fn note_broken(rows: &mut Rows)
+    requires shape { HasShape rows.old (length rows.old) (length (row_at rows.old BROKEN_ROW)) }
+    requires room { BROKEN_ROW < length rows.old }
+    ensures shape { KeepsShape rows.old rows.new }
+    ensures broken { (k : ℕ) → (is_on rows.new BROKEN_ROW k ≡ true)
+        ↔ ((s : ℕ) × (s < 3) × (is_on rows.old (label_row TERMINAL s) k ≡ true)
+        × (is_on rows.old (bad_row s) k ≡ true)) }
+    ensures others { (r : ℕ) → r ≢ BROKEN_ROW → row_at rows.new r ≡ row_at rows.old r }
+{
+    rows.clear(BROKEN_ROW);
+    for state in 0..3 {
+        pass(
+            rows,
+            label_row(TERMINAL, state),
+            BROKEN_ROW,
+            bad_row(state),
+            false,
+        );
+    }
+}

@@ -1,0 +1,152 @@
+//! The labels.
+ghost use Rattle.std.specs.Prelude.{◌≡◌, ◌≢◌, ◌≤◌, ◌<◌, ◌+◌, ℕ, IfOk, MatchOption, length, slice_get, Some};
+ghost use Rattle.limits.specs.declared.TheConstants.{MAX_PARTITIONS};
+ghost use Rattle.invariants.specs.declared.Invariant.{Invariant};
+ghost use Rattle.partition_model.specs.Graphs.{Graph};
+ghost use Rattle.partition_model.specs.Refinement.{IsFirstBroken, SatisfiesAll};
+ghost use Rattle.partition_graph.specs.Seen.{seen, IsSound};
+ghost use Rattle.labelling.specs.declared.layout.TheConstants.{LAST_NUMBER, MAX_LISTED};
+ghost use Rattle.labelling.specs.Labelled.{AreLabelsOf, digit, number_of, KeepsLabels};
+ghost use Rattle.clashes.specs.Marks.{AreMarksOf, NoClash, IsFirstClash};
+ghost use Rattle.partition_model.specs.Assignments.{Assignment, G, IsTyped};
+ghost use Rattle.partition_model.specs.Coarsening.{merge, IsPair};
+
+use crate::board::Board;
+use crate::spreading::label;
+use clashes::Clashes;
+use invariants::Invariant;
+use partition_graph::{Links, PartGraph, View};
+use std::alloc::{AllocError, Global};
+use std::marker::Model;
+use std::sync::ledger::Ledger;
+use steps::Steps;
+
+/// The labels of invariants at the partitions of a graph, and marks that tell which of these invariants a merge loses.
+/// Contracts see the list of the invariants, which never changes, what the last labelling found, which gives a number
+/// for each invariant and each id, and the marks (crate `clashes`).
+#[derive(Drop)]
+pub struct Planes {
+    board: Board,
+    links: Links,
+    clashes: Clashes,
+}
+
+impl Model for Planes {
+    ghost use Rattle.std.specs.Prelude.{◌≡◌, ◌≤◌, length};
+    ghost use Rattle.labelling.specs.declared.layout.TheConstants.{MAX_LISTED};
+    ghost use Rattle.labelling.specs.Boards.{found};
+    ghost use Rattle.labelling.specs.Found.{AreNoted};
+    ghost use Rattle.labelling.specs.Labelled.{Labelling, labelling_in};
+
+    ghost Value = { Labelling };
+
+    ghost view = { λ p. labelling_in p.board.invs.items p.board.rows p.clashes };
+
+    ghost invariant = { λ p. AreNoted (found p.board) × (p.clashes.invs ≡ p.board.invs.items)
+        × (length p.board.invs.items ≤ MAX_LISTED) };
+}
+
+impl Planes {
+    /// Planes for these invariants, at most `MAX_LISTED`, each of which names types up to `LAST_NUMBER`. Nothing is
+    /// labelled yet. This alone takes memory: `AllocError` comes where there is not enough.
+    pub fn make(alloc: Global, invs: &[Invariant]) -> Result<Planes, AllocError>
+        requires few { length invs.now ≤ MAX_LISTED }
+        requires named { (k : ℕ) (inv : Invariant) → slice_get invs.now k ≡ Some inv
+            → (inv.a ≤ LAST_NUMBER) × (inv.b ≤ LAST_NUMBER) }
+        ensures list { IfOk result (λ made. made.invs ≡ invs.now) }
+        ensures listed { IfOk result (λ made. made.clashes.invs ≡ made.invs) }
+    {
+        let board = Board::make(alloc, invs)?;
+        let links = Links::make(alloc)?;
+        let clashes = Clashes::make(alloc, invs)?;
+        Ok(Planes {
+            board,
+            links,
+            clashes,
+        })
+    }
+
+    /// Labels all invariants in the graph that is viewed, in place of what was labelled before. It counts one step, and
+    /// takes no memory.
+    pub fn label_all<L: Ledger>(&mut self, view: &View<'_>, steps: &mut Steps<L>)
+        requires { IsSound view.now }
+        ensures labels { AreLabelsOf self.new (seen view.now) }
+        ensures same { (self.new).invs ≡ (self.old).invs }
+        ensures clashes { (self.new).clashes ≡ (self.old).clashes }
+        ensures counted { steps.new ≡ steps.old + 1 }
+    {
+        steps.tick();
+        self.links.gather(view);
+        label(&mut self.board, view, self.links.as_slice());
+    }
+
+    /// The label of the invariant with this number at p: 1 for the state 0, plus 2 for the state 1, plus 4 for the
+    /// state 2.
+    pub fn states(&self, inv: usize, p: u32) -> u8
+        requires number { inv < length (self.now).invs }
+        requires id { p < MAX_PARTITIONS }
+        ensures value { result ≡ digit self.now inv p }
+        ensures small { result ≤ 7 }
+    {
+        number_of(
+            self.board.has(inv, p, 0),
+            self.board.has(inv, p, 1),
+            self.board.has(inv, p, 2),
+        )
+    }
+
+    /// The number of the first invariant that the labelled graph does not satisfy, and `None` where it satisfies them
+    /// all.
+    pub fn first_bad(&self) -> Option<usize>
+        ensures { (g : Graph) → AreLabelsOf self.now g → MatchOption result
+            (SatisfiesAll g (self.now).invs)
+            (λ k. IsFirstBroken g (self.now).invs k) }
+    {
+        self.board.first_noted()
+    }
+
+    /// Finds the marks of this graph, which tell what merges lose. The labels stay.
+    pub fn find_clashes(&mut self, graph: &PartGraph)
+        ensures keeps { KeepsLabels self.old self.new }
+        ensures labels { (g : Graph) → AreLabelsOf self.old g → AreLabelsOf self.new g }
+        ensures marks { AreMarksOf (self.new).clashes (G (graph.now).traces) }
+        ensures few { length (self.new).invs ≤ MAX_LISTED }
+    {
+        self.clashes.find(graph);
+    }
+
+    /// Where the marks were those of a graph of which `merge(p, q)` made this one, makes them those of this one. The
+    /// labels stay.
+    pub fn join(&mut self, graph: &PartGraph, p: u32, q: u32)
+        requires kept { p < MAX_PARTITIONS }
+        requires gone { q < MAX_PARTITIONS }
+        requires apart { p ≢ q }
+        ensures keeps { KeepsLabels self.old self.new }
+        ensures labels { (g : Graph) → AreLabelsOf self.old g → AreLabelsOf self.new g }
+        ensures marks { (h : Assignment) → IsTyped h → IsPair (G h) p q → (graph.now).traces ≡ merge p q h
+            → AreMarksOf (self.old).clashes (G h) → AreMarksOf (self.new).clashes (G (graph.now).traces) }
+    {
+        self.clashes.join(graph, p, q);
+    }
+
+    /// The number of the first invariant for which p and q clash, and `None` where they do for none. Only invariants
+    /// that the graph satisfies and ids on its paths count for anything. Nothing changes.
+    pub fn first_clash(&mut self, p: u32, q: u32) -> Option<usize>
+        requires one { p < MAX_PARTITIONS }
+        requires other { q < MAX_PARTITIONS }
+        ensures same { self.new ≡ self.old }
+        ensures first { MatchOption result
+            (NoClash (self.old).clashes p q)
+            (IsFirstClash (self.old).clashes p q) }
+    {
+        self.clashes.first_clash(p, q)
+    }
+}
+
+/// The number of a set of states.
+fn number_of(zeroth: bool, first: bool, second: bool) -> u8
+    ensures value { result ≡ number_of zeroth first second }
+    ensures small { result ≤ 7 }
+{
+    u8::from(zeroth) + 2 * u8::from(first) + 4 * u8::from(second)
+}

@@ -1,0 +1,227 @@
+ghost use Rattle.std.specs.Prelude.{◌≡◌, ◌≤◌, ◌<◌, IfOk, length, true};
+ghost use Rattle.limits.specs.declared.TheConstants.{MAX_PARTITIONS};
+ghost use Rattle.partition_model.specs.Assignments.{G};
+ghost use Rattle.partition_model.specs.Coarsening.{IsPair};
+ghost use Rattle.partition_graph.specs.Seen.{IsSound};
+ghost use Rattle.labelling.specs.declared.layout.TheConstants.{MAX_LISTED};
+
+use crate::{LAST_NUMBER, Planes};
+use invariants::{Invariant, Kind, Monitor};
+use limits::{FIRST_TYPE, INITIAL, MAX_TYPE_BYTES, TERMINAL};
+use partition_graph::{PartGraph, View};
+use std::alloc::Global;
+use std::marker::Brand;
+use std::process::Abort;
+use std::sync::ledger::{Blank, Ledger};
+use std::test::Fail;
+use steps::Steps;
+use traces::Builder;
+
+/// The graph opened from these traces, each of types between spaces.
+fn graph_of(alloc: Global, traces: &[&str]) -> Result<PartGraph, Fail> {
+    let mut builder = Builder::new(alloc);
+    for (t, trace) in traces.iter().enumerate() {
+        let file = u32::try_from(t)?;
+        for type_text in trace.split_whitespace() {
+            if !type_text.is_empty() && type_text.len() <= MAX_TYPE_BYTES {
+                builder.add(file, 0, "", type_text, 0)?;
+            }
+        }
+    }
+    Ok(PartGraph::open(alloc, &builder.finish()?)?)
+}
+
+fn invariant(kind: Kind, a: u16, b: u16) -> Invariant {
+    Invariant { kind, a, b }
+}
+
+/// Planes of invariants of few types.
+fn planes_of(rt: &impl Abort, alloc: Global, invs: &[Invariant]) -> Result<Planes, Fail>
+    requires { length invs.now ≤ MAX_LISTED }
+    ensures { IfOk result (λ made. made.invs ≡ invs.now) }
+{
+    for inv in invs {
+        assert!(rt; inv.a <= LAST_NUMBER && inv.b <= LAST_NUMBER);
+    }
+    Ok(Planes::make(alloc, invs)?)
+}
+
+/// Labels with a counter.
+fn label_counted<L: Ledger>(planes: &mut Planes, view: &View<'_>, blank: Blank)
+    requires sound { IsSound view.now }
+    requires name { blank.name ≡ L.name }
+    requires parts { blank.parts ≡ L.parts }
+    requires stands { 0 < blank.parts }
+    ensures { planes.new.invs ≡ planes.old.invs }
+{
+    let mut steps = Steps::<L>::open(blank);
+    planes.label_all(view, &mut steps);
+}
+
+/// Labels with a counter that nobody reads.
+fn label(planes: &mut Planes, view: &View<'_>)
+    requires { IsSound view.now }
+    ensures { planes.new.invs ≡ planes.old.invs }
+{
+    label_counted::<Brand>(planes, view, Blank::new(1));
+}
+
+/// Compares the labels of an invariant at the first ids with the wanted ones.
+fn assert_labels(rt: &impl Abort, planes: &Planes, number: usize, wanted: &[u8])
+    requires number { number < length (planes.now).invs }
+    requires few { length wanted.now ≤ MAX_PARTITIONS }
+{
+    for (p, label) in wanted.iter().enumerate() {
+        assert_eq!(rt; planes.states(number, p as u32), *label, "{number} at {p}");
+    }
+}
+
+/// Two traces a c d and b c e, in which a, c, d, b and e have the numbers from 2 on. By type, each way through c is
+/// open; after the split of c each has its own, and a merge would open them again.
+#[test]
+fn labels_before_and_after_a_split(rt: HostRuntime) -> Result<(), Fail> {
+    let mut graph = graph_of(rt.alloc(), &["a c d", "b c e"])?;
+    let invs = [
+        invariant(Kind::AF, 2, 4),
+        invariant(Kind::NF, 2, 6),
+        invariant(Kind::AP, 2, 4),
+    ];
+    let mut planes = planes_of(&rt, rt.alloc(), &invs)?;
+    label(&mut planes, &View::Plain(&graph));
+    assert_labels(&rt, &planes, 0, &[1, 3, 2, 3, 1, 1, 3, 0]);
+    assert_labels(&rt, &planes, 1, &[1, 7, 2, 3, 3, 1, 5, 0]);
+    assert_labels(&rt, &planes, 2, &[1, 7, 2, 3, 6, 1, 3, 0]);
+    assert_eq!(rt; planes.first_bad(), Some(0));
+    assert_eq!(rt; graph.split(3, 6), Some(7));
+    label(&mut planes, &View::Plain(&graph));
+    assert_labels(&rt, &planes, 0, &[1, 1, 2, 2, 1, 1, 1, 1, 0]);
+    assert_labels(&rt, &planes, 1, &[1, 3, 2, 2, 2, 1, 1, 1, 0]);
+    assert_labels(&rt, &planes, 2, &[1, 3, 2, 2, 2, 1, 1, 1, 0]);
+    assert_eq!(rt; planes.first_bad(), None);
+    planes.find_clashes(&graph);
+    assert_eq!(rt; planes.first_clash(3, 7), Some(0));
+    assert_labels(&rt, &planes, 0, &[1, 1, 2, 2, 1, 1, 1, 1, 0]);
+    Ok(())
+}
+
+/// A trace a b c b: what c brings comes back to b, and from there to the end, only in the second round.
+#[test]
+fn labels_go_round(rt: HostRuntime) -> Result<(), Fail> {
+    let graph = graph_of(rt.alloc(), &["a b c b"])?;
+    let invs = [invariant(Kind::AF, 0, 2), invariant(Kind::NF, 4, 3)];
+    let mut planes = planes_of(&rt, rt.alloc(), &invs)?;
+    label(&mut planes, &View::Plain(&graph));
+    assert_labels(&rt, &planes, 0, &[2, 1, 1, 1, 1]);
+    assert_labels(&rt, &planes, 1, &[1, 5, 1, 5, 6]);
+    assert_eq!(rt; planes.first_bad(), Some(1));
+    Ok(())
+}
+
+/// How many ids the graphs by number have at most.
+const IDS: usize = 12;
+
+/// A graph of three traces, with some splits, by a number.
+fn sample(alloc: Global, seed: u32) -> Result<PartGraph, Fail> {
+    let mut graph = graph_of(alloc, &["a b a a c", "b b a", "c a b"])?;
+    let mut draw = seed;
+    for ids in 3..8 {
+        draw = draw.wrapping_mul(1_664_525).wrapping_add(1_013_904_223);
+        let p = FIRST_TYPE + (draw >> 8) % ids;
+        let next = TERMINAL + (draw >> 16) % (ids + 1);
+        graph.split(p, next);
+    }
+    Ok(graph)
+}
+
+/// Whether each state is reached at each id, where each round takes one edge more.
+fn reached(view: &View<'_>, inv: Invariant) -> [bool; IDS * 3] {
+    let mut found = [false; IDS * 3];
+    found[Monitor::step(inv, 0, view.type_of(INITIAL)) as usize] = true;
+    for _ in 0..IDS * 3 {
+        for place in 0..IDS * IDS {
+            spread(view, inv, &mut found, place / IDS, place % IDS);
+        }
+    }
+    found
+}
+
+/// Takes the states of p to q, where there is an edge.
+fn spread(view: &View<'_>, inv: Invariant, found: &mut [bool; IDS * 3], p: usize, q: usize)
+    requires from { p < IDS }
+    requires to { q < IDS }
+{
+    if view.has_edge(p as u32, q as u32) {
+        for state in 0..3u8 {
+            if found[p * 3 + state as usize] {
+                let next = Monitor::step(inv, state, view.type_of(q as u32));
+                found[q * 3 + next as usize] = true;
+            }
+        }
+    }
+}
+
+/// Compares the labels with what is reached by one edge after another.
+fn assert_reached(rt: &impl Abort, planes: &Planes, view: &View<'_>, invs: &[Invariant])
+    requires { (planes.now).invs ≡ invs.now }
+{
+    for (k, inv) in invs.iter().enumerate() {
+        let found = reached(view, *inv);
+        for p in 0..IDS {
+            let label = planes.states(k, p as u32);
+            for state in 0..3usize {
+                assert_eq!(rt; (label >> state) & 1 == 1, found[p * 3 + state]);
+            }
+        }
+    }
+}
+
+/// Whether p and q are two partitions of one type, p before q.
+fn is_pair(graph: &PartGraph, p: u32, q: u32) -> bool
+    ensures { result ≡ true → IsPair (G (graph.now).traces) p q }
+{
+    if p < FIRST_TYPE || p >= q {
+        return false;
+    }
+    if !graph.is_live(p) || !graph.is_live(q) {
+        return false;
+    }
+    graph.type_of(p) == graph.type_of(q)
+}
+
+/// Invariants of each kind, also of a type with itself, of INITIAL, and of a type that no trace has.
+fn some() -> [Invariant; 9] {
+    [
+        invariant(Kind::AF, 2, 3),
+        invariant(Kind::AF, 3, 3),
+        invariant(Kind::AF, 0, 4),
+        invariant(Kind::NF, 2, 3),
+        invariant(Kind::NF, 4, 4),
+        invariant(Kind::NF, 3, 2),
+        invariant(Kind::AP, 4, 2),
+        invariant(Kind::AP, 2, 2),
+        invariant(Kind::AP, 3, 9),
+    ]
+}
+
+#[test]
+fn labels_of_a_hundred_graphs(rt: HostRuntime) -> Result<(), Fail> {
+    let invs = some();
+    let mut planes = planes_of(&rt, rt.alloc(), &invs)?;
+    let mut merges = 0u32;
+    for seed in 0..100 {
+        let graph = sample(rt.alloc(), seed)?;
+        let view = View::Plain(&graph);
+        label(&mut planes, &view);
+        assert_reached(&rt, &planes, &view, &invs);
+        let q = 5 + seed % 5;
+        let p = u32::from(graph.type_of(q));
+        if is_pair(&graph, p, q) {
+            let view = View::Merged(&graph, p, q);
+            label(&mut planes, &view);
+            assert_reached(&rt, &planes, &view, &invs);
+            merges += 1;
+        }
+    }
+    assert!(rt; merges > 20);
+    Ok(())
+}
