@@ -1,0 +1,41 @@
+-- What is decided of a pair.
+use Rattle.std.specs.Prelude.{◌≡◌, ℕ, ◌⊎◌, List, [], ◌∷◌, ◌++◌, Option, MatchOption}
+use Rattle.invariants.specs.declared.Invariant.{Invariant}
+use Rattle.cell_pool.specs.RunLists.{RunLists}
+use Rattle.partition_model.specs.Graphs.{Graph, Merged}
+use Rattle.partition_model.specs.Assignments.{Assignment, G}
+use Rattle.partition_model.specs.Refinement.{SatisfiesAll, IsFirstBroken}
+use Rattle.partition_model.specs.Coarsening.{merge}
+use Rattle.partition_graph.specs.Parts.{Parts, joined}
+
+-- the merge of the pair loses an invariant
+abbrev pub IsLost : List Invariant → Parts → ℕ → ℕ → Type 0
+IsLost invs parts p q = SatisfiesAll (G (merge p q parts.traces)) invs → ⊥
+
+-- the log has the merge of the pair behind the others
+abbrev pub with_merge : ℕ → ℕ → RunLists → RunLists
+with_merge p q log = record log { merges = log.merges ++ record { p = p; q = q } ∷ [] }
+
+-- the pair stays apart, since its merge loses an invariant
+pub record StaysApart (invs : List Invariant) (old new : Parts) (log log' : RunLists) (p q : ℕ) : Type 0 where
+  pub lost : IsLost invs old p q
+  pub graph : new ≡ old
+  pub told : log' ≡ log
+
+-- the pair is merged, which loses no invariant
+pub record IsMerged (invs : List Invariant) (old new : Parts) (log log' : RunLists) (p q : ℕ) : Type 0 where
+  pub keeps : SatisfiesAll (G (merge p q old.traces)) invs
+  pub graph : new ≡ joined p q old
+  pub told : log' ≡ with_merge p q log
+
+-- one of the two
+abbrev pub IsDecided : List Invariant → Parts → Parts → RunLists → RunLists → ℕ → ℕ → Type 0
+IsDecided invs old new log log' p q = StaysApart invs old new log log' p q ⊎ IsMerged invs old new log log' p q
+
+-- the number of the first invariant that the graph does not satisfy, or none where it satisfies all
+abbrev pub IsFirstBad : Graph → List Invariant → Option ℕ → Type 0
+IsFirstBad g invs bad = MatchOption bad (SatisfiesAll g invs) (λ k. IsFirstBroken g invs k)
+
+-- the number of the first invariant that the merge of the pair loses, or none where it loses none
+abbrev pub IsFirstLost : Assignment → List Invariant → ℕ → ℕ → Option ℕ → Type 0
+IsFirstLost h invs p q lost = IsFirstBad (Merged (G h) p q) invs lost

@@ -1,0 +1,130 @@
+//! Why pairs stay apart.
+ghost use Rattle.std.specs.Prelude.{◌≡◌, ◌≤◌, ◌<◌, ◌+◌, ◌*◌, ◌++◌, [], List, length, OnOk, OnErr, slice_get, Some, true};
+ghost use Rattle.limits.specs.declared.TheConstants.{MAX_PARTITIONS, MAX_PATH_NUMBERS};
+ghost use Rattle.invariants.specs.declared.records.Block.{Block};
+ghost use Rattle.invariants.specs.declared.Invariant.{Invariant};
+ghost use Rattle.partition_model.specs.Graphs.{Graph, Satisfies};
+ghost use Rattle.partition_model.specs.Assignments.{Assignment, G, IsTyped};
+ghost use Rattle.partition_model.specs.Coarsening.{AreBlocks, IsPair, NoMerge};
+ghost use Rattle.model_shape.specs.Numbers.{block_numbers};
+ghost use Rattle.cell_pool.specs.Numbers.{KeepsLists};
+ghost use Rattle.run_history.specs.Records.{blocks_of, HoldsPaths};
+ghost use Rattle.clashes.specs.Marks.{AreMarksOf};
+ghost use Rattle.coarsener.specs.Deciding.{IsFirstBad, IsFirstLost};
+ghost use Rattle.coarsener.specs.Blocking.{pair_count, paths_of, EndsWithoutRoom};
+
+use crate::pairs::{Pair, next_pair};
+use cell_pool::{RunLog, Spans};
+use invariants::Invariant;
+use labelling::Planes;
+use limits::MAX_PATH_NUMBERS;
+use partition_graph::{PartGraph, View};
+use path_finder::Finder;
+use std::sync::ledger::Ledger;
+use steps::Steps;
+
+/// The paths of splits and blocks have together more than `MAX_PATH_NUMBERS` numbers.
+#[derive(Clone, Copy, Debug, PartialEq, Eq)]
+pub struct EvidenceLimit;
+
+/// The number of the first invariant that the merge of the pair loses, where `bad` is that of the first which the graph
+/// itself does not satisfy. Such an invariant is lost by every merge.
+fn lost_by(planes: &mut Planes, bad: Option<usize>, pair: Pair) -> Option<usize>
+    requires order { pair.p < pair.q }
+    requires limit { pair.q < MAX_PARTITIONS }
+    ensures first { (h : Assignment) → IsTyped h → IsPair (G h) pair.p pair.q
+        → AreMarksOf (planes.old).clashes (G h) → IsFirstBad (G h) (planes.old).clashes.invs bad
+        → IsFirstLost h (planes.old).clashes.invs pair.p pair.q result }
+    ensures same { planes.new ≡ planes.old }
+{
+    match (bad, planes.first_clash(pair.p, pair.q)) {
+        (Some(bad), Some(clash)) => Some(bad.min(clash)),
+        (Some(bad), None) => Some(bad),
+        (None, clash) => clash,
+    }
+}
+
+/// Whether the graph is known to satisfy the invariant with this number, where `bad` is that of the first which it does
+/// not satisfy.
+fn is_satisfied(bad: Option<usize>, k: usize) -> bool
+    ensures { (g : Graph) (invs : List Invariant) (inv : Invariant) → IsFirstBad g invs bad
+        → slice_get invs k ≡ Some inv → result ≡ true → Satisfies g inv }
+{
+    let Some(bad) = bad else {
+        return true;
+    };
+    k < bad
+}
+
+/// Tells in the log, for each pair of one type, why it stays apart: the first invariant that its merge loses, and the
+/// least violation of it in the merged graph, whose path goes into the spans. Pairs come by their lower ids and then by
+/// their higher ones.
+///
+/// No merge keeps all invariants. The log has no blocks yet, and room for one for each pair. The spans have room for
+/// `MAX_PATH_NUMBERS` numbers, those of the splits' paths, which they hold already, among them.
+///
+/// `EvidenceLimit` comes exactly where the paths of the blocks have together with these more numbers than that. Then the
+/// log has the blocks before the one whose path did not fit. It counts one step for each block and one more where there
+/// is a pair, and takes no memory.
+pub fn blocks<L: Ledger>(
+    graph: &PartGraph,
+    finder: &mut Finder,
+    planes: &mut Planes,
+    invs: &[Invariant],
+    spans: &mut Spans,
+    log: &mut RunLog,
+    steps: &mut Steps<L>,
+) -> Result<(), EvidenceLimit>
+    requires ended { NoMerge invs.now (graph.now).traces }
+    requires listed { (planes.old).invs ≡ invs.now }
+    requires numbers { (spans.old).room ≡ MAX_PATH_NUMBERS }
+    requires begun { (log.old).blocks ≡ [] }
+    requires room { pair_count graph.now ≤ (log.old).block_room }
+
+    // All blocks, where there is room for their paths.
+    ensures ok { OnOk result (AreBlocks invs.now (G (graph.now).traces) (blocks_of log.new spans.new)) }
+    ensures within { OnOk result (length (spans.new).numbers ≤ MAX_PATH_NUMBERS) }
+
+    // When the limit is passed, and what stands then.
+    ensures limit { OnErr result ((bs : List Block) → AreBlocks invs.now (G (graph.now).traces) bs
+        → MAX_PATH_NUMBERS < length (spans.old).numbers + block_numbers bs) }
+    ensures err { OnErr result (EndsWithoutRoom invs.now graph.now (blocks_of log.new spans.new)
+        (length (spans.new).numbers)) }
+
+    // What the spans and the log hold in each case.
+    ensures paths { spans.new ≡ record spans.old {
+      numbers = (spans.old).numbers ++ paths_of (blocks_of log.new spans.new);
+    } }
+    ensures stays { KeepsLists (spans.old).numbers (spans.new).numbers }
+    ensures holds { HoldsPaths log.old spans.old → HoldsPaths log.new spans.new }
+    ensures others { log.new ≡ record log.old { blocks = (log.new).blocks } }
+    ensures list { (planes.new).invs ≡ (planes.old).invs }
+
+    // How many steps are counted.
+    ensures more { steps.old ≤ steps.new }
+    ensures few { steps.new ≤ steps.old + 2 * pair_count graph.now }
+{
+    prove!(spans.used() <= MAX_PATH_NUMBERS);
+    let mut at = Pair::start();
+    if next_pair(graph, at).is_none() {
+        return Ok(());
+    }
+    planes.label_all(&View::Plain(graph), steps);
+    let bad = planes.first_bad();
+    planes.find_clashes(graph);
+    while let Some(pair) = next_pair(graph, at) {
+        let Some(k) = lost_by(planes, bad, pair) else {
+            unreachable!()
+        };
+        let known = is_satisfied(bad, k);
+        let Some(path) = finder.least_loss(graph, pair.p, pair.q, invs[k], known, steps) else {
+            unreachable!()
+        };
+        let Some(path) = spans.push(path) else {
+            return Err(EvidenceLimit);
+        };
+        log.add_block(pair.p, pair.q, k as u32, path);
+        at = pair;
+    }
+    Ok(())
+}
