@@ -1,0 +1,54 @@
+//! The invariants that hold of every trace, mined once more: by the sets of the types that come later and earlier,
+//! and not by counts.
+//!
+//! A candidate stands until a trace breaks it. Each trace is read once from its end, with the set of the types that come
+//! later, and once from its start, with the set of those that came earlier; an event strikes out of its type's sets what
+//! the set at hand denies. The work is the events times the types over 64.
+#![tactic(auto)]
+
+ghost use Rattle.std.specs.Prelude.{◌≡◌, ◌≤◌, length, IfOk};
+ghost use Rattle.limits.specs.declared.TheConstants.{MAX_TYPES};
+ghost use Rattle.invariants.specs.Mined.{mined};
+ghost use Rattle.traces.specs.Words.{words_of};
+ghost use Rattle.closure_miner.specs.Standing.{Stands};
+
+mod standing;
+#[cfg(test)]
+mod tests;
+
+use invariants::{Invariant, Seq, candidate, candidate_count};
+use standing::Standing;
+use std::alloc::{AllocError, Global};
+use traces::TraceSet;
+
+/// The candidates that stand when all traces are read.
+fn standing_after(alloc: Global, traces: &TraceSet, types: usize) -> Result<Standing, AllocError>
+    requires types { types ≡ length (traces.now).types }
+    requires few { types ≤ MAX_TYPES }
+    ensures types { IfOk result (λ standing. standing.types ≡ types) }
+    ensures stands { IfOk result (λ standing. Stands types standing.rows (words_of traces.now)) }
+{
+    let mut standing = Standing::make(alloc, types)?;
+    for t in 0..traces.trace_count() {
+        standing.read(traces.events(t));
+    }
+    Ok(standing)
+}
+
+/// The invariants that hold of every trace, in the order of the candidates. `AllocError` comes where there is not enough
+/// memory for them or for the sets.
+pub fn mine_again(alloc: Global, traces: &TraceSet) -> Result<Seq<Invariant>, AllocError>
+    ensures { IfOk result (λ list. list ≡ mined (length (traces.now).types) (words_of traces.now)) }
+{
+    let standing = standing_after(alloc, traces, traces.types().len())?;
+    let types = traces.types().len() as u32;
+    let mut mined = Vec::new(alloc);
+    for index in 0..candidate_count(types) {
+        if let Some(inv) = candidate(types, index) {
+            if standing.has(inv) {
+                mined.push(inv)?;
+            }
+        }
+    }
+    Ok(Seq::from_vec(mined))
+}
