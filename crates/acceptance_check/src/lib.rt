@@ -1,0 +1,5 @@
+//! Tests of models that are read from the text of a file and checked against a log.
+#![tactic(auto)]
+
+#[cfg(test)]
+mod verdicts;

@@ -1,0 +1,78 @@
+-- The next set, as far as the ids of the set in hand were gone through.
+use Rattle.std.proofs.Common.{◌≡◌, ◌↔◌, ℕ, ◌+◌, ◌<◌, ◌≤◌, ◌&&◌, ◌||◌, Bool, true, false, List, refl, sym, ◌∙◌, ap, arith, inl, inr, true≢false}
+use Rattle.std.proofs.lemmas.Bool.{and_parts, cases_eq, cases_lt, or_cases, or_left, or_right}
+use Rattle.limits.specs.declared.TheConstants.{MAX_PARTITIONS}
+use Rattle.bit_rows.specs.Tables.{HasShape}
+use Rattle.model_check.specs.declared.sets.TheConstants.{MEMBERS, NOW, NEXT, ROWS, TYPES}
+use Rattle.model_check.specs.Rows.{bit, IsEntered}
+
+-- an id below the bound leads to q
+abbrev pub IsEnteredBelow : List (List Bool) → ℕ → ℕ → ℕ → Type 0
+IsEnteredBelow rows typ bound q =
+    (p : ℕ) × (p < bound) × (bit rows NOW p ≡ true) × (bit rows p q ≡ true) × (bit rows (MEMBERS + typ) q ≡ true)
+
+pub record IsAdvancing (old rows : List (List Bool)) (typ from : ℕ) : Type 0 where
+  pub shape : HasShape rows ROWS MAX_PARTITIONS
+  pub bound : from ≤ MAX_PARTITIONS
+  pub others : (r k : ℕ) → r < NEXT → bit rows r k ≡ bit old r k
+  pub next : (q : ℕ) → (bit rows NEXT q ≡ true) ↔ IsEnteredBelow old typ from q
+
+pub advance_none : (old rows : List (List Bool)) (typ : ℕ) → HasShape rows ROWS MAX_PARTITIONS → ((r k : ℕ) → r < NEXT → bit rows r k ≡ bit old r k)
+    → ((k : ℕ) → bit rows NEXT k ≡ false) → IsAdvancing old rows typ 0
+advance_none old rows typ shape others blank =
+    record {
+      shape = shape;
+      bound = omega arith;
+      others = others;
+      next = λ q. (λ e. absurd (true≢false (sym e ∙ blank q)), λ o. absurd (let l : o.0 < 0 = o.1 in omega arith));
+    }
+
+pub advance_more : (old rows new : List (List Bool)) (typ from p : ℕ) → HasShape new ROWS MAX_PARTITIONS → p < MAX_PARTITIONS → from ≤ p → typ < TYPES
+    → ((r k : ℕ) → r < NEXT → bit new r k ≡ bit rows r k)
+    → ((k : ℕ) → bit new NEXT k ≡ (bit rows NEXT k || (bit rows p k && bit rows (MEMBERS + typ) k)))
+    → bit rows NOW p ≡ true → ((k : ℕ) → from ≤ k → k < p → bit rows NOW k ≡ false)
+    → IsAdvancing old rows typ from → IsAdvancing old new typ (p + 1)
+advance_more old rows new typ from p shape within behind small others joined set first a =
+    record {
+      shape = shape;
+      bound = omega arith;
+      others = λ r k l. others r k l ∙ a.others r k l;
+      next = λ q. (
+        λ e. elim (or_cases (bit rows NEXT q) (bit rows p q && bit rows (MEMBERS + typ) q) (sym (joined q) ∙ e)) [
+          | inl b ↦
+              let o : IsEnteredBelow old typ from q = (a.next q).0 b in
+              let below : o.0 < from = o.1 in
+              let l : o.0 < p + 1 = omega arith in
+              (o.0, l, o.2, o.3, o.4)
+          | inr b ↦
+              let both = and_parts (bit rows p q) (bit rows (MEMBERS + typ) q) b in
+              (p, omega arith, sym (a.others NOW p (omega arith)) ∙ set, sym (a.others p q (omega arith)) ∙ both.0, sym (a.others (MEMBERS + typ) q (omega arith)) ∙ both.1)
+        ],
+        λ o. joined q ∙ elim (cases_lt o.0 from) [
+          | inl l ↦ or_left (bit rows NEXT q) (bit rows p q && bit rows (MEMBERS + typ) q) ((a.next q).1 (o.0, l, o.2, o.3, o.4))
+          | inr g ↦ elim (cases_eq o.0 p) [
+            | inl e ↦
+                let x : bit rows p q ≡ true = a.others p q (omega arith) ∙ sym (ap (λ z. bit old z q) e) ∙ o.3 in
+                let y : bit rows (MEMBERS + typ) q ≡ true = a.others (MEMBERS + typ) q (omega arith) ∙ o.4 in
+                or_right (bit rows NEXT q) (bit rows p q && bit rows (MEMBERS + typ) q) (rw (x, y) refl)
+            | inr n ↦ absurd (let l : o.0 < p + 1 = o.1 in true≢false (sym o.2 ∙ sym (a.others NOW o.0 (omega arith)) ∙ first o.0 g (omega arith)))
+          ]
+        ],
+      );
+    }
+
+pub advance_all : (old rows new : List (List Bool)) (typ from : ℕ) → ((k : ℕ) → from ≤ k → bit rows NOW k ≡ false) → ((k : ℕ) → bit new NOW k ≡ bit rows NEXT k)
+    → IsAdvancing old rows typ from → (q : ℕ) → (bit new NOW q ≡ true) ↔ IsEntered old typ q
+advance_all old rows new typ from rest copied a q = (
+  λ e. (let o : IsEnteredBelow old typ from q = (a.next q).0 (sym (copied q) ∙ e) in (o.0, o.2, o.3, o.4)),
+  λ o. copied q ∙ (a.next q).1 (
+    o.0,
+    elim (cases_lt o.0 from) [
+      | inl l ↦ l
+      | inr g ↦ absurd (true≢false (sym o.1 ∙ sym (a.others NOW o.0 (omega arith)) ∙ rest o.0 g))
+    ],
+    o.1,
+    o.2,
+    o.3,
+  ),
+)

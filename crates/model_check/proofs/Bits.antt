@@ -1,0 +1,65 @@
+-- What a write leaves in the rows, place by place.
+use Rattle.std.proofs.Common.{◌≡◌, ◌≢◌, ℕ, ◌<◌, ◌==◌, ◌&&◌, ◌||◌, Bool, true, false, List, [], length, set, replicate, refl, sym, ◌∙◌, ap, ap₂, arith, inl, inr, eq-eqb, ne_eqb}
+use Rattle.std.proofs.lemmas.Bool.{cases_eq, cases_lt}
+use Rattle.std.proofs.Math.Bool.{or-false, or-true}
+use Rattle.std.proofs.lemmas.List.{get_or-set_same, get_or-set_other, get_or-replicate, get_or_past, length-replicate}
+use Rattle.std.proofs.lemmas.Simd.{length-zip2}
+use Rattle.bit_rows.specs.Tables.{row_at, is_set, HasShape, either, both}
+use Rattle.bit_rows.proofs.Done.{is_set-zip2}
+use Rattle.model_check.specs.Rows.{bit}
+
+-- a row of nothing
+blank : (n k : ℕ) → is_set (replicate n false) k ≡ false
+blank n k = elim (cases_lt k n) [
+  | inl l ↦ get_or-replicate n k false false l
+  | inr p ↦ get_or_past (replicate n false) k false (omega (arith, length-replicate n false))
+]
+
+module _ (rows : List (List Bool)) (n m r : ℕ) (shape : HasShape rows n m) (within : r < n) where
+  inside : r < length rows
+  inside = omega (arith, shape.count)
+
+  pub this-row : (row : List Bool) (k : ℕ) → bit (set rows r row) r k ≡ is_set row k
+  this-row row k = ap (λ x. is_set x k) (get_or-set_same rows r row [] inside)
+
+  pub other-row : (row : List Bool) (s k : ℕ) → s ≢ r → bit (set rows r row) s k ≡ bit rows s k
+  other-row row s k ne = ap (λ x. is_set x k) (get_or-set_other rows r s row [] ne)
+
+  pub put-bit : (i : ℕ) → i < m → (s k : ℕ) → bit (set rows r (set (row_at rows r) i true)) s k ≡ (bit rows s k || (r == s && i == k))
+  put-bit i h s k =
+      let long : length (row_at rows r) ≡ m = shape.long r within in
+      let room : i < length (row_at rows r) = omega arith in
+      elim (cases_eq s r) [
+        | inr ne ↦ rw (ne_eqb r s (λ e. ne (sym e))) (other-row (set (row_at rows r) i true) s k ne ∙ sym (or-false (bit rows s k)))
+        | inl e ↦ elim (cases_eq k i) [
+          | inl f ↦
+              rw (eq-eqb r s (sym e), eq-eqb i k (sym f))
+              (ap₂ (λ a b. bit (set rows r (set (row_at rows r) i true)) a b) e f ∙ this-row (set (row_at rows r) i true) i
+              ∙ get_or-set_same (row_at rows r) i true false room ∙ sym (or-true (bit rows s k)))
+          | inr ne ↦
+              rw (eq-eqb r s (sym e), ne_eqb i k (λ f. ne (sym f)))
+              (ap (λ a. bit (set rows r (set (row_at rows r) i true)) a k) e ∙ this-row (set (row_at rows r) i true) k
+              ∙ get_or-set_other (row_at rows r) i k true false ne ∙ sym (ap (λ a. bit rows a k) e) ∙ sym (or-false (bit rows s k)))
+        ]
+      ]
+
+  pub clear-bit : (k : ℕ) → bit (set rows r (replicate (length (row_at rows r)) false)) r k ≡ false
+  clear-bit k =
+      this-row (replicate (length (row_at rows r)) false) k ∙ blank (length (row_at rows r)) k
+
+  pub join-bit : (a mask k : ℕ) → a < n → mask < n → bit (set rows r (either (row_at rows r) (both (row_at rows a) (row_at rows mask)))) r k ≡ (bit rows r k || (bit rows a k && bit rows mask k))
+  join-bit a mask k ha hm =
+      let u : length (row_at rows r) ≡ m = shape.long r within in
+      let v : length (row_at rows a) ≡ m = shape.long a ha in
+      let w : length (row_at rows mask) ≡ m = shape.long mask hm in
+      this-row (either (row_at rows r) (both (row_at rows a) (row_at rows mask))) k
+      ∙ is_set-zip2 (λ x y. x || y) refl (row_at rows r) (both (row_at rows a) (row_at rows mask)) k (u ∙ sym (length-zip2 (λ x y. x && y) (row_at rows a) (row_at rows mask) (v ∙ sym w) ∙ v))
+      ∙ ap (λ x. bit rows r k || x) (is_set-zip2 (λ x y. x && y) refl (row_at rows a) (row_at rows mask) k (v ∙ sym w))
+
+-- where no row has anything
+pub no-bit : (n m r k : ℕ) → bit (replicate n (replicate m false)) r k ≡ false
+no-bit n m r k =
+    elim (cases_lt r n) [
+      | inl l ↦ ap (λ x. is_set x k) (get_or-replicate n r (replicate m false) [] l) ∙ blank m k
+      | inr p ↦ ap (λ x. is_set x k) (get_or_past (replicate n (replicate m false)) r [] (omega (arith, length-replicate n (replicate m false))))
+    ]

@@ -1,0 +1,123 @@
+-- The word of a trace, followed by sets of ids.
+use Rattle.std.proofs.Common.{◌≡◌, ◌↔◌, ℕ, ◌+◌, ◌<◌, ◌&&◌, nat_lt, Bool, true, false, List, [], ◌∷◌, length, refl, sym, ◌∙◌, ap, ap₂, inl, inr, arith, get_or, eq-eqb, eqb-true, lt-ltb, le-ltb}
+use Rattle.std.proofs.lemmas.Bool.{and_parts, cases_lt}
+use Rattle.std.proofs.lemmas.List.{get_or_past}
+use Rattle.limits.specs.declared.TheConstants.{INITIAL, TERMINAL, MAX_PARTITIONS}
+use Rattle.bit_rows.specs.Tables.{row_at, HasShape}
+use Rattle.partition_model.specs.Graphs.{Graph, Walk, IsPath, word, Accepts}
+use Rattle.partition_model.specs.Assignments.{with_ends}
+use Rattle.model_check.specs.declared.sets.TheConstants.{MEMBERS, LISTED, NOW, ROWS, TYPES}
+use Rattle.model_check.specs.Rows.{bit, shown, IsEntered, IsLaid}
+
+-- from some id of the set goes a walk with these types that ends at TERMINAL
+abbrev pub Continues : Graph → (ℕ → Bool) → List ℕ → Type 0
+Continues g set ts = (p : ℕ) × (xs : List ℕ) × (set p ≡ true) × Walk g p xs TERMINAL × (word g xs ≡ ts)
+
+-- a set has the ids of a type to which edges lead from another
+abbrev pub IsNextSet : Graph → (ℕ → Bool) → ℕ → (ℕ → Bool) → Type 0
+IsNextSet g set t next = (q : ℕ) → (next q ≡ true) ↔ ((p : ℕ) × (set p ≡ true) × (g.edge p q ≡ true) × (g.typ q ≡ t))
+
+goes-on : (g : Graph) (set next : ℕ → Bool) (t : ℕ) (ts : List ℕ) → IsNextSet g set t next → Continues g set (t ∷ ts) → Continues g next ts
+goes-on g set next t ts n (p, [], s, w, e) = absurd (cc e)
+goes-on g set next t ts n (p, r ∷ rs, s, w, e) =
+    let ty : g.typ r ≡ t = cc e in
+    let us : word g rs ≡ ts = cc e in
+    (r, rs, (n r).1 (p, s, w.0, ty), w.1, us)
+
+goes-back : (g : Graph) (set next : ℕ → Bool) (t : ℕ) (ts : List ℕ) → IsNextSet g set t next → Continues g next ts → Continues g set (t ∷ ts)
+goes-back g set next t ts n (q, xs, s, w, e) =
+    let o : (p : ℕ) × (set p ≡ true) × (g.edge p q ≡ true) × (g.typ q ≡ t) = (n q).0 s in
+    (o.0, q ∷ xs, o.1, (o.2, w), ap₂ (λ (u : ℕ) (us : List ℕ). u ∷ us) o.3 e)
+
+-- at the start the set has INITIAL alone
+pub follow_start : (g : Graph) (set : ℕ → Bool) (ts : List ℕ) → g.typ INITIAL ≡ INITIAL → ((q : ℕ) → (set q ≡ true) ↔ (q ≡ INITIAL)) → Accepts g (INITIAL ∷ ts) ↔ Continues g set ts
+follow_start g set ts ty only = (λ o. begin o.0 o.1 o.2, λ o. back o)
+  where
+    begin : (path : List ℕ) → IsPath g path → word g path ≡ INITIAL ∷ ts → Continues g set ts
+    begin [] i e = absurd i
+    begin (x ∷ xs) i e =
+        let us : word g xs ≡ ts = cc e in
+        (x, xs, (only x).1 i.0, i.1, us)
+
+    back : Continues g set ts → Accepts g (INITIAL ∷ ts)
+    back (p, xs, s, w, e) =
+        let z : p ≡ INITIAL = (only p).0 s in
+        (p ∷ xs, (z, w), ap₂ (λ (u : ℕ) (us : List ℕ). u ∷ us) (ap g.typ z ∙ ty) e)
+
+-- at the end it has TERMINAL
+pub follow_end : (g : Graph) (set : ℕ → Bool) → Continues g set [] ↔ (set TERMINAL ≡ true)
+follow_end g set = (λ o. there o, λ e. (TERMINAL, [], e, refl, refl))
+  where
+    there : Continues g set [] → set TERMINAL ≡ true
+    there (p, [], s, w, e) = ap set (sym w) ∙ s
+    there (p, x ∷ xs, s, w, e) = absurd (cc e)
+
+-- what lies in the rows, and the word as far as it was followed
+pub record IsFollowed (g : Graph) (whole : List ℕ) (types : List ℕ) (rows : List (List Bool)) (rest : List ℕ) : Type 0 where
+  pub laid : IsLaid types rows
+  pub shows : shown (record { types = types; rows = rows }) ≡ g
+  pub tells : Accepts g (with_ends whole) ↔ Continues g (λ q. bit rows NOW q) rest
+
+-- an id that is on has a place in the row
+pub bit-within : (rows : List (List Bool)) (r q : ℕ) → HasShape rows ROWS MAX_PARTITIONS → r < ROWS → bit rows r q ≡ true → q < MAX_PARTITIONS
+bit-within rows r q shape h e =
+    elim (cases_lt q MAX_PARTITIONS) [
+      | inl l ↦ l
+      | inr p ↦ absurd (let long : length (row_at rows r) ≡ MAX_PARTITIONS = shape.long r h in let f : bit rows r q ≡ false = get_or_past (row_at rows r) q false (omega arith) in cc)
+    ]
+
+-- what the next set has, in the words of the graph
+entered-is : (g : Graph) (types : List ℕ) (rows : List (List Bool)) (x q : ℕ) → IsLaid types rows → shown (record { types = types; rows = rows }) ≡ g → 0 < x → x < TYPES
+    → IsEntered rows x q ↔ ((p : ℕ) × (bit rows NOW p ≡ true) × (g.edge p q ≡ true) × (g.typ q ≡ x))
+entered-is g types rows x q laid s low high = (
+  λ o.
+      let l : o.0 < MAX_PARTITIONS = bit-within rows NOW o.0 laid.shape (omega arith) o.1 in
+      (o.0, o.1, sym (edges o.0) ∙ rw (lt-ltb o.0 MAX_PARTITIONS l) o.2, sym (ap (λ (h : Graph). h.typ q) s) ∙ eqb-true _ x (sym (laid.members x q low high) ∙ o.3)),
+  λ o.
+      let both = and_parts (nat_lt o.0 MAX_PARTITIONS) (bit rows o.0 q) (edges o.0 ∙ o.2) in
+      (o.0, o.1, both.1, laid.members x q low high ∙ eq-eqb _ x (ap (λ (h : Graph). h.typ q) s ∙ o.3)),
+)
+  where
+    edges : (p : ℕ) → (nat_lt p MAX_PARTITIONS && bit rows p q) ≡ g.edge p q
+    edges p = ap (λ (h : Graph). h.edge p q) s
+
+-- rows that agree below the sets show one graph
+pub still-shown : (types : List ℕ) (old new : List (List Bool)) → ((r k : ℕ) → r < NOW → bit new r k ≡ bit old r k) → shown (record { types = types; rows = new }) ≡ shown (record { types = types; rows = old })
+still-shown types old new same =
+    λ i. record {
+      typ = λ p. get_or types p 0;
+      edge = λ p q. edges p q i;
+      listed = λ p. same LISTED p (omega arith) i;
+    }
+  where
+    edges : (p q : ℕ) → (nat_lt p MAX_PARTITIONS && bit new p q) ≡ (nat_lt p MAX_PARTITIONS && bit old p q)
+    edges p q =
+        elim (cases_lt p MAX_PARTITIONS) [
+          | inl l ↦ ap (λ b. nat_lt p MAX_PARTITIONS && b) (same p q (omega arith))
+          | inr n ↦ rw (le-ltb p MAX_PARTITIONS n) refl
+        ]
+
+pub still-laid : (types : List ℕ) (old new : List (List Bool)) → IsLaid types old → HasShape new ROWS MAX_PARTITIONS → ((r k : ℕ) → r < NOW → bit new r k ≡ bit old r k) → IsLaid types new
+still-laid types old new laid shape same =
+    record {
+      size = laid.size;
+      shape = shape;
+      members = λ x q low high. same (MEMBERS + x) q (omega arith) ∙ laid.members x q low high;
+    }
+
+-- one step
+pub follow_more : (g : Graph) (whole types : List ℕ) (old new : List (List Bool)) (x : ℕ) (rest : List ℕ) → 0 < x → x < TYPES
+    → HasShape new ROWS MAX_PARTITIONS → ((r k : ℕ) → r < NOW → bit new r k ≡ bit old r k) → ((q : ℕ) → (bit new NOW q ≡ true) ↔ IsEntered old x q)
+    → IsFollowed g whole types old (x ∷ rest) → IsFollowed g whole types new rest
+follow_more g whole types old new x rest low high shape same set f =
+    let next : IsNextSet g (λ q. bit old NOW q) x (λ q. bit new NOW q) = λ q.
+    let e = entered-is g types old x q f.laid f.shows low high in
+    (λ b. e.0 ((set q).0 b), λ o. (set q).1 (e.1 o)) in
+    record {
+      laid = still-laid types old new f.laid shape same;
+      shows = still-shown types old new same ∙ f.shows;
+      tells = (
+        λ a. goes-on g (λ q. bit old NOW q) (λ q. bit new NOW q) x rest next (f.tells.0 a),
+        λ k. f.tells.1 (goes-back g (λ q. bit old NOW q) (λ q. bit new NOW q) x rest next k),
+      );
+    }

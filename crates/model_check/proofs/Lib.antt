@@ -1,0 +1,12 @@
+pub mod SmallSets
+pub mod Images
+pub mod Bits
+pub mod Tabling
+pub mod Following
+pub mod Advancing
+pub mod Building
+pub mod Failing
+pub mod Inductive
+pub mod Breaking
+pub mod Opening
+pub mod Reading

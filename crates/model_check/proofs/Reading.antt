@@ -1,0 +1,36 @@
+-- What is read of a log, and how much is mined of it.
+use Rattle.std.proofs.Common.{◌≡◌, ℕ, zero, suc, ◌+◌, ◌*◌, ◌^◌, ◌<◌, ◌≤◌, List, [], ◌∷◌, length, map, slice_get, Some, refl, sym, ap, arith, count_by}
+use Rattle.std.specs.Prelude.{IfSome}
+use Rattle.std.proofs.lemmas.List.Sums.{length-filter, count_by-le-length}
+use Rattle.limits.specs.declared.TheConstants.{MAX_TYPES}
+use Rattle.invariants.specs.Candidates.{candidates}
+use Rattle.invariants.proofs.CandidatePlaces.{length-candidates}
+use Rattle.std.proofs.Math.Nat.{mul-le-mul_right}
+use Rattle.invariants.specs.Mined.{mined, holds_of_all}
+use Rattle.partition_model.specs.Assignments.{with_ends}
+use Rattle.traces.specs.Words.{Log, Trace, words_of, word_of}
+use Rattle.models.specs.Models.{mined_of}
+use Rattle.model_check.specs.Verdicts.{typed_words_of}
+
+-- the events of a trace are its word
+pub word-at : (traces : List Trace) (t : ℕ) (numbers : List ℕ) → t < length traces → IfSome (slice_get traces t) (λ trace. numbers ≡ trace.events) → slice_get (map (λ (trace : Trace). trace.events) traces) t ≡ Some numbers
+word-at [] t numbers l e = absurd (omega arith)
+word-at (x ∷ xs) zero numbers l e = ap (λ (w : List ℕ). Some w) (sym e)
+word-at (x ∷ xs) (suc t) numbers l e = word-at xs t numbers (omega arith) e
+
+-- the words of a log, put between their ends
+words-again : (traces : List Trace) → map word_of traces ≡ map with_ends (map (λ (trace : Trace). trace.events) traces)
+words-again [] = refl
+words-again (x ∷ xs) = ap (λ (ws : List (List ℕ)). word_of x ∷ ws) (words-again xs)
+
+pub mined-again : (log : Log) → mined (length log.types) (words_of log) ≡ mined_of (typed_words_of log)
+mined-again log = ap (λ (ws : List (List ℕ)). mined (length log.types) ws) (words-again log.traces)
+
+-- no more are mined than there are candidates
+pub mined-few : (types : ℕ) (words : List (List ℕ)) → types ≤ MAX_TYPES → length (mined types words) < 2 ^ 32
+mined-few types words few =
+    let a : length (mined types words) ≡ count_by (holds_of_all words) (candidates types) = length-filter (holds_of_all words) (candidates types) in
+    let b : count_by (holds_of_all words) (candidates types) ≤ length (candidates types) = count_by-le-length (holds_of_all words) (candidates types) in
+    let c : length (candidates types) ≡ types + 3 * (types * types) = length-candidates types in
+    let d : types * types ≤ MAX_TYPES * types = mul-le-mul_right types few in
+    omega arith

@@ -1,0 +1,57 @@
+-- The rows of ids, and the graph that lies in them.
+use Rattle.std.specs.Prelude.{ℕ, ◌≡◌, ◌+◌, ◌<◌, ◌==◌, ◌&&◌, ◌||◌, nat_lt, Bool, true, false, List, [], ◌∷◌, length, slice_index}
+use Rattle.limits.specs.declared.TheConstants.{MAX_PARTITIONS}
+use Rattle.invariants.specs.declared.records.Partition.{Partition}
+use Rattle.invariants.specs.declared.records.Edge.{Edge}
+use Rattle.bit_rows.specs.Tables.{row_at, is_set, HasShape}
+use Rattle.partition_model.specs.Graphs.{Graph}
+use Rattle.model_shape.specs.Shapes.{is_listed}
+use Rattle.model_check.specs.declared.sets.TheConstants.{MEMBERS, LISTED, NOW, ROWS, TYPES}
+
+-- whether the id k is in row r
+abbrev pub bit : List (List Bool) → ℕ → ℕ → Bool
+bit rows r k = is_set (row_at rows r) k
+
+-- a partition that has a place in the rows
+abbrev pub IsMarkable : Partition → Type 0
+IsMarkable x = (x.id < MAX_PARTITIONS) × (x.typ < TYPES)
+
+-- an edge that has a place in the rows
+abbrev pub IsEdgeWithin : Edge → Type 0
+IsEdgeWithin x = (x.from < MAX_PARTITIONS) × (x.to < MAX_PARTITIONS)
+
+-- no two partitions have one id
+abbrev pub AreApart : List Partition → Type 0
+AreApart [] = Unit {0}
+AreApart (x ∷ xs) = (is_listed x.id xs ≡ false) × AreApart xs
+
+-- whether the id k of some partition belongs into row r: into that of all, or into that of its type
+abbrev pub marked : ℕ → ℕ → List Partition → Bool
+marked r k [] = false
+marked r k (x ∷ xs) =
+    (LISTED == r && x.id == k) || (MEMBERS + x.typ == r && x.id == k) || marked r k xs
+
+-- the ids of the type to which edges lead from the set in hand
+abbrev pub IsEntered : List (List Bool) → ℕ → ℕ → Type 0
+IsEntered rows typ q =
+    (p : ℕ) × (bit rows NOW p ≡ true) × (bit rows p q ≡ true) × (bit rows (MEMBERS + typ) q ≡ true)
+
+-- the type of each id, and the rows
+pub record Tables : Type 0 where
+  pub types : List ℕ
+  pub rows : List (List Bool)
+
+-- the graph that lies in them
+abbrev pub shown : Tables → Graph
+shown t =
+    record {
+      typ = λ p. slice_index t.types p;
+      edge = λ p q. nat_lt p MAX_PARTITIONS && bit t.rows p q;
+      listed = λ p. bit t.rows LISTED p;
+    }
+
+-- each id has a type, each row its ids, and the row of a type the ids of this type
+pub record IsLaid (types : List ℕ) (rows : List (List Bool)) : Type 0 where
+  pub size : length types ≡ MAX_PARTITIONS
+  pub shape : HasShape rows ROWS MAX_PARTITIONS
+  pub members : (x q : ℕ) → 0 < x → x < TYPES → bit rows (MEMBERS + x) q ≡ (slice_index types q == x)

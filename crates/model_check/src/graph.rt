@@ -1,0 +1,110 @@
+//! The graph of a model, as tables that are made once.
+ghost use Rattle.std.specs.Prelude.{◌≡◌, ◌↔◌, ◌<◌, ◌+◌, ℕ, length, slice_index, IfOk, IsTrue, All};
+ghost use Rattle.limits.specs.declared.TheConstants.{INITIAL, MAX_PARTITIONS, MAX_TYPES};
+ghost use Rattle.model_shape.specs.Shapes.{listed_type, IsWellShaped};
+ghost use Rattle.models.specs.Models.{graph_of};
+ghost use Rattle.partition_model.specs.Assignments.{with_ends};
+ghost use Rattle.partition_model.specs.Graphs.{Accepts, merged_edge};
+ghost use Rattle.traces.specs.Kept.{IsTypeNumber};
+ghost use Rattle.model_check.specs.Rows.{shown, IsMarkable, AreApart};
+
+use crate::sets::{IDS, NOW, ROWS, advance, mark_edges, mark_partitions};
+use bit_rows::Rows;
+use invariants::Partition;
+use limits::{INITIAL, MAX_PARTITIONS, TERMINAL};
+use std::alloc::{AllocError, Global};
+use std::marker::Model;
+
+/// The type of each id that is listed, and 0 for all other ids.
+fn types_of(alloc: Global, partitions: &[Partition]) -> Result<Vec<u16>, AllocError>
+    requires markable { All IsMarkable partitions.now }
+    requires apart { AreApart partitions.now }
+    ensures size { IfOk result (λ types. length types.items ≡ MAX_PARTITIONS) }
+    ensures types { IfOk result (λ types. (p : ℕ) → slice_index types.items p ≡ listed_type p partitions.now) }
+{
+    let mut types = vec![in alloc; 0; IDS]?;
+    for partition in partitions {
+        types[partition.id as usize] = partition.typ;
+    }
+    Ok(types)
+}
+
+/// The graph of a model. Contracts see its tables, and with `shown` the graph that lies in them.
+#[derive(Drop)]
+pub struct ModelGraph {
+    /// The type of each id.
+    types: Vec<u16>,
+    /// Where edges lead, the ids of each type, and the sets of ids in hand.
+    rows: Rows,
+}
+
+impl Model for ModelGraph {
+    ghost use Rattle.model_check.specs.Rows.{Tables, IsLaid};
+
+    ghost Value = { Tables };
+
+    ghost view = { λ g. record { types = g.types.items; rows = g.rows } };
+
+    ghost invariant = { λ g. IsLaid g.types.items g.rows };
+}
+
+impl ModelGraph {
+    /// The graph of a model.
+    pub fn of(alloc: Global, model: &invariants::Model) -> Result<ModelGraph, AllocError>
+        requires { IsWellShaped model.now }
+        ensures { IfOk result (λ graph. shown graph ≡ graph_of model.now) }
+    {
+        let types = types_of(alloc, model.partitions.as_slice())?;
+        let mut rows = Rows::make(alloc, ROWS, IDS)?;
+        mark_partitions(&mut rows, model.partitions.as_slice());
+        mark_edges(&mut rows, model.edges.as_slice());
+        Ok(ModelGraph { types, rows })
+    }
+
+    /// Whether there is an edge from p to q.
+    pub fn has_edge(&self, p: u32, q: u32) -> bool
+        ensures { result ≡ (shown self.now).edge p q }
+    {
+        p < MAX_PARTITIONS && q < MAX_PARTITIONS && self.rows.get(p as usize, q as usize)
+    }
+
+    /// Whether there is an edge from u to v where q is replaced by p.
+    pub fn has_merged_edge(&self, p: u32, q: u32, u: u32, v: u32) -> bool
+        ensures { result ≡ merged_edge (shown self.now) p q u v }
+    {
+        if u == q || v == q {
+            return false;
+        }
+        self.has_edge(u, v)
+            || (u == p && self.has_edge(q, v))
+            || (v == p && self.has_edge(u, q))
+            || (u == p && v == p && self.has_edge(q, q))
+    }
+
+    /// The type of the id, and 0 where it is not listed.
+    pub fn type_of(&self, p: u32) -> u16
+        ensures { result ≡ (shown self.now).typ p }
+    {
+        if p as usize >= self.types.len() {
+            return 0;
+        }
+        self.types[p as usize]
+    }
+
+    /// Whether some path has the word of these events: the numbers of their types, without the two ends. The graph
+    /// stays as it is.
+    pub fn accepts(&mut self, events: &[u16]) -> bool
+        requires start { (shown self.old).typ INITIAL ≡ INITIAL }
+        requires numbers { All (IsTypeNumber MAX_TYPES) events.now }
+        ensures accepts { IsTrue result ↔ Accepts (shown self.old) (with_ends events.now) }
+        ensures stays { shown self.new ≡ shown self.old }
+    {
+        self.rows.clear(NOW);
+        self.rows.put(NOW, INITIAL as usize, true);
+        for typ in events {
+            advance(&mut self.rows, usize::from(*typ));
+        }
+        advance(&mut self.rows, TERMINAL as usize);
+        self.rows.get(NOW, TERMINAL as usize)
+    }
+}
