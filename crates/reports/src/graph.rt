@@ -1,22 +1,14 @@
 //! The text of a graph.
-ghost use Rattle.std.specs.Prelude.{◌≡◌, ◌++◌, OnOk, IfOk, decimal};
+ghost use Rattle.std.specs.Prelude.{◌≡◌, ◌++◌, OnOk, IfOk};
 ghost use Rattle.reports.specs.Reports.{shown_as, count_of, edge_text, found_at, graph_report};
 
 use crate::name::push_name;
+use crate::number::push_number;
 use crate::partitions::by_id;
 use invariants::{Edge, Partition, Seq, Text};
-use itoa::Buffer;
 use limits::{INITIAL, TERMINAL};
 use std::alloc::{AllocError, Global};
 use std::collections::BTreeMap;
-
-/// Puts a number in decimal digits at the end of the text.
-fn push_number(text: &mut Vec<u8>, number: u32) -> Result<(), AllocError>
-    ensures { OnOk result (text.new.items ≡ text.old.items ++ decimal number) }
-{
-    let mut digits = Buffer::new();
-    text.extend_from_slice(digits.format(number).as_bytes())
-}
 
 /// Puts a partition at the end of the text as it is shown: the name of its type and its id, and an end by its name.
 fn push_partition(

@@ -1,12 +1,18 @@
-//! The reports of the program: what it prints of invariants and of graphs.
+//! The reports of the program: what it prints of invariants, of graphs and of the paths of traces.
 #![tactic(auto)]
 
 mod graph;
 mod invariant;
+mod law;
 mod name;
+mod number;
 mod partitions;
+mod path;
+mod taken;
 #[cfg(test)]
 mod tests;
 
 pub use graph::graph_report;
 pub use invariant::invariant_report;
+pub use law::paths_tell;
+pub use path::path_report;

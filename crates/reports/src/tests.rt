@@ -1,7 +1,10 @@
 use super::*;
 use invariants::{Edge, Invariant, Kind, Partition, Seq, Text};
+use limits::MAX_TYPE_BYTES;
 use std::alloc::{AllocError, Global};
+use std::process::Abort;
 use std::test::Fail;
+use traces::Builder;
 
 /// The texts of types, between spaces.
 fn types_of(alloc: Global, words: &str) -> Result<Seq<Text>, AllocError> {
@@ -66,5 +69,47 @@ fn lines_of_edges(rt: HostRuntime) -> Result<(), Fail> {
     );
     let none = graph_report(alloc, &types, &partitions, &[])?;
     assert!(rt; none.is_empty());
+    Ok(())
+}
+
+/// The report of traces that stand between bars, each event its type's text, an at sign and its partition's id.
+fn report_of(rt: &impl Abort, alloc: Global, log: &str) -> Result<Seq<u8>, Fail> {
+    let mut builder = Builder::new(alloc);
+    let mut parts = Vec::new(alloc);
+    let mut section: u32 = 0;
+    for trace in log.split('|') {
+        section = section.wrapping_add(1);
+        for event in trace.split(' ') {
+            let (word, id) = event.split_once('@').ok_or("no id")?;
+            assert!(rt; !word.is_empty() && word.len() <= MAX_TYPE_BYTES);
+            builder.add(0, section, "", word, 0)?;
+            parts.push(id.parse::<u32>()?)?;
+        }
+    }
+    let traces = builder.finish()?;
+    assert_eq!(rt; parts.len(), traces.event_count() as usize);
+    Ok(path_report(alloc, &traces, &parts)?)
+}
+
+#[test]
+fn lines_of_paths(rt: HostRuntime) -> Result<(), Fail> {
+    let alloc = rt.alloc();
+    for (log, text) in [
+        ("a@2 b@3|a@2 b@3", "2: INITIAL \"a\"@2 \"b\"@3 TERMINAL\n"),
+        (
+            "a@2|a@2 a@2|b\"c@3|a@4|a@2",
+            "2: INITIAL \"a\"@2 TERMINAL\n1: INITIAL \"a\"@2 \"a\"@2 TERMINAL\n1: INITIAL \"b\\\"c\"@3 TERMINAL\n1: INITIAL \"a\"@4 TERMINAL\n",
+        ),
+        (
+            "login@2 search@3 checkout@4|guest@5 search@3 cart@6 checkout@4|login@2 search@3 checkout@4|guest@5 cart@10 leave@7|login@2 offers@8 cart@6 checkout@4|guest@5 leave@7|guest@5 cart@10 leave@7|login@2 offers@8 cart@6 checkout@4|login@2 search@3 checkout@4|guest@5 leave@7|guest@5 search@3 cart@6 checkout@4|login@2 offers@8 cart@6 checkout@4",
+            "3: INITIAL \"login\"@2 \"search\"@3 \"checkout\"@4 TERMINAL\n2: INITIAL \"guest\"@5 \"search\"@3 \"cart\"@6 \"checkout\"@4 TERMINAL\n2: INITIAL \"guest\"@5 \"cart\"@10 \"leave\"@7 TERMINAL\n3: INITIAL \"login\"@2 \"offers\"@8 \"cart\"@6 \"checkout\"@4 TERMINAL\n2: INITIAL \"guest\"@5 \"leave\"@7 TERMINAL\n",
+        ),
+    ] {
+        let report = report_of(&rt, alloc, log)?;
+        assert_eq!(rt; report.as_slice(), text.as_bytes(), "{log}");
+    }
+    let none = Builder::new(alloc).finish()?;
+    assert_eq!(rt; none.event_count(), 0);
+    assert!(rt; path_report(alloc, &none, &[])?.is_empty());
     Ok(())
 }

@@ -1,0 +1,12 @@
+//! A log made to be as large as one likes: sessions of calls on a file, drawn by a fixed generator of numbers.
+#![tactic(auto)]
+
+mod call;
+mod generator;
+mod law;
+mod log;
+#[cfg(test)]
+mod tests;
+
+pub use law::sessions_stand_in_order;
+pub use log::make_log;

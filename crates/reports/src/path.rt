@@ -1,0 +1,85 @@
+//! The text of the paths that traces take.
+ghost use Rattle.std.specs.Prelude.{◌≡◌, ◌++◌, OnOk, IfOk, flat_map, length};
+ghost use Rattle.std.specs.List.{zip};
+ghost use Rattle.traces.specs.Words.{event_count_of};
+ghost use Rattle.reports.specs.Paths.{path_line, path_report, shown, step_text};
+
+use crate::name::push_name;
+use crate::number::push_number;
+use crate::taken::{TakenPath, taken_paths};
+use invariants::{Seq, Text};
+use std::alloc::{AllocError, Global};
+use traces::TraceSet;
+
+/// Puts an event at the end of the text: a space, the name of its type, and the id of its partition.
+fn push_step(
+    alloc: Global,
+    text: &mut Vec<u8>,
+    types: &Seq<Text>,
+    number: u16,
+    id: u32,
+) -> Result<(), AllocError>
+    ensures { OnOk result (text.new.items ≡ text.old.items ++ step_text types.now (number, id)) }
+{
+    text.push(b' ')?;
+    push_name(alloc, text, types, number)?;
+    text.push(b'@')?;
+    push_number(text, id)?;
+    Ok(())
+}
+
+/// Puts events with these numbers of types and these ids at the end of the text.
+fn push_steps(
+    alloc: Global,
+    text: &mut Vec<u8>,
+    types: &Seq<Text>,
+    numbers: &[u16],
+    ids: &[u32],
+) -> Result<(), AllocError>
+    ensures { OnOk result (text.new.items
+        ≡ text.old.items ++ flat_map (step_text types.now) (zip numbers.now ids.now)) }
+{
+    for (number, id) in numbers.iter().zip(ids) {
+        push_step(alloc, text, types, *number, *id)?;
+    }
+    Ok(())
+}
+
+/// Puts the line of a path at the end of the text.
+fn push_line(
+    alloc: Global,
+    text: &mut Vec<u8>,
+    types: &Seq<Text>,
+    taken: &TakenPath<'_>,
+) -> Result<(), AllocError>
+    ensures { OnOk result (text.new.items ≡ text.old.items ++ path_line types.now (shown taken.now)) }
+{
+    push_number(text, taken.count)?;
+    text.extend_from_slice(b": INITIAL")?;
+    push_steps(alloc, text, types, taken.types, taken.ids)?;
+    text.extend_from_slice(b" TERMINAL\n")?;
+    Ok(())
+}
+
+/// The text of the paths that the traces take through partitions, one a line in the order first met, as
+/// `3: INITIAL "a"@2 "b"@3 TERMINAL`: how many traces take the path, and for each of its events the type's text as a
+/// JSON string and the id of its partition.
+///
+/// `parts` has the id of each event, trace after trace. Two traces take one path where their ids are the same, one by
+/// one. Of each event the type is shown that it has in the first trace which takes the path: in a graph, where the
+/// events of one partition have one type, it is that of the partition. Each line ends with byte 10, and without a
+/// trace there is no line.
+///
+/// The one error is want of memory.
+pub fn path_report(alloc: Global, traces: &TraceSet, parts: &[u32]) -> Result<Seq<u8>, AllocError>
+    requires { length parts.now ≡ event_count_of (traces.now).traces }
+    ensures { IfOk result (λ text. text ≡ path_report traces.now parts.now) }
+{
+    let paths = taken_paths(alloc, traces, parts)?;
+    let types = traces.types();
+    let mut text = Vec::new(alloc);
+    for path in &paths {
+        push_line(alloc, &mut text, types, path)?;
+    }
+    Ok(Seq::from_vec(text))
+}
