@@ -1,12 +1,13 @@
 use Rattle.std.proofs.Common.{◌≡◌, ℕ, List, length, map, ap, sym, ◌∙◌, subst, arith}
 use Rattle.traces.specs.Columns.{laid, AreStarts}
 use Rattle.std.specs.Str.{bytes_eq}
+use Rattle.std.proofs.Math.Logic.{∥∥₁_map}
 use Rattle.traces.specs.Kept.{AreShort, HaveBytes, IsKept}
 use Rattle.traces.specs.Words.{Trace, Log, trace_in_order, in_order, event_count_of, AreApart}
 use Rattle.traces.proofs.Columned.{length-columned}
 use Rattle.traces.proofs.ColumnsInTime.{columned-count}
 use Rattle.traces.proofs.ShownTraces.{zeros-enough}
-use Rattle.traces.proofs.TracesInTime.{kept-in-order}
+use Rattle.traces.proofs.TracesInTime.{in_order-gathered, kept-in-order}
 use Rattle.traces.proofs.builder.Builder.finish.Goals as goal
 
 pub lay_in_order-requires-clause-few : goal.lay_in_order-requires-clause-few
@@ -42,6 +43,7 @@ invariant_of-result c =
     c.in_ok-events.ensures.order keys (omega arith) ∙ ap (map trace_in_order) c.into_columns-keys.ensures.view in
     let same : c.self.inside.types ≡ c.from_vec.result = sym (c.from_vec.ensures ∙ c.into_texts.ensures.texts) in
     let types : length c.self.inside.types ≡ length c.from_vec.result = ap length same in
+    let shown : List (List ℕ) → List Trace → Log = λ types traces. record { types = types; traces = traces } in
     let starts = subst (λ n. AreStarts n (length done.numbers.items) done.starts.items) (omega arith) c.in_ok-events.ensures.starts in (
       subst (λ n. IsKept n (laid keys done.starts.items done.numbers.items done.times.items) c.self.inside.event_count) types
           (subst (λ (ts : List Trace). IsKept (length c.self.inside.types) ts c.self.inside.event_count) (sym order)
@@ -52,6 +54,11 @@ invariant_of-result c =
       subst HaveBytes same c.self.invariant.1,
       subst AreShort same c.self.invariant.2,
       subst (AreApart bytes_eq) (sym c.from_vec.ensures) c.into_texts.ensures.distinct,
+      ∥∥₁_map c.self.invariant.3 (λ known. (
+        known.0,
+        ap (λ types. shown types (laid keys done.starts.items done.numbers.items done.times.items)) (sym same)
+            ∙ (ap (shown c.self.inside.types) order ∙ (ap in_order known.1 ∙ in_order-gathered known.0)),
+      )),
     )
 
 pub returns : goal.returns
