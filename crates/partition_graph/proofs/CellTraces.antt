@@ -49,7 +49,7 @@ pub members_are : (p : ℕ) (cs : List Cell) → members (traces_of cs) p ≡ ce
 members_are p cs = ap (λ (es : List Event). count_by (λ (e : Event). e.id == p) es) (events_are cs) ∙ sizes_of_events p cs
 
 -- the last type is the first one where all cells of an id have one type
-last_known : (T : ℕ → ℕ) (p d : ℕ) (cs : List Cell) → AllByRecursion (λ (c : Cell). c.typ ≡ T c.id) cs → d ≡ T p → last_type p d cs ≡ T p
+pub last_known : (T : ℕ → ℕ) (p d : ℕ) (cs : List Cell) → AllByRecursion (λ (c : Cell). c.typ ≡ T c.id) cs → d ≡ T p → last_type p d cs ≡ T p
 last_known T p d [] a e = e
 last_known T p d (c ∷ cs) a e =
     elim (cases_eq c.id p) [

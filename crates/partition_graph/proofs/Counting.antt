@@ -20,7 +20,7 @@ pub record IsCounting (t : Tables) (before place : ℕ) (cells : List Cell) : Ty
   pub counts : (p q : ℕ) → p < MAX_PARTITIONS → q < MAX_PARTITIONS → count_at t p q + edges_along before (drop place cells) p q ≡ edges_along INITIAL cells p q
 
 -- the cells from a place on begin with the one at this place
-rest-cons : (cells : List Cell) (i : ℕ) (d : Cell) → i < length cells → drop i cells ≡ get_or cells i d ∷ drop (i + 1) cells
+pub rest-cons : (cells : List Cell) (i : ℕ) (d : Cell) → i < length cells → drop i cells ≡ get_or cells i d ∷ drop (i + 1) cells
 rest-cons cells i d l = drop-cons cells i d l ∙ ap (λ n. get_or cells i d ∷ drop n cells) (sym (add-one i))
 
 -- there is room for one cell more of an id

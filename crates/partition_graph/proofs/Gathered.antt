@@ -1,11 +1,11 @@
 -- What is gathered and counted of a log makes a graph.
-use Rattle.std.proofs.Common.{◌≡◌, ℕ, ◌<◌, ◌≤◌, true, List, length, take, map, ◌^◌, arith, ap, sym, ◌∙◌, subst}
+use Rattle.std.proofs.Common.{◌≡◌, ℕ, ◌<◌, ◌≤◌, true, List, length, take, map, arith, ap, sym, ◌∙◌, subst}
 use Rattle.std.proofs.lemmas.List.{length-map, take_all}
 use Rattle.std.proofs.lemmas.List.Elements.{All-from_recursion}
 use Rattle.std.specs.List.{All, AllByRecursion}
 use Rattle.partition_model.specs.Assignments.{Assignment, by_type}
 use Rattle.partition_model.specs.Listings.{first_event}
-use Rattle.limits.specs.declared.TheConstants.{FIRST_TYPE, MAX_PARTITIONS}
+use Rattle.limits.specs.declared.TheConstants.{FIRST_TYPE, MAX_EVENTS, MAX_PARTITIONS}
 use Rattle.partition_graph.specs.declared.cells.Cell.{Cell}
 use Rattle.partition_graph.specs.declared.tables.Tables.{Tables}
 use Rattle.partition_graph.specs.Cells.{traces_of, IsClosed, IsGathered}
@@ -35,7 +35,7 @@ gathered_traces bound t words cells firsts e g =
 
 -- the graph of what is gathered and counted
 pub kept : (bound t : ℕ) (words : List (List ℕ)) (cells : List Cell) (firsts : List ℕ) (tables : Tables) → t ≡ length words → IsGathered bound words t cells firsts
-    → FIRST_TYPE ≤ bound → bound ≤ MAX_PARTITIONS → length cells < 2 ^ 32 → IsCountOf tables cells → IsKept cells firsts tables bound
+    → FIRST_TYPE ≤ bound → bound ≤ MAX_PARTITIONS → length cells ≤ MAX_EVENTS → IsCountOf tables cells → IsKept cells firsts tables bound
 kept bound t words cells firsts tables e g two limit few n =
     let h : traces_of cells ≡ by_type words = gathered_traces bound t words cells firsts e g in
     let new : AllByRecursion (IsNew bound) cells = gathered_new bound t words cells firsts g in

@@ -1,8 +1,9 @@
 -- Cells that are given to another id, and what a graph keeps of them.
-use Rattle.std.proofs.Common.{◌≡◌, ℕ, suc, ◌<◌, ◌≤◌, ◌^◌, Bool, true, List, [], ◌∷◌, length, map, take, arith, ap, sym, ◌∙◌, refl, subst, inl, inr}
+use Rattle.std.proofs.Common.{◌≡◌, ℕ, suc, ◌<◌, ◌≤◌, Bool, true, List, [], ◌∷◌, length, map, take, arith, ap, sym, ◌∙◌, refl, subst, inl, inr}
 use Rattle.std.proofs.lemmas.Bool.{cases_Bool, cases_eq}
 use Rattle.std.proofs.lemmas.List.{length-map, take-map}
 use Rattle.std.specs.List.{AllByRecursion}
+use Rattle.limits.specs.declared.TheConstants.{MAX_EVENTS}
 use Rattle.partition_model.specs.Assignments.{Event, Assignment, events, type_of, renamed_event, G, IsTyped}
 use Rattle.partition_model.specs.Listings.{first_event, AreBelow}
 use Rattle.partition_model.specs.Coarsening.{merge, onto, IsPair}
@@ -13,11 +14,10 @@ use Rattle.partition_graph.specs.declared.cells.Cell.{Cell}
 use Rattle.partition_graph.specs.declared.tables.Tables.{Tables}
 use Rattle.partition_graph.specs.Cells.{event_of, put_before, traces_of, joined_cells, IsClosed}
 use Rattle.partition_graph.specs.Kept.{IsKept}
-use Rattle.partition_graph.specs.Tables.{IsClearFrom, IsCountOf}
+use Rattle.partition_graph.specs.Tables.{IsCountOf}
 use Rattle.partition_graph.proofs.CellTraces.{types_are, members_are}
 use Rattle.partition_graph.proofs.Edges.{edges_are}
 use Rattle.partition_graph.proofs.Moving.{all_cells}
-use Rattle.partition_graph.proofs.UnusedIds.{no_edge, no_member, no_type}
 use Rattle.partition_graph.proofs.WordCells.{all_weaker}
 
 -- the merged traces of joined cells
@@ -35,7 +35,7 @@ joined_are p q (c ∷ cs) =
       | inr f ↦ rw f (ap (λ (h : Assignment). put_before (renamed_event (onto p q) (event_of c)) h) i ∙ put_joined p q (event_of c) (traces_of cs))
     ]
 
-length-joined_cells : (p q : ℕ) (cs : List Cell) → length (joined_cells p q cs) ≡ length cs
+pub length-joined_cells : (p q : ℕ) (cs : List Cell) → length (joined_cells p q cs) ≡ length cs
 length-joined_cells p q [] = refl
 length-joined_cells p q (c ∷ cs) = ap suc (length-joined_cells p q cs)
 
@@ -86,7 +86,7 @@ pub joined_kept : (p q n : ℕ) (cells joined : List Cell) (firsts : List ℕ) (
 joined_kept p q n cells joined firsts tables new k i e m =
     let h : traces_of joined ≡ merge p q (traces_of cells) = traces_joined p q cells joined e in
     let same : length joined ≡ length cells = ap (λ (cs : List Cell). length cs) e ∙ length-joined_cells p q cells in
-    let few : length cells < 2 ^ 32 = k.few in
+    let few : length cells ≤ MAX_EVENTS = k.few in
     let closed : IsClosed true joined = subst (λ (cs : List Cell). IsClosed true cs) (sym e) (joined_closed p q true cells k.closed) in
     let typed : IsTyped (traces_of joined) = joined_typed p q n cells joined firsts tables k i e in
     let T : ℕ → ℕ = λ x. type_of (traces_of joined) x in
@@ -103,14 +103,4 @@ joined_kept p q n cells joined firsts tables new k i e m =
           (all_weaker (λ (c : Cell). (2 ≤ c.id) × (c.typ ≡ T c.id)) (λ (c : Cell). c.typ ≡ T c.id) joined (λ c m. m.1) (all_cells (λ (e : Event). (2 ≤ e.id) × (e.typ ≡ T e.id)) joined typed));
       sizes_are = λ r b. m.sizes r b ∙ sym (members_are r joined);
       counts_are = λ r s a b. m.counts r s a b ∙ edges_are joined r s closed;
-    }
-
--- nothing is counted of ids that are not used
-pub clear_from : (n : ℕ) (cells : List Cell) (firsts : List ℕ) (tables : Tables) → IsKept cells firsts tables n → IsClearFrom n tables
-clear_from n cells firsts tables k =
-    let h : Assignment = traces_of cells in
-    record {
-      types = λ p past b. k.types_are p b ∙ sym (no_type h n k.below p past);
-      sizes = λ p past b. k.sizes_are p b ∙ sym (no_member h n k.below p past);
-      counts = λ p q past a b. k.counts_are p q a b ∙ sym (no_edge h n k.two k.below p q past);
     }

@@ -10,6 +10,7 @@ pub mod Moving
 pub mod Marking
 pub mod NextOnes
 pub mod Linked
-pub mod Clearing
+pub mod Recounts
+pub mod Retyping
 pub mod Joined
 pub mod Starting

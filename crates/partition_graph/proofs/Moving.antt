@@ -1,5 +1,5 @@
 -- Cells that are moved to a new id, and what a graph keeps of them.
-use Rattle.std.proofs.Common.{◌≡◌, ◌≢◌, ◌⊎◌, ℕ, suc, ◌+◌, ◌<◌, ◌≤◌, ◌^◌, ◌==◌, ◌&&◌, Bool, true, false, cond, List, [], ◌∷◌, length, map, take, arith, ap, ap₂, sym, ◌∙◌, refl, subst, inl, inr, length-append}
+use Rattle.std.proofs.Common.{◌≡◌, ◌≢◌, ◌⊎◌, ℕ, suc, ◌+◌, ◌<◌, ◌≤◌, ◌==◌, ◌&&◌, Bool, true, false, cond, List, [], ◌∷◌, length, map, take, arith, ap, ap₂, sym, ◌∙◌, refl, subst, inl, inr, length-append}
 use Rattle.std.proofs.lemmas.Bool.{cases_Bool}
 use Rattle.std.proofs.lemmas.List.{length-map, take-map}
 use Rattle.std.proofs.lemmas.List.Elements.{All-from_recursion}
@@ -10,7 +10,7 @@ use Rattle.partition_model.specs.Refinement.{split, split_trace}
 use Rattle.partition_model.specs.Laws.{IsFresh}
 use Rattle.partition_model.proofs.Lists.{In, In-events, events-In, all_in, all_from}
 use Rattle.partition_model.proofs.Runs.{split-typed, split-event, split-In}
-use Rattle.limits.specs.declared.TheConstants.{FIRST_TYPE, MAX_PARTITIONS}
+use Rattle.limits.specs.declared.TheConstants.{FIRST_TYPE, MAX_EVENTS, MAX_PARTITIONS}
 use Rattle.partition_graph.specs.declared.cells.Cell.{Cell}
 use Rattle.partition_graph.specs.declared.tables.Tables.{Tables}
 use Rattle.partition_graph.specs.Cells.{event_of, put_before, traces_of, IsClosed, first_id, moved_cells}
@@ -123,7 +123,7 @@ still_kept p q n cells moved firsts tables new k l e m =
     let h : traces_of moved ≡ split p q n (traces_of cells) = ap (λ (cs : List Cell). traces_of cs) e ∙ moved_are p q n cells k.closed in
     let two : FIRST_TYPE ≤ n = k.two in
     let same : length moved ≡ length cells = ap (λ (cs : List Cell). length cs) e ∙ length-moved_cells p q n cells in
-    let few : length cells < 2 ^ 32 = k.few in
+    let few : length cells ≤ MAX_EVENTS = k.few in
     let closed : IsClosed true moved = subst (λ (cs : List Cell). IsClosed true cs) (sym e) (moved_closed p q n true cells k.closed) in
     let typed : IsTyped (traces_of moved) = moved_typed p q n cells moved firsts tables k e in
     let T : ℕ → ℕ = λ x. type_of (traces_of moved) x in

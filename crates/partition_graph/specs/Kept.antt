@@ -1,6 +1,6 @@
 -- What a partition graph keeps.
-use Rattle.std.specs.Prelude.{ℕ, ◌≡◌, ◌<◌, ◌≤◌, ◌^◌, true, List, length, slice_index}
-use Rattle.limits.specs.declared.TheConstants.{FIRST_TYPE, MAX_PARTITIONS}
+use Rattle.std.specs.Prelude.{ℕ, ◌≡◌, ◌<◌, ◌≤◌, true, List, length, slice_index}
+use Rattle.limits.specs.declared.TheConstants.{FIRST_TYPE, MAX_EVENTS, MAX_PARTITIONS}
 use Rattle.partition_model.specs.Assignments.{events, members, first_type, edge_count, IsTyped}
 use Rattle.partition_model.specs.Listings.{first_event, AreBelow}
 use Rattle.partition_graph.specs.declared.cells.Cell.{Cell}
@@ -12,7 +12,7 @@ use Rattle.partition_graph.specs.Tables.{type_at, size_at, count_at}
 pub record IsKept (cells : List Cell) (firsts : List ℕ) (tables : Tables) (used : ℕ) : Type 0 where
   pub two : FIRST_TYPE ≤ used
   pub limit : used ≤ MAX_PARTITIONS
-  pub few : length cells < 2 ^ 32
+  pub few : length cells ≤ MAX_EVENTS
   pub closed : IsClosed true cells
   pub typed : IsTyped (traces_of cells)
   pub below : AreBelow used (traces_of cells)

@@ -10,3 +10,4 @@ pub mod Parts
 pub mod Seen
 pub mod Starts
 pub mod Tables
+pub mod Changes

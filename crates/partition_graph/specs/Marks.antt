@@ -1,5 +1,5 @@
 -- The counts of edges, and the rows that tell which of them are above 0.
-use Rattle.std.specs.Prelude.{ℕ, ◌≡◌, ◌+◌, ◌*◌, ◌<◌, ◌&&◌, Bool, true, nat_lt, List, length, slice_index}
+use Rattle.std.specs.Prelude.{ℕ, ◌≡◌, ◌+◌, ◌*◌, ◌<◌, ◌&&◌, Bool, nat_lt, List, length, slice_index}
 use Rattle.limits.specs.declared.TheConstants.{MAX_PARTITIONS}
 use Rattle.bit_rows.specs.Tables.{row_at, is_set, HasShape}
 
@@ -30,8 +30,8 @@ pub record IsMarked (counts : List ℕ) (sources targets : List (List Bool)) : T
   pub targets_are : (p q : ℕ) → p < MAX_PARTITIONS → q < MAX_PARTITIONS
       → is_set (row_at targets p) q ≡ nat_lt 0 (count_in counts p q)
 
--- the rows are the old ones, but place i of row r is on
-pub record IsWithOn (r i : ℕ) (old new : List (List Bool)) : Type 0 where
+-- the rows are the old ones, but place i of row r is this
+pub record IsWithBit (r i : ℕ) (bit : Bool) (old new : List (List Bool)) : Type 0 where
   pub rows : HasIdRows new
-  pub here : is_set (row_at new r) i ≡ true
+  pub here : is_set (row_at new r) i ≡ bit
   pub others : (s j : ℕ) → (s ≡ r → j ≡ i → ⊥) → is_set (row_at new s) j ≡ is_set (row_at old s) j

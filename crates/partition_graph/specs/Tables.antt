@@ -1,5 +1,5 @@
 -- Tables of what is counted of cells.
-use Rattle.std.specs.Prelude.{ℕ, ◌≡◌, ◌<◌, ◌≤◌, ◌⊎◌, List, slice_index}
+use Rattle.std.specs.Prelude.{ℕ, ◌≡◌, ◌<◌, List, slice_index}
 use Rattle.limits.specs.declared.TheConstants.{MAX_PARTITIONS, INITIAL}
 use Rattle.partition_graph.specs.declared.cells.Cell.{Cell}
 use Rattle.partition_graph.specs.declared.tables.Tables.{Tables}
@@ -23,12 +23,6 @@ pub record IsClear (t : Tables) : Type 0 where
   pub types : (p : ℕ) → p < MAX_PARTITIONS → type_at t p ≡ 0
   pub sizes : (p : ℕ) → p < MAX_PARTITIONS → size_at t p ≡ 0
   pub counts : (p q : ℕ) → p < MAX_PARTITIONS → q < MAX_PARTITIONS → count_at t p q ≡ 0
-
--- nothing is counted of the ids from n on
-pub record IsClearFrom (n : ℕ) (t : Tables) : Type 0 where
-  pub types : (p : ℕ) → n ≤ p → p < MAX_PARTITIONS → type_at t p ≡ 0
-  pub sizes : (p : ℕ) → n ≤ p → p < MAX_PARTITIONS → size_at t p ≡ 0
-  pub counts : (p q : ℕ) → (n ≤ p) ⊎ (n ≤ q) → p < MAX_PARTITIONS → q < MAX_PARTITIONS → count_at t p q ≡ 0
 
 -- each id has the type and the size that it has in the cells, and each edge its count
 pub record IsCountOf (t : Tables) (cells : List Cell) : Type 0 where

@@ -1,5 +1,6 @@
 //! A cell for each event, trace after trace.
-ghost use Rattle.std.specs.Prelude.{◌≡◌, ◌++◌, ◌<◌, ◌^◌, OnOk, IfOk, length};
+ghost use Rattle.std.specs.Prelude.{◌≡◌, ◌++◌, ◌≤◌, OnOk, IfOk, length};
+ghost use Rattle.limits.specs.declared.TheConstants.{MAX_EVENTS};
 ghost use Rattle.partition_graph.specs.Cells.{cells_of, IsGatheredOf};
 ghost use Rattle.partition_graph.specs.Counts.{before_next};
 
@@ -31,7 +32,7 @@ impl Cell {
 pub fn gather(alloc: Global, traces: &TraceSet) -> Result<(Vec<Cell>, Vec<u32>), AllocError>
     ensures gathered { IfOk result
         (λ pair. IsGatheredOf traces.now (length traces.now.traces) pair.0.items pair.1.items) }
-    ensures few { IfOk result (λ pair. length pair.0.items < 2 ^ 32) }
+    ensures few { IfOk result (λ pair. length pair.0.items ≤ MAX_EVENTS) }
 {
     let event_count = traces.event_count();
     let mut cells = Vec::with_capacity(alloc, event_count as usize)?;

@@ -1,9 +1,9 @@
 //! The counts of edges between ids, and which of them are above 0.
-ghost use Rattle.std.specs.Prelude.{◌≡◌, ◌≢◌, ◌+◌, ◌*◌, ◌<◌, ◌≤◌, ◌⊎◌, ◌^◌, ℕ, false, nat_lt, length, slice_index, IfOk};
+ghost use Rattle.std.specs.Prelude.{◌≡◌, ◌≢◌, ◌+◌, ◌*◌, ◌<◌, ◌≤◌, ◌⊎◌, ◌^◌, ℕ, false, true, nat_lt, length, slice_index, IfOk};
 ghost use Rattle.limits.specs.declared.TheConstants.{MAX_PARTITIONS};
 ghost use Rattle.bit_rows.specs.Tables.{row_at, is_set};
 ghost use Rattle.partition_graph.specs.Counts.{is_edge};
-ghost use Rattle.partition_graph.specs.Marks.{count_in, is_counted, HasIdRows, IsWithOn, NoneCounted};
+ghost use Rattle.partition_graph.specs.Marks.{count_in, is_counted, HasIdRows, IsWithBit, NoneCounted};
 ghost use Rattle.partition_graph.specs.Nexts.{IsNextAnswer};
 
 use bit_rows::Rows;
@@ -81,18 +81,20 @@ impl EdgeCounts {
         self.counts[place] += 1;
     }
 
-    /// Leaves no edge counted, where none was counted of the ids from `used` on.
-    pub fn clear(&mut self, used: usize)
-        requires limit { used ≤ MAX_PARTITIONS }
-        requires rest { (p q : ℕ) → (used ≤ p) ⊎ (used ≤ q) → p < MAX_PARTITIONS → q < MAX_PARTITIONS
-            → count_in self.old p q ≡ 0 }
-        ensures { NoneCounted self.new }
+    /// Counts an edge once less.
+    pub fn remove(&mut self, from: u32, to: u32)
+        requires from { from < MAX_PARTITIONS }
+        requires to { to < MAX_PARTITIONS }
+        requires some { 0 < count_in self.old from to }
+        ensures { (p q : ℕ) → p < MAX_PARTITIONS → q < MAX_PARTITIONS
+            → count_in self.new p q + is_edge from to p q ≡ count_in self.old p q }
     {
-        for id in 0..used {
-            clear_counts_to(&mut self.counts, &self.sources, id);
-            self.sources.clear(id);
-            self.targets.clear(id);
-        }
+        let from = from as usize;
+        let to = to as usize;
+        let place = to * IDS + from;
+        let left = self.counts[place] - 1;
+        unmark(&mut self.sources, &mut self.targets, left, from, to);
+        self.counts[place] = left;
     }
 
     /// The least id at or above `from` from which an edge to q is counted, and None where there is none.
@@ -134,8 +136,8 @@ fn mark(sources: &mut Rows, targets: &mut Rows, count: u32, from: usize, to: usi
     requires target_rows { HasIdRows targets.old }
     requires source { is_set (row_at sources.old to) from ≡ nat_lt 0 count }
     requires target { is_set (row_at targets.old from) to ≡ nat_lt 0 count }
-    ensures sources { IsWithOn to from sources.old sources.new }
-    ensures targets { IsWithOn from to targets.old targets.new }
+    ensures sources { IsWithBit to from true sources.old sources.new }
+    ensures targets { IsWithBit from to true targets.old targets.new }
 {
     if count > 0 {
         return;
@@ -144,31 +146,40 @@ fn mark(sources: &mut Rows, targets: &mut Rows, count: u32, from: usize, to: usi
     turn_on(targets, from, to);
 }
 
+/// Takes the marks of an edge away, where nothing is left of its count.
+fn unmark(sources: &mut Rows, targets: &mut Rows, left: u32, from: usize, to: usize)
+    requires from { from < MAX_PARTITIONS }
+    requires to { to < MAX_PARTITIONS }
+    requires source_rows { HasIdRows sources.old }
+    requires target_rows { HasIdRows targets.old }
+    requires source { is_set (row_at sources.old to) from ≡ true }
+    requires target { is_set (row_at targets.old from) to ≡ true }
+    ensures sources { IsWithBit to from (nat_lt 0 left) sources.old sources.new }
+    ensures targets { IsWithBit from to (nat_lt 0 left) targets.old targets.new }
+{
+    if left > 0 {
+        return;
+    }
+    turn_off(sources, to, from);
+    turn_off(targets, from, to);
+}
+
+/// Turns place i of row r off.
+fn turn_off(rows: &mut Rows, r: usize, i: usize)
+    requires row { r < MAX_PARTITIONS }
+    requires place { i < MAX_PARTITIONS }
+    requires rows { HasIdRows rows.old }
+    ensures { IsWithBit r i false rows.old rows.new }
+{
+    rows.put(r, i, false);
+}
+
 /// Turns place i of row r on.
 fn turn_on(rows: &mut Rows, r: usize, i: usize)
     requires row { r < MAX_PARTITIONS }
     requires place { i < MAX_PARTITIONS }
     requires rows { HasIdRows rows.old }
-    ensures { IsWithOn r i rows.old rows.new }
+    ensures { IsWithBit r i true rows.old rows.new }
 {
     rows.put(r, i, true);
-}
-
-/// Sets the counts of all edges to q to 0. Those from ids that are not marked are 0 already.
-fn clear_counts_to(counts: &mut [u32], sources: &Rows, q: usize)
-    requires to { q < MAX_PARTITIONS }
-    requires rows { HasIdRows sources.now }
-    requires room { length counts.old ≡ MAX_PARTITIONS * MAX_PARTITIONS }
-    requires marked { (p : ℕ) → p < MAX_PARTITIONS → is_set (row_at sources.now q) p ≡ false
-        → count_in counts.old p q ≡ 0 }
-    ensures zero { (p : ℕ) → p < MAX_PARTITIONS → count_in counts.new p q ≡ 0 }
-    ensures others { (p r : ℕ) → p < MAX_PARTITIONS → r ≢ q
-        → count_in counts.new p r ≡ count_in counts.old p r }
-    ensures room { length counts.new ≡ length counts.old }
-{
-    let mut reached = 0;
-    while let Some(p) = sources.next_set(q, reached) {
-        counts[q * IDS + p] = 0;
-        reached = p + 1;
-    }
 }

@@ -2,6 +2,7 @@
 ghost use Rattle.std.specs.Prelude.{◌≡◌, ◌≤◌, ◌<◌, ◌+◌, ◌++◌, IfOk, OnOk, length, slice_index, slice_get, Some, MatchOption, IfSome};
 
 use crate::cells::{Cell, gather};
+use crate::changing::Change;
 use crate::joining::join_cells;
 use crate::splitting::move_cells;
 use crate::tables::Tables;
@@ -76,8 +77,8 @@ impl PartGraph {
             return None;
         }
         let n = self.used;
+        self.tables.change(&self.cells, Change::Move(p, next, n));
         move_cells(&mut self.cells, p, next, n);
-        self.tables.recount(&self.cells, n);
         self.used = n + 1;
         Some(n)
     }
@@ -88,8 +89,8 @@ impl PartGraph {
         requires { IsPair (G (self.old).traces) p q }
         ensures { self.new ≡ joined p q self.old }
     {
+        self.tables.change(&self.cells, Change::Join(p, q));
         join_cells(&mut self.cells, p, q);
-        self.tables.recount(&self.cells, self.used);
     }
 
     /// How many ids are used, the two ends counted: each id is less than this number. Some of them may have no events.

@@ -2,6 +2,7 @@
 #![tactic(auto)]
 
 mod cells;
+mod changing;
 mod edge_counts;
 mod graph;
 mod joining;
@@ -17,6 +18,6 @@ mod tests;
 mod view;
 
 pub use graph::PartGraph;
-pub use law::starts_are_typed;
+pub use law::{set_is_typed, starts_are_typed};
 pub use links::{Link, Links};
 pub use view::View;

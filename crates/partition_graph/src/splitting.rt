@@ -19,7 +19,7 @@ pub fn move_cells(cells: &mut [Cell], p: u32, next: u32, n: u32)
 }
 
 /// The id that follows the cell at this place at once: TERMINAL where it is the last of its trace.
-fn id_behind(cells: &[Cell], i: usize) -> u32
+pub fn id_behind(cells: &[Cell], i: usize) -> u32
     requires { i < length cells.now }
     ensures { result ≡ id_behind (drop i cells.now) }
 {

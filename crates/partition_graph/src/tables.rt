@@ -1,11 +1,12 @@
 //! What is counted of cells: the type and the size of each id, and the edges between ids.
 ghost use Rattle.std.specs.Prelude.{◌≡◌, ◌+◌, ◌<◌, ◌≤◌, ◌^◌, ℕ, length, slice_index, All, IfOk, if◌then◌else◌, ◌==◌};
-ghost use Rattle.limits.specs.declared.TheConstants.{MAX_PARTITIONS};
-ghost use Rattle.partition_graph.specs.Counts.{HasId, edges_at};
+ghost use Rattle.limits.specs.declared.TheConstants.{INITIAL, MAX_EVENTS, MAX_PARTITIONS};
+ghost use Rattle.partition_graph.specs.Counts.{HasId, cells_with, edges_along, edges_at};
 ghost use Rattle.partition_graph.specs.Marks.{is_counted};
 ghost use Rattle.partition_graph.specs.Nexts.{IsNextAnswer};
 
 use crate::cells::Cell;
+use crate::changing::{Change, id_after};
 use crate::edge_counts::{EdgeCounts, no_counts};
 use limits::{INITIAL, MAX_PARTITIONS, TERMINAL};
 use std::alloc::{AllocError, Global};
@@ -27,7 +28,8 @@ pub struct Tables {
 }
 
 impl Tables {
-    ghost use Rattle.partition_graph.specs.Tables.{type_at, size_at, count_at, IsClear, IsClearFrom, IsCountOf};
+    ghost use Rattle.partition_graph.specs.Changes.{HaveTypes, IsEventId, KnowsTypes, changed_cells, given_id, with_id};
+    ghost use Rattle.partition_graph.specs.Tables.{type_at, size_at, count_at, IsClear, IsCountOf};
 
     /// The tables of these cells.
     pub fn open(alloc: Global, cells: &[Cell]) -> Result<Tables, AllocError>
@@ -40,16 +42,65 @@ impl Tables {
         Ok(tables)
     }
 
-    /// Counts these cells, and nothing of what was counted before. Nothing was counted of the ids from `used` on.
-    pub fn recount(&mut self, cells: &[Cell], used: u32)
+    /// Counts the cells as they are after a change, where they are counted as they are before it: what the change
+    /// touches is counted anew, and nothing else.
+    pub fn change(&mut self, cells: &[Cell], change: Change)
         requires ids { All HasId cells.now }
-        requires few { length cells.now < 2 ^ 32 }
-        requires limit { used ≤ MAX_PARTITIONS }
-        requires rest { IsClearFrom used self.old }
-        ensures { IsCountOf self.new cells.now }
+        requires given { IsEventId (given_id change) }
+        requires few { length cells.now ≤ MAX_EVENTS }
+        requires counted { IsCountOf self.old cells.now }
+        ensures types { (types : ℕ → ℕ) → HaveTypes types cells.now
+            → HaveTypes types (changed_cells change cells.now)
+            → KnowsTypes types self.old → KnowsTypes types self.new }
+        ensures sizes { (p : ℕ) → p < MAX_PARTITIONS
+            → size_at self.new p ≡ cells_with p (changed_cells change cells.now) }
+        ensures counts { (p q : ℕ) → p < MAX_PARTITIONS → q < MAX_PARTITIONS
+            → count_at self.new p q ≡ edges_along INITIAL (changed_cells change cells.now) p q }
     {
-        self.clear(used as usize);
-        self.count(cells);
+        let mut was = INITIAL;
+        let mut now = INITIAL;
+        for i in 0..cells.len() {
+            let cell = cells[i];
+            let changed = Cell {
+                typ: cell.typ,
+                last: cell.last,
+                id: id_after(change, cells, i),
+            };
+            self.replace(was, cell, now, changed);
+            was = cell.before_next();
+            now = changed.before_next();
+        }
+    }
+
+    /// Counts a cell as it is after a change, with the id before it as it is then, in place of what it was.
+    fn replace(&mut self, was: u32, cell: Cell, now: u32, changed: Cell)
+        requires was { was < MAX_PARTITIONS }
+        requires now { now < MAX_PARTITIONS }
+        requires id { cell.id < MAX_PARTITIONS }
+        requires given { changed.id < MAX_PARTITIONS }
+        requires same { changed ≡ with_id cell changed.id }
+        requires some { 0 < size_at self.old cell.id }
+        requires few { size_at self.old changed.id + 1 < 2 ^ 32 }
+        requires edges { (p q : ℕ) → p < MAX_PARTITIONS → q < MAX_PARTITIONS
+            → edges_at was cell p q ≤ count_at self.old p q }
+        requires few_edges { (p q : ℕ) → p < MAX_PARTITIONS → q < MAX_PARTITIONS
+            → count_at self.old p q + edges_at now changed p q < 2 ^ 32 }
+        ensures types { (types : ℕ → ℕ) → cell.typ ≡ types cell.id → cell.typ ≡ types changed.id
+            → KnowsTypes types self.old → KnowsTypes types self.new }
+        ensures sizes { (p : ℕ) → p < MAX_PARTITIONS
+            → size_at self.new p + (if cell.id == p then 1 else 0)
+            ≡ size_at self.old p + (if changed.id == p then 1 else 0) }
+        ensures counts { (p q : ℕ) → p < MAX_PARTITIONS → q < MAX_PARTITIONS
+            → count_at self.new p q + edges_at was cell p q
+            ≡ count_at self.old p q + edges_at now changed p q }
+    {
+        if was == now && cell.id == changed.id {
+            return;
+        }
+        self.uncount_cell(cell);
+        self.uncount_edges_at(was, cell);
+        self.count_cell(changed);
+        self.count_edges_at(now, changed);
     }
 
     /// The type of the cells of p, and 0 where no cell has the id.
@@ -105,19 +156,6 @@ impl Tables {
         })
     }
 
-    /// Leaves nothing counted, where nothing was counted of the ids from `used` on.
-    fn clear(&mut self, used: usize)
-        requires limit { used ≤ MAX_PARTITIONS }
-        requires rest { IsClearFrom used self.old }
-        ensures { IsClear self.new }
-    {
-        for p in 0..used {
-            self.types[p] = 0;
-            self.sizes[p] = 0;
-        }
-        self.counts.clear(used);
-    }
-
     /// Counts the cells, where nothing is counted yet.
     fn count(&mut self, cells: &[Cell])
         requires ids { All HasId cells.now }
@@ -145,6 +183,40 @@ impl Tables {
     {
         self.types[cell.id as usize] = cell.typ;
         self.sizes[cell.id as usize] += 1;
+    }
+
+    /// Takes a cell from the size of its id, and the id's type where no cell is left.
+    fn uncount_cell(&mut self, cell: Cell)
+        requires id { cell.id < MAX_PARTITIONS }
+        requires some { 0 < size_at self.old cell.id }
+        ensures types { (types : ℕ → ℕ) → KnowsTypes types self.old → KnowsTypes types self.new }
+        ensures sizes { (p : ℕ) → p < MAX_PARTITIONS
+            → size_at self.new p + (if cell.id == p then 1 else 0) ≡ size_at self.old p }
+        ensures counts { (self.new).counts ≡ (self.old).counts }
+    {
+        self.sizes[cell.id as usize] -= 1;
+        if self.sizes[cell.id as usize] == 0 {
+            self.types[cell.id as usize] = 0;
+        }
+    }
+
+    /// Takes the edge away that leads to a cell, and the one from it to TERMINAL where its trace ends.
+    fn uncount_edges_at(&mut self, before: u32, cell: Cell)
+        requires before { before < MAX_PARTITIONS }
+        requires id { cell.id < MAX_PARTITIONS }
+        requires some { (p q : ℕ) → p < MAX_PARTITIONS → q < MAX_PARTITIONS
+            → edges_at before cell p q ≤ count_at self.old p q }
+
+        // The types and the sizes stay.
+        ensures counts { (p q : ℕ) → p < MAX_PARTITIONS → q < MAX_PARTITIONS
+            → count_at self.new p q + edges_at before cell p q ≡ count_at self.old p q }
+        ensures types { (self.new).types ≡ (self.old).types }
+        ensures sizes { (self.new).sizes ≡ (self.old).sizes }
+    {
+        self.counts.remove(before, cell.id);
+        if cell.last {
+            self.counts.remove(cell.id, TERMINAL);
+        }
     }
 
     /// Adds the edge that leads to a cell, and the one from it to TERMINAL where its trace ends.

@@ -11,12 +11,12 @@ use Rattle.partition_graph.proofs.cells.gather.Goals as goal
 pub overflow_cast-len : goal.overflow_cast-len
 overflow_cast-len c =
     let e = ap (λ (cs : List Cell). length cs) c.loop-t.invariant.cells_are in
-    omega (arith, e, cells-le c.args.traces.now.traces c.loop-t.t, c.event_count-event_count.ensures, c.event_count-event_count.type_inv, c.len.ensures)
+    omega (arith, e, cells-le c.args.traces.now.traces c.loop-t.t, c.event_count-event_count.ensures.value, c.event_count-event_count.type_inv, c.len.ensures)
 
 pub returns-clause-few : goal.returns-clause-few
 returns-clause-few c =
     let e = ap (λ (cs : List Cell). length cs) c.loop-t.invariant.cells_are in
-    omega (arith, e, cells-le c.args.traces.now.traces c.loop-t.t, c.event_count-event_count.ensures, c.event_count-event_count.type_inv)
+    omega (arith, e, cells-le c.args.traces.now.traces c.loop-t.t, c.event_count-event_count.ensures.value, c.event_count-event_count.type_inv)
 
 pub loop-t-preserved : goal.loop-t-preserved
 loop-t-preserved c =
