@@ -2,12 +2,10 @@ ghost use Rattle.std.specs.Prelude.{◌≡◌, ◌≤◌, ◌<◌, [], length, I
 ghost use Rattle.limits.specs.declared.TheConstants.{FIRST_TYPE, MAX_PAIRS, MAX_STEPS};
 ghost use Rattle.cell_pool.specs.Numbers.{Numbers};
 ghost use Rattle.cell_pool.specs.RunLists.{RunLists};
-ghost use Rattle.partition_graph.specs.Parts.{start_of};
 ghost use Rattle.partition_model.specs.Assignments.{G};
 ghost use Rattle.partition_model.specs.Coarsening.{IsPair};
 ghost use Rattle.partition_model.specs.Refinement.{SatisfiesAll};
 ghost use Rattle.run_history.specs.Records.{HoldsPaths};
-ghost use Rattle.splitter.specs.Refining.{IsOpened};
 
 use crate::pairs::{Pair, is_pair};
 use crate::{blocks, coarsen};
@@ -21,19 +19,17 @@ use limits::{
 };
 use partition_graph::{PartGraph, View};
 use path_finder::Finder;
-use splitter::{Stitcher, refine};
+use splitter::{Stitcher, refine, start_is_opened};
 use std::alloc::Global;
 use std::marker::Brand;
 use std::process::Abort;
 use std::sync::ledger::{Blank, Ledger};
 use std::test::Fail;
 use steps::Steps;
-use traces::{Builder, TraceSet, gathering_in_order_is_the_log};
+use traces::{Builder, TraceSet};
 
 /// The log with a line for each event: its trace, a space and its type.
-fn set_of(alloc: Global, log: &str) -> Result<TraceSet, Fail>
-    ensures { IfOk result (λ set. IsOpened (start_of set)) }
-{
+fn set_of(alloc: Global, log: &str) -> Result<TraceSet, Fail> {
     let mut builder = Builder::new(alloc);
     for line in log.lines() {
         if let Some((key, type_text)) = line.split_once(' ') {
@@ -45,7 +41,6 @@ fn set_of(alloc: Global, log: &str) -> Result<TraceSet, Fail>
             }
         }
     }
-    gathering_in_order_is_the_log();
     Ok(builder.finish()?)
 }
 
@@ -205,11 +200,11 @@ fn run_counted<L: Ledger>(
     by_search: bool,
     blank: Blank,
 ) -> Result<Told, Fail>
-    requires opened { IsOpened (start_of set.now) }
     requires name { blank.name ≡ L.name }
     requires parts { blank.parts ≡ L.parts }
     requires stands { 0 < blank.parts }
 {
+    start_is_opened(set);
     let mut graph = PartGraph::open(alloc, set)?;
     let invs = mine(alloc, set)?;
     let mut finder = Finder::make(alloc)?;

@@ -1,4 +1,4 @@
--- Ids to which walks lead from one id, and a graph in which edges of some ids alone are looked at.
+-- Ids to which walks lead from some ids, and a graph in which edges of some ids alone are looked at.
 use Rattle.std.specs.Prelude.{ℕ, ◌≡◌, ◌≢◌, ◌==◌, ◌&&◌, nat_lt, Bool, true, false, List, slice_index_or}
 use Rattle.std.specs.List.{AllByRecursion}
 use Rattle.invariants.specs.declared.Kind.{Kind}

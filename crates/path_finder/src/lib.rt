@@ -2,8 +2,9 @@
 //! in lexicographic order.
 //!
 //! The search goes backwards over pairs of an id and a state of the invariant's monitor, from TERMINAL in the bad
-//! state on, and then forwards from INITIAL by least ids. Where a merge of two partitions is asked for an invariant that
-//! the graph satisfies, only ids are looked at to which walks lead from the merged one, or from which they lead to it.
+//! state on, and then forwards from INITIAL by least ids. Only ids are looked at that lie around the key ids: those to
+//! which walks lead from a key id, or from which walks lead to one. The key ids are those of the invariant's key type;
+//! where a merge is asked for an invariant that the graph satisfies, the merged one alone.
 #![tactic(auto)]
 
 mod finder;

@@ -1,4 +1,4 @@
-//! The ids that walks lead to from one id, or from which they lead to it.
+//! The ids that walks lead to from some ids, or from which walks lead to one of them.
 ghost use Rattle.std.specs.Prelude.{◌≡◌, ◌==◌, ℕ, ◌≤◌, ◌<◌, ◌+◌, [], Bool, true, length, replicate, IfSome, MatchOption, false};
 ghost use Rattle.limits.specs.declared.TheConstants.{MAX_PARTITIONS};
 ghost use Rattle.partition_graph.specs.Seen.{parts_seen, seen, IsSound};
@@ -24,7 +24,7 @@ pub(crate) enum Way {
     Behind,
 }
 
-/// The ids that were met on walks from one id.
+/// The ids that were met on walks from some ids.
 #[derive(Drop)]
 pub(crate) struct Reach {
     flags: Vec<bool>,

@@ -6,7 +6,7 @@ use Rattle.limits.specs.declared.TheConstants.{INITIAL, FIRST_TYPE, MAX_PARTITIO
 use Rattle.invariants.specs.declared.Invariant.{Invariant}
 use Rattle.invariants.specs.declared.records.Split.{Split}
 use Rattle.invariants.specs.Holds.{Holds}
-use Rattle.traces.specs.Words.{log_of}
+use Rattle.traces.specs.Words.{Log}
 use Rattle.partition_model.specs.Graphs.{Graph, Satisfies, IsLeastViolation}
 use Rattle.partition_model.specs.Assignments.{Event, Assignment, G, IsTyped, word_of, by_type, inner_words, types_of, events, members}
 use Rattle.partition_model.specs.Refinement.{Splits, Refines, SatisfiesAll, IsNextSplit, after_split}
@@ -17,8 +17,7 @@ use Rattle.partition_model.proofs.Runs.{start-run, one_pass_splits, words-typed,
 use Rattle.model_shape.specs.Numbers.{split_numbers}
 use Rattle.partition_bounds.proofs.SplitPaths.{split_paths_within_limit}
 use Rattle.partition_bounds.proofs.Steps.{steps_exclude}
-use Rattle.partition_graph.specs.Parts.{Parts, inner_words_of}
-use Rattle.partition_graph.proofs.Starting.{start-typed}
+use Rattle.partition_graph.specs.Parts.{Parts, inner_words_of, start_of}
 use Rattle.splitter.specs.Refining.{IsOpened, event_count, after, split_by, EndsRefined, IsStopped, IsFull, WantsMoreIds, AreFewer}
 
 -- a violation divides at the place of its stitch
@@ -81,13 +80,17 @@ get_of (x ∷ xs) (suc k) d l = get_of xs k d (omega arith)
 
 -- a graph that was opened
 pub opened-typed : (old : Parts) → IsOpened old → AreTyped (inner_words old.traces) old.used
-opened-typed old o = subst (λ (p : Parts). AreTyped (inner_words p.traces) p.used) (sym o.1) (start-typed o.0)
+opened-typed old o = o.typed
 
 opened-start : (old : Parts) → IsOpened old → old.traces ≡ by_type (inner_words old.traces)
-opened-start old o =
-    let ws : List (List ℕ) = inner_words_of (log_of o.0) in
-    let e : old.traces ≡ by_type ws = ap (λ (p : Parts). p.traces) o.1 in
-    e ∙ sym (ap by_type (ap (λ (h : Assignment). inner_words h) e ∙ words-typed ws))
+opened-start old o = o.start
+
+-- the first graph of a log whose words are typed
+pub start-opened : (log : Log) → AreTyped (inner_words (start_of log).traces) (start_of log).used → IsOpened (start_of log)
+start-opened log typed = record {
+  start = sym (ap by_type (words-typed (inner_words_of log)));
+  typed = typed;
+}
 
 -- what the loop of refinement keeps
 pub record IsRefining (invs : List Invariant) (old now : Parts) (k : ℕ) (ss : List Split) : Type 0 where

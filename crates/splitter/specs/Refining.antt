@@ -4,15 +4,17 @@ use Rattle.limits.specs.declared.TheConstants.{FIRST_TYPE, MAX_PARTITIONS}
 use Rattle.invariants.specs.declared.Invariant.{Invariant}
 use Rattle.invariants.specs.declared.records.Split.{Split}
 use Rattle.invariants.specs.Mined.{mined}
-use Rattle.traces.specs.Words.{Event, Log, log_of, words_of}
-use Rattle.partition_model.specs.Assignments.{Assignment, G, events, inner_words}
+use Rattle.traces.specs.Words.{Log, words_of}
+use Rattle.partition_model.specs.Assignments.{Assignment, G, by_type, events, inner_words}
 use Rattle.partition_model.specs.Laws.{HoldAll, NamesRests}
 use Rattle.partition_model.specs.Refinement.{Splits, Refines, SatisfiesAll, IsNextSplit, stitch}
 use Rattle.partition_graph.specs.Parts.{Parts, divided, start_of}
+use Rattle.partition_graph.specs.Starts.{AreTypedParts}
 
--- the graph was opened of some log, and not changed since
-abbrev pub IsOpened : Parts → Type 0
-IsOpened parts = (events : List Event) × (parts ≡ start_of (log_of events))
+-- the graph is the first one of its words: each event has the number of its type, and each such number is that of an event
+pub record IsOpened (parts : Parts) : Type 0 where
+  pub start : parts.traces ≡ by_type (inner_words parts.traces)
+  pub typed : AreTypedParts parts
 
 -- how many events the traces have
 abbrev pub event_count : Parts → ℕ

@@ -11,6 +11,6 @@ mod stitcher;
 #[cfg(test)]
 mod tests;
 
-pub use law::mined_hold;
+pub use law::{mined_hold, start_is_opened};
 pub use refining::{PartitionLimit, refine};
 pub use stitcher::Stitcher;

@@ -1,8 +1,6 @@
 ghost use Rattle.std.specs.Prelude.{◌≡◌, ◌<◌, IfOk, length};
-ghost use Rattle.partition_graph.specs.Parts.{start_of};
-ghost use Rattle.splitter.specs.Refining.{IsOpened};
 
-use crate::{PartitionLimit, Stitcher, refine};
+use crate::{PartitionLimit, Stitcher, refine, start_is_opened};
 use cell_pool::{RunLog, Spans};
 use count_miner::mine;
 use invariants::{Seq, Split};
@@ -18,12 +16,10 @@ use std::process::Abort;
 use std::sync::ledger::{Blank, Ledger};
 use std::test::Fail;
 use steps::Steps;
-use traces::{Builder, TraceSet, gathering_in_order_is_the_log};
+use traces::{Builder, TraceSet};
 
 /// The log with a line for each event: its trace, a space and its type.
-fn set_of(alloc: Global, log: &str) -> Result<TraceSet, Fail>
-    ensures { IfOk result (λ set. IsOpened (start_of set)) }
-{
+fn set_of(alloc: Global, log: &str) -> Result<TraceSet, Fail> {
     let mut builder = Builder::new(alloc);
     for line in log.lines() {
         if let Some((key, type_text)) = line.split_once(' ') {
@@ -35,7 +31,6 @@ fn set_of(alloc: Global, log: &str) -> Result<TraceSet, Fail>
             }
         }
     }
-    gathering_in_order_is_the_log();
     Ok(builder.finish()?)
 }
 
@@ -67,11 +62,11 @@ fn refine_counted<L: Ledger>(
     set: &TraceSet,
     blank: Blank,
 ) -> Result<Ended, Fail>
-    requires opened { IsOpened (start_of set.now) }
     requires name { blank.name ≡ L.name }
     requires parts { blank.parts ≡ L.parts }
     requires stands { 0 < blank.parts }
 {
+    start_is_opened(set);
     let mut graph = PartGraph::open(alloc, set)?;
     let invs = mine(alloc, set)?;
     assert!(rt; invs.len() < 100_000);
