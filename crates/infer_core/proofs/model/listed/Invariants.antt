@@ -1,0 +1,17 @@
+use Rattle.std.proofs.Common.{◌≡◌, ◌≤◌, length, map, take, vec_len, vec_capacity}
+use Rattle.std.specs.List.{AllByRecursion}
+use Rattle.partition_model.specs.Assignments.{Assignment, G}
+use Rattle.partition_model.specs.Listings.{ArePartitions}
+use Rattle.models.specs.Models.{AreReached}
+use Rattle.labelling.specs.Labelled.{AreLabelsOf}
+use Rattle.infer_core.proofs.model.listed.Given as goal
+
+abbrev pub invariant-loop-number : goal.invariant-loop-number
+invariant-loop-number l =
+    record {
+      listing : map (λ x. x.inv) l.list.items ≡ take l.number l.invs;
+      labels : (h : Assignment) → ArePartitions l.partitions h → AreLabelsOf l.planes (G h)
+          → AllByRecursion (λ x. AreReached x.inv h l.partitions x.labels) l.list.items;
+      count : vec_len l.list ≡ l.number;
+      room : length l.invs ≤ vec_capacity l.list;
+    }

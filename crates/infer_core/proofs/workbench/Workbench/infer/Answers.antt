@@ -1,0 +1,83 @@
+use Rattle.std.proofs.Common.{◌≡◌, ◌↔◌, List, ℕ, Result, Ok, Err, ◌∙◌, sym, ap, subst, subst₂}
+use Rattle.invariants.specs.declared.Invariant.{Invariant}
+use Rattle.traces.specs.Words.{Log}
+use Rattle.infer_core.specs.declared.workbench.InferLimit.{InferLimit}
+use Rattle.infer_core.specs.declared.workbench.InferLimit.TheVariants.{Partitions, Evidence}
+use Rattle.infer_core.specs.Benches.{Bench, IsAtStart}
+use Rattle.infer_core.specs.Ends.{BeginsWith, IsReady, HasEnded, RunGives}
+use Rattle.infer_core.specs.Runs.{typed_words, CountsAtMost, PassesNumbers, PassesPartitions}
+use Rattle.infer_core.proofs.Stages.{stands-opened, partitions-told, evidence-told}
+use Rattle.infer_core.proofs.workbench.Workbench.infer.Goals as goal
+
+pub run-end-requires : goal.run-end-requires
+run-end-requires g c =
+    let b = c.self.inside in
+    let s : IsAtStart b.traces b.invs b.graph b.stitcher b.planes b.spans b.log =
+    stands-opened c.args.self.now b.stage b.traces b.invs b.graph b.stitcher b.planes b.spans b.log c.self.view_is c.requires c.self.invariant in
+    subst (λ (invs : List Invariant). IsReady invs b.graph b.stitcher b.planes b.spans b.log) (sym c.as_slice.ensures) s.ready
+
+pub invariant_of-self : goal.invariant_of-self
+invariant_of-self g c =
+    let b = c.self.inside in
+    let s : IsAtStart b.traces b.invs b.graph b.stitcher b.planes b.spans b.log =
+    stands-opened c.args.self.now b.stage b.traces b.invs b.graph b.stitcher b.planes b.spans b.log c.self.view_is c.requires c.self.invariant in
+    let same : b.traces ≡ c.args.self.now.log = ap (λ (x : Bench). x.log) c.self.view_is in
+    let begins : BeginsWith (typed_words b.traces) c.as_slice.result.now b.graph = record { mined = c.as_slice.ensures ∙ s.mined; first = s.first } in
+    let gives : RunGives c.run-end.result (typed_words b.traces) c.run-end.new.graph c.run-end.new.planes c.run-end.new.spans c.run-end.new.log = c.run-end.ensures.gives (typed_words b.traces) begins in
+    record {
+      mined = s.mined;
+      ended = subst (λ (r : Result (Unit {0}) InferLimit). RunGives r (typed_words b.traces) c.run-end.new.graph c.run-end.new.planes c.run-end.new.spans c.run-end.new.log) c.in-Ok.is gives;
+    }
+
+pub returns-in-Ok-clause-partitions : goal.returns-in-Ok-clause-partitions
+returns-in-Ok-clause-partitions g c =
+    let b = c.self.inside in
+    let s : IsAtStart b.traces b.invs b.graph b.stitcher b.planes b.spans b.log =
+    stands-opened c.args.self.now b.stage b.traces b.invs b.graph b.stitcher b.planes b.spans b.log c.self.view_is c.requires c.self.invariant in
+    let same : b.traces ≡ c.args.self.now.log = ap (λ (x : Bench). x.log) c.self.view_is in
+    let begins : BeginsWith (typed_words b.traces) c.as_slice.result.now b.graph = record { mined = c.as_slice.ensures ∙ s.mined; first = s.first } in
+    let gives : RunGives c.run-end.result (typed_words b.traces) c.run-end.new.graph c.run-end.new.planes c.run-end.new.spans c.run-end.new.log = c.run-end.ensures.gives (typed_words b.traces) begins in
+    subst₂ (λ (r : Result (Unit {0}) InferLimit) (log : Log). (r ≡ Err Partitions) ↔ PassesPartitions (typed_words log)) c.in-Ok.is same
+    (partitions-told c.run-end.result (typed_words b.traces) c.run-end.new.graph c.run-end.new.planes c.run-end.new.spans c.run-end.new.log gives)
+
+pub returns-in-Ok-clause-evidence : goal.returns-in-Ok-clause-evidence
+returns-in-Ok-clause-evidence g c =
+    let b = c.self.inside in
+    let s : IsAtStart b.traces b.invs b.graph b.stitcher b.planes b.spans b.log =
+    stands-opened c.args.self.now b.stage b.traces b.invs b.graph b.stitcher b.planes b.spans b.log c.self.view_is c.requires c.self.invariant in
+    let same : b.traces ≡ c.args.self.now.log = ap (λ (x : Bench). x.log) c.self.view_is in
+    let begins : BeginsWith (typed_words b.traces) c.as_slice.result.now b.graph = record { mined = c.as_slice.ensures ∙ s.mined; first = s.first } in
+    let gives : RunGives c.run-end.result (typed_words b.traces) c.run-end.new.graph c.run-end.new.planes c.run-end.new.spans c.run-end.new.log = c.run-end.ensures.gives (typed_words b.traces) begins in
+    subst₂ (λ (r : Result (Unit {0}) InferLimit) (log : Log). (r ≡ Err Evidence) ↔ PassesNumbers (typed_words log)) c.in-Ok.is same
+    (evidence-told c.run-end.result (typed_words b.traces) c.run-end.new.graph c.run-end.new.planes c.run-end.new.spans c.run-end.new.log gives)
+
+pub returns-in-Err-clause-partitions : goal.returns-in-Err-clause-partitions
+returns-in-Err-clause-partitions g c =
+    let b = c.self.inside in
+    let s : IsAtStart b.traces b.invs b.graph b.stitcher b.planes b.spans b.log =
+    stands-opened c.args.self.now b.stage b.traces b.invs b.graph b.stitcher b.planes b.spans b.log c.self.view_is c.requires c.self.invariant in
+    let same : b.traces ≡ c.args.self.now.log = ap (λ (x : Bench). x.log) c.self.view_is in
+    let begins : BeginsWith (typed_words b.traces) c.as_slice.result.now b.graph = record { mined = c.as_slice.ensures ∙ s.mined; first = s.first } in
+    let gives : RunGives c.run-end.result (typed_words b.traces) c.run-end.new.graph c.run-end.new.planes c.run-end.new.spans c.run-end.new.log = c.run-end.ensures.gives (typed_words b.traces) begins in
+    subst₂ (λ (r : Result (Unit {0}) InferLimit) (log : Log). (r ≡ Err Partitions) ↔ PassesPartitions (typed_words log)) c.in-Err.is same
+    (partitions-told c.run-end.result (typed_words b.traces) c.run-end.new.graph c.run-end.new.planes c.run-end.new.spans c.run-end.new.log gives)
+
+pub returns-in-Err-clause-evidence : goal.returns-in-Err-clause-evidence
+returns-in-Err-clause-evidence g c =
+    let b = c.self.inside in
+    let s : IsAtStart b.traces b.invs b.graph b.stitcher b.planes b.spans b.log =
+    stands-opened c.args.self.now b.stage b.traces b.invs b.graph b.stitcher b.planes b.spans b.log c.self.view_is c.requires c.self.invariant in
+    let same : b.traces ≡ c.args.self.now.log = ap (λ (x : Bench). x.log) c.self.view_is in
+    let begins : BeginsWith (typed_words b.traces) c.as_slice.result.now b.graph = record { mined = c.as_slice.ensures ∙ s.mined; first = s.first } in
+    let gives : RunGives c.run-end.result (typed_words b.traces) c.run-end.new.graph c.run-end.new.planes c.run-end.new.spans c.run-end.new.log = c.run-end.ensures.gives (typed_words b.traces) begins in
+    subst₂ (λ (r : Result (Unit {0}) InferLimit) (log : Log). (r ≡ Err Evidence) ↔ PassesNumbers (typed_words log)) c.in-Err.is same
+    (evidence-told c.run-end.result (typed_words b.traces) c.run-end.new.graph c.run-end.new.planes c.run-end.new.spans c.run-end.new.log gives)
+
+pub returns-in-Ok-clause-counted : goal.returns-in-Ok-clause-counted
+returns-in-Ok-clause-counted g c =
+    let b = c.self.inside in
+    let s : IsAtStart b.traces b.invs b.graph b.stitcher b.planes b.spans b.log =
+    stands-opened c.args.self.now b.stage b.traces b.invs b.graph b.stitcher b.planes b.spans b.log c.self.view_is c.requires c.self.invariant in
+    let same : b.traces ≡ c.args.self.now.log = ap (λ (x : Bench). x.log) c.self.view_is in
+    let begins : BeginsWith (typed_words b.traces) c.as_slice.result.now b.graph = record { mined = c.as_slice.ensures ∙ s.mined; first = s.first } in
+    subst (λ (log : Log). CountsAtMost (typed_words log) c.args.steps.now c.run-end.new.steps) same (c.in-Ok.ensures.counted (typed_words b.traces) begins)

@@ -1,0 +1,54 @@
+-- What contracts see of a workbench, and what stands in it at each stage.
+use Rattle.std.specs.Prelude.{◌≡◌, ℕ, List}
+use Rattle.std.specs.List.{AllByRecursion}
+use Rattle.invariants.specs.declared.Invariant.{Invariant}
+use Rattle.invariants.specs.declared.records.Model.{Model}
+use Rattle.traces.specs.Words.{Log}
+use Rattle.cell_pool.specs.Numbers.{Numbers}
+use Rattle.cell_pool.specs.RunLists.{RunLists}
+use Rattle.run_history.specs.Records.{splits_of, merges_of, blocks_of}
+use Rattle.partition_model.specs.Listings.{ArePartitions, AreEdges}
+use Rattle.model_shape.specs.Shapes.{listing_of}
+use Rattle.models.specs.Models.{mined_of, AreReached}
+use Rattle.partition_graph.specs.Parts.{Parts, start_of}
+use Rattle.labelling.specs.Labelled.{Labelling}
+use Rattle.infer_core.specs.declared.workbench.Stage.{Stage}
+use Rattle.infer_core.specs.declared.workbench.Stage.TheVariants.{Opened, Inferred, Refused}
+use Rattle.infer_core.specs.Runs.{typed_words}
+use Rattle.infer_core.specs.Ends.{IsReady, HasEnded}
+
+-- the log, and how far its inference is
+pub record Bench : Type 0 where
+  pub log : Log
+  pub stage : Stage
+
+-- what is mined of the log and its first graph stand ready for a run
+pub record IsAtStart (log : Log) (invs : List Invariant) (graph : Parts) (stitcher : ℕ)
+    (planes : Labelling) (spans : Numbers) (run : RunLists) : Type 0 where
+  pub mined : invs ≡ mined_of (typed_words log)
+  pub first : graph ≡ start_of log
+  pub ready : IsReady invs graph stitcher planes spans run
+
+-- what is mined of the log stands beside its run
+pub record IsAtEnd (log : Log) (invs : List Invariant) (graph : Parts)
+    (planes : Labelling) (spans : Numbers) (run : RunLists) : Type 0 where
+  pub mined : invs ≡ mined_of (typed_words log)
+  pub ended : HasEnded (typed_words log) graph planes spans run
+
+-- what stands at each stage; after a refusal it is good for nothing
+abbrev pub Stands : Stage → Log → List Invariant → Parts → ℕ → Labelling → Numbers → RunLists → Type 0
+Stands Opened log invs graph stitcher planes spans run = IsAtStart log invs graph stitcher planes spans run
+Stands Inferred log invs graph stitcher planes spans run = IsAtEnd log invs graph planes spans run
+Stands Refused log invs graph stitcher planes spans run = Unit {0}
+
+-- the model says the types of the log, what the graph is and what is reached there, and what the run tells
+pub record Tells (m : Model) (log : Log) (invs : List Invariant) (graph : Parts)
+    (spans : Numbers) (run : RunLists) : Type 0 where
+  pub types : m.types ≡ log.types
+  pub partitions : ArePartitions m.partitions graph.traces
+  pub edges : AreEdges m.edges graph.traces
+  pub listing : listing_of m ≡ invs
+  pub labels : AllByRecursion (λ l. AreReached l.inv graph.traces m.partitions l.labels) m.invariants
+  pub splits : m.splits ≡ splits_of run spans
+  pub merges : m.merges ≡ merges_of run
+  pub blocks : m.blocks ≡ blocks_of run spans

@@ -1,0 +1,29 @@
+//! Laws of how inference ends, and of what it begins with.
+ghost use Rattle.models.specs.Laws.{IsTypedLog};
+ghost use Rattle.models.specs.Limits.{IsWithinLimits};
+ghost use Rattle.infer_core.specs.Laws.{EndsExclude, OneFinal};
+ghost use Rattle.infer_core.specs.Runs.{typed_words};
+
+use partition_graph::set_is_typed;
+use traces::TraceSet;
+
+/// A log whose model keeps the limits passes none of them, and no log passes both.
+pub fn ends_exclude()
+    ensures { EndsExclude }
+{}
+
+/// The events of a log have their final ids in one way alone.
+pub fn one_final()
+    ensures { OneFinal }
+{}
+
+/// The words of each set of traces use exactly its types, and are within the limits of a log.
+pub fn log_is_typed(traces: &TraceSet)
+    ensures typed { IsTypedLog (typed_words traces.now) }
+    ensures within { IsWithinLimits (typed_words traces.now) }
+{
+    set_is_typed(traces);
+    traces.types();
+    traces.trace_count();
+    traces.event_count();
+}

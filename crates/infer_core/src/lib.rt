@@ -1,0 +1,11 @@
+//! Inference of a model: one run from the traces of a log to the model that is written, on memory that is taken
+//! before it begins.
+#![tactic(auto)]
+
+mod law;
+mod model;
+mod run;
+mod workbench;
+
+pub use law::{ends_exclude, log_is_typed, one_final};
+pub use workbench::{InferLimit, Stage, Workbench};

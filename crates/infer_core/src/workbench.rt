@@ -1,0 +1,205 @@
+//! The workbench: a log, and all that its inference needs.
+ghost use Rattle.std.specs.Prelude.{◌≡◌, ◌↔◌, ◌≤◌, ℕ, [], IfOk, OnErr, OnOk, Err, Some, length, slice_get};
+ghost use Rattle.limits.specs.declared.TheConstants.{MAX_PAIRS, MAX_PATH_NUMBERS, MAX_STEPS};
+ghost use Rattle.partition_model.specs.Assignments.{events};
+ghost use Rattle.labelling.specs.declared.layout.TheConstants.{LAST_NUMBER, MAX_LISTED};
+ghost use Rattle.models.specs.Limits.{KeepsLimits};
+ghost use Rattle.models.specs.Models.{IsModelOf};
+ghost use Rattle.infer_core.specs.Runs.{typed_words, AreFinal, CountsAtMost, PassesNumbers, PassesPartitions};
+
+use crate::law::log_is_typed;
+use crate::model::model_of;
+use crate::run::run;
+use cell_pool::{RunLog, Spans};
+use count_miner::mine;
+use invariants::{Invariant, Seq};
+use labelling::Planes;
+use limits::{MAX_PAIRS, MAX_PATH_NUMBERS, MAX_STEPS};
+use partition_graph::PartGraph;
+use path_finder::Finder;
+use splitter::{Stitcher, start_is_opened};
+use std::alloc::{AllocError, Global};
+use std::sync::ledger::Ledger;
+use steps::Steps;
+use traces::TraceSet;
+
+/// Which limit a run of inference passes.
+#[derive(Clone, Copy, Debug, PartialEq, Eq)]
+pub enum InferLimit {
+    /// Refinement wants more than `MAX_PARTITIONS` partitions, the two ends among them.
+    Partitions,
+    /// The paths of splits and blocks have together more than `MAX_PATH_NUMBERS` numbers.
+    Evidence,
+}
+
+/// How far a workbench is.
+#[derive(Clone, Copy, Debug, PartialEq, Eq)]
+pub enum Stage {
+    /// Nothing is inferred yet.
+    Opened,
+    /// The model stands.
+    Inferred,
+    /// A limit was passed, and there is no model.
+    Refused,
+}
+
+/// A log with all that its inference needs. Contracts see the log and how far its inference is.
+#[derive(Drop)]
+pub struct Workbench {
+    traces: TraceSet,
+    invs: Seq<Invariant>,
+    graph: PartGraph,
+    finder: Finder,
+    stitcher: Stitcher,
+    planes: Planes,
+    spans: Spans,
+    log: RunLog,
+    stage: Stage,
+}
+
+impl std::marker::Model for Workbench {
+    ghost use Rattle.infer_core.specs.Benches.{Bench, Stands};
+
+    ghost Value = { Bench };
+
+    ghost view = { λ b. record { log = b.traces; stage = b.stage } };
+
+    ghost invariant = { λ b. Stands b.stage b.traces b.invs b.graph b.stitcher b.planes b.spans b.log };
+}
+
+/// What inference needs beside the invariants and the graph.
+#[derive(Drop)]
+struct Tools {
+    finder: Finder,
+    stitcher: Stitcher,
+    planes: Planes,
+    spans: Spans,
+    log: RunLog,
+}
+
+/// All that inference of this graph by these invariants needs, with room for all that it can write.
+fn tools_for(alloc: Global, graph: &PartGraph, invs: &[Invariant]) -> Result<Tools, AllocError>
+    requires few { length invs.now ≤ MAX_LISTED }
+    requires named { (k : ℕ) (inv : Invariant) → slice_get invs.now k ≡ Some inv
+        → (inv.a ≤ LAST_NUMBER) × (inv.b ≤ LAST_NUMBER) }
+    ensures stitcher { IfOk result (λ tools. tools.stitcher ≡ length (events (graph.now).traces)) }
+    ensures planes { IfOk result (λ tools. tools.planes.invs ≡ invs.now) }
+    ensures spans { IfOk result (λ tools. tools.spans ≡ record { numbers = []; room = MAX_PATH_NUMBERS }) }
+    ensures log { IfOk result (λ tools. tools.log ≡ record {
+      splits = [];
+      merges = [];
+      blocks = [];
+      split_room = MAX_STEPS;
+      merge_room = MAX_STEPS;
+      block_room = MAX_PAIRS;
+    }) }
+{
+    Ok(Tools {
+        finder: Finder::make(alloc)?,
+        stitcher: Stitcher::make(alloc, graph)?,
+        planes: Planes::make(alloc, invs)?,
+        spans: Spans::make(alloc, MAX_PATH_NUMBERS)?,
+        log: RunLog::make(alloc, MAX_STEPS, MAX_STEPS, MAX_PAIRS)?,
+    })
+}
+
+impl Workbench {
+    /// A workbench for these traces, with their mined invariants and all memory that inference needs: the first graph
+    /// of the log, and room for `MAX_STEPS` splits, as many merges, `MAX_PAIRS` blocks and `MAX_PATH_NUMBERS` numbers
+    /// of paths. `AllocError` comes where there is not as much; then the traces are dropped.
+    pub fn open(alloc: Global, traces: TraceSet) -> Result<Workbench, AllocError>
+        ensures { IfOk result (λ made. made ≡ record { log = traces; stage = Stage.Opened }) }
+    {
+        start_is_opened(&traces);
+        log_is_typed(&traces);
+        let graph = PartGraph::open(alloc, &traces)?;
+        let invs = mine(alloc, &traces)?;
+        let tools = tools_for(alloc, &graph, invs.as_slice())?;
+        Ok(Workbench {
+            traces,
+            invs,
+            graph,
+            finder: tools.finder,
+            stitcher: tools.stitcher,
+            planes: tools.planes,
+            spans: tools.spans,
+            log: tools.log,
+            stage: Stage::Opened,
+        })
+    }
+
+    /// Infers the model of the log: refines the graph, coarsens it, and tells why pairs stay apart. It is called once,
+    /// takes no memory, and counts at most one step for each mined invariant and each split, three for each pair of one
+    /// type of the refined graph, and one more.
+    ///
+    /// `Partitions` comes exactly where refinement wants one partition more than there may be, `Evidence` exactly where
+    /// the paths of splits and blocks have more numbers than they may. After a refusal the workbench is good for nothing
+    /// but to be dropped.
+    pub fn infer<L: Ledger>(&mut self, steps: &mut Steps<L>) -> Result<(), InferLimit>
+        requires { (self.old).stage ≡ Stage.Opened }
+        ensures log { (self.new).log ≡ (self.old).log }
+        ensures stage { OnOk result ((self.new).stage ≡ Stage.Inferred) }
+        ensures refused { OnErr result ((self.new).stage ≡ Stage.Refused) }
+
+        // Each limit comes exactly where it is passed.
+        ensures partitions { (result ≡ Err InferLimit.Partitions) ↔ PassesPartitions (typed_words (self.old).log) }
+        ensures evidence { (result ≡ Err InferLimit.Evidence) ↔ PassesNumbers (typed_words (self.old).log) }
+
+        // How many steps are counted.
+        ensures counted { OnOk result (CountsAtMost (typed_words (self.old).log) steps.old steps.new) }
+    {
+        let end = run(
+            &mut self.graph,
+            &mut self.finder,
+            &mut self.stitcher,
+            &mut self.planes,
+            self.invs.as_slice(),
+            &mut self.spans,
+            &mut self.log,
+            steps,
+        );
+        match end {
+            Ok(()) => {
+                self.stage = Stage::Inferred;
+                Ok(())
+            }
+            Err(limit) => {
+                self.stage = Stage::Refused;
+                Err(limit)
+            }
+        }
+    }
+
+    /// The model of the log, in memory of its own. `AllocError` comes where there is not enough.
+    pub fn model(&self, alloc: Global) -> Result<invariants::Model, AllocError>
+        requires { (self.now).stage ≡ Stage.Inferred }
+        ensures value { IfOk result (λ m. IsModelOf m (typed_words (self.now).log)) }
+        ensures within { IfOk result (λ m. KeepsLimits m) }
+    {
+        model_of(
+            alloc,
+            &self.traces,
+            self.invs.as_slice(),
+            &self.graph,
+            &self.planes,
+            &self.spans,
+            &self.log,
+        )
+    }
+
+    /// The id of the partition of each event in the model, trace after trace. `AllocError` comes where there is not
+    /// enough memory for the list.
+    pub fn parts(&self, alloc: Global) -> Result<Seq<u32>, AllocError>
+        requires { (self.now).stage ≡ Stage.Inferred }
+        ensures { IfOk result (λ ids. AreFinal (typed_words (self.now).log) ids) }
+    {
+        self.graph.parts(alloc)
+    }
+
+    /// The traces of the log.
+    pub fn traces(&self) -> &TraceSet
+        ensures { result.now ≡ (self.now).log }
+    {
+        &self.traces
+    }
+}
