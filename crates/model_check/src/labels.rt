@@ -64,7 +64,7 @@ fn is_good(inv: Invariant, set: u8) -> bool
     true
 }
 
-/// Whether the labels of the listed invariant are inductive. It uses up what stands in `labels`.
+/// Whether the labels of the listed invariant are inductive. What stands in `labels` is overwritten.
 fn is_labelled(model: &Model, graph: &ModelGraph, listed: &Listed, labels: &mut [u8]) -> bool
     requires shaped { IsWellShaped model.now }
     requires graph { shown graph.now ≡ graph_of model.now }

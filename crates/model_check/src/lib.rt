@@ -1,9 +1,8 @@
 //! Whether a model is valid for a log, tested by other means than those that infer one.
 //!
 //! The invariants are mined once more, by sets of types. The words of the log are followed through the model's own
-//! graph
-//! by sets of ids, its labels are read along all edges and not computed, and the path of each block is followed in the
-//! graph in which its two partitions are merged. Nothing here knows how the model came about.
+//! graph by sets of ids, its labels are read along all edges and not computed, and the path of each block is followed in
+//! the graph in which its two partitions are merged. Nothing here knows how the model came about.
 #![tactic(auto)]
 
 ghost use Rattle.std.specs.Prelude.{IfOk};
@@ -26,7 +25,7 @@ use graph::ModelGraph;
 use invariants::{Model, candidate_count};
 use labels::first_unlabelled;
 use listing::{are_same, first_difference};
-use models::Part;
+pub use models::Part;
 use std::alloc::{AllocError, Global};
 use traces::TraceSet;
 pub use verdict::Verdict;
