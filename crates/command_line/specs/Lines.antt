@@ -18,7 +18,8 @@ asks command form model ignore join files =
       files = files;
     })
 
--- the invariants of a log, its graph, and the graph of the model in a file
+-- the invariants of a log, its graph, and the graph of the model in a file; the model of a log, the check of a
+-- file's model against a log, and the paths of a log
 abbrev pub invariants_of : LineForm → Bool → Bool → List Text → Option Task
 invariants_of form ignore join files = asks commands.Invariants (Some form) None ignore join files
 
@@ -28,7 +29,16 @@ graph_of form ignore join files = asks commands.Graph (Some form) None ignore jo
 abbrev pub graph_of_model : Text → Option Task
 graph_of_model name = asks commands.GraphOfModel None (Some name) false false []
 
--- lines that ask for invariants, or for a graph
+abbrev pub model_of : LineForm → Bool → Bool → List Text → Option Task
+model_of form ignore join files = asks commands.Infer (Some form) None ignore join files
+
+abbrev pub check_of : Text → LineForm → Bool → Bool → List Text → Option Task
+check_of name form ignore join files = asks commands.Check (Some form) (Some name) ignore join files
+
+abbrev pub paths_of : LineForm → Bool → Bool → List Text → Option Task
+paths_of form ignore join files = asks commands.Paths (Some form) None ignore join files
+
+-- lines that ask for something
 pub record TakesLines : Type 0 where
   pub plain : task_of (codes "invariants" ∷ codes "-p" ∷ []) ≡ invariants_of Plain false false []
   pub rules : task_of (codes "invariants" ∷ codes "-e" ∷ codes "x" ∷ []) ≡ invariants_of (Rules (codes "x")) false false []
@@ -43,6 +53,13 @@ pub record TakesLines : Type 0 where
   pub graph_of_files : task_of (codes "-ij" ∷ codes "graph" ∷ codes "-e" ∷ codes "x" ∷ codes "a" ∷ codes "b" ∷ [])
       ≡ graph_of (Rules (codes "x")) true true (codes "a" ∷ codes "b" ∷ [])
   pub graph_model : task_of (codes "graph" ∷ codes "-m" ∷ codes "m" ∷ []) ≡ graph_of_model (codes "m")
+  pub infer : task_of (codes "infer" ∷ codes "-p" ∷ []) ≡ model_of Plain false false []
+  pub check : task_of (codes "check" ∷ codes "-m" ∷ codes "m" ∷ codes "-p" ∷ codes "a" ∷ [])
+      ≡ check_of (codes "m") Plain false false (codes "a" ∷ [])
+  pub check_rules : task_of (codes "check" ∷ codes "-ije" ∷ codes "x" ∷ codes "-m" ∷ codes "m" ∷ [])
+      ≡ check_of (codes "m") (Rules (codes "x")) true true []
+  pub paths : task_of (codes "paths" ∷ codes "-e" ∷ codes "x" ∷ codes "-ij" ∷ codes "a" ∷ [])
+      ≡ paths_of (Rules (codes "x")) true true (codes "a" ∷ [])
 
 -- lines that ask for nothing
 pub record RefusesLines : Type 0 where
@@ -62,8 +79,8 @@ pub record RefusesLines : Type 0 where
   pub help_letter : task_of (codes "invariants" ∷ codes "-p" ∷ codes "-h" ∷ []) ≡ None
   pub version : task_of (codes "invariants" ∷ codes "-p" ∷ codes "--version" ∷ []) ≡ None
   pub unknown_command : task_of (codes "guess" ∷ codes "-p" ∷ []) ≡ None
-  pub not_built : task_of (codes "infer" ∷ codes "-p" ∷ []) ≡ None
-  pub other_command : task_of (codes "bench" ∷ []) ≡ None
+  pub not_built : task_of (codes "bench" ∷ codes "-n" ∷ codes "3" ∷ []) ≡ None
+  pub other_command : task_of (codes "replay" ∷ codes "-m" ∷ codes "m" ∷ codes "-p" ∷ []) ≡ None
   pub graph_no_form : task_of (codes "graph" ∷ []) ≡ None
   pub graph_both_forms : task_of (codes "graph" ∷ codes "-p" ∷ codes "-e" ∷ codes "x" ∷ []) ≡ None
   pub graph_model_and_file : task_of (codes "graph" ∷ codes "-m" ∷ codes "m" ∷ codes "a" ∷ []) ≡ None
@@ -71,4 +88,13 @@ pub record RefusesLines : Type 0 where
   pub graph_model_skips : task_of (codes "graph" ∷ codes "-m" ∷ codes "m" ∷ codes "-i" ∷ []) ≡ None
   pub graph_model_and_form : task_of (codes "graph" ∷ codes "-m" ∷ codes "m" ∷ codes "-p" ∷ []) ≡ None
   pub graph_number : task_of (codes "graph" ∷ codes "-n" ∷ codes "3" ∷ codes "-p" ∷ []) ≡ None
+  pub infer_model : task_of (codes "infer" ∷ codes "-m" ∷ codes "m" ∷ codes "-p" ∷ []) ≡ None
+  pub infer_no_form : task_of (codes "infer" ∷ []) ≡ None
+  pub check_no_model : task_of (codes "check" ∷ codes "-p" ∷ []) ≡ None
+  pub check_no_form : task_of (codes "check" ∷ codes "-m" ∷ codes "m" ∷ []) ≡ None
+  pub check_both_forms :
+      task_of (codes "check" ∷ codes "-m" ∷ codes "m" ∷ codes "-p" ∷ codes "-e" ∷ codes "x" ∷ []) ≡ None
+  pub check_number :
+      task_of (codes "check" ∷ codes "-m" ∷ codes "m" ∷ codes "-p" ∷ codes "-n" ∷ codes "3" ∷ []) ≡ None
+  pub paths_model : task_of (codes "paths" ∷ codes "-m" ∷ codes "m" ∷ codes "-p" ∷ []) ≡ None
   pub form_alone : task_of (codes "-p" ∷ []) ≡ None

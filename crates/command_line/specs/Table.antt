@@ -20,6 +20,11 @@ abbrev pub log_row : Command → Row
 log_row command =
     record { command = command; form = wants_form.One; flags = May; files = May; model = Never; number = Never }
 
+-- a command that reads a log and a model's file, and takes nothing else
+abbrev pub log_and_model_row : Command → Row
+log_and_model_row command =
+    record { command = command; form = wants_form.One; flags = May; files = May; model = Needs; number = Never }
+
 -- a command that reads a model's file, and takes nothing else
 abbrev pub model_row : Command → Row
 model_row command =
@@ -35,6 +40,9 @@ abbrev pub row_of : Text → Bool → Option Row
 row_of text has_model =
     if bytes_eq text (codes "invariants") then Some (log_row commands.Invariants)
     else if bytes_eq text (codes "graph") then Some (graph_row has_model)
+    else if bytes_eq text (codes "infer") then Some (log_row commands.Infer)
+    else if bytes_eq text (codes "check") then Some (log_and_model_row commands.Check)
+    else if bytes_eq text (codes "paths") then Some (log_row commands.Paths)
     else None
 
 -- what is given, or is not, is what the row says of it

@@ -2,7 +2,7 @@
 ghost use Rattle.std.specs.Prelude.{◌≡◌, map, option_map};
 ghost use Rattle.std.specs.List.{list_all};
 ghost use Rattle.command_line.specs.Given.{given_held};
-ghost use Rattle.command_line.specs.Table.{are_words, fits, fits_form, graph_row, has_model, is_sound, is_word, log_row, model_row, option_is_number, option_is_word, passes, row_of};
+ghost use Rattle.command_line.specs.Table.{are_words, fits, fits_form, graph_row, has_model, is_sound, is_word, log_and_model_row, log_row, model_row, option_is_number, option_is_word, passes, row_of};
 
 use crate::given::Given;
 use crate::number::number_of;
@@ -16,6 +16,12 @@ pub enum Command {
     Graph,
     /// Print the graph of a model that stands in a file.
     GraphOfModel,
+    /// Infer a model of a log, and print its file.
+    Infer,
+    /// Check the model that stands in a file against a log.
+    Check,
+    /// Print the paths that the traces of a log take through its model.
+    Paths,
 }
 
 /// What a command says of something that may be given.
@@ -71,6 +77,20 @@ fn log_row(command: Command) -> Row
     }
 }
 
+/// The row of a command that reads a log and the file of a model, and takes nothing else.
+fn log_and_model_row(command: Command) -> Row
+    ensures { result ≡ log_and_model_row command }
+{
+    Row {
+        command,
+        form: FormWant::One,
+        flags: Want::May,
+        files: Want::May,
+        model: Want::Needs,
+        number: Want::Never,
+    }
+}
+
 /// The row of a command that reads the file of a model, and takes nothing else.
 fn model_row(command: Command) -> Row
     ensures { result ≡ model_row command }
@@ -102,6 +122,9 @@ pub fn row_of(text: &str, has_model: bool) -> Option<Row>
     match text {
         "invariants" => Some(log_row(Command::Invariants)),
         "graph" => Some(graph_row(has_model)),
+        "infer" => Some(log_row(Command::Infer)),
+        "check" => Some(log_and_model_row(Command::Check)),
+        "paths" => Some(log_row(Command::Paths)),
         _ => None,
     }
 }

@@ -120,6 +120,9 @@ impl<'a> Reader<'a> {
             Some("invariants") => Some(Command::Invariants),
             Some("graph") if self.model.is_some() => Some(Command::GraphOfModel),
             Some("graph") => Some(Command::Graph),
+            Some("infer") => Some(Command::Infer),
+            Some("check") => Some(Command::Check),
+            Some("paths") => Some(Command::Paths),
             _ => None,
         }
     }
@@ -134,10 +137,12 @@ impl<'a> Reader<'a> {
     /// Whether the words ask for something.
     fn is_task(&self) -> bool {
         let is_alone = !self.ignore && !self.join && self.files.is_empty();
+        let has_form = self.rules.is_some() != self.plain;
         self.is_sound()
             && match self.command() {
                 Some(Command::GraphOfModel) => self.rules.is_none() && !self.plain && is_alone,
-                Some(_) => self.model.is_none() && self.rules.is_some() != self.plain,
+                Some(Command::Check) => self.model.is_some() && has_form,
+                Some(_) => self.model.is_none() && has_form,
                 None => false,
             }
     }
@@ -192,6 +197,18 @@ fn short_lines_are_read_as_by_hand(rt: HostRuntime) -> Result<(), Fail> {
             for third in WORDS {
                 compare(&rt, alloc, &[first, second, third])?;
             }
+        }
+    }
+    Ok(())
+}
+
+#[test]
+fn checks_and_paths_are_read_as_by_hand(rt: HostRuntime) -> Result<(), Fail> {
+    let alloc = rt.alloc();
+    for first in WORDS {
+        for second in WORDS {
+            compare(&rt, alloc, &["check", "-m", "x", first, second])?;
+            compare(&rt, alloc, &["paths", first, second])?;
         }
     }
     Ok(())
