@@ -89,7 +89,7 @@ after-after : (a b : ℕ) (r : Result SoFar Stop) → after a (after b r) ≡ af
 after-after a b (Ok s) = refl
 after-after a b (Err stop) = ap (λ (s : Stop). Err s) (same-stop (later (a + b) stop) (a + (b + stop.count)) (omega arith))
 
-after-ok : (n : ℕ) (r : Result SoFar Stop) (s : SoFar) → after n r ≡ Ok s → r ≡ Ok s
+pub after-ok : (n : ℕ) (r : Result SoFar Stop) (s : SoFar) → after n r ≡ Ok s → r ≡ Ok s
 after-ok n (Ok t) s is = is
 after-ok n (Err stop) s is = cc
 

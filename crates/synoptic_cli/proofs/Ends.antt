@@ -32,7 +32,7 @@ pub task-read : (task : Task) (start held : rust.SoFar) (old mid new : InputStat
 task-read task start held old mid new last is stays first second =
     let a = first at_start is in
     let b = second a.0 a.1 in
-    record { so_far = b.0; value = b.1.material; read = read-more (first_stages task) (log_stages task) old mid new at_start a.0 b.0 stays a.2 b.2 }
+    record { so_far = b.0; value = b.1.material; shaped = b.1.shaped; read = read-more (first_stages task) (log_stages task) old mid new at_start a.0 b.0 stays a.2 b.2 }
 
 -- what stands before the stage of the log, which is read with this setting
 pub record Before (task : Task) (s : Setting) (old mid : InputState) : Type 0 where

@@ -87,7 +87,7 @@ pub log-held : ReadAlike → (task : Task) (held : rust.SoFar) (old new : InputS
     → Reads (log_stages task) held old new (record { rules = held.rules; material = record { log = log; model = held.material.model } })
 log-held law task held old new log some read = λ so_far is. (
   record { form = so_far.form; material = record { log = log; model = so_far.material.model } },
-  record { form = is.form; material = ap (λ (m : Material). let n : Material = record { log = log; model = m.model } in n) is.material },
+  record { form = is.form; material = ap (λ (m : Material). let n : Material = record { log = log; model = m.model } in n) is.material; shaped = is.shaped },
   subst (λ (stages : List Stage). HasRead stages old new so_far (record { form = so_far.form; material = record { log = log; model = so_far.material.model } })) (sym (log-stage-is task some))
       (log-through so_far (setting_of task (held_form held)) (inputs_of task.files) task.ignore task.join old new log (alike-forms law (held_form held) so_far.form task.ignore task.join is.form) (some-input task.files) read),
 )

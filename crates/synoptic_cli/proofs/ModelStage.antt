@@ -9,6 +9,7 @@ use Rattle.outside.specs.Inputs.{Files, InputState, Lacks, Stays}
 use Rattle.outside.specs.Reading.{IfTold, OpensNamed, OpensNone, ReadsInput}
 use Rattle.limits.specs.declared.TheConstants.{MAX_MODEL_BYTES}
 use Rattle.invariants.specs.declared.records.Model.{Model}
+use Rattle.model_shape.specs.Shapes.{IsWellShaped}
 use Rattle.model_file.specs.Reading.{reads as file_reads, Fails}
 use Rattle.model_file.specs.declared.refusal.FileError.{FileError}
 use Rattle.model_file.specs.declared.refusal.FileError.TheVariants as refused
@@ -55,13 +56,14 @@ short-read bytes model read =
     (λ (short : length bytes ≤ MAX_MODEL_BYTES). short)
     (cases_lt MAX_MODEL_BYTES (length bytes))
 
-pub model-read : (old new : InputState) (name bytes : List ℕ) (model : Model) → ReadsInput old new name MAX_MODEL_BYTES bytes → file_reads bytes ≡ Ok model → ReadsModel old new name model
-model-read old new name bytes model reads read =
+pub model-read : (old new : InputState) (name bytes : List ℕ) (model : Model) → ReadsInput old new name MAX_MODEL_BYTES bytes → file_reads bytes ≡ Ok model → IsWellShaped model → ReadsModel old new name model
+model-read old new name bytes model reads read shaped =
     let found = told-bytes MAX_MODEL_BYTES old.files name bytes (λ content. file_reads content ≡ Ok model) _ reads.told (λ content same. sym (model-same content bytes same) ∙ read) read in
     record {
       bytes = found.0;
       told = found.1;
       read = found.2;
+      shaped = shaped;
       opened = inl (omega arith, record { opens = reads.opens; faults = reads.faults }, reads.at_end (short-read bytes model read));
     }
 
@@ -94,7 +96,7 @@ pub model-held : (held : rust.SoFar) (old new : InputState) (name : List ℕ) (m
     → Reads (ModelFile name ∷ []) held old new (record { rules = held.rules; material = record { log = held.material.log; model = model } })
 model-held held old new name model read = λ so_far is. (
   record { form = so_far.form; material = record { log = so_far.material.log; model = model } },
-  record { form = is.form; material = ap (λ m. record { log = m.log; model = model }) is.material },
+  record { form = is.form; material = ap (λ m. record { log = m.log; model = model }) is.material; shaped = read.shaped },
   record {
     bytes =
         contents-one old.files name read.bytes (λ contents. reads so_far ((ModelFile name, contents) ∷ []) ≡ Ok (record { form = so_far.form; material = record { log = so_far.material.log; model = model } })) read.told

@@ -200,4 +200,4 @@ pub rules-held : (held : rust.SoFar) (old new : InputState) (name : List ℕ) (r
     → Reads (RulesFile name ∷ []) held old new (record { rules = Some rules; material = held.material })
 rules-held held old new name rules read = λ so_far is.
     let through = rules-through old new name (rules_in rules) so_far read in
-    (record { form = form.Rules through.0; material = so_far.material }, record { form = through.1; material = is.material }, through.2)
+    (record { form = form.Rules through.0; material = so_far.material }, record { form = through.1; material = is.material; shaped = is.shaped }, through.2)

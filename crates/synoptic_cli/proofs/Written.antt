@@ -10,16 +10,18 @@ use Rattle.line_rules.specs.declared.line_rules.RuleError.{RuleError}
 use Rattle.line_rules.specs.declared.line_rules.RuleError.TheVariants as rule_error
 use Rattle.command_line.specs.Task.{Task, task_of}
 use Rattle.synoptic_cli.specs.declared.answer.Answer.{Answer}
+use Rattle.synoptic_cli.specs.declared.answer.NoAnswer.{NoAnswer}
+use Rattle.synoptic_cli.specs.declared.answer.NoAnswer.TheVariants as no_answer
 use Rattle.synoptic_cli.specs.declared.material.Material.{Material}
 use Rattle.synoptic_cli.specs.declared.status.LimitKind.{LimitKind}
 use Rattle.synoptic_cli.specs.declared.status.Status.{Status}
-use Rattle.synoptic_cli.specs.declared.status.Status.TheVariants.{Done, Usage, Expressions, Log, Limit, ReadFault, WriteFault, Memory, ModelFile}
+use Rattle.synoptic_cli.specs.declared.status.Status.TheVariants.{Done, NoCheck, Usage, Expressions, Log, Limit, ReadFault, WriteFault, Memory, ModelFile}
 use Rattle.synoptic_cli.specs.Task.{input_count, stages_of}
 use Rattle.synoptic_cli.specs.Stages.{SoFar, Stop, at_start, reads, stop_after}
 use Rattle.synoptic_cli.specs.Commands.{Answers}
 use Rattle.synoptic_cli.specs.Endings.{EndsAfter, EndsOver}
 use Rattle.synoptic_cli.specs.Causes.{World, HasAnswer, HasCause, KeepsCount, WritesAll, WritesPart}
-use Rattle.synoptic_cli.specs.Steps.{Ends, IsVerdict, ReadsTask}
+use Rattle.synoptic_cli.specs.Steps.{Ends, Gives, IsVerdict, ReadsTask}
 use Rattle.synoptic_cli.proofs.Bytes.{bytes-map}
 use Rattle.synoptic_cli.proofs.Through.{read-faults, read-most, read-opens}
 use Rattle.synoptic_cli.proofs.Rules.{memory-ends}
@@ -36,6 +38,7 @@ task-answered task old new m a read answers = record {
 -- a status that comes with a text has that cause
 answer-cause : (status : Status) (words : List (List ℕ)) (task : Task) (old new : World) → IsVerdict status → task_of words ≡ Some task → WritesAll status old new task → HasCause status words old new
 answer-cause Done words task old new is asks written = (task, asks, written)
+answer-cause (NoCheck part) words task old new is asks written = (task, asks, written)
 answer-cause Usage words task old new is asks written = absurd is
 answer-cause (Expressions e) words task old new is asks written = absurd is
 answer-cause (Log fault) words task old new is asks written = absurd is
@@ -53,6 +56,10 @@ written-whole task words old new m a read answers verdict appended asks =
 pub written-in-part : (task : Task) (old new : World) (m : Material) (a : Answer) → ReadsTask task old.inputs new.inputs m → Answers task m (Ok a)
     → AppendsFront old.out a.text new.out → Rose old.out.faults new.out.faults → WritesPart old new task
 written-in-part task old new m a read answers front rose = record { whole = a; answer = task-answered task old new m a read answers; written = front; rose = rose }
+
+-- a limit that is given is what the command is to answer
+pub limit-given : (task : Task) (m : Material) (why : NoAnswer) (kind : LimitKind) → why ≡ no_answer.Limit kind → Gives (Answers task m) (Err why) → Answers task m (Err kind)
+limit-given task m why kind is given = subst (λ (w : NoAnswer). Gives (Answers task m) (Err w)) is given
 
 -- the command stops at a limit
 pub limit-ends : (task : Task) (old new : InputState) (before after : PatternsState) (m : Material) (kind : LimitKind) → ReadsTask task old new m → Answers task m (Err kind) → Ends (Limit kind) task old new before after
@@ -93,6 +100,7 @@ keeps-at rule_error.Memory before after same = same
 
 pub keeps-count : (status : Status) (before after : PatternsState) → after.refusals ≡ before.refusals → KeepsCount status before after
 keeps-count Done before after same = same
+keeps-count (NoCheck part) before after same = same
 keeps-count Usage before after same = same
 keeps-count (Expressions e) before after same = keeps-at e before after same
 keeps-count (Log fault) before after same = same

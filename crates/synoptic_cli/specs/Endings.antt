@@ -53,7 +53,7 @@ HasStatus None files status = status ≡ Usage
 HasStatus (Some task) files status = EndsTold files task status
 
 -- the status that these words have over these files, where nothing outside fails, no pattern is refused for its size or
--- depth, and memory is there; there is one alone
+-- depth, and memory is there; there is no other
 abbrev pub IsStatusOf : List (List ℕ) → Files → Status → Type 0
 IsStatusOf words files status = HasStatus (task_of words) files status
 

@@ -12,7 +12,7 @@ use Rattle.model_file.specs.declared.refusal.Field.{Field}
 use Rattle.model_file.specs.declared.refusal.Field.TheVariants as fields
 use Rattle.command_line.specs.Task.{Task, task_of}
 use Rattle.synoptic_cli.specs.declared.status.Status.{Status}
-use Rattle.synoptic_cli.specs.declared.status.Status.TheVariants.{Done, Usage, Expressions, Log, Limit, ReadFault, WriteFault, Memory, ModelFile}
+use Rattle.synoptic_cli.specs.declared.status.Status.TheVariants.{Done, NoCheck, Usage, Expressions, Log, Limit, ReadFault, WriteFault, Memory, ModelFile}
 use Rattle.synoptic_cli.specs.declared.status.LogFault.{LogFault}
 use Rattle.synoptic_cli.specs.declared.status.LogFault.TheVariants as faults
 use Rattle.synoptic_cli.specs.declared.status.LimitKind.{LimitKind}
@@ -58,6 +58,8 @@ abbrev pub limit_message : LimitKind → List ℕ
 limit_message limits.Types = codes "synoptic: limit: types 128\n"
 limit_message limits.Events = codes "synoptic: limit: events 1000000\n"
 limit_message limits.Input = codes "synoptic: limit: input 268435456\n"
+limit_message limits.Partitions = codes "synoptic: limit: partitions 1024\n"
+limit_message limits.Paths = codes "synoptic: limit: paths 4000000\n"
 
 -- the part of a model's file that is bad
 abbrev pub field_name : Field → List ℕ
@@ -83,6 +85,7 @@ file_fault file_error.Memory = codes "out of memory"
 -- what is written where errors go, for a status and the task that was asked for
 abbrev pub task_message : Option Task → Status → List ℕ
 task_message task Done = []
+task_message task (NoCheck part) = []
 task_message task Usage = codes "usage: synoptic infer|check|replay|invariants|graph|paths|bench [-e FILE] [-p] [-m FILE] [-i] [-j] [-n N] [--] [FILE]...\n"
 task_message task (Expressions e) = codes "synoptic: expressions" ++ rule_message e
 task_message task (Log fault) = log_message task fault
@@ -105,6 +108,7 @@ Tells text before after =
 -- the status of the process
 abbrev pub code_of : Status → ℕ
 code_of Done = 0
+code_of (NoCheck part) = 1
 code_of Usage = 2
 code_of (Expressions e) = 3
 code_of (Log fault) = 4

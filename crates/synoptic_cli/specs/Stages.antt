@@ -1,7 +1,9 @@
 -- What each stage of a run makes of the bytes of its inputs, and where the reading stops.
 use Rattle.std.specs.Prelude.{ℕ, ◌+◌, Bool, List, [], ◌∷◌, length, nat_lt, Option, Some, None, Result, Ok, Err, if◌then◌else◌}
 use Rattle.traces.specs.Words.{log_of}
+use Rattle.limits.specs.declared.TheConstants.{INITIAL, TERMINAL}
 use Rattle.invariants.specs.declared.records.Model.{Model}
+use Rattle.model_shape.specs.Shapes.{end_of}
 use Rattle.model_file.specs.Reading as model_file
 use Rattle.model_file.specs.declared.refusal.FileError.{FileError}
 use Rattle.line_rules.specs.Rules.{Rule}
@@ -26,11 +28,20 @@ pub record SoFar : Type 0 where
   pub form : Form
   pub material : Material
 
--- a model that says nothing
+-- a model that says nothing: of no types and of no traces
 abbrev pub no_model : Model
-no_model = record { types = []; partitions = []; edges = []; invariants = []; splits = []; merges = []; blocks = [] }
+no_model =
+    record {
+      types = [];
+      partitions = end_of INITIAL 0 ∷ end_of TERMINAL 0 ∷ [];
+      edges = [];
+      invariants = [];
+      splits = [];
+      merges = [];
+      blocks = [];
+    }
 
--- what is there before the first stage: what no stage reads is empty
+-- what is there before the first stage: what no stage reads says nothing
 abbrev pub at_start : SoFar
 at_start = record { form = form.Plain; material = record { log = log_of []; model = no_model } }
 

@@ -12,6 +12,7 @@ use Rattle.line_rules.specs.declared.line_rules.RuleError.{RuleError}
 use Rattle.line_rules.specs.declared.line_rules.RuleError.TheVariants as rule_error
 use Rattle.limits.specs.declared.TheConstants.{MAX_MODEL_BYTES}
 use Rattle.invariants.specs.declared.records.Model.{Model}
+use Rattle.model_shape.specs.Shapes.{IsWellShaped}
 use Rattle.model_file.specs.Reading as model_file
 use Rattle.model_file.specs.declared.refusal.FileError.{FileError}
 use Rattle.model_file.specs.declared.refusal.FileError.TheVariants as file_error
@@ -29,7 +30,7 @@ use Rattle.synoptic_cli.specs.declared.material.Material.{Material}
 use Rattle.synoptic_cli.specs.declared.stages.SoFar as rust
 use Rattle.synoptic_cli.specs.declared.status.LimitKind.{LimitKind}
 use Rattle.synoptic_cli.specs.declared.status.Status.{Status}
-use Rattle.synoptic_cli.specs.declared.status.Status.TheVariants.{Done, Usage, Expressions, Log, Limit, ReadFault, WriteFault, Memory, ModelFile}
+use Rattle.synoptic_cli.specs.declared.status.Status.TheVariants.{Done, NoCheck, Usage, Expressions, Log, Limit, ReadFault, WriteFault, Memory, ModelFile}
 use Rattle.synoptic_cli.specs.declared.status.Source.TheVariants as sources
 use Rattle.synoptic_cli.specs.declared.model_stage.ModelHalt.{ModelHalt}
 use Rattle.synoptic_cli.specs.declared.model_stage.ModelHalt.TheVariants as halts
@@ -68,11 +69,12 @@ pub record ReadsRules (old new : InputState) (name : List ℕ) (rules : List Rul
   pub alike : AreAlike rules plain
   pub opened : ReadAll 1 old new
 
--- the named file was read to its end, and this is its model
+-- the named file was read to its end, and this is its model, which is well shaped
 pub record ReadsModel (old new : InputState) (name : List ℕ) (model : Model) : Type 0 where
   pub bytes : List ℕ
   pub told : IsTold old.files name bytes
   pub read : model_file.reads bytes ≡ Ok model
+  pub shaped : IsWellShaped model
   pub opened : ReadAll 1 old new
 
 -- the named file was read to its end, or to one byte past its limit, and is refused so
@@ -130,10 +132,11 @@ pub record LogHalts (task : Task) (f : Form) (old new : InputState) (e : ReadErr
   pub cause : HasReadCause (setting_of task f) (inputs_of task.files) old new e
   pub opens : new.opens ≤ old.opens + length (inputs_of task.files)
 
--- the program holds what was read so far, with rules that are alike
+-- the program holds what was read so far, with rules that are alike, and its model is well shaped
 pub record IsHeld (held : rust.SoFar) (so_far : SoFar) : Type 0 where
   pub form : AreAlikeForms (held_form held) so_far.form
   pub material : so_far.material ≡ held.material
+  pub shaped : IsWellShaped held.material.model
 
 -- the inputs of the stages were read, and take what was read before to what is read now
 pub record HasRead (stages : List Stage) (old new : InputState) (before now : SoFar) : Type 0 where
@@ -150,15 +153,17 @@ pub record StopsReading (stages : List Stage) (old new : InputState) (before : S
   pub bytes : SomeBytes old.files stages (λ filled. reads before filled ≡ Err stop)
   pub opened : OpenedAll stop.count old new
 
--- the task's inputs were read, and this is what the command is to work on
+-- the task's inputs were read, and this is what the command is to work on, with a model that is well shaped
 pub record ReadsTask (task : Task) (old new : InputState) (material : Material) : Type 0 where
   pub so_far : SoFar
   pub value : so_far.material ≡ material
+  pub shaped : IsWellShaped material.model
   pub read : HasRead (stages_of task) old new at_start so_far
 
 -- a status that comes with an answer
 abbrev pub IsVerdict : Status → Type 0
 IsVerdict Done = ⊤
+IsVerdict (NoCheck part) = ⊤
 IsVerdict status = ⊥
 
 -- what a command gives is what it is to answer, with a verdict, or its limit; where memory is wanted nothing is said

@@ -1,11 +1,16 @@
 //! The table of the commands: what each answers of what was read. Each has a file of its own.
 ghost use Rattle.command_line.specs.Task.{task_held};
+ghost use Rattle.model_shape.specs.Shapes.{IsWellShaped};
 ghost use Rattle.synoptic_cli.specs.Commands.{Answers};
 ghost use Rattle.synoptic_cli.specs.Steps.{Gives};
 
+mod check_model;
+mod infer_model;
+mod inference;
 mod print_graph;
 mod print_graph_of_model;
 mod print_invariants;
+mod print_paths;
 
 use crate::answer::{Answer, NoAnswer};
 use crate::material::Material;
@@ -13,12 +18,16 @@ use command_line::{Command, Task};
 use std::alloc::Global;
 
 /// What the task's command answers of what was read.
-pub fn answer(alloc: Global, task: &Task<'_>, material: &Material) -> Result<Answer, NoAnswer>
-    ensures { Gives (Answers (task_held task.now) material.now) result }
+pub fn answer(alloc: Global, task: &Task<'_>, material: Material) -> Result<Answer, NoAnswer>
+    requires { IsWellShaped material.model }
+    ensures { Gives (Answers (task_held task.now) material) result }
 {
     match task.command {
-        Command::Invariants => print_invariants::answer(alloc, material),
-        Command::Graph => print_graph::answer(alloc, material),
-        Command::GraphOfModel => print_graph_of_model::answer(alloc, material),
+        Command::Invariants => print_invariants::answer(alloc, &material),
+        Command::Graph => print_graph::answer(alloc, &material),
+        Command::GraphOfModel => print_graph_of_model::answer(alloc, &material),
+        Command::Infer => infer_model::answer(alloc, material),
+        Command::Check => check_model::answer(alloc, &material),
+        Command::Paths => print_paths::answer(alloc, material),
     }
 }

@@ -1,9 +1,31 @@
-//! A law over the endings of runs.
+//! Laws over the endings of runs.
 ghost use Rattle.synoptic_cli.specs.Endings.{EndsAreOne, StatusesAreOne};
+ghost use Rattle.synoptic_cli.specs.Rechecks.{InferIsDone, InferredAreAccepted, ModelsAreAccepted};
+
+use infer_core::{ends_exclude, one_final};
+use models::one_model;
 
 /// Over files that are told a run ends in one way alone: by one answer with one text, or by one stop. So the words
 /// and the files have one status alone.
 pub fn runs_end_alike()
     ensures ends { EndsAreOne }
     ensures statuses { StatusesAreOne }
+{
+    one_model();
+    one_final();
+    ends_exclude();
+}
+
+/// Over files that are told, where the log of an `infer` is read with no refusal and its inference passes no limit, the
+/// words and the files have the status `Done`.
+pub fn infer_is_done()
+    ensures { InferIsDone }
+{}
+
+/// Over files that are told, where one of them says the very model of the log that a task reads, `check` of it
+/// against that log ends with `yes`. So it does for a file with the text that `infer` answered of that log, by the
+/// same rules and options, and then the words and the files have the status `Done`.
+pub fn models_are_accepted()
+    ensures models { ModelsAreAccepted }
+    ensures inferred { InferredAreAccepted }
 {}

@@ -3,11 +3,11 @@
 use invariants::Model;
 use traces::TraceSet;
 
-/// What a command works on: what was read of the inputs. What its task does not read is empty.
+/// What a command works on: what was read of the inputs. What its task does not read says nothing.
 #[derive(Drop)]
 pub struct Material {
     /// The log.
     pub log: TraceSet,
-    /// The model of a file.
+    /// The model of a file. It is well shaped.
     pub model: Model,
 }

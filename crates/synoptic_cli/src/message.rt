@@ -132,6 +132,8 @@ fn write_limit<E: Sink>(kind: LimitKind, err: &mut E) -> Result<(), Failed>
         LimitKind::Types => write_whole(err, b"synoptic: limit: types 128\n"),
         LimitKind::Events => write_whole(err, b"synoptic: limit: events 1000000\n"),
         LimitKind::Input => write_whole(err, b"synoptic: limit: input 268435456\n"),
+        LimitKind::Partitions => write_whole(err, b"synoptic: limit: partitions 1024\n"),
+        LimitKind::Paths => write_whole(err, b"synoptic: limit: paths 4000000\n"),
     }
 }
 
@@ -203,6 +205,7 @@ fn write_message<E: Sink>(
 {
     match status {
         Status::Done => Ok(()),
+        Status::NoCheck(_) => Ok(()),
         Status::Usage => write_whole(err, USAGE),
         Status::Expressions(error) => write_rule_error(error, err),
         Status::Log(fault) => write_log_fault(task, fault, err),

@@ -1,5 +1,5 @@
 //! Reads what a task works on: stage after stage.
-ghost use Rattle.std.specs.Prelude.{◌≡◌, ◌≤◌, ◌+◌, Err, IfOk, IfErr, length, option_map};
+ghost use Rattle.std.specs.Prelude.{◌≡◌, ◌<◌, ◌≤◌, ◌+◌, ◌^◌, Err, IfOk, IfErr, length, option_map};
 ghost use Rattle.std.specs.Option.{IsSomeAnd};
 ghost use Rattle.outside.specs.Inputs.{Stays};
 ghost use Rattle.line_rules.specs.Patterns.{Stays as PatternsStay};
@@ -7,6 +7,7 @@ ghost use Rattle.line_rules.specs.Views.{rules_in};
 ghost use Rattle.log_reader.specs.Inputs.{HasReadCause, ReadsLog, inputs_of};
 ghost use Rattle.log_reader.specs.Views.{form_view};
 ghost use Rattle.command_line.specs.Task.{task_held};
+ghost use Rattle.model_shape.specs.Shapes.{end_of};
 ghost use Rattle.synoptic_cli.specs.Causes.{KeepsCounts};
 ghost use Rattle.synoptic_cli.specs.Task.{log_stages, model_stages, rules_stages};
 ghost use Rattle.synoptic_cli.specs.Stages.{at_start, no_model};
@@ -18,7 +19,8 @@ use crate::reading::{read_rules, status_of};
 use crate::status::Status;
 use crate::task::{names_of, rules_name};
 use command_line::Task;
-use invariants::{Model, Seq};
+use invariants::{Model, Partition, Seq};
+use limits::{INITIAL, TERMINAL};
 use line_rules::{LineRules, Patterns};
 use log_reader::{ReadError, alike_rules_read_alike, read_log};
 use outside::Inputs;
@@ -34,28 +36,41 @@ pub struct SoFar {
     pub material: Material,
 }
 
-/// A model that says nothing.
-fn no_model(alloc: Global) -> Model
-    ensures { result ≡ no_model }
+/// The end with this number, of no traces.
+fn end_of(number: u32) -> Partition
+    requires { number < 2 ^ 16 }
+    ensures { result ≡ end_of number 0 }
 {
-    Model {
+    Partition {
+        id: number,
+        typ: number as u16,
+        count: 0,
+    }
+}
+
+/// A model that says nothing: of no types and of no traces.
+fn no_model(alloc: Global) -> Result<Model, AllocError>
+    ensures { IfOk result (λ model. model ≡ no_model) }
+{
+    let ends = [end_of(INITIAL), end_of(TERMINAL)].to_vec(alloc)?;
+    Ok(Model {
         types: Seq::from_vec(Vec::new(alloc)),
-        partitions: Seq::from_vec(Vec::new(alloc)),
+        partitions: Seq::from_vec(ends),
         edges: Seq::from_vec(Vec::new(alloc)),
         invariants: Seq::from_vec(Vec::new(alloc)),
         splits: Seq::from_vec(Vec::new(alloc)),
         merges: Seq::from_vec(Vec::new(alloc)),
         blocks: Seq::from_vec(Vec::new(alloc)),
-    }
+    })
 }
 
-/// What is there before the first stage: what no stage reads is empty.
+/// What is there before the first stage: what no stage reads says nothing.
 fn start(alloc: Global) -> Result<SoFar, AllocError>
     ensures { IfOk result (λ so_far. IsHeld so_far at_start) }
 {
     gathering_in_order_is_the_log();
     let log = Builder::new(alloc).finish()?;
-    let model = no_model(alloc);
+    let model = no_model(alloc)?;
     Ok(SoFar {
         rules: None,
         material: Material { log, model },

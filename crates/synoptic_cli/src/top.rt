@@ -38,7 +38,7 @@ fn answer<I: Inputs, P: Patterns, O: Sink>(
         Ok(material) => material,
         Err(status) => return status,
     };
-    let answer = match commands::answer(alloc, task, &material) {
+    let answer = match commands::answer(alloc, task, material) {
         Ok(answer) => answer,
         Err(NoAnswer::Limit(kind)) => return Status::Limit(kind),
         Err(NoAnswer::Memory) => return Status::Memory,
@@ -66,10 +66,13 @@ fn status_without_task(error: ParseError) -> Status
 /// `invariants -p [FILE]...` reads the files as lines `trace type`; `invariants -e RULES [FILE]...` reads
 /// them by the rules of that file. Either writes the invariants that hold in every trace, one a line.
 /// `graph` reads the same log, and writes the edges of the graph that has one partition for each type, one
-/// a line, each with how many of the events that it leaves go along it. Without any FILE the log is
-/// standard input. With `-i` lines that nothing decides are skipped, though not those with a bad time, and
-/// with `-j` the files are one log. `graph -m FILE` reads the model in that file and no log, and writes the
-/// edges that it lists.
+/// a line, each with how many of the events that it leaves go along it. `infer` reads the same log, and
+/// writes the file of its model. `paths` does too, and writes the paths that the traces take through that
+/// model, one a line, each with how many take it. Without any FILE the log is standard input. With `-i`
+/// lines that nothing decides are skipped, though not those with a bad time, and with `-j` the files are one
+/// log. `graph -m FILE` reads the model in that file and no log, and writes the edges that it lists.
+/// `check -m FILE` reads the model in that file and a log as above, and writes `yes` where the model is valid
+/// for the log, and else `no: ` with the first part that fails.
 ///
 /// A run reads the inputs of its task stage after stage, the file of rules, the file of a model and the log,
 /// where the task has them; then the task's command answers what was read; then the answer is written.
@@ -80,28 +83,47 @@ fn status_without_task(error: ParseError) -> Status
 ///     every trace, in the candidates' order, none twice, and each type that they name has a text. The
 ///     partitions and edges that `graph` shows are exactly those of the traces where each event has the id
 ///     that is its type's number, and each trace is the word of a path of that graph. What `graph -m` shows
-///     are the partitions and edges of the model that the file is read as.
+///     are the partitions and edges of the model that the file is read as. What `infer` writes is read back
+///     as the one model of the log. That lists exactly the candidates that hold in every trace; each trace is
+///     the word of a path of it, each invariant that it lists holds of the word of every path, and for any
+///     two partitions of one type it has a path which breaks one of these once the two are merged. Its
+///     splits, merges and blocks are those of refinement and coarsening, each the first that there is. In
+///     what `paths` writes each trace is counted in exactly one line, which shows the trace's types and the
+///     ids that its events have in that model, a path of its graph. Where `check` says `yes`, the model
+///     in the file is valid for the log, whatever made it. Its types are those of the log. It lists exactly the
+///     candidates that hold, by places, of every trace, in the candidates' order, none twice. Each trace is
+///     the word of a path of its graph, and each listed invariant holds of the word of each path. For each two
+///     partitions of one type the file has a path of the graph in which they are merged that breaks a listed
+///     invariant, so no two can be merged without loss. What `infer` wrote of a log is accepted by `check`, by the
+///     same rules and options (`models_are_accepted`).
+///   - `NoCheck`: each input was read to its end, and nothing in it is refused. The model in the file is not
+///     valid for the log, and this part fails first: those before it, in the order of `Part`, stand, and it
+///     fails first at the number or the pair that it names. The whole answer, which names it, stands in `out`.
 ///   - `Usage`: the words ask for nothing that is known, and nothing was opened, built or written.
 ///   - `Expressions`: the file of rules has this refusal; it was read to its end, or to one byte past its
 ///     limit. A pattern is too deep or too large only at the line that is named, where no line before it is
 ///     refused. Too large comes only where the patterns counted a refusal and may refuse this very pattern.
 ///   - `Log` and `Limit`: this is the first refusal of the log, in the order of its bytes, and the inputs
 ///     up to the one with the line that is refused, or with the byte past the limit on all input, were
-///     opened, and no others.
+///     opened, and no others. `Limit(Partitions)` and `Limit(Paths)` are none of the log: `infer` and `paths`
+///     stop at them, where nothing is refused and all inputs were opened. The first comes only where
+///     refinement wants one partition more than 1,024, and the second only where the paths of splits and
+///     blocks have more than 4,000,000 numbers.
 ///   - `ModelFile`: the file of the model has this refusal; it was read to its end, or to one byte past its
 ///     limit, and no input after it was opened. It is never want of memory.
 ///   - `ReadFault`: the inputs counted a fault and may fail the input that is named, or it is the first
 ///     that is not there, nothing before it is refused, and no fault was counted. The inputs before it were
 ///     opened, and no others but it, where its opening did not fail.
-///   - `WriteFault`: `out` counted a fault, and has a front of the answer that `Done` would have written.
+///   - `WriteFault`: `out` counted a fault, and has a front of the answer that `Done` or `NoCheck` would have
+///     written.
 ///   - `Memory`: memory was wanted, for the words, the inputs or the answer, or there are 2^32 files or
 ///     more; no clause says when. No more inputs were opened than the words ask for.
 ///
-///   But for `Done` and `WriteFault`, `out` is untouched. At `Done` and `WriteFault` as many inputs were
-///   opened as were to be read, and at these and at `Expressions`, `ModelFile`, `Log` and `Limit` no fault of
-///   theirs was counted.
+///   But for `Done`, `NoCheck` and `WriteFault`, `out` is untouched. At these three as many inputs were opened
+///   as were to be read, and at these and at `Expressions`, `ModelFile`, `Log` and `Limit` no fault of theirs
+///   was counted.
 /// - `expected`: where the inputs tell their files and no fault or refusal was counted, the status is the
-///   one that the words and the files have (`runs_end_alike`: there is one alone), but for want of memory,
+///   one that the words and the files have (`runs_end_alike`: there is no other), but for want of memory,
 ///   and for a pattern that nests too deep at the line named.
 /// - `memory`: want of memory hides no fault of the inputs.
 /// - `count`: no pattern was refused for its size, but where that is the answer.

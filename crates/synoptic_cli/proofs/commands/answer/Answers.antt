@@ -7,12 +7,24 @@ use Rattle.synoptic_cli.proofs.commands.answer.Goals as goal
 
 pub returns-in-Invariants : goal.returns-in-Invariants
 returns-in-Invariants c =
-    subst (λ (command : Command). Gives (AnswersBy command (task_held c.args.task.now) c.args.material.now) c.answer.result) (sym c.in-Invariants.is) c.answer.ensures
+    subst (λ (command : Command). Gives (AnswersBy command (task_held c.args.task.now) c.args.material) c.answer.result) (sym c.in-Invariants.is) c.answer.ensures
 
 pub returns-in-Graph : goal.returns-in-Graph
 returns-in-Graph c =
-    subst (λ (command : Command). Gives (AnswersBy command (task_held c.args.task.now) c.args.material.now) c.answer-in-Graph.result) (sym c.in-Graph.is) c.answer-in-Graph.ensures
+    subst (λ (command : Command). Gives (AnswersBy command (task_held c.args.task.now) c.args.material) c.answer-in-Graph.result) (sym c.in-Graph.is) c.answer-in-Graph.ensures
 
 pub returns-in-GraphOfModel : goal.returns-in-GraphOfModel
 returns-in-GraphOfModel c =
-    subst (λ (command : Command). Gives (AnswersBy command (task_held c.args.task.now) c.args.material.now) c.answer-in-GraphOfModel.result) (sym c.in-GraphOfModel.is) c.answer-in-GraphOfModel.ensures
+    subst (λ (command : Command). Gives (AnswersBy command (task_held c.args.task.now) c.args.material) c.answer-in-GraphOfModel.result) (sym c.in-GraphOfModel.is) c.answer-in-GraphOfModel.ensures
+
+pub returns-in-Infer : goal.returns-in-Infer
+returns-in-Infer c =
+    subst (λ (command : Command). Gives (AnswersBy command (task_held c.args.task.now) c.args.material) c.answer-in-Infer.result) (sym c.in-Infer.is) c.answer-in-Infer.ensures
+
+pub returns-in-Paths : goal.returns-in-Paths
+returns-in-Paths c =
+    subst (λ (command : Command). Gives (AnswersBy command (task_held c.args.task.now) c.args.material) c.answer-in-Paths.result) (sym c.in-Paths.is) c.answer-in-Paths.ensures
+
+pub returns-in-Check : goal.returns-in-Check
+returns-in-Check c =
+    subst (λ (command : Command). Gives (AnswersBy command (task_held c.args.task.now) c.args.material) c.answer-in-Check.result) (sym c.in-Check.is) c.answer-in-Check.ensures

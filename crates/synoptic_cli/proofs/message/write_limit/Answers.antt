@@ -8,3 +8,9 @@ returns-in-Events g c = rw c.in-Events.is c.write_whole-in-Events.ensures.gives
 
 pub returns-in-Input : goal.returns-in-Input
 returns-in-Input g c = rw c.in-Input.is c.write_whole-in-Input.ensures.gives
+
+pub returns-in-Partitions : goal.returns-in-Partitions
+returns-in-Partitions g c = rw c.in-Partitions.is c.write_whole-in-Partitions.ensures.gives
+
+pub returns-in-Paths : goal.returns-in-Paths
+returns-in-Paths g c = rw c.in-Paths.is c.write_whole-in-Paths.ensures.gives

@@ -7,7 +7,7 @@ use Rattle.synoptic_cli.proofs.model_stage.read_model_file.Goals as goal
 pub returns-in-Ok-read_model-clause-ok : goal.returns-in-Ok-read_model-clause-ok
 returns-in-Ok-read_model-clause-ok g c =
     model-read (g.I.Inputs.state c.args.inputs.now) (g.I.Inputs.state c.read_input.new.inputs) c.args.name.now c.in-Ok.bytes.items c.in-Ok-read_model.model c.in-Ok.ensures.gives
-    (ap reads (sym c.deref.ensures.value) ∙ c.in-Ok-read_model.ensures.ok)
+    (ap reads (sym c.deref.ensures.value) ∙ c.in-Ok-read_model.ensures.ok) c.in-Ok-read_model.ensures.shape
 
 pub returns-clause-err : goal.returns-clause-err
 returns-clause-err g c =

@@ -1,0 +1,18 @@
+use Rattle.std.proofs.Common.{subst}
+use Rattle.traces.specs.Words.{Log}
+use Rattle.models.specs.Laws.{IsTypedLog}
+use Rattle.models.specs.Limits.{IsWithinLimits}
+use Rattle.infer_core.specs.Runs.{typed_words}
+use Rattle.synoptic_cli.proofs.Inferred.{model-written}
+use Rattle.synoptic_cli.proofs.commands.infer_model.write.Goals as goal
+
+pub write_model-requires : goal.write_model-requires
+write_model-requires c =
+    c.models_are_shaped.ensures c.in_ok-model.model (typed_words c.args.bench.now.log) (subst (λ (log : Log). IsTypedLog (typed_words log)) c.traces.ensures c.log_is_typed.ensures.typed)
+    (subst (λ (log : Log). IsWithinLimits (typed_words log)) c.traces.ensures c.log_is_typed.ensures.within) c.in_ok-model.ensures.within c.in_ok-model.ensures.value
+
+pub returns : goal.returns
+returns c =
+    model-written (typed_words c.args.bench.now.log) c.in_ok-model.model c.in_ok-text.text c.models_tell.ensures c.models_pass.ensures
+    (subst (λ (log : Log). IsTypedLog (typed_words log)) c.traces.ensures c.log_is_typed.ensures.typed) c.in_ok-model.ensures.value c.in_ok-model.ensures.within c.in_ok-text.ensures.value
+    c.in_ok-text.ensures.reads_back

@@ -1,0 +1,28 @@
+use Rattle.std.proofs.Common.{◌∙◌, ℕ, List, ap, ap₂, sym, subst, length}
+use Rattle.traces.specs.Words.{Log, event_count_of}
+use Rattle.models.specs.Laws.{IsTypedLog}
+use Rattle.infer_core.specs.Runs.{typed_words}
+use Rattle.reports.specs.Paths.{path_report}
+use Rattle.synoptic_cli.specs.declared.answer.Answer.{Answer}
+use Rattle.synoptic_cli.specs.declared.status.Status.TheVariants.{Done}
+use Rattle.synoptic_cli.proofs.Walked.{final-count, paths-shown}
+use Rattle.synoptic_cli.proofs.commands.print_paths.print.Goals as goal
+
+pub path_report-requires : goal.path_report-requires
+path_report-requires c =
+    ap length c.as_slice.ensures
+    ∙ (final-count c.args.bench.now.log c.in_ok-ids.ids c.refinement_keeps.ensures c.coarsening_keeps.ensures
+    (subst (λ (log : Log). IsTypedLog (typed_words log)) c.traces-traces.ensures c.log_is_typed.ensures.typed) c.in_ok-ids.ensures
+    ∙ ap (λ (log : Log). event_count_of log.traces) (sym c.traces-traces.ensures))
+
+pub returns : goal.returns
+returns c =
+    let log = c.args.bench.now.log in
+    let typed : IsTypedLog (typed_words log) = subst (λ (log : Log). IsTypedLog (typed_words log)) c.traces-traces.ensures c.log_is_typed.ensures.typed in
+    let text = c.in_ok-text.ensures ∙ ap₂ (λ (l : Log) (ids : List ℕ). path_report l ids) c.traces-traces.ensures c.as_slice.ensures in
+    record {
+      ids = c.in_ok-ids.ids;
+      final = c.in_ok-ids.ensures;
+      value = ap (λ (t : List ℕ). let a : Answer = record { status = Done; text = t } in a) text;
+      exact = paths-shown log c.in_ok-ids.ids c.refinement_keeps.ensures c.coarsening_keeps.ensures c.accepts_traces.ensures c.paths_tell.ensures typed c.in_ok-ids.ensures;
+    }

@@ -1,0 +1,31 @@
+-- `infer`: the model of a log.
+use Rattle.std.specs.Prelude.{◌≡◌, Result, Ok}
+use Rattle.invariants.specs.declared.records.Model.{Model}
+use Rattle.models.specs.Models.{TypedWords, IsModelOf}
+use Rattle.models.specs.Limits.{KeepsLimits}
+use Rattle.models.specs.Checks.{IsValid, Promises}
+use Rattle.models.specs.Histories.{IsJustified}
+use Rattle.infer_core.specs.Runs.{typed_words}
+use Rattle.model_file.specs.Tree.{file_text}
+use Rattle.model_file.specs.Reading.{reads}
+use Rattle.synoptic_cli.specs.declared.answer.Answer.{Answer}
+use Rattle.synoptic_cli.specs.declared.material.Material.{Material}
+use Rattle.synoptic_cli.specs.declared.status.LimitKind.{LimitKind}
+use Rattle.synoptic_cli.specs.declared.status.Status.TheVariants.{Done}
+use Rattle.synoptic_cli.specs.Commands.Inference.{AnswersInferred}
+
+-- the text is the file of the log's model, within the limits. It is read back as that very model, which promises
+-- all that a valid model does, and whose history is justified.
+pub record WritesModel (log : TypedWords) (a : Answer) : Type 0 where
+  pub model : Model
+  pub inferred : IsModelOf model log
+  pub within : KeepsLimits model
+  pub value : a ≡ record { status = Done; text = file_text model }
+  pub reads_back : reads a.text ≡ Ok model
+  pub promises : Promises model log
+  pub valid : IsValid model log
+  pub justified : IsJustified model log
+
+-- the answer: the file of the log's model, or the limit that its inference passes
+abbrev pub Answers : Material → Result Answer LimitKind → Type 0
+Answers m r = AnswersInferred (typed_words m.log) (WritesModel (typed_words m.log)) r

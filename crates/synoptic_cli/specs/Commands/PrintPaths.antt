@@ -1,0 +1,50 @@
+-- `paths`: the paths that the traces of a log take through its model.
+use Rattle.std.specs.Prelude.{ℕ, ◌≡◌, true, List, length, count_by, Contains, Result}
+use Rattle.std.specs.List.{AllByRecursion}
+use Rattle.traces.specs.Words.{Log}
+use Rattle.partition_model.specs.Graphs.{Graph, IsPath, word}
+use Rattle.partition_model.specs.Assignments.{Assignment, G, with_ends}
+use Rattle.infer_core.specs.Runs.{typed_words, AreFinal}
+use Rattle.reports.specs.Paths.{TracePath, Taken, paths_of, path_report, same_ids, taken, total}
+use Rattle.synoptic_cli.specs.declared.answer.Answer.{Answer}
+use Rattle.synoptic_cli.specs.declared.material.Material.{Material}
+use Rattle.synoptic_cli.specs.declared.status.LimitKind.{LimitKind}
+use Rattle.synoptic_cli.specs.declared.status.Status.TheVariants.{Done}
+use Rattle.synoptic_cli.specs.Commands.Inference.{AnswersInferred}
+
+-- the path of each trace, where its events have these ids
+abbrev pub paths : Log → List ℕ → List TracePath
+paths log ids = paths_of log.traces ids
+
+-- what the lines show: the distinct paths, each with how many traces take it
+abbrev pub lines : Log → List ℕ → List Taken
+lines log ids = taken (paths log ids)
+
+-- the ids are a path of the graph, and its word is that of the types
+abbrev pub IsWalked : Graph → TracePath → Type 0
+IsWalked g p = IsPath g (with_ends p.ids) × (word g (with_ends p.ids) ≡ with_ends p.types)
+
+-- each trace is counted in exactly one line, which shows its very path, and that is one of the graph
+pub record ShowsPaths (log : Log) (ids : List ℕ) (g : Graph) : Type 0 where
+  -- the counts add up to the number of traces
+  pub all : total (lines log ids) ≡ length log.traces
+  -- the path of each trace has one line
+  pub once : (p : TracePath) → Contains (paths log ids) p
+      → count_by (λ t. same_ids t.path p) (lines log ids) ≡ 1
+  -- and whatever line has its ids has its types too
+  pub same : (t : Taken) (p : TracePath) → Contains (lines log ids) t → Contains (paths log ids) p
+      → same_ids t.path p ≡ true → t.path ≡ p
+  -- each trace goes along the edges of the graph, by its own word
+  pub walked : AllByRecursion (IsWalked g) (paths log ids)
+
+-- the text is that of the paths by the ids that the events have where coarsening of the log ends, and shows
+-- exactly these, through the graph there
+pub record TellsPaths (log : Log) (a : Answer) : Type 0 where
+  pub ids : List ℕ
+  pub final : AreFinal (typed_words log) ids
+  pub value : a ≡ record { status = Done; text = path_report log ids }
+  pub exact : ShowsPaths log ids (G final.end)
+
+-- the answer: the paths of the traces, or the limit that inference of the log passes
+abbrev pub Answers : Material → Result Answer LimitKind → Type 0
+Answers m r = AnswersInferred (typed_words m.log) (TellsPaths m.log) r

@@ -1,0 +1,54 @@
+-- When an inference is done, and what a check says of what was inferred.
+use Rattle.std.specs.Prelude.{ℕ, ◌≡◌, List, Some, None, Result, Ok}
+use Rattle.outside.specs.Inputs.{Files, bytes_of}
+use Rattle.invariants.specs.declared.records.Model.{Model}
+use Rattle.models.specs.Models.{IsModelOf}
+use Rattle.models.specs.Laws.{IsTypedLog}
+use Rattle.model_check.specs.Verdicts.{typed_words_of}
+use Rattle.model_check.specs.declared.verdict.Verdict.TheVariants.{Yes}
+use Rattle.model_file.specs.Reading as model_file
+use Rattle.command_line.specs.Task.{Task}
+use Rattle.command_line.specs.declared.table.Command.TheVariants as commands
+use Rattle.infer_core.specs.Runs.{typed_words}
+use Rattle.synoptic_cli.specs.declared.answer.Answer.{Answer}
+use Rattle.synoptic_cli.specs.declared.status.Status.{Status}
+use Rattle.synoptic_cli.specs.declared.status.Status.TheVariants.{Done}
+use Rattle.synoptic_cli.specs.Task.{stages_of}
+use Rattle.synoptic_cli.specs.Stages.{SoFar, Stop, at_start, reads}
+use Rattle.synoptic_cli.specs.Commands.CheckModel.{answer_of}
+use Rattle.synoptic_cli.specs.Commands.Inference.{PassesNone}
+use Rattle.synoptic_cli.specs.Endings.{EndsOver, EndsTold, told_stages}
+
+-- the check of the named file against the log that the task reads
+abbrev pub checking : Task → List ℕ → Task
+checking task name = record task { command = commands.Check; model = Some name }
+
+-- where the file says the model of the log that the task reads, whose words use exactly its types, its check against
+-- that log ends with yes
+abbrev pub ModelsAreAccepted : Type 0
+ModelsAreAccepted =
+    (files : Files) (task : Task) (name bytes : List ℕ) (model : Model) (so_far : SoFar)
+    (end : Result Answer Stop)
+    → task.model ≡ None → reads at_start (told_stages files (stages_of task)) ≡ Ok so_far
+    → IsTypedLog (typed_words_of so_far.material.log) → IsModelOf model (typed_words_of so_far.material.log)
+    → bytes_of files name ≡ Some bytes → model_file.reads bytes ≡ Ok model
+    → EndsOver (checking task name) (told_stages files (stages_of (checking task name))) end
+    → end ≡ Ok (answer_of Yes)
+
+-- What the inference of a log answers over some files is accepted: over files in which the task's own inputs are the
+-- same, and the named one has that answer's text, the check of it ends with yes, and so with this status alone.
+abbrev pub InferredAreAccepted : Type 0
+InferredAreAccepted =
+    (before after : Files) (task : Task) (name : List ℕ) (a : Answer) (status : Status)
+    → task.command ≡ commands.Infer → task.model ≡ None
+    → told_stages before (stages_of task) ≡ told_stages after (stages_of task)
+    → EndsOver task (told_stages before (stages_of task)) (Ok a) → bytes_of after name ≡ Some a.text
+    → (told : EndsTold after (checking task name) status)
+    → (told.end ≡ Ok (answer_of Yes)) × (status ≡ Done)
+
+-- where the inputs of an inference are read with no refusal, and it passes no limit, the status is this alone
+abbrev pub InferIsDone : Type 0
+InferIsDone =
+    (files : Files) (task : Task) (so_far : SoFar) (status : Status)
+    → task.command ≡ commands.Infer → reads at_start (told_stages files (stages_of task)) ≡ Ok so_far
+    → PassesNone (typed_words so_far.material.log) → EndsTold files task status → status ≡ Done

@@ -1,0 +1,99 @@
+//! `check`: tells whether the model of a file is valid for a log.
+ghost use Rattle.std.specs.Prelude.{◌≡◌, ◌++◌, IfOk, OnOk, Ok, codes, decimal};
+ghost use Rattle.model_shape.specs.Shapes.{IsWellShaped};
+ghost use Rattle.synoptic_cli.specs.Commands.CheckModel.{Answers, answer_of, no_text};
+ghost use Rattle.synoptic_cli.specs.Steps.{Gives, IsVerdict};
+
+use crate::answer::{Answer, NoAnswer};
+use crate::material::Material;
+use crate::status::Status;
+use invariants::Seq;
+use itoa::Buffer;
+use model_check::{Part, Verdict, check};
+use models::{first_part_fails, valid_tells};
+use std::alloc::{AllocError, Global};
+
+/// Puts a number in decimal digits at the end of the text.
+fn push_number(text: &mut Vec<u8>, number: u32) -> Result<(), AllocError>
+    ensures { OnOk result (text.new.items ≡ text.old.items ++ decimal number) }
+{
+    let mut digits = Buffer::new();
+    text.extend_from_slice(digits.format(number).as_bytes())
+}
+
+/// The line of a part that has a number.
+fn numbered_line(alloc: Global, what: &str, number: u32) -> Result<Seq<u8>, AllocError>
+    ensures { IfOk result (λ text. text ≡ what.now ++ decimal number ++ codes "\n") }
+{
+    let mut text = Vec::new(alloc);
+    text.extend_from_slice(what.as_bytes())?;
+    push_number(&mut text, number)?;
+    text.push(10)?;
+    Ok(Seq::from_vec(text))
+}
+
+/// The line of a pair of partitions without a block.
+fn pair_line(alloc: Global, p: u32, q: u32) -> Result<Seq<u8>, AllocError>
+    ensures { IfOk result (λ text. text ≡ no_text (Part.Block p q)) }
+{
+    let mut text = Vec::new(alloc);
+    text.extend_from_slice(b"no: block ")?;
+    push_number(&mut text, p)?;
+    text.push(32)?;
+    push_number(&mut text, q)?;
+    text.push(10)?;
+    Ok(Seq::from_vec(text))
+}
+
+/// The line that names the part that fails.
+fn no_line(alloc: Global, part: Part) -> Result<Seq<u8>, AllocError>
+    ensures { IfOk result (λ text. text ≡ no_text part) }
+{
+    match part {
+        Part::Types => Ok(Seq::from_vec(b"no: types\n".to_vec(alloc)?)),
+        Part::Listing(place) => numbered_line(alloc, "no: listing ", place),
+        Part::Trace(place) => numbered_line(alloc, "no: trace ", place),
+        Part::Label(place) => numbered_line(alloc, "no: label ", place),
+        Part::Block(p, q) => pair_line(alloc, p, q),
+    }
+}
+
+/// How a verdict is told.
+fn answer_of(alloc: Global, verdict: Verdict) -> Result<Answer, AllocError>
+    ensures value { IfOk result (λ a. a ≡ answer_of verdict) }
+    ensures verdict { IfOk result (λ a. IsVerdict a.status) }
+{
+    match verdict {
+        Verdict::Yes => Ok(Answer {
+            status: Status::Done,
+            text: Seq::from_vec(b"yes\n".to_vec(alloc)?),
+        }),
+        Verdict::No(part) => Ok(Answer {
+            status: Status::NoCheck(part),
+            text: no_line(alloc, part)?,
+        }),
+    }
+}
+
+/// The answer, where memory is not wanted.
+fn print(alloc: Global, material: &Material) -> Result<Answer, AllocError>
+    requires { IsWellShaped material.now.model }
+    ensures value { IfOk result (λ a. Answers material.now (Ok a)) }
+    ensures verdict { IfOk result (λ a. IsVerdict a.status) }
+{
+    valid_tells();
+    first_part_fails();
+    let verdict = check(alloc, &material.model, &material.log)?;
+    answer_of(alloc, verdict)
+}
+
+/// Whether the file's model is valid for the log: `yes`, or `no` with the first part that fails.
+pub fn answer(alloc: Global, material: &Material) -> Result<Answer, NoAnswer>
+    requires { IsWellShaped material.now.model }
+    ensures { Gives (Answers material.now) result }
+{
+    match print(alloc, material) {
+        Ok(answer) => Ok(answer),
+        Err(_) => Err(NoAnswer::Memory),
+    }
+}

@@ -1,0 +1,45 @@
+//! `infer`: infers the model of a log, and writes its file.
+ghost use Rattle.std.specs.Prelude.{◌≡◌, IfOk};
+ghost use Rattle.infer_core.specs.Runs.{typed_words};
+ghost use Rattle.synoptic_cli.specs.Commands.InferModel.{Answers, WritesModel};
+ghost use Rattle.synoptic_cli.specs.Steps.{Gives};
+
+use crate::answer::{Answer, NoAnswer};
+use crate::commands::inference::inferred;
+use crate::material::Material;
+use crate::status::Status;
+use infer_core::{Stage, Workbench, log_is_typed};
+use model_file::write_model;
+use models::{models_are_shaped, models_pass, models_tell};
+use std::alloc::{AllocError, Global};
+
+/// The file of the model that is inferred, where memory is not wanted.
+fn write(alloc: Global, bench: &Workbench) -> Result<Answer, AllocError>
+    requires { (bench.now).stage ≡ Stage.Inferred }
+    ensures { IfOk result (WritesModel (typed_words (bench.now).log)) }
+{
+    models_are_shaped();
+    models_pass();
+    models_tell();
+    log_is_typed(bench.traces());
+    let model = bench.model(alloc)?;
+    let text = write_model(alloc, &model)?;
+    Ok(Answer {
+        status: Status::Done,
+        text,
+    })
+}
+
+/// The file of the log's model. It promises all that a valid model does, and passes both checks.
+pub fn answer(alloc: Global, material: Material) -> Result<Answer, NoAnswer>
+    ensures { Gives (Answers material) result }
+{
+    let bench = match inferred(alloc, material.log) {
+        Ok(bench) => bench,
+        Err(why) => return Err(why),
+    };
+    match write(alloc, &bench) {
+        Ok(answer) => Ok(answer),
+        Err(_) => Err(NoAnswer::Memory),
+    }
+}

@@ -1,0 +1,59 @@
+//! The inference that commands rest on.
+ghost use Rattle.std.specs.Prelude.{◌≡◌, ◌<◌, IfOk, IfErr, OnOk};
+ghost use Rattle.infer_core.specs.Runs.{typed_words};
+ghost use Rattle.synoptic_cli.specs.Commands.Inference.{kind_of, NotInferred, PassesLimit, PassesNone};
+
+use crate::answer::NoAnswer;
+use crate::status::LimitKind;
+use infer_core::{InferLimit, Stage, Workbench};
+use std::alloc::Global;
+use std::marker::Brand;
+use std::sync::ledger::{Blank, Ledger};
+use steps::Steps;
+use traces::TraceSet;
+
+/// The limit of a run that a limit of inference is.
+fn kind_of(limit: InferLimit) -> LimitKind
+    ensures { result ≡ kind_of limit }
+{
+    match limit {
+        InferLimit::Partitions => LimitKind::Partitions,
+        InferLimit::Evidence => LimitKind::Paths,
+    }
+}
+
+/// Infers the model of the log of a workbench, or answers the limit that its inference passes. Nobody reads how
+/// many steps it takes.
+fn infer<L: Ledger>(bench: &mut Workbench, blank: Blank) -> Result<(), LimitKind>
+    requires name { blank.name ≡ L.name }
+    requires parts { blank.parts ≡ L.parts }
+    requires stands { 0 < blank.parts }
+    requires opened { (bench.old).stage ≡ Stage.Opened }
+    ensures log { (bench.new).log ≡ (bench.old).log }
+    ensures stage { OnOk result ((bench.new).stage ≡ Stage.Inferred) }
+    ensures none { OnOk result (PassesNone (typed_words (bench.old).log)) }
+    ensures limit { IfErr result (λ kind. PassesLimit kind (typed_words (bench.old).log)) }
+{
+    let mut steps = Steps::<L>::open(blank);
+    match bench.infer(&mut steps) {
+        Ok(()) => Ok(()),
+        Err(limit) => Err(kind_of(limit)),
+    }
+}
+
+/// A workbench on which the model of the traces is inferred.
+///
+/// `Limit(Partitions)` and `Limit(Paths)` come exactly where inference passes them, but for want of memory.
+pub fn inferred(alloc: Global, traces: TraceSet) -> Result<Workbench, NoAnswer>
+    ensures bench { IfOk result (λ bench. bench ≡ record { log = traces; stage = Stage.Inferred }) }
+    ensures none { OnOk result (PassesNone (typed_words traces)) }
+    ensures err { IfErr result (NotInferred (typed_words traces)) }
+{
+    let Ok(mut bench) = Workbench::open(alloc, traces) else {
+        return Err(NoAnswer::Memory);
+    };
+    match infer::<Brand>(&mut bench, Blank::new(1)) {
+        Ok(()) => Ok(bench),
+        Err(kind) => Err(NoAnswer::Limit(kind)),
+    }
+}

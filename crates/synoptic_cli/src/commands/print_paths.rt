@@ -1,0 +1,46 @@
+//! `paths`: prints the paths that the traces of a log take through its model.
+ghost use Rattle.std.specs.Prelude.{◌≡◌, IfOk};
+ghost use Rattle.synoptic_cli.specs.Commands.PrintPaths.{Answers, TellsPaths};
+ghost use Rattle.synoptic_cli.specs.Steps.{Gives};
+
+use crate::answer::{Answer, NoAnswer};
+use crate::commands::inference::inferred;
+use crate::material::Material;
+use crate::status::Status;
+use infer_core::{Stage, Workbench, log_is_typed};
+use partition_model::{accepts_traces, coarsening_keeps, refinement_keeps};
+use reports::{path_report, paths_tell};
+use std::alloc::{AllocError, Global};
+
+/// The paths through the model that is inferred, where memory is not wanted.
+fn print(alloc: Global, bench: &Workbench) -> Result<Answer, AllocError>
+    requires { (bench.now).stage ≡ Stage.Inferred }
+    ensures { IfOk result (TellsPaths (bench.now).log) }
+{
+    refinement_keeps();
+    coarsening_keeps();
+    accepts_traces();
+    paths_tell();
+    let traces = bench.traces();
+    log_is_typed(traces);
+    let ids = bench.parts(alloc)?;
+    let text = path_report(alloc, traces, ids.as_slice())?;
+    Ok(Answer {
+        status: Status::Done,
+        text,
+    })
+}
+
+/// The paths of the traces, each with how many take it, one a line, through the model that `infer` writes.
+pub fn answer(alloc: Global, material: Material) -> Result<Answer, NoAnswer>
+    ensures { Gives (Answers material) result }
+{
+    let bench = match inferred(alloc, material.log) {
+        Ok(bench) => bench,
+        Err(why) => return Err(why),
+    };
+    match print(alloc, &bench) {
+        Ok(answer) => Ok(answer),
+        Err(_) => Err(NoAnswer::Memory),
+    }
+}
