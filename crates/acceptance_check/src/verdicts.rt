@@ -12,10 +12,10 @@ use traces::{Builder, TraceSet};
 const MODEL: &str =
     "{\"blocks\":[[3,7,3,[0,2,3,6,1]]],\"edges\":[[0,2,1],[0,5,1],[2,3,1],[3,4,1],[4,1,1],[5,7,1],[6,1,1],[7,6,1]],\"invariants\":[[\"AF\",0,3,\"21211211\"],[\"NF\",2,2,\"13222111\"],[\"AF\",2,3,\"11211111\"],[\"AF\",2,4,\"11221111\"],[\"AP\",2,4,\"13222111\"],[\"NF\",2,5,\"13222111\"],[\"NF\",2,6,\"13222111\"],[\"NF\",3,2,\"12122122\"],[\"NF\",3,3,\"12122122\"],[\"AP\",3,4,\"12122122\"],[\"NF\",3,5,\"12122122\"],[\"AP\",3,6,\"12122122\"],[\"NF\",4,2,\"13112111\"],[\"NF\",4,3,\"13112111\"],[\"NF\",4,4,\"13112111\"],[\"NF\",4,5,\"13112111\"],[\"NF\",4,6,\"13112111\"],[\"NF\",5,2,\"13111222\"],[\"AF\",5,3,\"11111211\"],[\"NF\",5,4,\"13111222\"],[\"NF\",5,5,\"13111222\"],[\"AF\",5,6,\"11111212\"],[\"AP\",5,6,\"13111222\"],[\"NF\",6,2,\"13111121\"],[\"NF\",6,3,\"13111121\"],[\"NF\",6,4,\"13111121\"],[\"NF\",6,5,\"13111121\"],[\"NF\",6,6,\"13111121\"]],\"merges\":[],\"partitions\":[[0,0,2],[1,1,2],[2,2,1],[3,3,1],[4,4,1],[5,5,1],[6,6,1],[7,3,1]],\"splits\":[[3,2,[0,2,3,6,1]]],\"types\":[\"a\",\"c\",\"d\",\"b\",\"e\"],\"version\":1}";
 
-/// The log of these traces, each of types between spaces.
-fn log_of(alloc: Global, traces: &[&str]) -> Result<TraceSet, Fail> {
+/// The log of these traces, parted by semicolons and each of types between spaces.
+pub fn log_of(alloc: Global, traces: &str) -> Result<TraceSet, Fail> {
     let mut builder = Builder::new(alloc);
-    for (t, trace) in traces.iter().enumerate() {
+    for (t, trace) in traces.split(';').enumerate() {
         let file = u32::try_from(t)?;
         for type_text in trace.split_whitespace() {
             if !type_text.is_empty() && type_text.len() <= MAX_TYPE_BYTES {
@@ -69,7 +69,7 @@ fn tells_the_first_part_that_fails(rt: HostRuntime) -> Result<(), Fail> {
         (",[7,6,1]]", "]", Verdict::No(Part::Trace(1))),
         ("[3,4,1],", "[3,4,1],[3,6,1],", Verdict::No(Part::Label(1))),
     ];
-    let log = log_of(rt.alloc(), &["a c d", "b c e"])?;
+    let log = log_of(rt.alloc(), "a c d;b c e")?;
     for (old, new, verdict) in cases {
         assert_eq!(rt;
             verdict_of(rt.alloc(), &log, old, new)?,
@@ -82,8 +82,8 @@ fn tells_the_first_part_that_fails(rt: HostRuntime) -> Result<(), Fail> {
 
 #[test]
 fn another_log_has_other_types(rt: HostRuntime) -> Result<(), Fail> {
-    for trace in ["b c f", "b c d", "e c b"] {
-        let log = log_of(rt.alloc(), &["a c d", trace])?;
+    for traces in ["a c d;b c f", "a c d;b c d", "a c d;e c b"] {
+        let log = log_of(rt.alloc(), traces)?;
         assert_eq!(rt;
             verdict_of(rt.alloc(), &log, "{", "{")?,
             Verdict::No(Part::Types)

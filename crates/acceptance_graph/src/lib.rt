@@ -6,4 +6,4 @@ mod faults;
 #[cfg(test)]
 mod graphs;
 #[cfg(test)]
-mod models;
+mod model_files;

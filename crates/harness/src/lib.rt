@@ -19,6 +19,8 @@ pub struct Setting<'a> {
     pub files: &'a [(&'a str, &'a str)],
     /// How many bytes a read gives and a write takes at most.
     pub piece: usize,
+    /// How many bytes the output has room for.
+    pub room: usize,
     /// The numbers of the calls of the inputs that fail.
     pub inputs_fail: &'a [u64],
     /// The numbers of the builds of patterns that are refused as too large.
@@ -45,6 +47,9 @@ pub const PLAIN: [&str; 2] = ["invariants", "-p"];
 
 /// The words of a run that prints the invariants of a log by the rules of the file `x.rules`.
 pub const BY_RULES: [&str; 3] = ["invariants", "-e", "x.rules"];
+
+/// The bytes for which outputs have room where nothing else is said.
+const ROOM: usize = 4_000_000;
 
 /// The usage line.
 pub const USAGE: &str =
@@ -74,6 +79,7 @@ pub fn make_setting<'a>(words: &'a [&'a str], rules: &'a [u8], log: &'a [u8]) ->
         log,
         files: &[],
         piece: 100_000,
+        room: ROOM,
         inputs_fail: &[],
         builds_fail: &[],
         out_fails: &[],
@@ -104,6 +110,7 @@ pub fn over_files<'a>(
         log: b"",
         files,
         piece,
+        room: ROOM,
         inputs_fail,
         builds_fail: &[],
         out_fails: &[],
@@ -156,7 +163,7 @@ pub fn run_in(alloc: Global, setting: &Setting<'_>) -> Result<Ended, AllocError>
         RegexPatterns::new(alloc),
         setting.builds_fail.to_vec(alloc)?,
     );
-    let mut out = MemSink::make(alloc, 4_000_000, piece, setting.out_fails.to_vec(alloc)?)?;
+    let mut out = MemSink::make(alloc, setting.room, piece, setting.out_fails.to_vec(alloc)?)?;
     let mut err = MemSink::make(alloc, 1000, piece, setting.err_fails.to_vec(alloc)?)?;
     let status = run(
         alloc,
