@@ -1,5 +1,6 @@
 -- The word of a trace, followed by sets of ids.
-use Rattle.std.proofs.Common.{◌≡◌, ◌↔◌, ℕ, ◌+◌, ◌<◌, ◌&&◌, nat_lt, Bool, true, false, List, [], ◌∷◌, length, refl, sym, ◌∙◌, ap, ap₂, inl, inr, arith, get_or, eq-eqb, eqb-true, lt-ltb, le-ltb}
+use Rattle.std.proofs.Common.{◌≡◌, ◌↔◌, ℕ, ◌+◌, ◌<◌, ◌&&◌, nat_lt, Bool, true, false, List, [], ◌∷◌, ◌++◌, Option, Some, None, length, refl, sym, ◌∙◌, ap, ap₂, inl, inr, arith, get_or, eq-eqb, eqb-true, lt-ltb, le-ltb}
+use Rattle.std.specs.Prelude.{IfSome}
 use Rattle.std.proofs.lemmas.Bool.{and_parts, cases_lt}
 use Rattle.std.proofs.lemmas.List.{get_or_past}
 use Rattle.limits.specs.declared.TheConstants.{INITIAL, TERMINAL, MAX_PARTITIONS}
@@ -7,7 +8,8 @@ use Rattle.bit_rows.specs.Tables.{row_at, HasShape}
 use Rattle.partition_model.specs.Graphs.{Graph, Walk, IsPath, word, Accepts}
 use Rattle.partition_model.specs.Assignments.{with_ends}
 use Rattle.model_check.specs.declared.sets.TheConstants.{MEMBERS, LISTED, NOW, ROWS, TYPES}
-use Rattle.model_check.specs.Rows.{bit, shown, IsEntered, IsLaid}
+use Rattle.model_check.specs.Rows.{bit, shown, IsLaid}
+use Rattle.model_check.specs.Steps.{in_hand, IsEnteredFrom}
 
 -- from some id of the set goes a walk with these types that ends at TERMINAL
 abbrev pub Continues : Graph → (ℕ → Bool) → List ℕ → Type 0
@@ -52,11 +54,12 @@ follow_end g set = (λ o. there o, λ e. (TERMINAL, [], e, refl, refl))
     there (p, [], s, w, e) = ap set (sym w) ∙ s
     there (p, x ∷ xs, s, w, e) = absurd (cc e)
 
--- what lies in the rows, and the word as far as it was followed
-pub record IsFollowed (g : Graph) (whole : List ℕ) (types : List ℕ) (rows : List (List Bool)) (rest : List ℕ) : Type 0 where
+-- what lies in the rows, the set in hand, and the word as far as it was followed
+pub record IsFollowed (g : Graph) (whole : List ℕ) (types : List ℕ) (rows : List (List Bool)) (hand : Option ℕ) (rest : List ℕ) : Type 0 where
   pub laid : IsLaid types rows
   pub shows : shown (record { types = types; rows = rows }) ≡ g
-  pub tells : Accepts g (with_ends whole) ↔ Continues g (λ q. bit rows NOW q) rest
+  pub within : IfSome hand (λ p. p < MAX_PARTITIONS)
+  pub tells : Accepts g (with_ends whole) ↔ Continues g (in_hand rows hand) rest
 
 -- an id that is on has a place in the row
 pub bit-within : (rows : List (List Bool)) (r q : ℕ) → HasShape rows ROWS MAX_PARTITIONS → r < ROWS → bit rows r q ≡ true → q < MAX_PARTITIONS
@@ -66,12 +69,21 @@ bit-within rows r q shape h e =
       | inr p ↦ absurd (let long : length (row_at rows r) ≡ MAX_PARTITIONS = shape.long r h in let f : bit rows r q ≡ false = get_or_past (row_at rows r) q false (omega arith) in cc)
     ]
 
+-- an id in hand has a place in the rows
+in-hand-within : (rows : List (List Bool)) (hand : Option ℕ) (p : ℕ) → HasShape rows ROWS MAX_PARTITIONS → IfSome hand (λ q. q < MAX_PARTITIONS) → in_hand rows hand p ≡ true → p < MAX_PARTITIONS
+in-hand-within rows None p shape w e = bit-within rows NOW p shape (omega arith) e
+in-hand-within rows (Some q) p shape w e =
+    let same : p ≡ q = eqb-true p q e in
+    let l : q < MAX_PARTITIONS = w in
+    omega arith
+
 -- what the next set has, in the words of the graph
-entered-is : (g : Graph) (types : List ℕ) (rows : List (List Bool)) (x q : ℕ) → IsLaid types rows → shown (record { types = types; rows = rows }) ≡ g → 0 < x → x < TYPES
-    → IsEntered rows x q ↔ ((p : ℕ) × (bit rows NOW p ≡ true) × (g.edge p q ≡ true) × (g.typ q ≡ x))
-entered-is g types rows x q laid s low high = (
+entered-is : (g : Graph) (types : List ℕ) (rows : List (List Bool)) (hand : Option ℕ) (x q : ℕ) → IsLaid types rows → shown (record { types = types; rows = rows }) ≡ g → IfSome hand (λ p. p < MAX_PARTITIONS)
+    → 0 < x → x < TYPES
+    → IsEnteredFrom (in_hand rows hand) rows x q ↔ ((p : ℕ) × (in_hand rows hand p ≡ true) × (g.edge p q ≡ true) × (g.typ q ≡ x))
+entered-is g types rows hand x q laid s within low high = (
   λ o.
-      let l : o.0 < MAX_PARTITIONS = bit-within rows NOW o.0 laid.shape (omega arith) o.1 in
+      let l : o.0 < MAX_PARTITIONS = in-hand-within rows hand o.0 laid.shape within o.1 in
       (o.0, o.1, sym (edges o.0) ∙ rw (lt-ltb o.0 MAX_PARTITIONS l) o.2, sym (ap (λ (h : Graph). h.typ q) s) ∙ eqb-true _ x (sym (laid.members x q low high) ∙ o.3)),
   λ o.
       let both = and_parts (nat_lt o.0 MAX_PARTITIONS) (bit rows o.0 q) (edges o.0 ∙ o.2) in
@@ -106,18 +118,31 @@ still-laid types old new laid shape same =
     }
 
 -- one step
-pub follow_more : (g : Graph) (whole types : List ℕ) (old new : List (List Bool)) (x : ℕ) (rest : List ℕ) → 0 < x → x < TYPES
-    → HasShape new ROWS MAX_PARTITIONS → ((r k : ℕ) → r < NOW → bit new r k ≡ bit old r k) → ((q : ℕ) → (bit new NOW q ≡ true) ↔ IsEntered old x q)
-    → IsFollowed g whole types old (x ∷ rest) → IsFollowed g whole types new rest
-follow_more g whole types old new x rest low high shape same set f =
-    let next : IsNextSet g (λ q. bit old NOW q) x (λ q. bit new NOW q) = λ q.
-    let e = entered-is g types old x q f.laid f.shows low high in
+pub follow_more : (g : Graph) (whole types : List ℕ) (old new : List (List Bool)) (from to : Option ℕ) (x : ℕ) (rest : List ℕ) → 0 < x → x < TYPES
+    → HasShape new ROWS MAX_PARTITIONS → ((r k : ℕ) → r < NOW → bit new r k ≡ bit old r k) → IfSome to (λ p. p < MAX_PARTITIONS)
+    → ((q : ℕ) → (in_hand new to q ≡ true) ↔ IsEnteredFrom (in_hand old from) old x q)
+    → IsFollowed g whole types old from (x ∷ rest) → IsFollowed g whole types new to rest
+follow_more g whole types old new from to x rest low high shape same within set f =
+    let next : IsNextSet g (in_hand old from) x (in_hand new to) = λ q.
+    let e = entered-is g types old from x q f.laid f.shows f.within low high in
     (λ b. e.0 ((set q).0 b), λ o. (set q).1 (e.1 o)) in
     record {
       laid = still-laid types old new f.laid shape same;
       shows = still-shown types old new same ∙ f.shows;
+      within = within;
       tells = (
-        λ a. goes-on g (λ q. bit old NOW q) (λ q. bit new NOW q) x rest next (f.tells.0 a),
-        λ k. f.tells.1 (goes-back g (λ q. bit old NOW q) (λ q. bit new NOW q) x rest next k),
+        λ a. goes-on g (in_hand old from) (in_hand new to) x rest next (f.tells.0 a),
+        λ k. f.tells.1 (goes-back g (in_hand old from) (in_hand new to) x rest next k),
       );
+    }
+
+-- at the start
+pub follow_first : (g : Graph) (whole types : List ℕ) (rows : List (List Bool)) → IsLaid types rows → shown (record { types = types; rows = rows }) ≡ g → g.typ INITIAL ≡ INITIAL
+    → IsFollowed g whole types rows (Some INITIAL) (whole ++ TERMINAL ∷ [])
+follow_first g whole types rows laid shows ty =
+    record {
+      laid = laid;
+      shows = shows;
+      within = omega arith;
+      tells = follow_start g (in_hand rows (Some INITIAL)) (whole ++ TERMINAL ∷ []) ty (λ q. (λ e. eqb-true q INITIAL e, λ e. eq-eqb q INITIAL e));
     }

@@ -10,3 +10,4 @@ pub mod Inductive
 pub mod Breaking
 pub mod Opening
 pub mod Reading
+pub mod Stepping

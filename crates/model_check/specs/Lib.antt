@@ -3,3 +3,4 @@ pub mod States
 pub mod Kept
 pub mod Rows
 pub mod Pairs
+pub mod Steps

@@ -8,7 +8,8 @@ ghost use Rattle.partition_model.specs.Graphs.{Accepts, merged_edge};
 ghost use Rattle.traces.specs.Kept.{IsTypeNumber};
 ghost use Rattle.model_check.specs.Rows.{shown, IsMarkable, AreApart};
 
-use crate::sets::{IDS, NOW, ROWS, advance, mark_edges, mark_partitions};
+use crate::sets::{IDS, ROWS, mark_edges, mark_partitions};
+use crate::steps::{Targets, is_in_hand, step};
 use bit_rows::Rows;
 use invariants::Partition;
 use limits::{INITIAL, MAX_PARTITIONS, TERMINAL};
@@ -36,16 +37,19 @@ pub struct ModelGraph {
     types: Vec<u16>,
     /// Where edges lead, the ids of each type, and the sets of ids in hand.
     rows: Rows,
+    /// To which id each type leads from each id.
+    targets: Targets,
 }
 
 impl Model for ModelGraph {
     ghost use Rattle.model_check.specs.Rows.{Tables, IsLaid};
+    ghost use Rattle.model_check.specs.Steps.{AreTargets};
 
     ghost Value = { Tables };
 
     ghost view = { λ g. record { types = g.types.items; rows = g.rows } };
 
-    ghost invariant = { λ g. IsLaid g.types.items g.rows };
+    ghost invariant = { λ g. IsLaid g.types.items g.rows × AreTargets g.rows g.targets.ids.items };
 }
 
 impl ModelGraph {
@@ -58,7 +62,12 @@ impl ModelGraph {
         let mut rows = Rows::make(alloc, ROWS, IDS)?;
         mark_partitions(&mut rows, model.partitions.as_slice());
         mark_edges(&mut rows, model.edges.as_slice());
-        Ok(ModelGraph { types, rows })
+        let targets = Targets::make(alloc)?;
+        Ok(ModelGraph {
+            types,
+            rows,
+            targets,
+        })
     }
 
     /// Whether there is an edge from p to q.
@@ -99,12 +108,11 @@ impl ModelGraph {
         ensures accepts { IsTrue result ↔ Accepts (shown self.old) (with_ends events.now) }
         ensures stays { shown self.new ≡ shown self.old }
     {
-        self.rows.clear(NOW);
-        self.rows.put(NOW, INITIAL as usize, true);
+        let mut hand = Some(INITIAL as usize);
         for typ in events {
-            advance(&mut self.rows, usize::from(*typ));
+            hand = step(&mut self.rows, &mut self.targets, hand, usize::from(*typ));
         }
-        advance(&mut self.rows, TERMINAL as usize);
-        self.rows.get(NOW, TERMINAL as usize)
+        hand = step(&mut self.rows, &mut self.targets, hand, TERMINAL as usize);
+        is_in_hand(&self.rows, hand, TERMINAL as usize)
     }
 }

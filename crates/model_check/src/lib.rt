@@ -16,6 +16,7 @@ mod labels;
 mod listing;
 mod sets;
 mod states;
+mod steps;
 mod verdict;
 
 use acceptance::first_refused;

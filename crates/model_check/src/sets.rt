@@ -1,5 +1,5 @@
 //! Rows of ids: where edges lead from each id, the ids of each type, and the set of ids in hand.
-ghost use Rattle.std.specs.Prelude.{◌≡◌, ◌↔◌, ◌<◌, ℕ, true, ◌||◌, IsTrue, All};
+ghost use Rattle.std.specs.Prelude.{◌≡◌, ◌↔◌, ◌<◌, ℕ, true, ◌||◌, IsTrue, IfSome, All};
 ghost use Rattle.limits.specs.declared.TheConstants.{MAX_PARTITIONS};
 ghost use Rattle.bit_rows.specs.Tables.{HasShape};
 ghost use Rattle.models.specs.Models.{has_edge};
@@ -53,6 +53,31 @@ pub fn mark_edges(rows: &mut Rows, edges: &[Edge])
 {
     for edge in edges {
         rows.put(edge.from as usize, edge.to as usize, true);
+    }
+}
+
+/// Makes the id the only one of the set in hand.
+pub fn take_up(rows: &mut Rows, p: usize)
+    requires shape { HasShape rows.old ROWS IDS }
+    requires id { p < IDS }
+    ensures shape { HasShape rows.new ROWS IDS }
+    ensures others { (r k : ℕ) → r < NOW → bit rows.new r k ≡ bit rows.old r k }
+    ensures set { (q : ℕ) → (bit rows.new NOW q ≡ true) ↔ (q ≡ p) }
+{
+    rows.clear(NOW);
+    rows.put(NOW, p, true);
+}
+
+/// The id that is the only one of the set in hand; `None` where it has none or several.
+pub fn only_one(rows: &Rows) -> Option<usize>
+    requires { HasShape rows.now ROWS IDS }
+    ensures within { IfSome result (λ p. p < IDS) }
+    ensures only { IfSome result (λ p. (q : ℕ) → (bit rows.now NOW q ≡ true) ↔ (q ≡ p)) }
+{
+    let p = rows.first_set(NOW)?;
+    match rows.next_set(NOW, p + 1) {
+        Some(_) => None,
+        None => Some(p),
     }
 }
 

@@ -9,6 +9,7 @@ use Rattle.std.proofs.lemmas.List.Elements.{All-from_recursion}
 use Rattle.model_check.specs.Rows.{bit, marked, IsEdgeWithin, AreApart}
 use Rattle.model_check.proofs.Bits.{no-bit}
 use Rattle.model_check.proofs.Building.{ascends-apart, edges-within, IsBuilt, built-laid, built-shown}
+use Rattle.model_check.proofs.Stepping.{none-known-right}
 use Rattle.model_check.proofs.graph.ModelGraph.of.Goals as goal
 use Rattle.model_check.proofs.graph.ModelGraph.of.Goals.{After-mark_edges}
 
@@ -33,7 +34,10 @@ built c =
     }
 
 pub invariant_of-result : goal.invariant_of-result
-invariant_of-result c = built-laid c.args.model.now c.in_ok-types.types.items c.mark_edges.new.rows c.requires (built ((goal.at.invariant_of-result c).After-mark_edges))
+invariant_of-result c = (
+  built-laid c.args.model.now c.in_ok-types.types.items c.mark_edges.new.rows c.requires (built ((goal.at.invariant_of-result c).After-mark_edges)),
+  none-known-right c.mark_edges.new.rows c.in_ok-targets.targets.ids.items c.in_ok-targets.ensures,
+)
 
 pub returns : goal.returns
 returns c = built-shown c.args.model.now c.in_ok-types.types.items c.mark_edges.new.rows c.requires (built ((goal.at.returns c).After-mark_edges))

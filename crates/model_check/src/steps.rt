@@ -1,0 +1,113 @@
+//! Steps from one set of ids to the next. Most sets are of one id, and where a type leads from it to one id alone, this is
+//! kept, so that the same step costs one look the next time.
+ghost use Rattle.std.specs.Prelude.{◌≡◌, ◌↔◌, ◌<◌, ◌*◌, ◌==◌, ◌&&◌, ℕ, true, length, if◌then◌else◌, IfOk, IfSome};
+ghost use Rattle.limits.specs.declared.TheConstants.{MAX_PARTITIONS};
+ghost use Rattle.bit_rows.specs.Tables.{HasShape};
+ghost use Rattle.model_check.specs.Rows.{bit};
+ghost use Rattle.model_check.specs.declared.sets.TheConstants.{TYPES};
+ghost use Rattle.model_check.specs.Steps.{known, in_hand, AreTargets, IsEnteredFrom};
+
+use crate::sets::{IDS, NOW, ROWS, TYPES, advance, only_one, take_up};
+use bit_rows::Rows;
+use std::alloc::{AllocError, Global};
+
+/// For each id and type the one id to which the type leads from it, where that is known, and else 0.
+#[derive(Drop)]
+pub struct Targets {
+    ids: Vec<u16>,
+    ghost size: { length ids.items ≡ MAX_PARTITIONS * TYPES },
+}
+
+impl Targets {
+    /// None is known.
+    pub fn make(alloc: Global) -> Result<Targets, AllocError>
+        ensures { IfOk result (λ targets. (p t : ℕ) → known targets.ids.items p t ≡ 0) }
+    {
+        Ok(Targets {
+            ids: vec![in alloc; 0; IDS * TYPES]?,
+        })
+    }
+
+    /// The one id to which the type leads, where that is known, and else 0.
+    pub fn get(&self, p: usize, typ: usize) -> usize
+        requires id { p < IDS }
+        requires typ { typ < TYPES }
+        ensures { result ≡ known (self.now).ids.items p typ }
+    {
+        usize::from(self.ids[p * TYPES + typ])
+    }
+
+    /// Keeps that the type leads from the one id to the other alone.
+    pub fn put(&mut self, p: usize, typ: usize, q: usize)
+        requires id { p < IDS }
+        requires typ { typ < TYPES }
+        requires target { q < IDS }
+        ensures { (r t : ℕ) → t < TYPES → known (self.new).ids.items r t
+            ≡ (if r == p && t == typ then q else known (self.old).ids.items r t) }
+    {
+        self.ids[p * TYPES + typ] = q as u16;
+    }
+}
+
+/// The same as `step` from one id, where it is not known to what it leads.
+fn step_anew(rows: &mut Rows, targets: &mut Targets, p: usize, typ: usize) -> Option<usize>
+    requires shape { HasShape rows.old ROWS IDS }
+    requires id { p < IDS }
+    requires typ { typ < TYPES }
+    requires targets { AreTargets rows.old (targets.old).ids.items }
+    ensures shape { HasShape rows.new ROWS IDS }
+    ensures others { (r k : ℕ) → r < NOW → bit rows.new r k ≡ bit rows.old r k }
+    ensures targets { AreTargets rows.new (targets.new).ids.items }
+    ensures within { IfSome result (λ q. q < IDS) }
+    ensures set { (q : ℕ) → (in_hand rows.new result q ≡ true)
+        ↔ IsEnteredFrom (λ x. x == p) rows.old typ q }
+{
+    take_up(rows, p);
+    advance(rows, typ);
+    let only = only_one(rows);
+    if let Some(q) = only {
+        targets.put(p, typ, q);
+    }
+    only
+}
+
+/// Exchanges the set in hand, which is of one id or else in its row, for the ids of the type to which edges lead from it.
+pub fn step(
+    rows: &mut Rows,
+    targets: &mut Targets,
+    hand: Option<usize>,
+    typ: usize,
+) -> Option<usize>
+    requires shape { HasShape rows.old ROWS IDS }
+    requires within { IfSome hand (λ p. p < IDS) }
+    requires typ { typ < TYPES }
+    requires targets { AreTargets rows.old (targets.old).ids.items }
+    ensures shape { HasShape rows.new ROWS IDS }
+    ensures others { (r k : ℕ) → r < NOW → bit rows.new r k ≡ bit rows.old r k }
+    ensures targets { AreTargets rows.new (targets.new).ids.items }
+    ensures within { IfSome result (λ q. q < IDS) }
+    ensures set { (q : ℕ) → (in_hand rows.new result q ≡ true)
+        ↔ IsEnteredFrom (in_hand rows.old hand) rows.old typ q }
+{
+    let Some(p) = hand else {
+        advance(rows, typ);
+        return only_one(rows);
+    };
+    let target = targets.get(p, typ);
+    if target != 0 {
+        return Some(target);
+    }
+    step_anew(rows, targets, p, typ)
+}
+
+/// Whether the id is in the set in hand.
+pub fn is_in_hand(rows: &Rows, hand: Option<usize>, q: usize) -> bool
+    requires shape { HasShape rows.now ROWS IDS }
+    requires id { q < IDS }
+    ensures { result ≡ in_hand rows.now hand q }
+{
+    match hand {
+        Some(p) => q == p,
+        None => rows.get(NOW, q),
+    }
+}
