@@ -1,36 +1,29 @@
 -- Labels by ids are inductive where the start, the end and each edge are right.
-use Rattle.std.proofs.Common.{◌≡◌, ℕ, true, false, List, get_or, sym, ◌∙◌, ap, subst, subst₂}
+use Rattle.std.proofs.Common.{◌≡◌, ℕ, true, List, get_or, sym, ◌∙◌, ap, subst, subst₂}
 use Rattle.std.proofs.lemmas.List.Elements.{All-from_recursion, recursion_from_All}
 use Rattle.std.specs.List.{All}
 use Rattle.limits.specs.declared.TheConstants.{INITIAL, TERMINAL}
-use Rattle.invariants.specs.declared.Invariant.{Invariant}
 use Rattle.invariants.specs.declared.records.Edge.{Edge}
 use Rattle.invariants.specs.declared.records.Listed.{Listed}
 use Rattle.invariants.specs.declared.records.Model.{Model}
-use Rattle.invariants.specs.Monitors.{step, is_bad}
+use Rattle.invariants.specs.Monitors.{step}
 use Rattle.partition_model.specs.Graphs.{Graph}
 use Rattle.partition_model.proofs.Lists.{In, all_in, all_from}
 use Rattle.models.specs.Models.{graph_of, has_state, label_at, IsLabelled}
 use Rattle.models.proofs.Agreeing.{In-edges, edge-in}
-use Rattle.model_check.specs.States.{LeadsWithin}
+use Rattle.model_check.specs.States.{AreRightEnds, LeadsWithin}
 
 -- a label for each id, from the labels beside the partitions
 abbrev pub AreLabelsOf : Model → Listed → List ℕ → Type 0
 AreLabelsOf m l labels = (p : ℕ) → get_or labels p 0 ≡ label_at p m.partitions l.labels
 
-abbrev pub Starts : Invariant → Graph → List ℕ → Type 0
-Starts inv g labels = has_state (get_or labels INITIAL 0) (step inv 0 (g.typ INITIAL)) ≡ true
-
-abbrev pub Ends : Invariant → List ℕ → Type 0
-Ends inv labels = (s : ℕ) → has_state (get_or labels TERMINAL 0) s ≡ true → is_bad inv s ≡ false
-
 module _ (m : Model) (l : Listed) (labels : List ℕ) (g : Graph) (same : g ≡ graph_of m) (laid : AreLabelsOf m l labels) where
-  pub labelled-starts : IsLabelled m l → Starts l.inv g labels
-  labelled-starts i =
-      subst₂ (λ (n : ℕ) (h : Graph). has_state n (step l.inv 0 (h.typ INITIAL)) ≡ true) (sym (laid INITIAL)) (sym same) i.start
-
-  pub labelled-ends : IsLabelled m l → Ends l.inv labels
-  labelled-ends i s h = i.end s (subst (λ (n : ℕ). has_state n s ≡ true) (laid TERMINAL) h)
+  pub labelled-ends : IsLabelled m l → AreRightEnds l.inv g labels
+  labelled-ends i =
+      record {
+        start = subst₂ (λ (n : ℕ) (h : Graph). has_state n (step l.inv 0 (h.typ INITIAL)) ≡ true) (sym (laid INITIAL)) (sym same) i.start;
+        end = λ s h. i.end s (subst (λ (n : ℕ). has_state n s ≡ true) (laid TERMINAL) h);
+      }
 
   leads : IsLabelled m l → (e : Edge) → In e m.edges → LeadsWithin l.inv g labels e
   leads i e member s h =
@@ -41,10 +34,10 @@ module _ (m : Model) (l : Listed) (labels : List ℕ) (g : Graph) (same : g ≡ 
   pub labelled-leads : IsLabelled m l → All (LeadsWithin l.inv g labels) m.edges
   labelled-leads i = All-from_recursion (LeadsWithin l.inv g labels) m.edges (all_from (LeadsWithin l.inv g labels) m.edges (leads i))
 
-  pub labelled-from : Starts l.inv g labels → Ends l.inv labels → All (LeadsWithin l.inv g labels) m.edges → IsLabelled m l
-  labelled-from start end along =
+  pub labelled-from : AreRightEnds l.inv g labels → All (LeadsWithin l.inv g labels) m.edges → IsLabelled m l
+  labelled-from ends along =
       record {
-        start = subst₂ (λ (n : ℕ) (h : Graph). has_state n (step l.inv 0 (h.typ INITIAL)) ≡ true) (laid INITIAL) same start;
+        start = subst₂ (λ (n : ℕ) (h : Graph). has_state n (step l.inv 0 (h.typ INITIAL)) ≡ true) (laid INITIAL) same ends.start;
         along = λ p q s e h.
             let o : (x : Edge) × In x m.edges × (x.from ≡ p) × (x.to ≡ q) = edge-in p q m.edges e in
             let w : LeadsWithin l.inv g labels o.0 = all_in (LeadsWithin l.inv g labels) o.0 m.edges (recursion_from_All (LeadsWithin l.inv g labels) m.edges along) o.1 in
@@ -53,5 +46,5 @@ module _ (m : Model) (l : Listed) (labels : List ℕ) (g : Graph) (same : g ≡ 
             let moved : has_state (label_at o.0.to m.partitions l.labels) (step l.inv s ((graph_of m).typ o.0.to)) ≡ true =
             subst₂ (λ (n : ℕ) (k : Graph). has_state n (step l.inv s (k.typ o.0.to)) ≡ true) (laid o.0.to) same there in
             subst (λ (x : ℕ). has_state (label_at x m.partitions l.labels) (step l.inv s ((graph_of m).typ x)) ≡ true) o.3 moved;
-        end = λ s h. end s (subst (λ (n : ℕ). has_state n s ≡ true) (sym (laid TERMINAL)) h);
+        end = λ s h. ends.end s (subst (λ (n : ℕ). has_state n s ≡ true) (sym (laid TERMINAL)) h);
       }

@@ -1,5 +1,5 @@
 pub mod SmallSets
-pub mod Images
+pub mod Sources
 pub mod Bits
 pub mod Tabling
 pub mod Following
@@ -11,3 +11,4 @@ pub mod Breaking
 pub mod Opening
 pub mod Reading
 pub mod Stepping
+pub mod Together

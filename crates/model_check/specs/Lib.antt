@@ -4,3 +4,4 @@ pub mod Kept
 pub mod Rows
 pub mod Pairs
 pub mod Steps
+pub mod Columns

@@ -6,19 +6,20 @@ ghost use Rattle.invariants.specs.Monitors.{step, is_bad};
 ghost use Rattle.model_shape.specs.Shapes.{IsLabel, IsShapedListed, IsWellShaped};
 ghost use Rattle.models.specs.Checks.{IsFirstFailure};
 ghost use Rattle.models.specs.Models.{graph_of, has_state, label_at, IsLabelled};
-ghost use Rattle.model_check.specs.Kept.{AreImagesOf};
+ghost use Rattle.model_check.specs.Kept.{AreSourcesOf};
 ghost use Rattle.model_check.specs.Rows.{shown, IsMarkable, AreApart, IsEdgeWithin};
-ghost use Rattle.model_check.specs.States.{LeadsWithin};
+ghost use Rattle.model_check.specs.States.{AreRightEnds, LeadsWithin};
 
+use crate::columns::{Columns, count_labelled};
 use crate::graph::ModelGraph;
 use crate::sets::IDS;
-use crate::states::{Images, STATES, has_state};
+use crate::states::{STATES, Sources, has_state, is_within};
 use invariants::{Edge, Invariant, Listed, Model, Monitor, Partition};
 use limits::{INITIAL, TERMINAL};
 use std::alloc::{AllocError, Global};
 
 /// Puts the label of each partition at the place of its id, and 0 at all others.
-fn lay_labels(labels: &mut [u8], partitions: &[Partition], given: &[u8])
+pub fn lay_labels(labels: &mut [u8], partitions: &[Partition], given: &[u8])
     requires size { length labels.old ≡ MAX_PARTITIONS }
     requires markable { All IsMarkable partitions.now }
     requires apart { AreApart partitions.now }
@@ -34,17 +35,17 @@ fn lay_labels(labels: &mut [u8], partitions: &[Partition], given: &[u8])
 }
 
 /// Whether each edge leads each state in the label of its start to a state in that of its end.
-fn keep_along(images: &Images, graph: &ModelGraph, labels: &[u8], edges: &[Edge]) -> bool
-    requires images { AreImagesOf images.now (images.now).inv }
+fn keep_along(sources: &Sources, graph: &ModelGraph, labels: &[u8], edges: &[Edge]) -> bool
+    requires sources { AreSourcesOf sources.now (sources.now).inv }
     requires size { length labels.now ≡ MAX_PARTITIONS }
     requires labels { All IsLabel labels.now }
     requires within { All IsEdgeWithin edges.now }
-    ensures { IsTrue result ↔ All (LeadsWithin (images.now).inv (shown graph.now) labels.now) edges.now }
+    ensures { IsTrue result ↔ All (LeadsWithin (sources.now).inv (shown graph.now) labels.now) edges.now }
 {
     for edge in edges {
         let from = labels[edge.from as usize];
         let to = labels[edge.to as usize];
-        if !images.lead_within(from, to, graph.type_of(edge.to)) {
+        if !is_within(from, sources.leading_into(to, graph.type_of(edge.to))) {
             return false;
         }
     }
@@ -64,6 +65,19 @@ fn is_good(inv: Invariant, set: u8) -> bool
     true
 }
 
+/// Whether the first state of the invariant's monitor is in the label of INITIAL, and no bad one in that of TERMINAL.
+pub fn has_right_ends(inv: Invariant, graph: &ModelGraph, labels: &[u8]) -> bool
+    requires size { length labels.now ≡ MAX_PARTITIONS }
+    requires labels { All IsLabel labels.now }
+    ensures { IsTrue result ↔ AreRightEnds inv (shown graph.now) labels.now }
+{
+    let start = Monitor::step(inv, Monitor::start(), graph.type_of(INITIAL));
+    if !has_state(labels[INITIAL as usize], start) {
+        return false;
+    }
+    is_good(inv, labels[TERMINAL as usize])
+}
+
 /// Whether the labels of the listed invariant are inductive. What stands in `labels` is overwritten.
 fn is_labelled(model: &Model, graph: &ModelGraph, listed: &Listed, labels: &mut [u8]) -> bool
     requires shaped { IsWellShaped model.now }
@@ -77,15 +91,11 @@ fn is_labelled(model: &Model, graph: &ModelGraph, listed: &Listed, labels: &mut 
         model.partitions.as_slice(),
         listed.labels.as_slice(),
     );
-    let start = Monitor::step(listed.inv, Monitor::start(), graph.type_of(INITIAL));
-    if !has_state(labels[INITIAL as usize], start) {
-        return false;
-    }
-    if !is_good(listed.inv, labels[TERMINAL as usize]) {
+    if !has_right_ends(listed.inv, graph, labels) {
         return false;
     }
     keep_along(
-        &Images::of(listed.inv),
+        &Sources::of(listed.inv),
         graph,
         labels,
         model.edges.as_slice(),
@@ -106,8 +116,11 @@ pub fn first_unlabelled(
         (IsFirstFailure (IsLabelled model.now) (model.now).invariants)) }
 {
     let mut labels = vec![in alloc; 0; IDS]?;
-    for (i, listed) in model.invariants.as_slice().iter().enumerate() {
-        if !is_labelled(model, graph, listed, &mut labels) {
+    let mut columns = Columns::make(alloc)?;
+    let invariants = model.invariants.as_slice();
+    let count = count_labelled(&mut columns, model, graph, &mut labels);
+    for i in count..invariants.len() {
+        if !is_labelled(model, graph, &invariants[i], &mut labels) {
             return Ok(Some(i as u32));
         }
     }

@@ -11,6 +11,7 @@ ghost use Rattle.model_check.specs.Verdicts.{typed_words_of, IsVerdict};
 
 mod acceptance;
 mod blocks;
+mod columns;
 mod graph;
 mod labels;
 mod listing;

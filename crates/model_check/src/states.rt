@@ -3,7 +3,7 @@ ghost use Rattle.std.specs.Prelude.{◌≡◌, ◌↔◌, ◌<◌, ◌≤◌, �
 ghost use Rattle.invariants.specs.Monitors.{step, is_bad};
 ghost use Rattle.models.specs.Models.{has_state};
 ghost use Rattle.model_shape.specs.Shapes.{IsLabel};
-ghost use Rattle.model_check.specs.States.{IsImage, AreImages, StaysWithin};
+ghost use Rattle.model_check.specs.States.{IsSource, AreSources};
 
 use invariants::{Invariant, Monitor};
 
@@ -49,7 +49,7 @@ fn either(set: u8, other: u8) -> u8
 }
 
 /// Whether each state of the set is one of the other.
-fn is_within(set: u8, other: u8) -> bool
+pub fn is_within(set: u8, other: u8) -> bool
     requires set { IsLabel set }
     requires other { IsLabel other }
     ensures { IsTrue result ↔ ((s : ℕ) → has_state set s ≡ true → has_state other s ≡ true) }
@@ -57,68 +57,68 @@ fn is_within(set: u8, other: u8) -> bool
     set & other == set
 }
 
-/// The states in which a monitor is after it reads the type in the states of the set.
-fn image(inv: Invariant, set: u8, typ: u16) -> u8
+/// The states from which the type leads a monitor into the set.
+fn source(inv: Invariant, set: u8, typ: u16) -> u8
     requires { IsLabel set }
     ensures set { IsLabel result }
-    ensures states { IsImage inv typ set result }
+    ensures states { IsSource inv typ set result }
 {
-    let mut image = 0;
+    let mut source = 0;
     for state in 0..STATES {
-        if has_state(set, state) {
-            image = either(image, alone(Monitor::step(inv, state, typ)));
+        if has_state(set, Monitor::step(inv, state, typ)) {
+            source = either(source, alone(state));
         }
     }
-    image
+    source
 }
 
-/// The images of all sets.
-fn image_of_each(inv: Invariant, typ: u16) -> [u8; SETS]
-    ensures { AreImages inv typ result }
+/// The sources of all sets.
+fn source_of_each(inv: Invariant, typ: u16) -> [u8; SETS]
+    ensures { AreSources inv typ result }
 {
-    let mut images = [0; SETS];
+    let mut sources = [0; SETS];
     for set in 0..SETS {
-        images[set] = image(inv, set as u8, typ);
+        sources[set] = source(inv, set as u8, typ);
     }
-    images
+    sources
 }
 
-/// The images of all sets of states of an invariant's monitor: a type that the invariant does not name leaves them as
-/// they are.
+/// From which states types lead an invariant's monitor into each set: a type that the invariant does not name leaves the
+/// states as they are.
 #[derive(Drop)]
-pub struct Images {
+pub struct Sources {
     inv: Invariant,
-    after_a: [u8; SETS],
-    after_b: [u8; SETS],
+    by_a: [u8; SETS],
+    by_b: [u8; SETS],
 }
 
-impl Images {
-    ghost use Rattle.model_check.specs.Kept.{AreImagesOf};
+impl Sources {
+    ghost use Rattle.model_check.specs.Kept.{AreSourcesOf};
 
-    /// The images of the invariant's monitor.
-    pub fn of(inv: Invariant) -> Images
-        ensures { AreImagesOf result inv }
+    /// The sources of the invariant's monitor.
+    pub fn of(inv: Invariant) -> Sources
+        ensures { AreSourcesOf result inv }
     {
-        Images {
+        Sources {
             inv,
-            after_a: image_of_each(inv, inv.a),
-            after_b: image_of_each(inv, inv.b),
+            by_a: source_of_each(inv, inv.a),
+            by_b: source_of_each(inv, inv.b),
         }
     }
 
-    /// Whether the type leads each state of the first set to a state of the second.
-    pub fn lead_within(&self, from: u8, to: u8, typ: u16) -> bool
-        requires images { AreImagesOf self.now (self.now).inv }
-        requires from { IsLabel from }
-        requires to { IsLabel to }
-        ensures { IsTrue result ↔ StaysWithin (self.now).inv typ from to }
+    /// The states from which the type leads into the set.
+    pub fn leading_into(&self, set: u8, typ: u16) -> u8
+        requires sources { AreSourcesOf self.now (self.now).inv }
+        requires set { IsLabel set }
+        ensures set { IsLabel result }
+        ensures states { IsSource (self.now).inv typ set result }
     {
         if typ == self.inv.a {
-            return is_within(self.after_a[from as usize], to);
+            return self.by_a[set as usize];
         }
         if typ == self.inv.b {
-            return is_within(self.after_b[from as usize], to);
+            return self.by_b[set as usize];
         }
-        is_within(from, to)
+        set
     }
 }

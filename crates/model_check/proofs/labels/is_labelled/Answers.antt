@@ -1,18 +1,16 @@
-use Rattle.std.proofs.Common.{◌≡◌, ℕ, true≢false, List, get_or, sym, ◌∙◌, ap, ap₂, subst, subst₂}
+use Rattle.std.proofs.Common.{◌≡◌, ℕ, true≢false, List, sym, ◌∙◌, ap₂, subst, subst₂}
 use Rattle.std.proofs.lemmas.List.Elements.{All-from_recursion}
 use Rattle.std.specs.List.{All}
-use Rattle.limits.specs.declared.TheConstants.{INITIAL}
 use Rattle.invariants.specs.declared.Invariant.{Invariant}
 use Rattle.invariants.specs.declared.records.Edge.{Edge}
 use Rattle.invariants.specs.declared.records.Partition.{Partition}
-use Rattle.invariants.specs.Monitors.{step}
-use Rattle.models.specs.Models.{has_state, label_at}
+use Rattle.models.specs.Models.{label_at}
 use Rattle.model_check.specs.Rows.{shown, IsEdgeWithin, AreApart}
 use Rattle.model_check.specs.States.{LeadsWithin}
 use Rattle.model_check.proofs.Building.{ascends-apart, edges-within}
-use Rattle.model_check.proofs.Inductive.{AreLabelsOf, Starts, labelled-starts, labelled-leads, labelled-from}
+use Rattle.model_check.proofs.Inductive.{AreLabelsOf, labelled-ends, labelled-leads, labelled-from}
 use Rattle.model_check.proofs.labels.is_labelled.Goals as goal
-use Rattle.model_check.proofs.labels.is_labelled.Goals.{After-has_state}
+use Rattle.model_check.proofs.labels.is_labelled.Goals.{After-has_right_ends}
 
 pub lay_labels-requires-clause-apart : goal.lay_labels-requires-clause-apart
 lay_labels-requires-clause-apart c = subst (λ (xs : List Partition). AreApart xs) (sym c.as_slice.ensures) (ascends-apart c.args.model.now.partitions c.requires.shaped.partitions.order)
@@ -21,32 +19,25 @@ pub keep_along-requires-clause-within : goal.keep_along-requires-clause-within
 keep_along-requires-clause-within c =
     subst (λ (xs : List Edge). All IsEdgeWithin xs) (sym c.as_slice-3.ensures) (All-from_recursion IsEdgeWithin c.args.model.now.edges (edges-within c.args.model.now c.requires.shaped))
 
-laid : (c : After-has_state) → AreLabelsOf c.args.model.now c.args.listed.now c.lay_labels.new.labels
+laid : (c : After-has_right_ends) → AreLabelsOf c.args.model.now c.args.listed.now c.lay_labels.new.labels
 laid c p = c.lay_labels.ensures.labels p ∙ ap₂ (λ (xs : List Partition) (ns : List ℕ). label_at p xs ns) c.as_slice.ensures c.as_slice-2.ensures
 
--- what is tested at the start
-tested : (c : After-has_state) → c.has_state.result ≡ has_state (get_or c.lay_labels.new.labels INITIAL 0) (step c.args.listed.now.inv 0 ((shown c.args.graph.now).typ INITIAL))
-tested c =
-    c.has_state.ensures
-    ∙ ap (λ (s : ℕ). has_state (get_or c.lay_labels.new.labels INITIAL 0) s) (c.step-start.ensures.value ∙ ap₂ (λ (s t : ℕ). step c.args.listed.now.inv s t) c.start.ensures c.type_of.ensures)
-
-pub returns-then-not-has_state : goal.returns-then-not-has_state
-returns-then-not-has_state c =
-    let d : After-has_state = (goal.at.returns-then-not-has_state c).After-has_state in (
+pub returns-then-not-has_right_ends : goal.returns-then-not-has_right_ends
+returns-then-not-has_right_ends c =
+    let d : After-has_right_ends = (goal.at.returns-then-not-has_right_ends c).After-has_right_ends in (
       λ f. absurd (true≢false (sym f)),
-      λ i. absurd (true≢false (sym (tested d ∙ labelled-starts c.args.model.now c.args.listed.now c.lay_labels.new.labels (shown c.args.graph.now) c.requires.graph (laid d) i) ∙ c.if-not-has_state.true)),
+      λ i. absurd (true≢false (sym (c.has_right_ends.ensures.1 (labelled-ends c.args.model.now c.args.listed.now c.lay_labels.new.labels (shown c.args.graph.now) c.requires.graph (laid d) i)) ∙ c.if-not-has_right_ends.true)),
     )
 
 pub returns : goal.returns
 returns c =
-    let d : After-has_state = (goal.at.returns c).After-has_state in
+    let d : After-has_right_ends = (goal.at.returns c).After-has_right_ends in
     let inv : c.of.result.inv ≡ c.args.listed.now.inv = c.of.ensures.same in
-    let start : Starts c.args.listed.now.inv (shown c.args.graph.now) c.lay_labels.new.labels = sym (tested d) ∙ c.if-not-has_state.false in
     let m = c.args.model.now in
     let g = shown c.args.graph.now in
     let labels : List ℕ = c.lay_labels.new.labels in (
       λ t.
-          labelled-from m c.args.listed.now labels g c.requires.graph (laid d) start (c.is_good.ensures.0 c.if-not-is_good.false)
+          labelled-from m c.args.listed.now labels g c.requires.graph (laid d) (c.has_right_ends.ensures.0 c.if-not-has_right_ends.false)
           (subst₂ (λ (i : Invariant) (es : List Edge). All (LeadsWithin i g labels) es) inv c.as_slice-3.ensures (c.keep_along.ensures.0 t)),
       λ i.
           c.keep_along.ensures.1

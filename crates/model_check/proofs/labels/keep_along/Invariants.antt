@@ -5,4 +5,4 @@ use Rattle.model_check.specs.States.{LeadsWithin}
 use Rattle.model_check.proofs.labels.keep_along.Given as goal
 
 abbrev pub invariant-loop-edge : goal.invariant-loop-edge
-invariant-loop-edge l = (k : ℕ) (d : Edge) → k < l.edge-index → LeadsWithin l.images.inv (shown l.graph) l.labels (get_or l.edges k d)
+invariant-loop-edge l = (k : ℕ) (d : Edge) → k < l.edge-index → LeadsWithin l.sources.inv (shown l.graph) l.labels (get_or l.edges k d)

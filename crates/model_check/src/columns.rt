@@ -1,0 +1,201 @@
+//! Labels in columns, one for each of many invariants, so that an edge is tested for all of them at once.
+ghost use Rattle.std.specs.Prelude.{◌≡◌, ◌↔◌, ◌<◌, ◌≤◌, ◌*◌, ◌==◌, ◌&&◌, ℕ, length, if◌then◌else◌, IfOk, IsTrue, All};
+ghost use Rattle.limits.specs.declared.TheConstants.{MAX_PARTITIONS};
+ghost use Rattle.model_shape.specs.Shapes.{IsLabel, IsShapedListed, IsWellShaped};
+ghost use Rattle.models.specs.Models.{graph_of};
+ghost use Rattle.model_check.specs.declared.columns.TheConstants.{TOGETHER};
+ghost use Rattle.model_check.specs.Rows.{shown, IsEdgeWithin, IsMarkable};
+ghost use Rattle.model_check.specs.Columns.{at, AreColumnsOf, AreLabelledBefore, AreWithin, IsColumnOf, IsInColumn, SameOthers};
+
+use crate::graph::ModelGraph;
+use crate::labels::{has_right_ends, lay_labels};
+use crate::sets::IDS;
+use crate::states::{Sources, is_within};
+use invariants::{Edge, Invariant, Listed, Model, Partition};
+use std::alloc::{AllocError, Global};
+
+/// How many columns there are.
+pub(crate) const TOGETHER: usize = 64;
+
+/// In each column the label of each id, and the states from which the type of the id leads into this label.
+#[derive(Drop)]
+pub struct Columns {
+    labels: Vec<u8>,
+    sources: Vec<u8>,
+    ghost labels_size: { length labels.items ≡ MAX_PARTITIONS * TOGETHER },
+    ghost sources_size: { length sources.items ≡ MAX_PARTITIONS * TOGETHER },
+    ghost are_labels: { All IsLabel labels.items },
+    ghost are_sources: { All IsLabel sources.items },
+}
+
+impl Columns {
+    /// Columns of empty sets.
+    pub fn make(alloc: Global) -> Result<Columns, AllocError> {
+        Ok(Columns {
+            labels: vec![in alloc; 0; IDS * TOGETHER]?,
+            sources: vec![in alloc; 0; IDS * TOGETHER]?,
+        })
+    }
+
+    /// Puts both sets of an id into a column.
+    pub fn put(&mut self, k: usize, p: usize, label: u8, source: u8)
+        requires column { k < TOGETHER }
+        requires id { p < MAX_PARTITIONS }
+        requires label { IsLabel label }
+        requires source { IsLabel source }
+        ensures labels { (c q : ℕ) → c < TOGETHER → at (self.new).labels.items c q
+            ≡ (if c == k && q == p then label else at (self.old).labels.items c q) }
+        ensures sources { (c q : ℕ) → c < TOGETHER → at (self.new).sources.items c q
+            ≡ (if c == k && q == p then source else at (self.old).sources.items c q) }
+    {
+        self.labels[p * TOGETHER + k] = label;
+        self.sources[p * TOGETHER + k] = source;
+    }
+
+    /// Whether in each column each state in the label of the one id is in the source of the other.
+    pub fn lead_within(&self, from: usize, to: usize) -> bool
+        requires from { from < MAX_PARTITIONS }
+        requires to { to < MAX_PARTITIONS }
+        ensures { IsTrue result ↔ AreWithin (self.now).labels.items (self.now).sources.items TOGETHER from to }
+    {
+        let mut all = true;
+        for k in 0..TOGETHER {
+            all = all
+                & is_within(
+                    self.labels[from * TOGETHER + k],
+                    self.sources[to * TOGETHER + k],
+                );
+        }
+        all
+    }
+}
+
+/// Puts the labels of an invariant into a column.
+fn fill_column(
+    columns: &mut Columns,
+    k: usize,
+    inv: Invariant,
+    graph: &ModelGraph,
+    partitions: &[Partition],
+    labels: &[u8],
+)
+    requires column { k < TOGETHER }
+    requires markable { All IsMarkable partitions.now }
+    requires size { length labels.now ≡ MAX_PARTITIONS }
+    requires labels { All IsLabel labels.now }
+    ensures column { All (IsInColumn inv (shown graph.now) labels.now (columns.new).labels.items
+        (columns.new).sources.items k) partitions.now }
+    ensures other_labels { SameOthers (columns.old).labels.items (columns.new).labels.items k }
+    ensures other_sources { SameOthers (columns.old).sources.items (columns.new).sources.items k }
+{
+    let sources = Sources::of(inv);
+    for partition in partitions {
+        let label = labels[partition.id as usize];
+        let source = sources.leading_into(label, graph.type_of(partition.id));
+        columns.put(k, partition.id as usize, label, source);
+    }
+}
+
+/// Puts the labels of the listed invariant into a column, and says whether those of the two ends are right. What stands in
+/// `labels` is overwritten.
+fn lay_column(
+    columns: &mut Columns,
+    k: usize,
+    model: &Model,
+    graph: &ModelGraph,
+    listed: &Listed,
+    labels: &mut [u8],
+) -> bool
+    requires column { k < TOGETHER }
+    requires shaped { IsWellShaped model.now }
+    requires graph { shown graph.now ≡ graph_of model.now }
+    requires listed { IsShapedListed (length (model.now).types) (length (model.now).partitions) listed.now }
+    requires size { length labels.old ≡ MAX_PARTITIONS }
+    ensures column { IsTrue result → IsColumnOf model.now listed.now (columns.new).labels.items
+        (columns.new).sources.items k }
+    ensures other_labels { SameOthers (columns.old).labels.items (columns.new).labels.items k }
+    ensures other_sources { SameOthers (columns.old).sources.items (columns.new).sources.items k }
+{
+    lay_labels(
+        labels,
+        model.partitions.as_slice(),
+        listed.labels.as_slice(),
+    );
+    fill_column(
+        columns,
+        k,
+        listed.inv,
+        graph,
+        model.partitions.as_slice(),
+        labels,
+    );
+    has_right_ends(listed.inv, graph, labels)
+}
+
+/// Puts the labels of the listed invariants from a place on into the columns, as many as there are columns, and says
+/// whether those of their ends are all right. What stands in `labels` is overwritten.
+fn lay_columns(
+    columns: &mut Columns,
+    model: &Model,
+    graph: &ModelGraph,
+    from: usize,
+    labels: &mut [u8],
+) -> bool
+    requires shaped { IsWellShaped model.now }
+    requires graph { shown graph.now ≡ graph_of model.now }
+    requires from { from ≤ length (model.now).invariants }
+    requires size { length labels.old ≡ MAX_PARTITIONS }
+    ensures { IsTrue result → AreColumnsOf model.now (columns.new).labels.items (columns.new).sources.items from TOGETHER }
+{
+    let invariants = model.invariants.as_slice();
+    for k in 0..TOGETHER {
+        if k >= invariants.len() - from {
+            return true;
+        }
+        if !lay_column(columns, k, model, graph, &invariants[from + k], labels) {
+            return false;
+        }
+    }
+    true
+}
+
+/// Whether in each column each edge leads from the label of its start into that of its end.
+fn keep_all_along(columns: &Columns, edges: &[Edge]) -> bool
+    requires within { All IsEdgeWithin edges.now }
+    ensures { IsTrue result ↔ All (λ e. AreWithin (columns.now).labels.items (columns.now).sources.items
+        TOGETHER e.from e.to) edges.now }
+{
+    for edge in edges {
+        if !columns.lead_within(edge.from as usize, edge.to as usize) {
+            return false;
+        }
+    }
+    true
+}
+
+/// How many of the first listed invariants are found to have inductive labels by columns. It may be fewer than have them.
+/// What stands in `labels` is overwritten.
+pub fn count_labelled(
+    columns: &mut Columns,
+    model: &Model,
+    graph: &ModelGraph,
+    labels: &mut [u8],
+) -> usize
+    requires shaped { IsWellShaped model.now }
+    requires graph { shown graph.now ≡ graph_of model.now }
+    requires size { length labels.old ≡ MAX_PARTITIONS }
+    ensures within { result ≤ length (model.now).invariants }
+    ensures labelled { AreLabelledBefore model.now result }
+{
+    let mut count = 0;
+    while count < model.invariants.as_slice().len() {
+        if !lay_columns(columns, model, graph, count, labels) {
+            return count;
+        }
+        if !keep_all_along(columns, model.edges.as_slice()) {
+            return count;
+        }
+        count = model.invariants.as_slice().len().min(count + TOGETHER);
+    }
+    count
+}
