@@ -1,10 +1,10 @@
 -- The bits of a table after writes to its rows.
-use Rattle.std.proofs.Common.{◌≡◌, ◌≢◌, ℕ, ◌+◌, ◌*◌, ◌<◌, Bool, true, false, not, ◌&&◌, ◌||◌, eqb, List, [], length, set, refl, sym, ap, ap₂, ◌∙◌, arith, inl, inr}
-use Rattle.std.proofs.lemmas.List.{get_or-set_same, get_or-set_other}
-use Rattle.std.proofs.lemmas.Bool.{cases_eq, eq-eqb, ne_eqb}
+use Rattle.std.proofs.Common.{◌≡◌, ◌≢◌, ℕ, ◌+◌, ◌*◌, ◌<◌, Bool, true, false, not, ◌&&◌, ◌||◌, eqb, List, [], length, set, replicate, refl, sym, ap, ap₂, ◌∙◌, arith, inl, inr, true≢false}
+use Rattle.std.proofs.lemmas.List.{get_or-set_same, get_or-set_other, get_or-replicate, get_or_past, length-replicate}
+use Rattle.std.proofs.lemmas.Bool.{cases_eq, cases_lt, eq-eqb, ne_eqb}
 use Rattle.bit_rows.specs.Tables.{row_at, is_set, HasShape, both, without}
 use Rattle.bit_rows.proofs.Done.{is_set-zip2}
-use Rattle.closure_miner.specs.Standing.{on}
+use Rattle.closure_miner.specs.Standing.{on, AreSettled}
 
 -- ---- truth values
 
@@ -129,3 +129,15 @@ module _ (t0 t1 t2 t3 : List (List Bool)) (types p x : ℕ) (is : x ≡ p + 2) (
       kept3 (types + a) b (λ e. (let no : ⊥ = omega arith in no)) ∙ at2 (types + a) b
       ∙ ap₂ (λ o t. o && not (t && on t1 (3 * types + 1) b)) (kept1 (types + a) b (λ e. (let no : ⊥ = omega arith in no))) (block-test x p a types is)
       ∙ ap (λ s. on t0 (types + a) b && not (eqb x (a + 2) && s)) (kept1 (3 * types + 1) b (λ e. (let no : ⊥ = omega arith in no)))
+
+-- ---- types that are settled
+
+-- where none is
+pub none-settled : (types n : ℕ) (table : List (List Bool)) → AreSettled types table (replicate n false)
+none-settled types n table a in_a set_a = absurd (true≢false (sym set_a ∙ nothing))
+  where
+    nothing : is_set (replicate n false) a ≡ false
+    nothing = elim (cases_lt a n) [
+      | inl low ↦ get_or-replicate n a false false low
+      | inr high ↦ get_or_past (replicate n false) a false (omega (arith, length-replicate n false))
+    ]

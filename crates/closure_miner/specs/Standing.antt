@@ -1,5 +1,5 @@
 -- Which candidates still stand, bit by bit.
-use Rattle.std.specs.Prelude.{ℕ, ◌≡◌, ◌<◌, ◌+◌, ◌*◌, Bool, true, List, [], ◌∷◌, ◌++◌}
+use Rattle.std.specs.Prelude.{ℕ, ◌≡◌, ◌<◌, ◌+◌, ◌*◌, Bool, true, false, List, [], ◌∷◌, ◌++◌}
 use Rattle.limits.specs.declared.TheConstants.{INITIAL, TERMINAL, FIRST_TYPE}
 use Rattle.invariants.specs.declared.Kind.TheVariants.{AF, NF, AP}
 use Rattle.invariants.specs.Candidates.{invariant}
@@ -28,3 +28,17 @@ pub record Stands (types : ℕ) (table : List (List Bool)) (words : List (List �
       → on table (2 * types + b) a ≡ holds_of_all words (invariant AP (a + FIRST_TYPE) (b + FIRST_TYPE))
   pub everywhere : (b : ℕ) → b < types
       → on table (3 * types) b ≡ holds_of_all words (invariant AF INITIAL (b + FIRST_TYPE))
+
+-- of these types an event strikes out no more: they were seen, what their rows ask for was seen, and what they deny was not
+abbrev pub AreSettled : ℕ → List (List Bool) → List Bool → Type 0
+AreSettled types table settled =
+    (a : ℕ) → a < types → is_set settled a ≡ true
+    → (on table (3 * types + 1) a ≡ true)
+    × ((b : ℕ) → b < types → on table a b ≡ true → on table (3 * types + 1) b ≡ true)
+    × ((b : ℕ) → b < types → on table (types + a) b ≡ true → on table (3 * types + 1) b ≡ false)
+
+-- what has to precede a type that was seen was seen too
+abbrev pub ArePreceded : ℕ → List (List Bool) → Type 0
+ArePreceded types table =
+    (a b : ℕ) → a < types → b < types → on table (3 * types + 1) b ≡ true → on table (2 * types + b) a ≡ true
+    → on table (3 * types + 1) a ≡ true

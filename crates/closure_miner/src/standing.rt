@@ -6,12 +6,15 @@ ghost use Rattle.invariants.specs.Holds.{occurs, always_followed, never_followed
 ghost use Rattle.invariants.specs.Mined.{holds_of_all};
 ghost use Rattle.traces.specs.Kept.{IsTypeNumber};
 ghost use Rattle.bit_rows.specs.Tables.{row_at, HasShape};
-ghost use Rattle.closure_miner.specs.Standing.{on, word_with, AllOn, Stands};
+ghost use Rattle.closure_miner.specs.Standing.{on, word_with, AllOn, ArePreceded, AreSettled, Stands};
 
 use bit_rows::Rows;
 use invariants::{Invariant, Kind};
-use limits::{FIRST_TYPE, INITIAL};
+use limits::{FIRST_TYPE, INITIAL, MAX_TYPES};
 use std::alloc::{AllocError, Global};
+
+/// How many types there are at most.
+const TYPES: usize = MAX_TYPES as usize;
 
 /// The candidates that still stand: those that hold of every trace that was read. Each has a bit.
 ///
@@ -85,7 +88,7 @@ impl Standing {
 
     /// Strikes out what an event breaks that stands before the types that were seen, of which its own is one
     /// from then on.
-    fn read_earlier(&mut self, x: u16)
+    fn strike_earlier(&mut self, x: u16)
         requires number { IsTypeNumber (self.old).types x }
         ensures types { (self.new).types ≡ (self.old).types }
         ensures seen { (b : ℕ) → b < (self.old).types → on (self.new).rows (3 * (self.old).types + 1) b
@@ -106,9 +109,40 @@ impl Standing {
         self.rows.put(seen, place, true);
     }
 
+    /// The same as `strike_earlier`. It has nothing to do where the type is settled: where the types that were seen are those
+    /// of its last event.
+    fn read_earlier(&mut self, settled: &mut [bool; TYPES], x: u16)
+        requires number { IsTypeNumber (self.old).types x }
+        requires settled { AreSettled (self.old).types (self.old).rows settled.old }
+        ensures types { (self.new).types ≡ (self.old).types }
+        ensures seen { (b : ℕ) → b < (self.old).types → on (self.new).rows (3 * (self.old).types + 1) b
+            ≡ (x == b + FIRST_TYPE || on (self.old).rows (3 * (self.old).types + 1) b) }
+        ensures followed { (a b : ℕ) → a < (self.old).types → b < (self.old).types
+            → on (self.new).rows a b ≡ (on (self.old).rows a b
+            && (not (x == a + FIRST_TYPE) || on (self.old).rows (3 * (self.old).types + 1) b)) }
+        ensures never { (a b : ℕ) → a < (self.old).types → b < (self.old).types
+            → on (self.new).rows ((self.old).types + a) b ≡ (on (self.old).rows ((self.old).types + a) b
+            && not (x == a + FIRST_TYPE && on (self.old).rows (3 * (self.old).types + 1) b)) }
+        ensures others { (r : ℕ) → 2 * (self.old).types ≤ r → r < 3 * (self.old).types + 1
+            → row_at (self.new).rows r ≡ row_at (self.old).rows r }
+        ensures settled { AreSettled (self.new).types (self.new).rows settled.new }
+    {
+        let place = place_of(x);
+        if settled[place] {
+            return;
+        }
+        let was_seen = self.rows.get(3 * self.types + 1, place);
+        self.strike_earlier(x);
+        if was_seen {
+            settled[place] = true;
+        } else {
+            *settled = [false; TYPES];
+        }
+    }
+
     /// Strikes out what an event breaks that stands behind the types that were seen, of which its own is one
     /// from then on.
-    fn read_later(&mut self, x: u16)
+    fn strike_later(&mut self, x: u16)
         requires number { IsTypeNumber (self.old).types x }
         ensures types { (self.new).types ≡ (self.old).types }
         ensures seen { (a : ℕ) → a < (self.old).types → on (self.new).rows (3 * (self.old).types + 1) a
@@ -127,6 +161,27 @@ impl Standing {
         self.rows.put(seen, place, true);
     }
 
+    /// The same as `strike_later`. It has nothing to do where the type was seen.
+    fn read_later(&mut self, x: u16)
+        requires number { IsTypeNumber (self.old).types x }
+        requires settled { ArePreceded (self.old).types (self.old).rows }
+        ensures types { (self.new).types ≡ (self.old).types }
+        ensures seen { (a : ℕ) → a < (self.old).types → on (self.new).rows (3 * (self.old).types + 1) a
+            ≡ (x == a + FIRST_TYPE || on (self.old).rows (3 * (self.old).types + 1) a) }
+        ensures preceded { (a b : ℕ) → a < (self.old).types → b < (self.old).types
+            → on (self.new).rows (2 * (self.old).types + b) a ≡ (on (self.old).rows (2 * (self.old).types + b) a
+            && (not (x == b + FIRST_TYPE) || on (self.old).rows (3 * (self.old).types + 1) a)) }
+        ensures before { (r : ℕ) → r < 2 * (self.old).types
+            → row_at (self.new).rows r ≡ row_at (self.old).rows r }
+        ensures behind { row_at (self.new).rows (3 * (self.old).types)
+            ≡ row_at (self.old).rows (3 * (self.old).types) }
+        ensures settled { ArePreceded (self.new).types (self.new).rows }
+    {
+        if !self.rows.get(3 * self.types + 1, place_of(x)) {
+            self.strike_later(x);
+        }
+    }
+
     /// Strikes out what a trace breaks of what follows what: it is read from its end.
     fn read_from_end(&mut self, events: &[u16])
         requires numbers { All (IsTypeNumber (self.old).types) events.now }
@@ -143,10 +198,11 @@ impl Standing {
             → row_at (self.new).rows r ≡ row_at (self.old).rows r }
     {
         self.forget();
+        let mut settled = [false; TYPES];
         let mut left = events.len();
         while left > 0 {
             left -= 1;
-            self.read_earlier(events[left]);
+            self.read_earlier(&mut settled, events[left]);
         }
     }
 

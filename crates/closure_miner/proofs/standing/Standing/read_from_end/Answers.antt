@@ -1,10 +1,28 @@
-use Rattle.std.proofs.Common.{◌≡◌, ℕ, List, Bool, ◌+◌, ◌-◌, ◌*◌, ◌<◌, ◌≤◌, ◌∷◌, ◌&&◌, ◌||◌, not, eqb, get_or, drop, arith, ap, ap₂, sym, ◌∙◌, subst}
+use Rattle.std.proofs.Common.{◌≡◌, ℕ, List, [], Bool, ◌+◌, ◌-◌, ◌*◌, ◌<◌, ◌≤◌, ◌∷◌, ◌&&◌, ◌||◌, not, eqb, get_or, length, drop, arith, ap, ap₂, sym, ◌∙◌, subst}
+use Rattle.std.proofs.lemmas.List.{drop_all}
+use Rattle.limits.specs.declared.TheConstants.{MAX_TYPES}
 use Rattle.invariants.specs.Holds.{occurs, always_followed, never_followed}
-use Rattle.bit_rows.specs.Tables.{row_at}
+use Rattle.bit_rows.specs.Tables.{row_at, is_set}
 use Rattle.closure_miner.specs.Standing.{on}
-use Rattle.closure_miner.proofs.Bits.{and-swap}
+use Rattle.closure_miner.proofs.Bits.{and-true, and-swap, none-settled}
 use Rattle.closure_miner.proofs.Events.{rest-more}
 use Rattle.closure_miner.proofs.standing.Standing.read_from_end.Goals as goal
+
+pub loop-left-init : goal.loop-left-init
+loop-left-init c =
+    let events : List ℕ = c.args.events.now in
+    let none : drop (length events) events ≡ [] = drop_all (length events) events (omega arith) in
+    record {
+      within = omega arith;
+      types = c.forget.ensures.types;
+      seen = λ b in_b. c.forget.ensures.seen b in_b ∙ sym (ap (λ w. occurs (b + 2) w) none);
+      followed = λ a b in_a in_b.
+          ap (λ row. is_set row b) (c.forget.ensures.others a (omega arith)) ∙ sym (ap (λ w. on c.args.self.now.rows a b && always_followed (a + 2) (b + 2) w) none ∙ and-true (on c.args.self.now.rows a b));
+      never = λ a b in_a in_b.
+          ap (λ row. is_set row b) (c.forget.ensures.others (c.args.self.now.types + a) (omega arith)) ∙ sym (ap (λ w. on c.args.self.now.rows (c.args.self.now.types + a) b && never_followed (a + 2) (b + 2) w) none ∙ and-true (on c.args.self.now.rows (c.args.self.now.types + a) b));
+      others = λ r low high. c.forget.ensures.others r high;
+      settled = none-settled c.forget.new.self.types MAX_TYPES c.forget.new.self.rows;
+    }
 
 pub loop-left-preserved : goal.loop-left-preserved
 loop-left-preserved c =
@@ -39,4 +57,5 @@ loop-left-preserved c =
           ∙ and-swap (on old (types + a) b) (never_followed (a + 2) (b + 2) word) (not (eqb x (a + 2) && occurs (b + 2) word))
           ∙ ap (λ w. on old (types + a) b && never_followed (a + 2) (b + 2) w) rest;
       others = λ r low high. others r low high ∙ c.loop-left.invariant.others r low high;
+      settled = c.read_earlier.ensures.settled;
     }

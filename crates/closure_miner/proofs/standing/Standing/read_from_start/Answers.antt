@@ -34,6 +34,7 @@ loop-x-preserved c =
           ∙ ap (λ t. on old (2 * types + b) a && t) (sym (preceded-last (a + 2) (b + 2) x word) ∙ ap (always_preceded (a + 2) (b + 2)) next);
       before = λ r low. before r low ∙ c.loop-x.invariant.before r low;
       behind = behind ∙ c.loop-x.invariant.behind;
+      settled = c.read_later.ensures.settled;
     }
 
 pub returns-clause-preceded : goal.returns-clause-preceded

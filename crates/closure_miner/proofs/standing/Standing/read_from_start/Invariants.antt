@@ -1,7 +1,7 @@
 use Rattle.std.proofs.Common.{◌≡◌, ℕ, ◌+◌, ◌*◌, ◌<◌, ◌&&◌, take}
 use Rattle.invariants.specs.Holds.{occurs, always_preceded}
 use Rattle.bit_rows.specs.Tables.{row_at}
-use Rattle.closure_miner.specs.Standing.{on}
+use Rattle.closure_miner.specs.Standing.{on, ArePreceded}
 use Rattle.closure_miner.proofs.standing.Standing.read_from_start.Given as goal
 
 abbrev pub invariant-loop-x : goal.invariant-loop-x
@@ -12,4 +12,5 @@ invariant-loop-x l = record {
       → on l.self.rows (2 * l.fn.self.types + b) a ≡ (on l.fn.self.rows (2 * l.fn.self.types + b) a && always_preceded (a + 2) (b + 2) (take l.x-index l.events));
   before : (r : ℕ) → r < 2 * l.fn.self.types → row_at l.self.rows r ≡ row_at l.fn.self.rows r;
   behind : row_at l.self.rows (3 * l.fn.self.types) ≡ row_at l.fn.self.rows (3 * l.fn.self.types);
+  settled : ArePreceded l.self.types l.self.rows;
 }
