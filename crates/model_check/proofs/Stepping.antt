@@ -1,7 +1,6 @@
 -- Steps from a set of one id, and the ids that are kept of them.
-use Rattle.std.proofs.Common.{◌≡◌, ◌↔◌, ℕ, ◌+◌, ◌*◌, ◌<◌, ◌==◌, ◌&&◌, if◌then◌else◌, Bool, true, List, Option, Some, None, get_or, replicate, refl, sym, ◌∙◌, ap, subst, inl, inr, arith, eq-eqb, eqb-true, ne_eqb}
+use Rattle.std.proofs.Common.{◌≡◌, ◌↔◌, ℕ, ◌+◌, ◌*◌, ◌<◌, ◌==◌, ◌⊎◌, Bool, true, List, Option, Some, None, get_or, replicate, refl, sym, ◌∙◌, ap, subst, inl, inr, arith, eq-eqb, eqb-true}
 use Rattle.std.specs.Prelude.{IfSome}
-use Rattle.std.proofs.lemmas.Bool.{cases_eq}
 use Rattle.limits.specs.declared.TheConstants.{MAX_PARTITIONS}
 use Rattle.bit_rows.specs.Tables.{HasShape}
 use Rattle.model_check.specs.declared.sets.TheConstants.{MEMBERS, NOW, ROWS, TYPES}
@@ -34,20 +33,16 @@ targets-stay old new ids same a p typ l m h q =
 
 -- one more is kept
 pub targets-more : (rows : List (List Bool)) (old new : List ℕ) (p typ v : ℕ)
-    → ((r t : ℕ) → t < TYPES → known new r t ≡ (if r == p && t == typ then v else known old r t))
+    → ((r t : ℕ) → t < TYPES → (known new r t ≡ known old r t) ⊎ ((r ≡ p) × (t ≡ typ) × (known new r t ≡ v)))
     → ((q : ℕ) → Leads rows p typ q ↔ (q ≡ v)) → AreTargets rows old → AreTargets rows new
 targets-more rows old new p typ v put right a r t l m =
-    elim (cases_eq r p) [
-      | inr n ↦ subst (λ x. IsTarget rows r t x) (sym (put r t m ∙ rw (ne_eqb r p n) refl)) (a r t l m)
-      | inl e ↦ elim (cases_eq t typ) [
-        | inr n ↦ subst (λ x. IsTarget rows r t x) (sym (put r t m ∙ rw (eq-eqb r p e, ne_eqb t typ n) refl)) (a r t l m)
-        | inl f ↦
-            let there : known new r t ≡ v = put r t m ∙ rw (eq-eqb r p e, eq-eqb t typ f) refl in
-            let one : IsTarget rows p typ v = λ h q. right q in
-            let two : IsTarget rows r typ v = subst (λ x. IsTarget rows x typ v) (sym e) one in
-            let three : IsTarget rows r t v = subst (λ x. IsTarget rows r x v) (sym f) two in
-            subst (λ x. IsTarget rows r t x) (sym there) three
-      ]
+    elim (put r t m) [
+      | inl same ↦ subst (λ x. IsTarget rows r t x) (sym same) (a r t l m)
+      | inr o ↦
+          let one : IsTarget rows p typ v = λ h q. right q in
+          let two : IsTarget rows r typ v = subst (λ x. IsTarget rows x typ v) (sym o.0) one in
+          let three : IsTarget rows r t v = subst (λ x. IsTarget rows r x v) (sym o.1) two in
+          subst (λ x. IsTarget rows r t x) (sym o.2) three
     ]
 
 -- where p is the only one of the set

@@ -15,7 +15,7 @@ use invariants::{Edge, Invariant, Listed, Model, Partition};
 use std::alloc::{AllocError, Global};
 
 /// How many columns there are.
-pub(crate) const TOGETHER: usize = 64;
+pub(crate) const TOGETHER: usize = 32;
 
 /// In each column the label of each id, and the states from which the type of the id leads into this label.
 #[derive(Drop)]

@@ -1,5 +1,5 @@
 //! The graph of a model, as tables that are made once.
-ghost use Rattle.std.specs.Prelude.{◌≡◌, ◌↔◌, ◌<◌, ◌+◌, ℕ, length, slice_index, IfOk, IsTrue, All};
+ghost use Rattle.std.specs.Prelude.{◌≡◌, ◌↔◌, ◌<◌, ◌≤◌, ◌+◌, ℕ, length, slice_index, IfOk, IsTrue, All};
 ghost use Rattle.limits.specs.declared.TheConstants.{INITIAL, MAX_PARTITIONS, MAX_TYPES};
 ghost use Rattle.model_shape.specs.Shapes.{listed_type, IsWellShaped};
 ghost use Rattle.models.specs.Models.{graph_of};
@@ -28,6 +28,17 @@ fn types_of(alloc: Global, partitions: &[Partition]) -> Result<Vec<u16>, AllocEr
         types[partition.id as usize] = partition.typ;
     }
     Ok(types)
+}
+
+/// A number of ids, beyond all that are listed where they ascend.
+fn id_count(partitions: &[Partition]) -> usize
+    requires { All IsMarkable partitions.now }
+    ensures { result ≤ MAX_PARTITIONS }
+{
+    if partitions.is_empty() {
+        return 0;
+    }
+    partitions[partitions.len() - 1].id as usize + 1
 }
 
 /// The graph of a model. Contracts see its tables, and with `shown` the graph that lies in them.
@@ -62,7 +73,7 @@ impl ModelGraph {
         let mut rows = Rows::make(alloc, ROWS, IDS)?;
         mark_partitions(&mut rows, model.partitions.as_slice());
         mark_edges(&mut rows, model.edges.as_slice());
-        let targets = Targets::make(alloc)?;
+        let targets = Targets::make(alloc, id_count(model.partitions.as_slice()))?;
         Ok(ModelGraph {
             types,
             rows,

@@ -1,10 +1,9 @@
 //! Steps from one set of ids to the next. Most sets are of one id, and where a type leads from it to one id alone, this is
 //! kept, so that the same step costs one look the next time.
-ghost use Rattle.std.specs.Prelude.{◌≡◌, ◌↔◌, ◌<◌, ◌*◌, ◌==◌, ◌&&◌, ℕ, true, length, if◌then◌else◌, IfOk, IfSome};
+ghost use Rattle.std.specs.Prelude.{◌≡◌, ◌↔◌, ◌<◌, ◌≤◌, ◌==◌, ◌⊎◌, ℕ, true, IfOk, IfSome};
 ghost use Rattle.limits.specs.declared.TheConstants.{MAX_PARTITIONS};
 ghost use Rattle.bit_rows.specs.Tables.{HasShape};
 ghost use Rattle.model_check.specs.Rows.{bit};
-ghost use Rattle.model_check.specs.declared.sets.TheConstants.{TYPES};
 ghost use Rattle.model_check.specs.Steps.{known, in_hand, AreTargets, IsEnteredFrom};
 
 use crate::sets::{IDS, NOW, ROWS, TYPES, advance, only_one, take_up};
@@ -15,16 +14,16 @@ use std::alloc::{AllocError, Global};
 #[derive(Drop)]
 pub struct Targets {
     ids: Vec<u16>,
-    ghost size: { length ids.items ≡ MAX_PARTITIONS * TYPES },
 }
 
 impl Targets {
-    /// None is known.
-    pub fn make(alloc: Global) -> Result<Targets, AllocError>
+    /// None is known. There is room for those of the ids below `ids`.
+    pub fn make(alloc: Global, ids: usize) -> Result<Targets, AllocError>
+        requires { ids ≤ MAX_PARTITIONS }
         ensures { IfOk result (λ targets. (p t : ℕ) → known targets.ids.items p t ≡ 0) }
     {
         Ok(Targets {
-            ids: vec![in alloc; 0; IDS * TYPES]?,
+            ids: vec![in alloc; 0; ids * TYPES]?,
         })
     }
 
@@ -34,18 +33,26 @@ impl Targets {
         requires typ { typ < TYPES }
         ensures { result ≡ known (self.now).ids.items p typ }
     {
-        usize::from(self.ids[p * TYPES + typ])
+        let place = p * TYPES + typ;
+        if place >= self.ids.len() {
+            return 0;
+        }
+        usize::from(self.ids[place])
     }
 
-    /// Keeps that the type leads from the one id to the other alone.
+    /// Keeps that the type leads from the one id to the other alone, where there is room for it.
     pub fn put(&mut self, p: usize, typ: usize, q: usize)
         requires id { p < IDS }
         requires typ { typ < TYPES }
         requires target { q < IDS }
-        ensures { (r t : ℕ) → t < TYPES → known (self.new).ids.items r t
-            ≡ (if r == p && t == typ then q else known (self.old).ids.items r t) }
+        ensures { (r t : ℕ) → t < TYPES
+            → (known (self.new).ids.items r t ≡ known (self.old).ids.items r t)
+            ⊎ ((r ≡ p) × (t ≡ typ) × (known (self.new).ids.items r t ≡ q)) }
     {
-        self.ids[p * TYPES + typ] = q as u16;
+        let place = p * TYPES + typ;
+        if place < self.ids.len() {
+            self.ids[place] = q as u16;
+        }
     }
 }
 
