@@ -1,0 +1,4 @@
+pub mod Lists
+pub mod Showing
+pub mod Joining
+pub mod Numbering
