@@ -9,6 +9,7 @@ use Rattle.invariants.specs.Candidates.{invariant}
 use Rattle.invariants.specs.Ends.{HasType}
 use Rattle.invariants.specs.Holds.{At, Holds, HoldsAs}
 use Rattle.shard_law.specs.Shards.{Occurs, IsShown, LacksAs, Lacks}
+use Rattle.shard_law.specs.Laws.{ShownIsThere}
 use Rattle.shard_law.proofs.Lists.{Contains-first, Contains-later, Contains-cases, Contains-nil, All-members}
 
 -- whether a type occurs is decided
@@ -90,3 +91,11 @@ every_shows inv words = (
   λ all. shows inv.kind inv.a inv.b words all,
   λ h. elim h [ inl s ↦ s.of_every | inr n ↦ lacking inv.kind inv.a inv.b words n ],
 )
+
+there : (kind : Kind) (a b : ℕ) (words : List (List ℕ)) → Occurs a words → Occurs b words → LacksAs kind a b words → ⊥
+there AF a b words first second lacks = lacks first
+there NF a b words first second lacks = lacks first second
+there AP a b words first second lacks = lacks second
+
+pub shown_is_there : ShownIsThere
+shown_is_there inv words h lacks = there inv.kind inv.a inv.b words h.first h.second lacks

@@ -6,6 +6,10 @@ use Rattle.invariants.specs.Candidates.{candidates}
 use Rattle.invariants.specs.Mined.{mined}
 use Rattle.shard_law.specs.Shards.{Occurs, IsShown, Lacks, IsCutInto, Shard, IsNumbered, words_of, Lists}
 
+-- what is shown is not lacked
+abbrev pub ShownIsThere : Type 0
+ShownIsThere = (inv : Invariant) (words : List (List ℕ)) → IsShown inv words → Lacks inv words → ⊥
+
 -- of two logs together
 abbrev pub TwoLogsJoin : Type 0
 TwoLogsJoin =

@@ -4,7 +4,12 @@
 //! Each function here is a law: its body is empty, and its contract is what is proved. No call takes memory or does anything when it runs.
 #![tactic(auto)]
 
-ghost use Rattle.shard_law.specs.Laws.{OwnReports, ReportsJoin, ShardsJoin, TwoLogsJoin, TypesTell};
+ghost use Rattle.shard_law.specs.Laws.{OwnReports, ReportsJoin, ShardsJoin, ShownIsThere, TwoLogsJoin, TypesTell};
+
+/// No words show an invariant and lack what it speaks of. So as many shards list one of the whole as have what it speaks of.
+pub fn shown_is_there()
+    ensures { ShownIsThere }
+{}
 
 /// A candidate is mined of the words of two logs together exactly where each of the two shows it: both its types occur there and it holds of each word, or the log lacks what it speaks of.
 pub fn two_logs_join()
