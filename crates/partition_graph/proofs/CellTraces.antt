@@ -1,8 +1,8 @@
 -- The traces of cells: their events, sizes and types.
-use Rattle.std.proofs.Common.{◌≡◌, ℕ, suc, ◌+◌, ◌<◌, ◌≤◌, ◌==◌, true, false, cond, List, [], ◌∷◌, length, map, arith, ap, sym, ◌∙◌, refl, inl, inr, count_by, eq-eqb, ne_eqb, Option, Some, get_or}
+use Rattle.std.proofs.Common.{◌≡◌, ℕ, suc, ◌+◌, ◌≤◌, ◌==◌, true, false, cond, List, [], ◌∷◌, length, map, arith, ap, sym, ◌∙◌, refl, inl, inr, count_by, eq-eqb, ne_eqb, Option, Some}
 use Rattle.std.proofs.lemmas.Bool.{cases_eq}
 use Rattle.std.proofs.lemmas.List.{length-map}
-use Rattle.std.proofs.lemmas.Option.{slice_get-map, slice_get_read}
+use Rattle.std.proofs.lemmas.Option.{slice_get-map}
 use Rattle.std.specs.Option.{option_map}
 use Rattle.std.specs.List.{AllByRecursion, slice_get}
 use Rattle.partition_model.specs.Assignments.{Event, Assignment, events, members, first_type, ids_of}
@@ -86,8 +86,8 @@ cells_with-le p (c ∷ cs) =
     elim (c.id == p) as (λ b. cond b 1 0 + cells_with p cs ≤ suc (length cs)) [ true ↦ omega arith | false ↦ omega arith ]
 
 -- the id of an event, by its cell
-pub part_at : (cs : List Cell) (i : ℕ) (x : Cell) → i < length cs → x ≡ get_or cs i x → slice_get (parts_of (traces_of cs)) i ≡ Some x.id
-part_at cs i x l e =
+pub part_at : (cs : List Cell) (i : ℕ) (x : Cell) → slice_get cs i ≡ Some x → slice_get (parts_of (traces_of cs)) i ≡ Some x.id
+part_at cs i x e =
     ap (λ (ids : List ℕ). slice_get ids i) (parts_are cs)
     ∙ slice_get-map (λ (c : Cell). c.id) cs i
-    ∙ ap (λ (o : Option Cell). option_map (λ (c : Cell). c.id) o) (slice_get_read cs (length cs) i x refl l e)
+    ∙ ap (λ (o : Option Cell). option_map (λ (c : Cell). c.id) o) e

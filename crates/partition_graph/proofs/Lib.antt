@@ -14,3 +14,5 @@ pub mod Recounts
 pub mod Retyping
 pub mod Joined
 pub mod Starting
+pub mod Members
+pub mod Passing

@@ -1,6 +1,7 @@
 -- Cells whose ids change, counted one after another.
-use Rattle.std.proofs.Common.{◌≡◌, ℕ, zero, suc, ◌+◌, ◌<◌, ◌≤◌, ◌^◌, ◌==◌, ◌&&◌, true, false, cond, List, [], ◌∷◌, length, drop, get_or, arith, ap, sym, ◌∙◌, refl, subst, inl, inr, eq-eqb, ne_eqb}
-use Rattle.std.proofs.lemmas.Bool.{cases_Bool, cases_eq, cond-true, cond-false}
+use Rattle.std.proofs.Common.{◌≡◌, ℕ, zero, suc, ◌+◌, ◌<◌, ◌≤◌, ◌^◌, ◌==◌, ◌&&◌, true, false, cond, List, [], ◌∷◌, length, drop, get_or, arith, ap, sym, ◌∙◌, refl, subst, inl, inr, eq-eqb, ne_eqb, ◌-◌, ◌≢◌, add-one}
+use Rattle.std.proofs.lemmas.Bool.{cases_Bool, cases_eq, cases_lt, cond-true, cond-false}
+use Rattle.std.proofs.lemmas.List.Elements.{All-from_recursion, All-get_or}
 use Rattle.std.specs.List.{AllByRecursion}
 use Rattle.limits.specs.declared.TheConstants.{INITIAL, FIRST_TYPE, MAX_EVENTS, MAX_PARTITIONS}
 use Rattle.partition_model.proofs.Merging.{onto_is, onto_other}
@@ -9,12 +10,15 @@ use Rattle.partition_graph.specs.declared.changing.Change.{Change}
 use Rattle.partition_graph.specs.declared.changing.Change.TheVariants.{Move, Join}
 use Rattle.partition_graph.specs.declared.tables.Tables.{Tables}
 use Rattle.partition_graph.specs.Cells.{id_behind}
-use Rattle.partition_graph.specs.Changes.{changed_cells, given_id, id_after, IsEventId, with_id, HaveTypes, KnowsTypes}
-use Rattle.partition_graph.specs.Counts.{HasId, cells_with, edges_along, edges_at, before_next}
+use Rattle.partition_graph.specs.Changes.{changed_cells, given_id, id_after, source_of, IsEventId, with_id, HaveTypes, KnowsTypes}
+use Rattle.partition_graph.specs.Counts.{HasId, cells_with, edges_along, edges_at, before_next, id_before}
+use Rattle.partition_graph.specs.Members.{id_at, id_of_node, place_behind, IsNext}
 use Rattle.partition_graph.specs.Tables.{type_at, size_at, count_at, IsCountOf}
 use Rattle.partition_graph.proofs.CellTraces.{cells_with-le}
 use Rattle.partition_graph.proofs.Edges.{edges_along-le}
+use Rattle.partition_graph.proofs.Counting.{rest-cons}
 use Rattle.partition_graph.proofs.Joined.{length-joined_cells}
+use Rattle.partition_graph.proofs.Members.{cell-behind, cell-id, first-behind, first-id, id_at-get}
 use Rattle.partition_graph.proofs.Moving.{length-moved_cells}
 
 -- the cells from a place on are changed by themselves
@@ -250,3 +254,156 @@ adds-type types t u id typ k is typed sized p l =
           let same : size_at t p ≡ size_at u p = omega (arith, s, none) in
           typed p l ∙ cond-false _ _ _ no ∙ k p l ∙ ap (λ (m : ℕ). cond (m == 0) 0 (types p)) same
     ]
+
+-- a cell of another id keeps its own
+unaffected : (change : Change) (c : Cell) (cs : List Cell) → c.id ≢ source_of change → id_after change (c ∷ cs) ≡ c.id
+unaffected (Move p next n) c cs other = cond-false _ _ _ (ap (λ b. b && (id_behind (c ∷ cs) == next)) (ne_eqb c.id p other))
+unaffected (Join p q) c cs other = onto_other p q c.id other
+
+-- what stands before the next cell
+pub before-next : (before : ℕ) (cells : List Cell) (i : ℕ) (d : Cell) → i < length cells → id_before before cells (i + 1) ≡ before_next (get_or cells i d)
+before-next before cells i d l = ap (λ (n : ℕ). id_before before cells n) (add-one i) ∙ go before cells i d l
+  where
+    go : (before : ℕ) (cells : List Cell) (i : ℕ) (d : Cell) → i < length cells → id_before before cells (suc i) ≡ before_next (get_or cells i d)
+    go before [] i d l = absurd (omega (arith, l))
+    go before (c ∷ cs) zero d l = refl
+    go before (c ∷ cs) (suc i) d l = go (before_next c) cs i d (omega (arith, l))
+
+-- cells of other ids are passed, where nothing before them is touched
+passed-over : (change : Change) (old t : Tables) (count i j : ℕ) (cells : List Cell) → j ≡ count + i → j ≤ length cells → AllByRecursion HasId cells
+    → ((k : ℕ) → i ≤ k → k < j → id_at cells k ≢ source_of change)
+    → IsChanging change old t (id_before INITIAL cells i) (id_before INITIAL cells i) i cells
+    → IsChanging change old t (id_before INITIAL cells j) (id_before INITIAL cells j) j cells
+passed-over change old t zero i j cells e l ids others k =
+    subst (λ (n : ℕ). IsChanging change old t (id_before INITIAL cells n) (id_before INITIAL cells n) n cells) (let same : i ≡ j = omega (arith, e) in same) k
+passed-over change old t (suc count) i j cells e l ids others k =
+    let m : ℕ = count + i in
+    let next_one : m + 1 ≡ j = omega (arith, e) in
+    let inside : m < length cells = omega (arith, e, l) in
+    let none : Cell = record { typ = 0; last = false; id = 0 } in
+    let cell : Cell = get_or cells m none in
+    let all : AllByRecursion HasId cells = ids in
+    let has : HasId cell = All-get_or HasId cells m none inside (All-from_recursion HasId cells ids) in
+    let other : cell.id ≢ source_of change = λ q. others m (omega arith) (omega (arith, e)) (id_at-get cells m none inside ∙ q) in
+    let there : drop m cells ≡ cell ∷ drop (m + 1) cells = rest-cons cells m none inside in
+    let same : cell.id ≡ id_after change (drop m cells) = sym (ap (λ (cs : List Cell). id_after change cs) there ∙ unaffected change cell (drop (m + 1) cells) other) in
+    let before : IsChanging change old t (id_before INITIAL cells m) (id_before INITIAL cells m) m cells =
+    passed-over change old t count i m cells refl (omega (arith, e, l)) ids (λ n a b. others n a (omega (arith, b, e))) k in
+    let go : IsChanging change old t (before_next cell) (before_next (with_id cell cell.id)) (m + 1) cells =
+    changing-goes-on change old t t (id_before INITIAL cells m) (id_before INITIAL cells m) m cells cell cell.id there same has.1 has.1 before
+    (λ types a b knows. knows) (λ p a. refl) (λ p q a b. refl) in
+    let behind : id_before INITIAL cells (m + 1) ≡ before_next cell = before-next INITIAL cells m none inside in
+    subst (λ (n : ℕ). IsChanging change old t (id_before INITIAL cells n) (id_before INITIAL cells n) n cells) next_one
+    (subst (λ (b : ℕ). IsChanging change old t b b (m + 1) cells) (sym behind) go)
+
+pub passed-to : (change : Change) (old t : Tables) (i j : ℕ) (cells : List Cell) → i ≤ j → j ≤ length cells → AllByRecursion HasId cells
+    → ((k : ℕ) → i ≤ k → k < j → id_at cells k ≢ source_of change)
+    → IsChanging change old t (id_before INITIAL cells i) (id_before INITIAL cells i) i cells
+    → IsChanging change old t (id_before INITIAL cells j) (id_before INITIAL cells j) j cells
+passed-to change old t i j cells l m ids others k = passed-over change old t (j - i) i j cells (omega (arith, l)) m ids others k
+
+-- the walk: what is counted anew before the place, and the last node of the id behind which the next cell of it is looked for
+pub record IsWalking (change : Change) (old t : Tables) (now place node : ℕ) (cells : List Cell) : Type 0 where
+  pub changing : IsChanging change old t (id_before INITIAL cells place) now place cells
+  pub within : place ≤ length cells
+  pub node_there : node < length cells + MAX_PARTITIONS
+  pub node_id : id_of_node cells node ≡ source_of change
+  pub behind : place_behind cells node ≤ place
+  pub others : (k : ℕ) → place_behind cells node ≤ k → k < place → id_at cells k ≢ source_of change
+
+-- from the first cell of the id
+pub walking-begins : (change : Change) (t : Tables) (place node : ℕ) (cells : List Cell) → IsCountOf t cells → AllByRecursion HasId cells → source_of change < MAX_PARTITIONS
+    → node ≡ length cells + source_of change → IsNext cells (id_of_node cells node) (place_behind cells node) place
+    → IsWalking change t t (id_before INITIAL cells place) place node cells
+walking-begins change t place node cells k ids known e next =
+    let id : id_of_node cells node ≡ source_of change = let f = first-id cells node (omega (arith, e)) in omega (arith, e, f) in
+    let from : place_behind cells node ≡ 0 = first-behind cells node (omega (arith, e)) in
+    record {
+      changing = passed-to change t t 0 place cells (omega arith) next.within ids (λ m a b q. next.none m (omega (arith, from)) b (q ∙ sym id)) (changing-begins change t cells k);
+      within = next.within;
+      node_there = omega (arith, e, known);
+      node_id = id;
+      behind = next.behind;
+      others = λ m a b q. next.none m a b (q ∙ sym id);
+    }
+
+-- the node once a cell is counted anew
+pub reached : (change : Change) (old t : Tables) (now place node : ℕ) (cells : List Cell) (cell : Cell) → IsWalking change old t now place node cells → place < length cells → id_at cells place ≡ cell.id
+    → (new : ℕ) → new ≡ cond {A = ℕ} (cell.id == source_of change) place node
+    → (new < length cells + MAX_PARTITIONS) × (id_of_node cells new ≡ source_of change) × (place_behind cells new ≤ place + 1)
+    × ((k : ℕ) → place_behind cells new ≤ k → k < place + 1 → id_at cells k ≢ source_of change)
+reached change old t now place node cells cell k inside is new e =
+    elim (cases_eq cell.id (source_of change)) [
+      | inl own ↦
+          let here : new ≡ place = e ∙ cond-true _ _ _ (eq-eqb cell.id (source_of change) own) in
+          let there : new < length cells = omega (arith, here, inside) in
+          let behind : place_behind cells new ≡ new + 1 = cell-behind cells new there in
+          (omega (arith, there), cell-id cells new there ∙ ap (λ (n : ℕ). id_at cells n) here ∙ is ∙ own, omega (arith, behind, here), λ m a b. absurd (omega (arith, a, b, behind, here)))
+      | inr other ↦
+          let same : new ≡ node = e ∙ cond-false _ _ _ (ne_eqb cell.id (source_of change) other) in
+          let back : place_behind cells new ≡ place_behind cells node = ap (λ (n : ℕ). place_behind cells n) same in
+          let node_there : node < length cells + MAX_PARTITIONS = k.node_there in
+          let low : place_behind cells node ≤ place = k.behind in (
+            omega (arith, same, node_there),
+            ap (λ (n : ℕ). id_of_node cells n) same ∙ k.node_id,
+            omega (arith, back, low),
+            λ m a b q. elim (cases_eq m place) [
+              | inl here ↦ other (sym is ∙ ap (λ (n : ℕ). id_at cells n) (sym here) ∙ q)
+              | inr away ↦ k.others m (omega (arith, a, back)) (let n : m ≢ place = away in elim (cases_lt m place) [ inl l ↦ l | inr l ↦ absurd (n (omega (arith, l, b))) ]) q
+            ],
+          )
+    ]
+
+-- the next cell of the id is not before the place
+pub next-far : (change : Change) (cells : List Cell) (place node next : ℕ) → place < length cells → id_of_node cells node ≡ source_of change
+    → ((k : ℕ) → place_behind cells node ≤ k → k < place + 1 → id_at cells k ≢ source_of change) → IsNext cells (id_of_node cells node) (place_behind cells node) next → place + 1 ≤ next
+next-far change cells place node next inside id others is =
+    elim (cases_lt next (place + 1)) [
+      | inl less ↦ absurd (others next is.behind less (is.same (omega (arith, less, inside)) ∙ id))
+      | inr more ↦ more
+    ]
+
+-- the edge to the next cell changes too
+pub walking-touches : (change : Change) (old t new : Tables) (now place node reached_node behind : ℕ) (cells : List Cell) (cell : Cell) (id : ℕ) → IsWalking change old t now place node cells → place < length cells
+    → cell ≡ get_or cells place cell → reached_node ≡ cond {A = ℕ} (cell.id == source_of change) place node → behind ≡ before_next (with_id cell id)
+    → IsChanging change old new (before_next cell) (before_next (with_id cell id)) (place + 1) cells → IsWalking change old new behind (place + 1) reached_node cells
+walking-touches change old t new now place node reached_node behind cells cell id k inside is e b goes =
+    let own : id_at cells place ≡ cell.id = id_at-get cells place cell inside ∙ ap (λ (c : Cell). c.id) (sym is) in
+    let r = reached change old t now place node cells cell k inside own reached_node e in
+    let before : id_before INITIAL cells (place + 1) ≡ before_next cell = before-next INITIAL cells place cell inside ∙ ap (λ (c : Cell). before_next c) (sym is) in
+    record {
+      changing =
+          subst (λ (n : ℕ). IsChanging change old new n behind (place + 1) cells) (sym before)
+          (subst (λ (n : ℕ). IsChanging change old new (before_next cell) n (place + 1) cells) (sym b) goes);
+      within = omega (arith, inside);
+      node_there = r.0;
+      node_id = r.1;
+      behind = r.2;
+      others = r.3;
+    }
+
+-- nothing more is touched up to the next cell of the id
+pub walking-passes : (change : Change) (old t new : Tables) (now place node reached_node next : ℕ) (cells : List Cell) (cell : Cell) (id : ℕ) → IsWalking change old t now place node cells → place < length cells
+    → AllByRecursion HasId cells
+    → cell ≡ get_or cells place cell → reached_node ≡ cond {A = ℕ} (cell.id == source_of change) place node → before_next (with_id cell id) ≡ before_next cell
+    → IsNext cells (id_of_node cells reached_node) (place_behind cells reached_node) next
+    → IsChanging change old new (before_next cell) (before_next (with_id cell id)) (place + 1) cells
+    → IsWalking change old new (id_before INITIAL cells next) next reached_node cells × (place + 1 ≤ next)
+walking-passes change old t new now place node reached_node next cells cell id k inside ids is e b next_is goes =
+    let own : id_at cells place ≡ cell.id = id_at-get cells place cell inside ∙ ap (λ (c : Cell). c.id) (sym is) in
+    let r = reached change old t now place node cells cell k inside own reached_node e in
+    let before : id_before INITIAL cells (place + 1) ≡ before_next cell = before-next INITIAL cells place cell inside ∙ ap (λ (c : Cell). before_next c) (sym is) in
+    let far : place + 1 ≤ next = next-far change cells place reached_node next inside r.1 r.3 next_is in
+    let from : IsChanging change old new (id_before INITIAL cells (place + 1)) (id_before INITIAL cells (place + 1)) (place + 1) cells =
+    subst (λ (n : ℕ). IsChanging change old new n n (place + 1) cells) (sym before) (subst (λ (n : ℕ). IsChanging change old new (before_next cell) n (place + 1) cells) b goes) in
+    let low : place_behind cells reached_node ≤ place + 1 = r.2 in (
+      record {
+        changing = passed-to change old new (place + 1) next cells far next_is.within ids (λ m a c q. next_is.none m (omega (arith, a, low)) c (q ∙ sym r.1)) from;
+        within = next_is.within;
+        node_there = r.0;
+        node_id = r.1;
+        behind = next_is.behind;
+        others = λ m a c q. next_is.none m a c (q ∙ sym r.1);
+      },
+      far,
+    )

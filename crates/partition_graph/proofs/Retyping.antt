@@ -154,7 +154,7 @@ pair-types cells firsts tables used p q k i a b =
     ∙ cond-false (ltb q 2) q (first_type q (events (traces_of cells))) (le-ltb q 2 (omega (arith, low, order))) ∙ sym (k.types_are q b)
 
 -- a pair is one of ids that are used
-pair-below : (cells : List Cell) (firsts : List ℕ) (tables : Tables) (used p q : ℕ) → IsKept cells firsts tables used → IsPair (G (traces_of cells)) p q → q < used
+pub pair-below : (cells : List Cell) (firsts : List ℕ) (tables : Tables) (used p q : ℕ) → IsKept cells firsts tables used → IsPair (G (traces_of cells)) p q → q < used
 pair-below cells firsts tables used p q k i =
     let low : FIRST_TYPE ≤ p = i.low in
     let order : p < q = i.order in

@@ -20,6 +20,11 @@ abbrev pub given_id : Change → ℕ
 given_id (Move p next n) = n
 given_id (Join p q) = p
 
+-- the id whose cells alone may get another
+abbrev pub source_of : Change → ℕ
+source_of (Move p next n) = p
+source_of (Join p q) = q
+
 -- the id of the first cell after the change
 abbrev pub id_after : Change → List Cell → ℕ
 id_after change [] = 0

@@ -1,5 +1,5 @@
 -- What is counted of cells.
-use Rattle.std.specs.Prelude.{ℕ, ◌+◌, ◌==◌, ◌&&◌, ◌<◌, ◌≤◌, if◌then◌else◌, List, [], ◌∷◌}
+use Rattle.std.specs.Prelude.{ℕ, zero, suc, ◌+◌, ◌==◌, ◌&&◌, ◌<◌, ◌≤◌, if◌then◌else◌, List, [], ◌∷◌}
 use Rattle.limits.specs.declared.TheConstants.{INITIAL, TERMINAL, FIRST_TYPE, MAX_PARTITIONS}
 use Rattle.partition_graph.specs.declared.cells.Cell.{Cell}
 
@@ -18,6 +18,12 @@ edges_at before c p q = is_edge before c.id p q + (if c.last then is_edge c.id T
 -- the id before the cell behind this one
 abbrev pub before_next : Cell → ℕ
 before_next c = if c.last then INITIAL else c.id
+
+-- the id before the cell at a place, where the first one follows the id before
+abbrev pub id_before : ℕ → List Cell → ℕ → ℕ
+id_before before cells zero = before
+id_before before [] (suc i) = before
+id_before before (c ∷ cs) (suc i) = id_before (before_next c) cs i
 
 -- how often the edge from p to q stands in cells, the first of which follows the id before
 abbrev pub edges_along : ℕ → List Cell → ℕ → ℕ → ℕ

@@ -11,3 +11,4 @@ pub mod Seen
 pub mod Starts
 pub mod Tables
 pub mod Changes
+pub mod Members

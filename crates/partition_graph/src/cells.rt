@@ -1,10 +1,10 @@
 //! A cell for each event, trace after trace.
-ghost use Rattle.std.specs.Prelude.{◌≡◌, ◌++◌, ◌≤◌, OnOk, IfOk, length};
+ghost use Rattle.std.specs.Prelude.{◌≡◌, ◌++◌, ◌<◌, ◌≤◌, OnOk, IfOk, drop, length};
 ghost use Rattle.limits.specs.declared.TheConstants.{MAX_EVENTS};
-ghost use Rattle.partition_graph.specs.Cells.{cells_of, IsGatheredOf};
+ghost use Rattle.partition_graph.specs.Cells.{cells_of, id_behind, IsGatheredOf};
 ghost use Rattle.partition_graph.specs.Counts.{before_next};
 
-use limits::INITIAL;
+use limits::{INITIAL, TERMINAL};
 use std::alloc::{AllocError, Global};
 use traces::TraceSet;
 
@@ -56,4 +56,15 @@ fn push_cells(cells: &mut Vec<Cell>, numbers: &[u16]) -> Result<(), AllocError>
         })?;
     }
     Ok(())
+}
+
+/// The id that follows the cell at this place at once: TERMINAL where it is the last of its trace.
+pub fn id_behind(cells: &[Cell], i: usize) -> u32
+    requires { i < length cells.now }
+    ensures { result ≡ id_behind (drop i cells.now) }
+{
+    if cells[i].last || i + 1 >= cells.len() {
+        return TERMINAL;
+    }
+    cells[i + 1].id
 }

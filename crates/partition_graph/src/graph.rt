@@ -1,10 +1,9 @@
 //! The partitions of events, and the counts of edges.
 ghost use Rattle.std.specs.Prelude.{◌≡◌, ◌≤◌, ◌<◌, ◌+◌, ◌++◌, IfOk, OnOk, length, slice_index, slice_get, Some, MatchOption, IfSome};
 
-use crate::cells::{Cell, gather};
+use crate::cells::gather;
 use crate::changing::Change;
-use crate::joining::join_cells;
-use crate::splitting::move_cells;
+use crate::events::Events;
 use crate::tables::Tables;
 use invariants::{Edge, Partition, Seq};
 use limits::{FIRST_TYPE, MAX_PARTITIONS};
@@ -20,8 +19,7 @@ use traces::TraceSet;
 /// Events are numbered trace after trace, from 0.
 #[derive(Drop)]
 pub struct PartGraph {
-    /// The events, trace after trace.
-    cells: Vec<Cell>,
+    events: Events,
     /// The number of the first event of each trace.
     firsts: Vec<u32>,
     /// What is counted of the events.
@@ -36,9 +34,9 @@ impl Model for PartGraph {
 
     ghost Value = { Parts };
 
-    ghost view = { λ g. record { traces = traces_of g.cells.items; used = g.used } };
+    ghost view = { λ g. record { traces = traces_of g.events; used = g.used } };
 
-    ghost invariant = { λ g. IsKept g.cells.items g.firsts.items g.tables g.used };
+    ghost invariant = { λ g. IsKept g.events g.firsts.items g.tables g.used };
 }
 
 impl PartGraph {
@@ -56,8 +54,9 @@ impl PartGraph {
         let used = traces.types().len() as u32 + FIRST_TYPE;
         let (cells, firsts) = gather(alloc, traces)?;
         let tables = Tables::open(alloc, &cells)?;
+        let events = Events::open(alloc, cells)?;
         Ok(PartGraph {
-            cells,
+            events,
             firsts,
             tables,
             used,
@@ -77,9 +76,13 @@ impl PartGraph {
             return None;
         }
         let n = self.used;
-        self.tables.change(&self.cells, Change::Move(p, next, n));
-        move_cells(&mut self.cells, p, next, n);
         self.used = n + 1;
+        if p >= n {
+            // No event has an id that was not used.
+            return Some(n);
+        }
+        self.tables.change(&self.events, Change::Move(p, next, n));
+        self.events.move_cells(p, next, n);
         Some(n)
     }
 
@@ -89,8 +92,8 @@ impl PartGraph {
         requires { IsPair (G (self.old).traces) p q }
         ensures { self.new ≡ joined p q self.old }
     {
-        self.tables.change(&self.cells, Change::Join(p, q));
-        join_cells(&mut self.cells, p, q);
+        self.tables.change(&self.events, Change::Join(p, q));
+        self.events.join_cells(p, q);
     }
 
     /// How many ids are used, the two ends counted: each id is less than this number. Some of them may have no events.
@@ -184,14 +187,14 @@ impl PartGraph {
         ensures value { result ≡ slice_index (parts_of (self.now).traces) event }
         ensures there { slice_get (parts_of (self.now).traces) event ≡ Some result }
     {
-        self.cells[event as usize].id
+        self.events.cell(event).id
     }
 
     /// How many events all traces have.
     pub fn event_count(&self) -> u32
         ensures { result ≡ length (events (self.now).traces) }
     {
-        self.cells.len() as u32
+        self.events.count()
     }
 
     /// The number of the event behind this one in its trace, and None for the last event of a trace.
@@ -201,7 +204,7 @@ impl PartGraph {
             (IsLast (self.now).traces event)
             (λ n. (n ≡ event + 1) × (IsLast (self.now).traces event → ⊥)) }
     {
-        if self.cells[event as usize].last {
+        if self.events.cell(event).last {
             return None;
         }
         Some(event + 1)
@@ -272,7 +275,12 @@ impl PartGraph {
     pub fn parts(&self, alloc: Global) -> Result<Seq<u32>, AllocError>
         ensures { IfOk result (λ list. list ≡ parts_of (self.now).traces) }
     {
-        let ids = self.cells.iter().map(|cell| cell.id).collect(alloc)?;
+        let ids = self
+            .events
+            .cells()
+            .iter()
+            .map(|cell| cell.id)
+            .collect(alloc)?;
         Ok(Seq::from_vec(ids))
     }
 }

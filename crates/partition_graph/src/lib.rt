@@ -4,14 +4,13 @@
 mod cells;
 mod changing;
 mod edge_counts;
+mod events;
 mod graph;
-mod joining;
 mod law;
 mod links;
 #[cfg(test)]
 mod merge_tests;
 mod merged;
-mod splitting;
 mod tables;
 #[cfg(test)]
 mod tests;

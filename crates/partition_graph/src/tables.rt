@@ -6,8 +6,9 @@ ghost use Rattle.partition_graph.specs.Marks.{is_counted};
 ghost use Rattle.partition_graph.specs.Nexts.{IsNextAnswer};
 
 use crate::cells::Cell;
-use crate::changing::{Change, id_after};
+use crate::changing::{Change, id_after, id_before, node_reached, source_of};
 use crate::edge_counts::{EdgeCounts, no_counts};
+use crate::events::Events;
 use limits::{INITIAL, MAX_PARTITIONS, TERMINAL};
 use std::alloc::{AllocError, Global};
 
@@ -28,7 +29,7 @@ pub struct Tables {
 }
 
 impl Tables {
-    ghost use Rattle.partition_graph.specs.Changes.{HaveTypes, IsEventId, KnowsTypes, changed_cells, given_id, with_id};
+    ghost use Rattle.partition_graph.specs.Changes.{HaveTypes, IsEventId, KnowsTypes, changed_cells, given_id, source_of, with_id};
     ghost use Rattle.partition_graph.specs.Tables.{type_at, size_at, count_at, IsClear, IsCountOf};
 
     /// The tables of these cells.
@@ -43,32 +44,44 @@ impl Tables {
     }
 
     /// Counts the cells as they are after a change, where they are counted as they are before it: what the change
-    /// touches is counted anew, and nothing else.
-    pub fn change(&mut self, cells: &[Cell], change: Change)
-        requires ids { All HasId cells.now }
+    /// touches is counted anew, and nothing else is looked at.
+    pub fn change(&mut self, events: &Events, change: Change)
+        requires ids { All HasId events.now }
+        requires source { source_of change < MAX_PARTITIONS }
         requires given { IsEventId (given_id change) }
-        requires few { length cells.now ≤ MAX_EVENTS }
-        requires counted { IsCountOf self.old cells.now }
-        ensures types { (types : ℕ → ℕ) → HaveTypes types cells.now
-            → HaveTypes types (changed_cells change cells.now)
+        requires few { length events.now ≤ MAX_EVENTS }
+        requires counted { IsCountOf self.old events.now }
+        ensures types { (types : ℕ → ℕ) → HaveTypes types events.now
+            → HaveTypes types (changed_cells change events.now)
             → KnowsTypes types self.old → KnowsTypes types self.new }
         ensures sizes { (p : ℕ) → p < MAX_PARTITIONS
-            → size_at self.new p ≡ cells_with p (changed_cells change cells.now) }
+            → size_at self.new p ≡ cells_with p (changed_cells change events.now) }
         ensures counts { (p q : ℕ) → p < MAX_PARTITIONS → q < MAX_PARTITIONS
-            → count_at self.new p q ≡ edges_along INITIAL (changed_cells change cells.now) p q }
+            → count_at self.new p q ≡ edges_along INITIAL (changed_cells change events.now) p q }
     {
-        let mut was = INITIAL;
-        let mut now = INITIAL;
-        for i in 0..cells.len() {
-            let cell = cells[i];
+        let cells = events.cells();
+        let source = source_of(change);
+        let mut node = events.node_of(source);
+        let mut place = events.next_behind(node);
+        let mut now = id_before(cells, place);
+        while place < cells.len() {
+            let cell = cells[place];
             let changed = Cell {
                 typ: cell.typ,
                 last: cell.last,
-                id: id_after(change, cells, i),
+                id: id_after(change, cells, place),
             };
-            self.replace(was, cell, now, changed);
-            was = cell.before_next();
-            now = changed.before_next();
+            self.replace(id_before(cells, place), cell, now, changed);
+            node = node_reached(cell, source, place, node);
+            let behind = changed.before_next();
+            if behind != cell.before_next() {
+                // The edge to the next cell changes too.
+                now = behind;
+                place += 1;
+                continue;
+            }
+            place = events.next_behind(node);
+            now = id_before(cells, place);
         }
     }
 

@@ -7,5 +7,5 @@ use Rattle.partition_graph.proofs.graph.PartGraph.event_count.Goals as goal
 
 pub returns : goal.returns
 returns c =
-    subst (λ (x : Parts). c.len.result ≡ length (events x.traces)) c.self.view_is
-    (let e : length (events (traces_of c.self.inside.cells.items)) ≡ length c.self.inside.cells.items = length-events c.self.inside.cells.items in omega (arith, e, c.len.ensures))
+    subst (λ (x : Parts). c.count.result ≡ length (events x.traces)) c.self.view_is
+    (let e : length (events (traces_of c.self.inside.events)) ≡ length c.self.inside.events = length-events c.self.inside.events in omega (arith, e, c.count.ensures))

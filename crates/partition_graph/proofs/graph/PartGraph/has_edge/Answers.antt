@@ -10,5 +10,5 @@ pub returns-then-p-self-clause-value : goal.returns-then-p-self-clause-value
 returns-then-p-self-clause-value c =
     subst (λ (x : Parts). false ≡ ltb 0 (edge_count x.traces c.args.p c.args.q)) c.self.view_is
     (ap (λ n. ltb 0 n)
-    (no_edge (traces_of c.self.inside.cells.items) c.self.inside.used c.self.invariant.two c.self.invariant.below c.args.p c.args.q
+    (no_edge (traces_of c.self.inside.events) c.self.inside.used c.self.invariant.two c.self.invariant.below c.args.p c.args.q
     (elim c.then-p-self.branch [ then-p-self-via-then-p-self w ↦ inl w.if-p-self.true | then-p-self-via-else-p-self+then-q-self w ↦ inr w.if-q-self.true ])))

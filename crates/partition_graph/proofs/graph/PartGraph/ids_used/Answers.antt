@@ -8,4 +8,4 @@ use Rattle.partition_graph.proofs.graph.PartGraph.ids_used.Goals as goal
 pub returns-clause-within : goal.returns-clause-within
 returns-clause-within c =
     subst (λ (x : Parts). HasEdgesBelow (G x.traces) c.self.inside.used) c.self.view_is
-    (edges_within (traces_of c.self.inside.cells.items) c.self.inside.used c.self.invariant.two c.self.invariant.below)
+    (edges_within (traces_of c.self.inside.events) c.self.inside.used c.self.invariant.two c.self.invariant.below)

@@ -7,24 +7,21 @@ use Rattle.partition_graph.specs.Cells.{traces_of}
 use Rattle.partition_graph.specs.Parts.{Parts}
 use Rattle.partition_graph.proofs.CellTraces.{length-events, part_at}
 use Rattle.partition_graph.proofs.graph.PartGraph.part_of.Goals as goal
-use Rattle.partition_graph.proofs.graph.PartGraph.part_of.Goals.{After-index}
+use Rattle.partition_graph.proofs.graph.PartGraph.part_of.Goals.{After-cell}
 
-pub index-requires : goal.index-requires
-index-requires c =
+pub cell-requires : goal.cell-requires
+cell-requires c =
     let v = subst (λ (x : Parts). c.args.event < length (events x.traces)) (sym c.self.view_is) c.requires in
-    let e : length (events (traces_of c.self.inside.cells.items)) ≡ length c.self.inside.cells.items = length-events c.self.inside.cells.items in
+    let e : length (events (traces_of c.self.inside.events)) ≡ length c.self.inside.events = length-events c.self.inside.events in
     omega (arith, v, e)
 
-there : (c : After-index) → slice_get (parts_of c.args.self.now.traces) c.args.event ≡ Some c.index.result.now.id
+there : (c : After-cell) → slice_get (parts_of c.args.self.now.traces) c.args.event ≡ Some c.cell.result.id
 there c =
-    let v = subst (λ (x : Parts). c.args.event < length (events x.traces)) (sym c.self.view_is) c.requires in
-    let e : length (events (traces_of c.self.inside.cells.items)) ≡ length c.self.inside.cells.items = length-events c.self.inside.cells.items in
-    let l : c.args.event < length c.self.inside.cells.items = omega (arith, v, e) in
-    subst (λ (x : Parts). slice_get (parts_of x.traces) c.args.event ≡ Some c.index.result.now.id) c.self.view_is
-    (part_at c.self.inside.cells.items c.args.event c.index.result.now l c.index.ensures)
+    subst (λ (x : Parts). slice_get (parts_of x.traces) c.args.event ≡ Some c.cell.result.id) c.self.view_is
+    (part_at c.self.inside.events c.args.event c.cell.result c.cell.ensures)
 
 pub returns-clause-there : goal.returns-clause-there
-returns-clause-there c = there (goal.at.returns-clause-there c).After-index
+returns-clause-there c = there (goal.at.returns-clause-there c).After-cell
 
 pub returns-clause-value : goal.returns-clause-value
-returns-clause-value c = sym (get_or_from_slice_get (parts_of c.args.self.now.traces) c.args.event c.index.result.now.id 0 (there (goal.at.returns-clause-value c).After-index))
+returns-clause-value c = sym (get_or_from_slice_get (parts_of c.args.self.now.traces) c.args.event c.cell.result.id 0 (there (goal.at.returns-clause-value c).After-cell))
