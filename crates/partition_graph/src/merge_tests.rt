@@ -4,7 +4,7 @@ ghost use Rattle.partition_model.specs.Coarsening.{IsPair};
 
 use crate::tests::{assert_graph, log};
 use crate::{Links, PartGraph, View};
-use limits::{FIRST_TYPE, TERMINAL};
+use limits::{FIRST_TYPE, INITIAL, TERMINAL};
 use std::alloc::Global;
 use std::process::Abort;
 use std::test::Fail;
@@ -76,8 +76,36 @@ fn sample(rt: &impl Abort, alloc: Global, seed: u32) -> Result<PartGraph, Fail> 
         let p = FIRST_TYPE + (draw >> 8) % ids;
         let next = TERMINAL + (draw >> 16) % (ids + 1);
         graph.split(p, next);
+        assert_counted(rt, &graph)?;
     }
     Ok(graph)
+}
+
+/// Counts an edge between ids below 12 once more.
+fn count_edge(counts: &mut [u32], p: u32, q: u32) {
+    if let Some(count) = counts.get_mut(p as usize * 12 + q as usize) {
+        *count = count.wrapping_add(1);
+    }
+}
+
+/// Compares the counts of all edges with what going over all events counts.
+fn assert_counted(rt: &impl Abort, graph: &PartGraph) -> Result<(), Fail> {
+    let mut counts = [0u32; 144];
+    let mut before = INITIAL;
+    for event in 0..graph.event_count() {
+        let id = graph.part_of(event);
+        count_edge(&mut counts, before, id);
+        before = id;
+        if graph.next_event(event).is_none() {
+            count_edge(&mut counts, id, TERMINAL);
+            before = INITIAL;
+        }
+    }
+    for (place, count) in counts.iter().enumerate() {
+        let p = place as u32 / 12;
+        assert_eq!(rt; graph.edge_count(p, place as u32 % 12), *count);
+    }
+    Ok(())
 }
 
 /// Compares what a merged view of a pair shows with the graph after the merge.
@@ -131,6 +159,7 @@ fn compare(
     }
     let mut after = sample(rt, alloc, seed)?;
     merge(rt, &mut after, p, q)?;
+    assert_counted(rt, &after)?;
     assert_merged(rt, &before, p, q, &after)?;
     links.gather(&View::Merged(&before, p, q));
     assert_links(rt, alloc, links, &after)?;

@@ -65,27 +65,34 @@ fn assert_events(
     Ok(())
 }
 
-#[test]
-fn two_traces_of_one_word(rt: HostRuntime) -> Result<(), Fail> {
-    let set = log(&rt, rt.alloc(), &[&["a", "b"], &["a", "b"]])?;
-    let graph = PartGraph::open(rt.alloc(), &set)?;
-    let partitions = [[0, 0, 2], [1, 1, 2], [2, 2, 2], [3, 3, 2]];
-    let edges = [[0, 2, 2], [2, 3, 2], [3, 1, 2]];
-    assert_graph(&rt, rt.alloc(), &graph, &partitions, &edges)?;
-    let view = View::Plain(&graph);
-    assert!(rt; view.has_edge(2, 3) && !view.has_edge(3, 2) && !view.has_edge(2, 5000));
-    assert_eq!(rt; view.type_of(3), 3);
-    assert_eq!(rt; view.ids_used(), 4);
-    let next = [Some(1), None, Some(3), None];
-    assert_events(&rt, rt.alloc(), &graph, &[2, 3, 2, 3], &[0, 2], &next)
+/// Traces, splits of their graph, each with the id that it gives, and what the graph is then: its partitions and edges as
+/// rows of numbers, the id of each event, the first event of each trace, and the event behind each.
+#[derive(Clone, Copy)]
+struct Case<'a> {
+    traces: &'a [&'a [&'a str]],
+    splits: &'a [[u32; 3]],
+    partitions: &'a [[u32; 3]],
+    edges: &'a [[u32; 3]],
+    parts: &'a [u32],
+    firsts: &'a [u32],
+    next: &'a [Option<u32>],
 }
 
+const ONE_WORD_TWICE: Case<'static> = Case {
+    traces: &[&["a", "b"], &["a", "b"]],
+    splits: &[],
+    partitions: &[[0, 0, 2], [1, 1, 2], [2, 2, 2], [3, 3, 2]],
+    edges: &[[0, 2, 2], [2, 3, 2], [3, 1, 2]],
+    parts: &[2, 3, 2, 3],
+    firsts: &[0, 2],
+    next: &[Some(1), None, Some(3), None],
+};
+
 /// Before any partition is divided, both traces go through one partition of c.
-#[test]
-fn two_words_that_share_a_type(rt: HostRuntime) -> Result<(), Fail> {
-    let set = log(&rt, rt.alloc(), &[&["a", "c", "d"], &["b", "c", "e"]])?;
-    let graph = PartGraph::open(rt.alloc(), &set)?;
-    let partitions = [
+const TWO_WORDS: Case<'static> = Case {
+    traces: &[&["a", "c", "d"], &["b", "c", "e"]],
+    splits: &[],
+    partitions: &[
         [0, 0, 2],
         [1, 1, 2],
         [2, 2, 1],
@@ -93,8 +100,8 @@ fn two_words_that_share_a_type(rt: HostRuntime) -> Result<(), Fail> {
         [4, 4, 1],
         [5, 5, 1],
         [6, 6, 1],
-    ];
-    let edges = [
+    ],
+    edges: &[
         [0, 2, 1],
         [0, 5, 1],
         [2, 3, 1],
@@ -103,39 +110,37 @@ fn two_words_that_share_a_type(rt: HostRuntime) -> Result<(), Fail> {
         [4, 1, 1],
         [5, 3, 1],
         [6, 1, 1],
-    ];
-    assert_graph(&rt, rt.alloc(), &graph, &partitions, &edges)?;
-    let next = [Some(1), Some(2), None, Some(4), Some(5), None];
-    assert_events(&rt, rt.alloc(), &graph, &[2, 3, 4, 5, 3, 6], &[0, 3], &next)
-}
+    ],
+    parts: &[2, 3, 4, 5, 3, 6],
+    firsts: &[0, 3],
+    next: &[Some(1), Some(2), None, Some(4), Some(5), None],
+};
 
-#[test]
-fn one_type_that_follows_itself(rt: HostRuntime) -> Result<(), Fail> {
-    let set = log(&rt, rt.alloc(), &[&["a", "a", "a"]])?;
-    let graph = PartGraph::open(rt.alloc(), &set)?;
-    let partitions = [[0, 0, 1], [1, 1, 1], [2, 2, 3]];
-    let edges = [[0, 2, 1], [2, 1, 1], [2, 2, 2]];
-    assert_graph(&rt, rt.alloc(), &graph, &partitions, &edges)?;
-    let next = [Some(1), Some(2), None];
-    assert_events(&rt, rt.alloc(), &graph, &[2, 2, 2], &[0], &next)
-}
+const ONE_TYPE: Case<'static> = Case {
+    traces: &[&["a", "a", "a"]],
+    splits: &[],
+    partitions: &[[0, 0, 1], [1, 1, 1], [2, 2, 3]],
+    edges: &[[0, 2, 1], [2, 1, 1], [2, 2, 2]],
+    parts: &[2, 2, 2],
+    firsts: &[0],
+    next: &[Some(1), Some(2), None],
+};
 
-#[test]
-fn an_empty_log(rt: HostRuntime) -> Result<(), Fail> {
-    let set = log(&rt, rt.alloc(), &[])?;
-    let graph = PartGraph::open(rt.alloc(), &set)?;
-    assert_graph(&rt, rt.alloc(), &graph, &[[0, 0, 0], [1, 1, 0]], &[])?;
-    assert_events(&rt, rt.alloc(), &graph, &[], &[], &[])
-}
+const EMPTY: Case<'static> = Case {
+    traces: &[],
+    splits: &[],
+    partitions: &[[0, 0, 0], [1, 1, 0]],
+    edges: &[],
+    parts: &[],
+    firsts: &[],
+    next: &[],
+};
 
 /// The partition of c is divided by what follows.
-#[test]
-fn the_events_of_c_that_e_follows(rt: HostRuntime) -> Result<(), Fail> {
-    let set = log(&rt, rt.alloc(), &[&["a", "c", "d"], &["b", "c", "e"]])?;
-    let mut graph = PartGraph::open(rt.alloc(), &set)?;
-    assert_eq!(rt; graph.split(3, 6), Some(7));
-    assert_eq!(rt; graph.ids_used(), 8);
-    let partitions = [
+const TWO_WORDS_DIVIDED: Case<'static> = Case {
+    traces: &[&["a", "c", "d"], &["b", "c", "e"]],
+    splits: &[[3, 6, 7]],
+    partitions: &[
         [0, 0, 2],
         [1, 1, 2],
         [2, 2, 1],
@@ -144,8 +149,8 @@ fn the_events_of_c_that_e_follows(rt: HostRuntime) -> Result<(), Fail> {
         [5, 5, 1],
         [6, 6, 1],
         [7, 3, 1],
-    ];
-    let edges = [
+    ],
+    edges: &[
         [0, 2, 1],
         [0, 5, 1],
         [2, 3, 1],
@@ -154,49 +159,77 @@ fn the_events_of_c_that_e_follows(rt: HostRuntime) -> Result<(), Fail> {
         [5, 7, 1],
         [6, 1, 1],
         [7, 6, 1],
-    ];
-    assert_graph(&rt, rt.alloc(), &graph, &partitions, &edges)?;
-    let next = [Some(1), Some(2), None, Some(4), Some(5), None];
-    assert_events(&rt, rt.alloc(), &graph, &[2, 3, 4, 5, 7, 6], &[0, 3], &next)
-}
+    ],
+    parts: &[2, 3, 4, 5, 7, 6],
+    firsts: &[0, 3],
+    next: &[Some(1), Some(2), None, Some(4), Some(5), None],
+};
 
-/// A partition whose events follow one another is divided by itself, and then its new part by itself.
-#[test]
-fn partitions_that_are_divided_by_themselves(rt: HostRuntime) -> Result<(), Fail> {
-    let set = log(&rt, rt.alloc(), &[&["a", "a", "a"]])?;
-    let mut graph = PartGraph::open(rt.alloc(), &set)?;
-    assert_eq!(rt; graph.split(2, 2), Some(3));
-    let partitions = [[0, 0, 1], [1, 1, 1], [2, 2, 1], [3, 2, 2]];
-    let edges = [[0, 3, 1], [2, 1, 1], [3, 2, 1], [3, 3, 1]];
-    assert_graph(&rt, rt.alloc(), &graph, &partitions, &edges)?;
-    assert_eq!(rt; graph.split(3, 3), Some(4));
-    assert_eq!(rt; graph.parts(rt.alloc())?.as_slice(), [4, 3, 2].as_slice());
-    Ok(())
-}
+/// A partition whose events follow one another is divided by itself.
+const DIVIDED_BY_ITSELF: Case<'static> = Case {
+    traces: &[&["a", "a", "a"]],
+    splits: &[[2, 2, 3]],
+    partitions: &[[0, 0, 1], [1, 1, 1], [2, 2, 1], [3, 2, 2]],
+    edges: &[[0, 3, 1], [2, 1, 1], [3, 2, 1], [3, 3, 1]],
+    parts: &[3, 3, 2],
+    firsts: &[0],
+    next: &[Some(1), Some(2), None],
+};
 
 /// The events that end their traces are divided off, each of them and no other.
-#[test]
-fn a_partition_that_is_divided_by_terminal(rt: HostRuntime) -> Result<(), Fail> {
-    let set = log(
-        &rt,
-        rt.alloc(),
-        &[&["a", "b", "a"], &["b", "a"], &["a", "a"]],
-    )?;
-    let mut graph = PartGraph::open(rt.alloc(), &set)?;
-    assert_eq!(rt; graph.split(2, TERMINAL), Some(4));
-    let partitions = [[0, 0, 3], [1, 1, 3], [2, 2, 2], [3, 3, 2], [4, 2, 3]];
-    let edges = [
+const DIVIDED_BY_TERMINAL: Case<'static> = Case {
+    traces: &[&["a", "b", "a"], &["b", "a"], &["a", "a"]],
+    splits: &[[2, TERMINAL, 4]],
+    partitions: &[[0, 0, 3], [1, 1, 3], [2, 2, 2], [3, 3, 2], [4, 2, 3]],
+    edges: &[
         [0, 2, 2],
         [0, 3, 1],
         [2, 3, 1],
         [2, 4, 1],
         [3, 4, 2],
         [4, 1, 3],
-    ];
-    assert_graph(&rt, rt.alloc(), &graph, &partitions, &edges)?;
-    let next = [Some(1), Some(2), None, Some(4), None, Some(6), None];
-    let parts = [2, 3, 4, 3, 4, 2, 4];
-    assert_events(&rt, rt.alloc(), &graph, &parts, &[0, 3, 5], &next)
+    ],
+    parts: &[2, 3, 4, 3, 4, 2, 4],
+    firsts: &[0, 3, 5],
+    next: &[Some(1), Some(2), None, Some(4), None, Some(6), None],
+};
+
+/// Divides the graph of the case, and compares.
+fn assert_case(rt: &impl Abort, alloc: Global, case: &Case<'_>) -> Result<(), Fail> {
+    let set = log(rt, alloc, case.traces)?;
+    let mut graph = PartGraph::open(alloc, &set)?;
+    for [p, next, n] in case.splits.iter().copied() {
+        assert_eq!(rt; graph.split(p, next), Some(n));
+    }
+    assert_graph(rt, alloc, &graph, case.partitions, case.edges)?;
+    assert_events(rt, alloc, &graph, case.parts, case.firsts, case.next)
+}
+
+#[test]
+fn graphs_of_small_logs(rt: HostRuntime) -> Result<(), Fail> {
+    for case in [
+        ONE_WORD_TWICE,
+        TWO_WORDS,
+        ONE_TYPE,
+        EMPTY,
+        TWO_WORDS_DIVIDED,
+        DIVIDED_BY_ITSELF,
+        DIVIDED_BY_TERMINAL,
+    ] {
+        assert_case(&rt, rt.alloc(), &case)?;
+    }
+    Ok(())
+}
+
+#[test]
+fn what_a_view_shows(rt: HostRuntime) -> Result<(), Fail> {
+    let set = log(&rt, rt.alloc(), ONE_WORD_TWICE.traces)?;
+    let graph = PartGraph::open(rt.alloc(), &set)?;
+    let view = View::Plain(&graph);
+    assert!(rt; view.has_edge(2, 3) && !view.has_edge(3, 2) && !view.has_edge(2, 5000));
+    assert_eq!(rt; view.type_of(3), 3);
+    assert_eq!(rt; view.ids_used(), 4);
+    Ok(())
 }
 
 /// Adds a trace: one type, then so many letters a, then another type.
