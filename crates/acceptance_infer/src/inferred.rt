@@ -113,6 +113,16 @@ fn the_model_of_the_shop(rt: HostRuntime) -> Result<(), Fail> {
     ends(&rt, rt.alloc(), &drawing, "", SHOP_GRAPH, Status::Done)
 }
 
+/// The model of one trace of a million events of one type.
+const MILLION_MODEL: &str =
+    "{\"blocks\":[],\"edges\":[[0,2,1],[2,1,1],[2,2,999999]],\"invariants\":[[\"AF\",0,2,\"211\"]],\"merges\":[],\"partitions\":[[0,0,1],[1,1,1],[2,2,1000000]],\"splits\":[],\"types\":[\"a\"],\"version\":1}";
+
+#[test]
+fn as_many_events_as_there_may_be(rt: HostRuntime) -> Result<(), Fail> {
+    let log = repeated(rt.alloc(), "1 a\n", 1_000_000)?;
+    has_model(&rt, rt.alloc(), log.as_str(), MILLION_MODEL)
+}
+
 /// The log of the traces p a .. a q and r a .. a s, each with so many letters a.
 fn long_log(alloc: Global, letters: usize) -> Result<String, AllocError> {
     let first = repeated(alloc, "1 a\n", letters)?;
