@@ -1,16 +1,18 @@
 -- What a run leaves.
 use Rattle.std.proofs.Common.{◌≡◌, ℕ, ◌+◌, ◌*◌, ◌<◌, ◌≤◌, List, [], ◌∷◌, ◌++◌, map, length, All, sym, ◌∙◌, refl, ap, ap₂, subst, subst₂, arith, length-append}
 use Rattle.std.proofs.lemmas.List.Concat.{length-flat_map}
+use Rattle.std.proofs.lemmas.List.Elements.{All-from_recursion}
 use Rattle.limits.specs.declared.TheConstants.{MAX_PAIRS, MAX_PARTITIONS, MAX_PATH_NUMBERS, MAX_STEPS}
 use Rattle.invariants.specs.declared.Invariant.{Invariant}
 use Rattle.invariants.specs.declared.records.Split.{Split}
 use Rattle.invariants.specs.declared.records.Merge.{Merge}
 use Rattle.invariants.specs.declared.records.Block.{Block}
 use Rattle.cell_pool.specs.declared.run_log.SplitEntry.{SplitEntry}
+use Rattle.cell_pool.specs.declared.run_log.BlockEntry.{BlockEntry}
 use Rattle.cell_pool.specs.declared.run_log.MergeEntry.{MergeEntry}
 use Rattle.cell_pool.specs.Numbers.{Numbers, KeepsLists}
 use Rattle.cell_pool.specs.RunLists.{RunLists}
-use Rattle.run_history.specs.Records.{split_of, merge_of, splits_of, merges_of, blocks_of, HoldsPaths}
+use Rattle.run_history.specs.Records.{split_of, merge_of, splits_of, merges_of, blocks_of, HoldsPaths, IsWithin}
 use Rattle.run_history.proofs.Adding.{splits-stay}
 use Rattle.model_shape.specs.Numbers.{split_numbers, block_numbers}
 use Rattle.partition_model.specs.Assignments.{Assignment, G, IsTyped}
@@ -70,6 +72,30 @@ stopped-passes words invs old new splits counted b f s =
       full = omega (arith, s.used, f.used);
       next = f.next;
       is_next = subst (λ (xs : List Invariant). IsNextSplit xs new.traces f.next) e f.is_next;
+    }
+
+-- where nothing is refined, nothing is written
+pub none-written : (run : RunLists) (spans : Numbers) → AreEmpty run spans → WritesSplits run run spans spans
+none-written run spans e =
+    record {
+      log_is = refl;
+      spans_are = ap (λ (ns : List ℕ). let x : Numbers = record spans { numbers = ns } in x)
+          (e.numbers ∙ sym (ap (λ (es : List SplitEntry). paths_of (map (split_of spans.numbers) es)) e.splits));
+      paths = record {
+        splits = subst (λ (es : List SplitEntry). All (λ e. IsWithin spans.numbers e.path) es) (sym e.splits) (All-from_recursion (λ (e : SplitEntry). IsWithin spans.numbers e.path) [] tt);
+        blocks = subst (λ (es : List BlockEntry). All (λ e. IsWithin spans.numbers e.path) es) (sym e.blocks) (All-from_recursion (λ (e : BlockEntry). IsWithin spans.numbers e.path) [] tt);
+      };
+    }
+
+-- and that is all of refinement where the graph breaks no invariant
+pub none-refined : (invs : List Invariant) (parts : Parts) (run : RunLists) (spans : Numbers) → AreEmpty run spans → parts.used ≤ MAX_PARTITIONS → SatisfiesAll (G parts.traces) invs
+    → EndsRefined invs parts (splits_of run spans) parts
+none-refined invs parts run spans e few all =
+    let none : splits_of run spans ≡ [] = ap (λ (es : List SplitEntry). map (split_of spans.numbers) es) e.splits in
+    record {
+      run = subst (λ (ss : List Split). Refines invs parts.traces parts.used ss parts.traces) (sym none) (all, refl);
+      used = omega (arith, ap (λ (ss : List Split). length ss) none);
+      within = few;
     }
 
 -- what is known of a run where blocks were begun: run0 and spans0 stand before it, run1, spans1 and parts1 after refinement,
@@ -162,9 +188,9 @@ module _ (words : TypedWords) (invs : List Invariant) (old parts1 parts2 : Parts
   }
 
   -- and how many steps it counted
-  pub counted : (s0 s1 s2 s3 s4 : ℕ) → IsTyped parts1.traces → s1 ≡ s0 + length invs + length (splits_of run1 spans1) → s1 ≤ s2 → s2 ≤ s1 + pair_count parts1
+  pub counted : (s0 s1 s2 s3 s4 : ℕ) → IsTyped parts1.traces → s0 ≤ s1 → s1 ≤ s0 + length invs + length (splits_of run1 spans1) → s1 ≤ s2 → s2 ≤ s1 + pair_count parts1
       → s2 ≤ s3 → s3 ≤ s2 + 2 * pair_count parts2 → s4 ≡ s3 + 1 → CountsAtMost words s0 s4
-  counted s0 s1 s2 s3 s4 typed a more k later l n =
+  counted s0 s1 s2 s3 s4 typed start a more k later l n =
       let few : length (pairs_below parts1.used (G parts2.traces)) ≤ length (pairs_below parts1.used (G parts1.traces)) =
       pairs-fewer invs (merges_of run2) parts1.traces parts2.traces parts1.used typed r.coarsens in
       let at : pair_count parts2 ≡ length (pairs_below parts1.used (G parts2.traces)) = ap (λ (u : ℕ). length (pairs_below u (G parts2.traces))) r.used in
@@ -176,6 +202,6 @@ module _ (words : TypedWords) (invs : List Invariant) (old parts1 parts2 : Parts
         splits = splits_of run3 spans3;
         refined = parts1.traces;
         refines = refined;
-        more = omega (arith, a, more, later, n);
+        more = omega (arith, start, more, later, n);
         steps = omega (arith, few, at, all, m, s, a, k, l, n);
       }

@@ -1,6 +1,9 @@
 //! The run: refinement, coarsening, blocks and labels, on memory that is there.
-ghost use Rattle.std.specs.Prelude.{◌≡◌, ◌≤◌, OnOk};
+ghost use Rattle.std.specs.Prelude.{◌≡◌, ◌≤◌, ◌+◌, ◌-◌, OnErr, OnOk, length};
 ghost use Rattle.models.specs.Models.{TypedWords};
+ghost use Rattle.run_history.specs.Records.{splits_of};
+ghost use Rattle.splitter.specs.Refining.{EndsRefined, IsFull, IsStopped};
+ghost use Rattle.splitter.specs.Writing.{WritesSplits};
 ghost use Rattle.infer_core.specs.Runs.{CountsAtMost};
 ghost use Rattle.infer_core.specs.Ends.{BeginsWith, IsReady, RunGives};
 
@@ -12,9 +15,43 @@ use labelling::Planes;
 use limits::MAX_PARTITIONS;
 use partition_graph::{PartGraph, View};
 use path_finder::Finder;
-use splitter::{Stitcher, refine};
+use splitter::{PartitionLimit, Stitcher, refine};
 use std::sync::ledger::Ledger;
 use steps::Steps;
+
+/// Refines the graph, as `refine` does. Labels tell at once for all invariants whether it breaks any; where it breaks
+/// none, no path is asked for.
+fn refine_broken<L: Ledger>(
+    graph: &mut PartGraph,
+    finder: &mut Finder,
+    stitcher: &mut Stitcher,
+    planes: &mut Planes,
+    invs: &[Invariant],
+    spans: &mut Spans,
+    log: &mut RunLog,
+    steps: &mut Steps<L>,
+) -> Result<(), PartitionLimit>
+    requires { IsReady invs.now graph.old stitcher.old planes.old spans.old log.old }
+    ensures list { planes.new.invs ≡ planes.old.invs }
+    ensures writes { WritesSplits log.old log.new spans.old spans.new }
+
+    // The whole run, and how many steps it counts.
+    ensures ok { OnOk result (EndsRefined invs.now graph.old (splits_of log.new spans.new) graph.new) }
+    ensures more { OnOk result (steps.old ≤ steps.new) }
+    ensures few { OnOk result
+        (steps.new ≤ steps.old + length invs.now + length (splits_of log.new spans.new)) }
+
+    // When the limit comes, and what it leaves.
+    ensures full { OnErr result (IsFull invs.now graph.new) }
+    ensures stands { OnErr result (IsStopped invs.now graph.old graph.new
+        (splits_of log.new spans.new) (steps.new - steps.old)) }
+{
+    prove!(graph.ids_used() <= MAX_PARTITIONS);
+    if planes.satisfies_all(&View::Plain(graph)) {
+        return Ok(());
+    }
+    refine(graph, finder, stitcher, invs, spans, log, steps)
+}
 
 /// Runs inference on a graph that was opened of a log, by the invariants that are mined of it. It takes no memory.
 ///
@@ -36,7 +73,8 @@ pub fn run<L: Ledger>(
     ensures counted { OnOk result ((words : TypedWords) → BeginsWith words invs.now graph.old
         → CountsAtMost words steps.old steps.new) }
 {
-    let Ok(()) = refine(graph, finder, stitcher, invs, spans, log, steps) else {
+    let refined = refine_broken(graph, finder, stitcher, planes, invs, spans, log, steps);
+    let Ok(()) = refined else {
         return Err(InferLimit::Partitions);
     };
     prove!(graph.ids_used() <= MAX_PARTITIONS);

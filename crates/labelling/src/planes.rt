@@ -1,5 +1,5 @@
 //! The labels.
-ghost use Rattle.std.specs.Prelude.{◌≡◌, ◌≢◌, ◌≤◌, ◌<◌, ◌+◌, ℕ, IfOk, MatchOption, length, slice_get, Some};
+ghost use Rattle.std.specs.Prelude.{true, false, ◌≡◌, ◌≢◌, ◌≤◌, ◌<◌, ◌+◌, ℕ, IfOk, MatchOption, length, slice_get, Some};
 ghost use Rattle.limits.specs.declared.TheConstants.{MAX_PARTITIONS};
 ghost use Rattle.invariants.specs.declared.Invariant.{Invariant};
 ghost use Rattle.partition_model.specs.Graphs.{Graph};
@@ -78,6 +78,19 @@ impl Planes {
         steps.tick();
         self.links.gather(view);
         label(&mut self.board, view, self.links.as_slice());
+    }
+
+    /// Whether the graph satisfies each invariant of the list, by labelling it for all of them at once. It counts no step.
+    pub fn satisfies_all(&mut self, view: &View<'_>) -> bool
+        requires { IsSound view.now }
+        ensures yes { result ≡ true → SatisfiesAll (seen view.now) (self.new).invs }
+        ensures not { result ≡ false → SatisfiesAll (seen view.now) (self.new).invs → ⊥ }
+        ensures same { (self.new).invs ≡ (self.old).invs }
+        ensures clashes { (self.new).clashes ≡ (self.old).clashes }
+    {
+        self.links.gather(view);
+        label(&mut self.board, view, self.links.as_slice());
+        self.board.first_noted().is_none()
     }
 
     /// The label of the invariant with this number at p: 1 for the state 0, plus 2 for the state 1, plus 4 for the

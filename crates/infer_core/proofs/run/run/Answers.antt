@@ -11,82 +11,82 @@ use Rattle.infer_core.proofs.run.run.Goals as goal
 
 pub returns-in_default-clause-gives : goal.returns-in_default-clause-gives
 returns-in_default-clause-gives g c words b =
-    stopped-passes words c.args.invs.now c.args.graph.now c.refine.new.graph (splits_of c.refine.new.log c.refine.new.spans) _ b c.in_default.ensures.full c.in_default.ensures.stands
+    stopped-passes words c.args.invs.now c.args.graph.now c.refine_broken-refined.new.graph (splits_of c.refine_broken-refined.new.log c.refine_broken-refined.new.spans) _ b c.in_default.ensures.full c.in_default.ensures.stands
 
 pub coarsen-requires-clause-satisfied : goal.coarsen-requires-clause-satisfied
 coarsen-requires-clause-satisfied g c =
-    refined-keeps c.args.invs.now c.args.planes.now.invs c.args.graph.now c.refine.new.graph (splits_of c.refine.new.log c.refine.new.spans) c.requires.listed c.in-Ok.ensures.ok
+    refined-keeps c.args.invs.now c.refine_broken-refined.new.planes.invs c.args.graph.now c.refine_broken-refined.new.graph (splits_of c.refine_broken-refined.new.log c.refine_broken-refined.new.spans) (c.refine_broken-refined.ensures.list ∙ c.requires.listed) c.in-Ok.ensures.ok
 
 pub coarsen-requires-clause-begun : goal.coarsen-requires-clause-begun
-coarsen-requires-clause-begun g c = merges-none c.args.log.now c.refine.new.log c.args.spans.now c.refine.new.spans c.requires.empty c.in-Ok.ensures.writes
+coarsen-requires-clause-begun g c = merges-none c.args.log.now c.refine_broken-refined.new.log c.args.spans.now c.refine_broken-refined.new.spans c.requires.empty c.in-Ok.ensures.writes
 
 pub coarsen-requires-clause-room : goal.coarsen-requires-clause-room
-coarsen-requires-clause-room g c = omega (arith, merge-room c.args.log.now c.refine.new.log c.args.spans.now c.refine.new.spans c.in-Ok.ensures.writes, c.requires.merges)
+coarsen-requires-clause-room g c = omega (arith, merge-room c.args.log.now c.refine_broken-refined.new.log c.args.spans.now c.refine_broken-refined.new.spans c.in-Ok.ensures.writes, c.requires.merges)
 
 pub blocks-requires-clause-ended : goal.blocks-requires-clause-ended
 blocks-requires-clause-ended g c =
-    coarsened-none c.args.invs.now (merges_of c.coarsen.new.log) c.refine.new.graph.traces c.coarsen.new.graph.traces
-    (subst (λ (invs : List Invariant). Coarsens invs c.refine.new.graph.traces (merges_of c.coarsen.new.log) c.coarsen.new.graph.traces) c.requires.listed c.coarsen.ensures.run)
+    coarsened-none c.args.invs.now (merges_of c.coarsen.new.log) c.refine_broken-refined.new.graph.traces c.coarsen.new.graph.traces
+    (subst (λ (invs : List Invariant). Coarsens invs c.refine_broken-refined.new.graph.traces (merges_of c.coarsen.new.log) c.coarsen.new.graph.traces) (c.refine_broken-refined.ensures.list ∙ c.requires.listed) c.coarsen.ensures.run)
 
 pub blocks-requires-clause-listed : goal.blocks-requires-clause-listed
-blocks-requires-clause-listed g c = c.coarsen.ensures.list ∙ c.requires.listed
+blocks-requires-clause-listed g c = c.coarsen.ensures.list ∙ (c.refine_broken-refined.ensures.list ∙ c.requires.listed)
 
 pub blocks-requires-clause-numbers : goal.blocks-requires-clause-numbers
-blocks-requires-clause-numbers g c = numbers-room c.args.log.now c.refine.new.log c.args.spans.now c.refine.new.spans c.in-Ok.ensures.writes ∙ c.requires.numbers
+blocks-requires-clause-numbers g c = numbers-room c.args.log.now c.refine_broken-refined.new.log c.args.spans.now c.refine_broken-refined.new.spans c.in-Ok.ensures.writes ∙ c.requires.numbers
 
 pub blocks-requires-clause-begun : goal.blocks-requires-clause-begun
 blocks-requires-clause-begun g c =
-    ap (λ (x : RunLists). x.blocks) c.coarsen.ensures.others ∙ blocks-none c.args.log.now c.refine.new.log c.args.spans.now c.refine.new.spans c.requires.empty c.in-Ok.ensures.writes
+    ap (λ (x : RunLists). x.blocks) c.coarsen.ensures.others ∙ blocks-none c.args.log.now c.refine_broken-refined.new.log c.args.spans.now c.refine_broken-refined.new.spans c.requires.empty c.in-Ok.ensures.writes
 
 pub blocks-requires-clause-room : goal.blocks-requires-clause-room
 blocks-requires-clause-room g c =
     pairs-room c.coarsen.new.graph c.coarsen.new.log.block_room (omega (arith, c.coarsen.ensures.used, c.in-Ok.ensures.ok.within))
-    (omega (arith, ap (λ (x : RunLists). x.block_room) c.coarsen.ensures.others, block-room c.args.log.now c.refine.new.log c.args.spans.now c.refine.new.spans c.in-Ok.ensures.writes, c.requires.blocks))
+    (omega (arith, ap (λ (x : RunLists). x.block_room) c.coarsen.ensures.others, block-room c.args.log.now c.refine_broken-refined.new.log c.args.spans.now c.refine_broken-refined.new.spans c.in-Ok.ensures.writes, c.requires.blocks))
 
 pub returns-in_default-blocks-clause-gives : goal.returns-in_default-blocks-clause-gives
 returns-in_default-blocks-clause-gives g c words b =
-    let r : IsRun c.args.invs.now c.args.graph.now c.refine.new.graph c.coarsen.new.graph c.args.log.now c.refine.new.log c.coarsen.new.log c.blocks-2.new.log c.args.spans.now c.refine.new.spans c.blocks-2.new.spans = record {
+    let r : IsRun c.args.invs.now c.args.graph.now c.refine_broken-refined.new.graph c.coarsen.new.graph c.args.log.now c.refine_broken-refined.new.log c.coarsen.new.log c.blocks-2.new.log c.args.spans.now c.refine_broken-refined.new.spans c.blocks-2.new.spans = record {
       empty = c.requires.empty;
       writes = c.in-Ok.ensures.writes;
       refines = c.in-Ok.ensures.ok;
-      coarsens = subst (λ (invs : List Invariant). Coarsens invs c.refine.new.graph.traces (merges_of c.coarsen.new.log) c.coarsen.new.graph.traces) c.requires.listed c.coarsen.ensures.run;
+      coarsens = subst (λ (invs : List Invariant). Coarsens invs c.refine_broken-refined.new.graph.traces (merges_of c.coarsen.new.log) c.coarsen.new.graph.traces) (c.refine_broken-refined.ensures.list ∙ c.requires.listed) c.coarsen.ensures.run;
       used = c.coarsen.ensures.used;
       merged = c.coarsen.ensures.others;
       blocked = c.in_default-blocks.ensures.others;
       paths = c.in_default-blocks.ensures.paths;
       stays = c.in_default-blocks.ensures.stays;
     } in
-    blocked-passes words c.args.invs.now c.args.graph.now c.refine.new.graph c.coarsen.new.graph c.args.log.now c.refine.new.log c.coarsen.new.log c.blocks-2.new.log c.args.spans.now c.refine.new.spans c.blocks-2.new.spans b r c.in_default-blocks.ensures.err
+    blocked-passes words c.args.invs.now c.args.graph.now c.refine_broken-refined.new.graph c.coarsen.new.graph c.args.log.now c.refine_broken-refined.new.log c.coarsen.new.log c.blocks-2.new.log c.args.spans.now c.refine_broken-refined.new.spans c.blocks-2.new.spans b r c.in_default-blocks.ensures.err
 
 pub returns-clause-gives : goal.returns-clause-gives
 returns-clause-gives g c words b =
-    let r : IsRun c.args.invs.now c.args.graph.now c.refine.new.graph c.coarsen.new.graph c.args.log.now c.refine.new.log c.coarsen.new.log c.blocks-2.new.log c.args.spans.now c.refine.new.spans c.blocks-2.new.spans = record {
+    let r : IsRun c.args.invs.now c.args.graph.now c.refine_broken-refined.new.graph c.coarsen.new.graph c.args.log.now c.refine_broken-refined.new.log c.coarsen.new.log c.blocks-2.new.log c.args.spans.now c.refine_broken-refined.new.spans c.blocks-2.new.spans = record {
       empty = c.requires.empty;
       writes = c.in-Ok.ensures.writes;
       refines = c.in-Ok.ensures.ok;
-      coarsens = subst (λ (invs : List Invariant). Coarsens invs c.refine.new.graph.traces (merges_of c.coarsen.new.log) c.coarsen.new.graph.traces) c.requires.listed c.coarsen.ensures.run;
+      coarsens = subst (λ (invs : List Invariant). Coarsens invs c.refine_broken-refined.new.graph.traces (merges_of c.coarsen.new.log) c.coarsen.new.graph.traces) (c.refine_broken-refined.ensures.list ∙ c.requires.listed) c.coarsen.ensures.run;
       used = c.coarsen.ensures.used;
       merged = c.coarsen.ensures.others;
       blocked = c.in-Ok-blocks.ensures.others;
       paths = c.in-Ok-blocks.ensures.paths;
       stays = c.in-Ok-blocks.ensures.stays;
     } in
-    let held : HoldsPaths c.blocks-2.new.log c.blocks-2.new.spans = c.in-Ok-blocks.ensures.holds (holds-merged c.refine.new.log c.coarsen.new.log c.refine.new.spans c.coarsen.ensures.others c.in-Ok.ensures.writes.paths) in
-    ended words c.args.invs.now c.args.graph.now c.refine.new.graph c.coarsen.new.graph c.args.log.now c.refine.new.log c.coarsen.new.log c.blocks-2.new.log c.args.spans.now c.refine.new.spans c.blocks-2.new.spans b r c.label_all.new.self c.in-Ok-blocks.ensures.ok c.in-Ok-blocks.ensures.within
-    (c.label_all.ensures.same ∙ c.in-Ok-blocks.ensures.list ∙ c.coarsen.ensures.list ∙ c.requires.listed) c.label_all.ensures.labels held
+    let held : HoldsPaths c.blocks-2.new.log c.blocks-2.new.spans = c.in-Ok-blocks.ensures.holds (holds-merged c.refine_broken-refined.new.log c.coarsen.new.log c.refine_broken-refined.new.spans c.coarsen.ensures.others c.in-Ok.ensures.writes.paths) in
+    ended words c.args.invs.now c.args.graph.now c.refine_broken-refined.new.graph c.coarsen.new.graph c.args.log.now c.refine_broken-refined.new.log c.coarsen.new.log c.blocks-2.new.log c.args.spans.now c.refine_broken-refined.new.spans c.blocks-2.new.spans b r c.label_all.new.self c.in-Ok-blocks.ensures.ok c.in-Ok-blocks.ensures.within
+    (c.label_all.ensures.same ∙ c.in-Ok-blocks.ensures.list ∙ c.coarsen.ensures.list ∙ (c.refine_broken-refined.ensures.list ∙ c.requires.listed)) c.label_all.ensures.labels held
 
 pub returns-clause-counted : goal.returns-clause-counted
 returns-clause-counted g c words b =
-    let r : IsRun c.args.invs.now c.args.graph.now c.refine.new.graph c.coarsen.new.graph c.args.log.now c.refine.new.log c.coarsen.new.log c.blocks-2.new.log c.args.spans.now c.refine.new.spans c.blocks-2.new.spans = record {
+    let r : IsRun c.args.invs.now c.args.graph.now c.refine_broken-refined.new.graph c.coarsen.new.graph c.args.log.now c.refine_broken-refined.new.log c.coarsen.new.log c.blocks-2.new.log c.args.spans.now c.refine_broken-refined.new.spans c.blocks-2.new.spans = record {
       empty = c.requires.empty;
       writes = c.in-Ok.ensures.writes;
       refines = c.in-Ok.ensures.ok;
-      coarsens = subst (λ (invs : List Invariant). Coarsens invs c.refine.new.graph.traces (merges_of c.coarsen.new.log) c.coarsen.new.graph.traces) c.requires.listed c.coarsen.ensures.run;
+      coarsens = subst (λ (invs : List Invariant). Coarsens invs c.refine_broken-refined.new.graph.traces (merges_of c.coarsen.new.log) c.coarsen.new.graph.traces) (c.refine_broken-refined.ensures.list ∙ c.requires.listed) c.coarsen.ensures.run;
       used = c.coarsen.ensures.used;
       merged = c.coarsen.ensures.others;
       blocked = c.in-Ok-blocks.ensures.others;
       paths = c.in-Ok-blocks.ensures.paths;
       stays = c.in-Ok-blocks.ensures.stays;
     } in
-    counted words c.args.invs.now c.args.graph.now c.refine.new.graph c.coarsen.new.graph c.args.log.now c.refine.new.log c.coarsen.new.log c.blocks-2.new.log c.args.spans.now c.refine.new.spans c.blocks-2.new.spans b r c.args.steps.now c.refine.new.steps c.coarsen.new.steps c.blocks-2.new.steps c.label_all.new.steps
-    c.ids_used.ensures.typed c.in-Ok.ensures.counted c.coarsen.ensures.more c.coarsen.ensures.few c.in-Ok-blocks.ensures.more c.in-Ok-blocks.ensures.few c.label_all.ensures.counted
+    counted words c.args.invs.now c.args.graph.now c.refine_broken-refined.new.graph c.coarsen.new.graph c.args.log.now c.refine_broken-refined.new.log c.coarsen.new.log c.blocks-2.new.log c.args.spans.now c.refine_broken-refined.new.spans c.blocks-2.new.spans b r c.args.steps.now c.refine_broken-refined.new.steps c.coarsen.new.steps c.blocks-2.new.steps c.label_all.new.steps
+    c.ids_used.ensures.typed c.in-Ok.ensures.more c.in-Ok.ensures.few c.coarsen.ensures.more c.coarsen.ensures.few c.in-Ok-blocks.ensures.more c.in-Ok-blocks.ensures.few c.label_all.ensures.counted
