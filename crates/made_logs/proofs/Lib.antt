@@ -1,0 +1,4 @@
+pub mod PlainLines
+pub mod Sessions
+pub mod Taken
+pub mod Keys
