@@ -1,1 +1,2 @@
 pub mod MadeLogs
+pub mod TextInputs
