@@ -25,6 +25,12 @@ check\n\
 check -p\n\
 check -m m\n\
 check -m m -p -n 3\n\
+bench\n\
+bench -n 0\n\
+bench -n 20001\n\
+bench -n +1\n\
+bench -n 3 -p\n\
+bench -n 3 a.log\n\
 check -m  -p\n\
 infer -p -p";
 

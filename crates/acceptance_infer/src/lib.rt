@@ -1,6 +1,8 @@
-//! Tests of whole runs of the commands `infer`, `check` and `paths`, in memory.
+//! Tests of whole runs of the commands `infer`, `check`, `paths` and `bench`, in memory.
 #![tactic(auto)]
 
+#[cfg(test)]
+mod benches;
 #[cfg(test)]
 mod faults;
 #[cfg(test)]

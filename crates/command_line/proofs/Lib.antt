@@ -1,3 +1,4 @@
 pub mod Taken
 pub mod Same
 mod Digits
+pub mod Numbered

@@ -1,5 +1,5 @@
 -- Telling command lines.
-use Rattle.std.specs.Prelude.{◌≡◌, Bool, true, false, List, [], ◌∷◌, Option, Some, None, codes}
+use Rattle.std.specs.Prelude.{ℕ, ◌≡◌, Bool, true, false, List, [], ◌∷◌, Option, Some, None, codes}
 use Rattle.clap.specs.Words.{Text}
 use Rattle.command_line.specs.Task.{LineForm, Plain, Rules, Task, task_of}
 use Rattle.command_line.specs.declared.table.Command.{Command}
@@ -38,6 +38,19 @@ check_of name form ignore join files = asks commands.Check (Some form) (Some nam
 abbrev pub paths_of : LineForm → Bool → Bool → List Text → Option Task
 paths_of form ignore join files = asks commands.Paths (Some form) None ignore join files
 
+-- the bench of a made log of so many sessions
+abbrev pub bench_of : ℕ → Option Task
+bench_of sessions =
+    Some (record {
+      command = commands.Bench;
+      form = None;
+      model = None;
+      ignore = false;
+      join = false;
+      number = Some sessions;
+      files = [];
+    })
+
 -- lines that ask for something
 pub record TakesLines : Type 0 where
   pub plain : task_of (codes "invariants" ∷ codes "-p" ∷ []) ≡ invariants_of Plain false false []
@@ -60,6 +73,7 @@ pub record TakesLines : Type 0 where
       ≡ check_of (codes "m") (Rules (codes "x")) true true []
   pub paths : task_of (codes "paths" ∷ codes "-e" ∷ codes "x" ∷ codes "-ij" ∷ codes "a" ∷ [])
       ≡ paths_of (Rules (codes "x")) true true (codes "a" ∷ [])
+  pub bench : task_of (codes "bench" ∷ codes "-n" ∷ codes "20000" ∷ []) ≡ bench_of 20000
 
 -- lines that ask for nothing
 pub record RefusesLines : Type 0 where
@@ -79,7 +93,6 @@ pub record RefusesLines : Type 0 where
   pub help_letter : task_of (codes "invariants" ∷ codes "-p" ∷ codes "-h" ∷ []) ≡ None
   pub version : task_of (codes "invariants" ∷ codes "-p" ∷ codes "--version" ∷ []) ≡ None
   pub unknown_command : task_of (codes "guess" ∷ codes "-p" ∷ []) ≡ None
-  pub not_built : task_of (codes "bench" ∷ codes "-n" ∷ codes "3" ∷ []) ≡ None
   pub other_command : task_of (codes "replay" ∷ codes "-m" ∷ codes "m" ∷ codes "-p" ∷ []) ≡ None
   pub graph_no_form : task_of (codes "graph" ∷ []) ≡ None
   pub graph_both_forms : task_of (codes "graph" ∷ codes "-p" ∷ codes "-e" ∷ codes "x" ∷ []) ≡ None
@@ -97,4 +110,9 @@ pub record RefusesLines : Type 0 where
   pub check_number :
       task_of (codes "check" ∷ codes "-m" ∷ codes "m" ∷ codes "-p" ∷ codes "-n" ∷ codes "3" ∷ []) ≡ None
   pub paths_model : task_of (codes "paths" ∷ codes "-m" ∷ codes "m" ∷ codes "-p" ∷ []) ≡ None
+  pub bench_no_number : task_of (codes "bench" ∷ []) ≡ None
+  pub bench_none : task_of (codes "bench" ∷ codes "-n" ∷ codes "0" ∷ []) ≡ None
+  pub bench_too_many : task_of (codes "bench" ∷ codes "-n" ∷ codes "20001" ∷ []) ≡ None
+  pub bench_form : task_of (codes "bench" ∷ codes "-n" ∷ codes "3" ∷ codes "-p" ∷ []) ≡ None
+  pub bench_file : task_of (codes "bench" ∷ codes "-n" ∷ codes "3" ∷ codes "a" ∷ []) ≡ None
   pub form_alone : task_of (codes "-p" ∷ []) ≡ None

@@ -30,6 +30,11 @@ abbrev pub model_row : Command → Row
 model_row command =
     record { command = command; form = wants_form.Never; flags = Never; files = Never; model = Needs; number = Never }
 
+-- a command that is given a number, and takes nothing else
+abbrev pub number_row : Command → Row
+number_row command =
+    record { command = command; form = wants_form.Never; flags = Never; files = Never; model = Never; number = Needs }
+
 -- the row of `graph`: with a model's file it is a command of its own
 abbrev pub graph_row : Bool → Row
 graph_row true = model_row commands.GraphOfModel
@@ -43,6 +48,7 @@ row_of text has_model =
     else if bytes_eq text (codes "infer") then Some (log_row commands.Infer)
     else if bytes_eq text (codes "check") then Some (log_and_model_row commands.Check)
     else if bytes_eq text (codes "paths") then Some (log_row commands.Paths)
+    else if bytes_eq text (codes "bench") then Some (number_row commands.Bench)
     else None
 
 -- what is given, or is not, is what the row says of it

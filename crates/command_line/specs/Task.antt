@@ -1,11 +1,14 @@
 -- The task of the words.
-use Rattle.std.specs.Prelude.{ℕ, Bool, true, false, ◌&&◌, List, Option, Some, None, option_and_then, option_map, map, if◌then◌else◌}
+use Rattle.std.specs.Prelude.{ℕ, ◌≡◌, ◌≤◌, Bool, true, false, ◌&&◌, List, Option, Some, None, option_and_then, option_map, map, if◌then◌else◌}
+use Rattle.std.specs.Option.{IsSomeAnd}
 use Rattle.clap.specs.Words.{Text}
+use Rattle.limits.specs.declared.TheConstants.{MAX_SESSIONS}
 use Rattle.command_line.specs.App.{is_taken, rows_for}
 use Rattle.command_line.specs.Given.{Use, use_of}
 use Rattle.command_line.specs.Numbers.{number_of}
 use Rattle.command_line.specs.Table.{has_model, is_sound, passes, row_of}
 use Rattle.command_line.specs.declared.table.Command.{Command}
+use Rattle.command_line.specs.declared.table.Command.TheVariants as commands
 use Rattle.command_line.specs.declared.table.Row.{Row}
 use Rattle.command_line.specs.declared.task.LineForm as rust_form
 use Rattle.command_line.specs.declared.task.LineForm.TheVariants as forms
@@ -56,6 +59,14 @@ task_of_use u =
 -- the task of the words: clap takes them, and the table allows what they give
 abbrev pub task_of : List Text → Option Task
 task_of words = if is_taken words then task_of_use (use_of (rows_for words)) else None
+
+-- a number of sessions that can be made
+abbrev pub IsSessions : ℕ → Type 0
+IsSessions n = (1 ≤ n) × (n ≤ MAX_SESSIONS)
+
+-- a task that asks for a made log has the number of its sessions
+abbrev pub HasSessions : Task → Type 0
+HasSessions task = task.command ≡ commands.Bench → IsSomeAnd task.number IsSessions
 
 -- the form that the program holds
 abbrev pub form_held : rust_form.LineForm → LineForm

@@ -2,7 +2,7 @@
 ghost use Rattle.std.specs.Prelude.{◌≡◌, map, option_map};
 ghost use Rattle.std.specs.List.{list_all};
 ghost use Rattle.command_line.specs.Given.{given_held};
-ghost use Rattle.command_line.specs.Table.{are_words, fits, fits_form, graph_row, has_model, is_sound, is_word, log_and_model_row, log_row, model_row, option_is_number, option_is_word, passes, row_of};
+ghost use Rattle.command_line.specs.Table.{are_words, fits, fits_form, graph_row, has_model, is_sound, is_word, log_and_model_row, log_row, model_row, number_row, option_is_number, option_is_word, passes, row_of};
 
 use crate::given::Given;
 use crate::number::number_of;
@@ -22,6 +22,8 @@ pub enum Command {
     Check,
     /// Print the paths that the traces of a log take through its model.
     Paths,
+    /// Make a log of so many sessions, infer its model, write it, read it back and check it, and print how large all is.
+    Bench,
 }
 
 /// What a command says of something that may be given.
@@ -115,6 +117,19 @@ fn graph_row(has_model: bool) -> Row
     }
 }
 
+/// The row of a command that is given a number, and takes nothing else.
+fn number_row(command: Command) -> Row
+    ensures { result ≡ number_row command }
+{
+    Row {
+        form: FormWant::Never,
+        flags: Want::Never,
+        files: Want::Never,
+        number: Want::Needs,
+        ..log_row(command)
+    }
+}
+
 /// The row of a word, where the file of a model is given or not.
 pub fn row_of(text: &str, has_model: bool) -> Option<Row>
     ensures { result ≡ row_of text.now has_model }
@@ -125,6 +140,7 @@ pub fn row_of(text: &str, has_model: bool) -> Option<Row>
         "infer" => Some(log_row(Command::Infer)),
         "check" => Some(log_and_model_row(Command::Check)),
         "paths" => Some(log_row(Command::Paths)),
+        "bench" => Some(number_row(Command::Bench)),
         _ => None,
     }
 }

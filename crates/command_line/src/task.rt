@@ -2,7 +2,7 @@
 ghost use Rattle.std.specs.Prelude.{◌≡◌, IfOk, Err, Some, None, map, option_and_then, option_map, string_bytes};
 ghost use Rattle.command_line.specs.Given.{given_held};
 ghost use Rattle.command_line.specs.Numbers.{number_of};
-ghost use Rattle.command_line.specs.Task.{allowed, form_by, form_held, task_held, task_of, task_of_use};
+ghost use Rattle.command_line.specs.Task.{HasSessions, allowed, form_by, form_held, task_held, task_of, task_of_use};
 
 use crate::given::{Given, ParseError, read};
 use crate::number::number_of;
@@ -88,9 +88,10 @@ fn by_table<'a>(given: Given<'a>) -> Option<Task<'a>>
 /// The task that the words of the command line, without the program's name, ask for.
 ///
 /// A task comes only where they ask for it, and `Usage` only where they ask for none. In the place of either `Memory` may
-/// come, where memory was wanted.
+/// come, where memory was wanted. A task that asks for a made log has the number of its sessions, from 1 to `MAX_SESSIONS`.
 pub fn parse<'a>(alloc: Global, words: &'a [String]) -> Result<Task<'a>, ParseError>
     ensures ok { IfOk result (λ t. task_of (map string_bytes words.entry.now) ≡ Some (task_held t)) }
+    ensures sessions { IfOk result (λ t. HasSessions (task_held t)) }
     ensures usage { result ≡ Err ParseError.Usage → task_of (map string_bytes words.entry.now) ≡ None }
 {
     match by_table(read(alloc, words)?) {

@@ -13,10 +13,11 @@ use Rattle.traces.specs.Words.{Log}
 use Rattle.models.specs.Laws.{OneModel}
 use Rattle.infer_core.specs.Laws.{EndsExclude, OneFinal}
 use Rattle.infer_core.specs.Runs.{typed_words}
+use Rattle.made_logs.specs.MadeLogs.{made_log}
 use Rattle.model_file.specs.Tree.{file_text}
 use Rattle.reports.specs.Paths.{path_report}
 use Rattle.command_line.specs.declared.table.Command.{Command}
-use Rattle.command_line.specs.declared.table.Command.TheVariants.{Invariants, Graph, GraphOfModel, Infer, Check, Paths}
+use Rattle.command_line.specs.declared.table.Command.TheVariants.{Invariants, Graph, GraphOfModel, Infer, Check, Paths, Bench}
 use Rattle.synoptic_cli.specs.declared.answer.Answer.{Answer}
 use Rattle.synoptic_cli.specs.declared.material.Material.{Material}
 use Rattle.synoptic_cli.specs.declared.status.LimitKind.{LimitKind}
@@ -30,6 +31,8 @@ use Rattle.synoptic_cli.specs.Commands.CheckModel.{Says, answer_of}
 use Rattle.synoptic_cli.specs.Commands.Inference.{AnswersInferred, PassesLimit}
 use Rattle.synoptic_cli.specs.Commands.InferModel.{WritesModel}
 use Rattle.synoptic_cli.specs.Commands.PrintPaths.{TellsPaths}
+use Rattle.synoptic_cli.specs.Commands.RunBench.{TellsRun, summary}
+use Rattle.synoptic_cli.specs.Commands.RunBench as run_bench
 use Rattle.synoptic_cli.specs.Endings.{EndsAfter, EndsAreOne, HasStatus, StatusesAreOne, end_status, told_stages}
 
 -- a model and a log have one verdict alone
@@ -79,6 +82,16 @@ one-text : Laws → (log : Log) (a b : Answer) → TellsPaths log a → TellsPat
 one-text laws log a b p q =
     p.value ∙ (ap (λ (ids : List ℕ). let x : Answer = record { status = Done; text = path_report log ids } in x) (laws.final (typed_words log) p.ids q.ids p.final q.final) ∙ sym q.value)
 
+-- and one summary
+one-summary : Laws → (log : Log) (a b : Answer) → TellsRun log a → TellsRun log b → a ≡ b
+one-summary laws log a b p q =
+    p.value ∙ (ap (λ (m : Model). let x : Answer = record { status = Done; text = summary log m } in x) (laws.model p.model q.model (typed_words log) p.inferred q.inferred) ∙ sym q.value)
+
+-- so of a made log
+one-run : Laws → (number : Option ℕ) (r s : Result Answer LimitKind) → run_bench.Answers number r → run_bench.Answers number s → r ≡ s
+one-run laws None r s a b = absurd a
+one-run laws (Some n) r s a b = one-inferred laws (typed_words (made_log n)) (TellsRun (made_log n)) (one-summary laws (made_log n)) r s a b
+
 -- a command has one answer alone: a line for each
 one-answer : Laws → (command : Command) (task : Task) (m : Material) (r s : Result Answer LimitKind) → AnswersBy command task m r → AnswersBy command task m s → r ≡ s
 one-answer laws Invariants task m r s a b = a.value ∙ sym b.value
@@ -89,6 +102,7 @@ one-answer laws Check task m r s a b =
     let same : a.verdict ≡ b.verdict = one-verdict m.model (typed_words_of m.log) a.verdict b.verdict a.exact b.exact in
     a.value ∙ (ap (λ (v : Verdict). let t : Result Answer LimitKind = Ok (answer_of v) in t) same ∙ sym b.value)
 one-answer laws Paths task m r s a b = one-inferred laws (typed_words m.log) (TellsPaths m.log) (one-text laws m.log) r s a b
+one-answer laws Bench task m r s a b = one-run laws task.number r s a b
 
 -- so a run ends in one way alone after a reading
 one-end : Laws → (task : Task) (read : Result SoFar Stop) (a b : Result Answer Stop) → EndsAfter task read a → EndsAfter task read b → a ≡ b

@@ -2,7 +2,7 @@
 use Rattle.std.specs.Prelude.{Result}
 use Rattle.command_line.specs.Task.{Task}
 use Rattle.command_line.specs.declared.table.Command.{Command}
-use Rattle.command_line.specs.declared.table.Command.TheVariants.{Invariants, Graph, GraphOfModel, Infer, Check, Paths}
+use Rattle.command_line.specs.declared.table.Command.TheVariants.{Invariants, Graph, GraphOfModel, Infer, Check, Paths, Bench}
 use Rattle.synoptic_cli.specs.declared.answer.Answer.{Answer}
 use Rattle.synoptic_cli.specs.declared.material.Material.{Material}
 use Rattle.synoptic_cli.specs.declared.status.LimitKind.{LimitKind}
@@ -12,6 +12,7 @@ use Rattle.synoptic_cli.specs.Commands.PrintGraph as print_graph
 use Rattle.synoptic_cli.specs.Commands.PrintGraphOfModel as print_graph_of_model
 use Rattle.synoptic_cli.specs.Commands.PrintInvariants as print_invariants
 use Rattle.synoptic_cli.specs.Commands.PrintPaths as print_paths
+use Rattle.synoptic_cli.specs.Commands.RunBench as run_bench
 pub mod CheckModel
 pub mod Inference
 pub mod InferModel
@@ -19,6 +20,7 @@ pub mod PrintGraph
 pub mod PrintGraphOfModel
 pub mod PrintInvariants
 pub mod PrintPaths
+pub mod RunBench
 pub mod TypeNames
 
 -- this is what the command answers of what was read: an answer, or the limit that it stops at
@@ -29,6 +31,7 @@ AnswersBy GraphOfModel task m r = print_graph_of_model.Answers m r
 AnswersBy Infer task m r = infer_model.Answers m r
 AnswersBy Check task m r = check_model.Answers m r
 AnswersBy Paths task m r = print_paths.Answers m r
+AnswersBy Bench task m r = run_bench.Answers task.number r
 
 -- the same of the task's command
 abbrev pub Answers : Task → Material → Result Answer LimitKind → Type 0

@@ -1,5 +1,5 @@
 //! The table of the commands: what each answers of what was read. Each has a file of its own.
-ghost use Rattle.command_line.specs.Task.{task_held};
+ghost use Rattle.command_line.specs.Task.{HasSessions, task_held};
 ghost use Rattle.model_shape.specs.Shapes.{IsWellShaped};
 ghost use Rattle.synoptic_cli.specs.Commands.{Answers};
 ghost use Rattle.synoptic_cli.specs.Steps.{Gives};
@@ -11,6 +11,7 @@ mod print_graph;
 mod print_graph_of_model;
 mod print_invariants;
 mod print_paths;
+mod run_bench;
 
 use crate::answer::{Answer, NoAnswer};
 use crate::material::Material;
@@ -19,7 +20,8 @@ use std::alloc::Global;
 
 /// What the task's command answers of what was read.
 pub fn answer(alloc: Global, task: &Task<'_>, material: Material) -> Result<Answer, NoAnswer>
-    requires { IsWellShaped material.model }
+    requires shaped { IsWellShaped material.model }
+    requires sessions { HasSessions (task_held task.now) }
     ensures { Gives (Answers (task_held task.now) material) result }
 {
     match task.command {
@@ -29,5 +31,6 @@ pub fn answer(alloc: Global, task: &Task<'_>, material: Material) -> Result<Answ
         Command::Infer => infer_model::answer(alloc, material),
         Command::Check => check_model::answer(alloc, &material),
         Command::Paths => print_paths::answer(alloc, material),
+        Command::Bench => run_bench::answer(alloc, task.number),
     }
 }

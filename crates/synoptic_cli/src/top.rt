@@ -1,7 +1,7 @@
 //! The top call.
 ghost use Rattle.std.specs.Prelude.{◌≡◌, List, ℕ, Some, map};
 ghost use Rattle.std.specs.String.{string_bytes};
-ghost use Rattle.command_line.specs.Task.{task_held, task_of};
+ghost use Rattle.command_line.specs.Task.{HasSessions, task_held, task_of};
 ghost use Rattle.synoptic_cli.specs.Causes.{HasCause, IsExpected, KeepsCount, Stays, world};
 ghost use Rattle.synoptic_cli.specs.Messages.{Tells, message_of};
 ghost use Rattle.synoptic_cli.specs.Steps.{status_without_task};
@@ -24,6 +24,7 @@ fn answer<I: Inputs, P: Patterns, O: Sink>(
     patterns: &mut P,
     out: &mut O,
 ) -> Status
+    requires { HasSessions (task_held task.now) }
     ensures cause { (words : List (List ℕ)) → task_of words ≡ Some (task_held task.now)
         → HasCause result words
         (world (I.state inputs.old) (P.state patterns.old) (O.state out.old))
@@ -72,7 +73,9 @@ fn status_without_task(error: ParseError) -> Status
 /// lines that nothing decides are skipped, though not those with a bad time, and with `-j` the files are one
 /// log. `graph -m FILE` reads the model in that file and no log, and writes the edges that it lists.
 /// `check -m FILE` reads the model in that file and a log as above, and writes `yes` where the model is valid
-/// for the log, and else `no: ` with the first part that fails.
+/// for the log, and else `no: ` with the first part that fails. `bench -n N` reads nothing: it makes a log of N
+/// sessions, infers its model, writes it, reads it back and checks it, and writes how large all is, in eight lines
+/// of which the last is `check yes`.
 ///
 /// A run reads the inputs of its task stage after stage, the file of rules, the file of a model and the log,
 /// where the task has them; then the task's command answers what was read; then the answer is written.
@@ -95,7 +98,8 @@ fn status_without_task(error: ParseError) -> Status
 ///     the word of a path of its graph, and each listed invariant holds of the word of each path. For each two
 ///     partitions of one type the file has a path of the graph in which they are merged that breaks a listed
 ///     invariant, so no two can be merged without loss. What `infer` wrote of a log is accepted by `check`, by the
-///     same rules and options (`models_are_accepted`).
+///     same rules and options (`models_are_accepted`). What `bench` tells is of the made log and of its model, which
+///     is read back as it was written, and is valid for that log.
 ///   - `NoCheck`: each input was read to its end, and nothing in it is refused. The model in the file is not
 ///     valid for the log, and this part fails first: those before it, in the order of `Part`, stand, and it
 ///     fails first at the number or the pair that it names. The whole answer, which names it, stands in `out`.
@@ -105,8 +109,8 @@ fn status_without_task(error: ParseError) -> Status
 ///     refused. Too large comes only where the patterns counted a refusal and may refuse this very pattern.
 ///   - `Log` and `Limit`: this is the first refusal of the log, in the order of its bytes, and the inputs
 ///     up to the one with the line that is refused, or with the byte past the limit on all input, were
-///     opened, and no others. `Limit(Partitions)` and `Limit(Paths)` are none of the log: `infer` and `paths`
-///     stop at them, where nothing is refused and all inputs were opened. The first comes only where
+///     opened, and no others. `Limit(Partitions)` and `Limit(Paths)` are none of the log: `infer`, `paths` and
+///     `bench` stop at them, where nothing is refused and all inputs were opened. The first comes only where
 ///     refinement wants one partition more than 1,024, and the second only where the paths of splits and
 ///     blocks have more than 4,000,000 numbers.
 ///   - `ModelFile`: the file of the model has this refusal; it was read to its end, or to one byte past its

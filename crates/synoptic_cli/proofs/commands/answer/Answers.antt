@@ -28,3 +28,10 @@ returns-in-Paths c =
 pub returns-in-Check : goal.returns-in-Check
 returns-in-Check c =
     subst (λ (command : Command). Gives (AnswersBy command (task_held c.args.task.now) c.args.material) c.answer-in-Check.result) (sym c.in-Check.is) c.answer-in-Check.ensures
+
+pub returns-in-Bench : goal.returns-in-Bench
+returns-in-Bench c =
+    subst (λ (command : Command). Gives (AnswersBy command (task_held c.args.task.now) c.args.material) c.answer-in-Bench.result) (sym c.in-Bench.is) c.answer-in-Bench.ensures
+
+pub answer-requires-in-Bench : goal.answer-requires-in-Bench
+answer-requires-in-Bench c = c.requires.sessions c.in-Bench.is

@@ -1,0 +1,66 @@
+-- `bench`: the model of a made log, which is written, read back and checked, and how large all is.
+use Rattle.std.specs.Prelude.{ℕ, ◌≡◌, ◌++◌, List, length, codes, decimal, Option, Result, Ok}
+use Rattle.std.specs.Option.{IsSomeAnd}
+use Rattle.traces.specs.Words.{Log, event_count_of}
+use Rattle.invariants.specs.declared.records.Model.{Model}
+use Rattle.models.specs.Models.{TypedWords, IsModelOf}
+use Rattle.models.specs.Limits.{KeepsLimits}
+use Rattle.models.specs.Checks.{IsValid, Promises}
+use Rattle.infer_core.specs.Runs.{typed_words}
+use Rattle.model_check.specs.Verdicts.{IsVerdict}
+use Rattle.model_check.specs.declared.verdict.Verdict.{Verdict}
+use Rattle.model_file.specs.Tree.{file_text}
+use Rattle.model_file.specs.Reading.{reads}
+use Rattle.made_logs.specs.MadeLogs.{made_log}
+use Rattle.synoptic_cli.specs.declared.answer.Answer.{Answer}
+use Rattle.synoptic_cli.specs.declared.status.LimitKind.{LimitKind}
+use Rattle.synoptic_cli.specs.declared.status.Status.TheVariants.{Done}
+use Rattle.synoptic_cli.specs.Commands.Inference.{AnswersInferred}
+
+-- the line that says how many there are of something
+abbrev pub count_line : List ℕ → ℕ → List ℕ
+count_line what number = what ++ decimal number ++ codes "\n"
+
+-- how large the log is
+abbrev pub log_lines : Log → List ℕ
+log_lines log =
+    count_line (codes "traces ") (length log.traces) ++ count_line (codes "events ") (event_count_of log.traces)
+    ++ count_line (codes "types ") (length log.types)
+
+-- how large the model is
+abbrev pub model_lines : Model → List ℕ
+model_lines m =
+    count_line (codes "invariants ") (length m.invariants) ++ count_line (codes "splits ") (length m.splits)
+    ++ count_line (codes "merges ") (length m.merges) ++ count_line (codes "partitions ") (length m.partitions)
+
+-- the eight lines, of a model that the check accepts
+abbrev pub summary : Log → Model → List ℕ
+summary log m = log_lines log ++ model_lines m ++ codes "check yes\n"
+
+-- a file says a model
+abbrev pub SaysModel : List ℕ → Type 0
+SaysModel text = (m : Model) × (reads text ≡ Ok m)
+
+-- the model that the file says, and the verdict on it for a log
+pub record IsChecked (text : List ℕ) (log : TypedWords) (m : Model) (v : Verdict) : Type 0 where
+  pub model : reads text ≡ Ok m
+  pub verdict : IsVerdict m log v
+
+-- The lines tell of the log and of its model. The model's file is read back as that very model, which is valid for
+-- the log, and so promises all that a valid model does.
+pub record TellsRun (log : Log) (a : Answer) : Type 0 where
+  pub model : Model
+  pub inferred : IsModelOf model (typed_words log)
+  pub within : KeepsLimits model
+  pub reads_back : reads (file_text model) ≡ Ok model
+  pub valid : IsValid model (typed_words log)
+  pub promises : Promises model (typed_words log)
+  pub value : a ≡ record { status = Done; text = summary log model }
+
+-- the answer of a log: what it and its model are, or the limit that its inference passes
+abbrev pub AnswersOf : Log → Result Answer LimitKind → Type 0
+AnswersOf log r = AnswersInferred (typed_words log) (TellsRun log) r
+
+-- the answer for so many sessions
+abbrev pub Answers : Option ℕ → Result Answer LimitKind → Type 0
+Answers number r = IsSomeAnd number (λ n. AnswersOf (made_log n) r)

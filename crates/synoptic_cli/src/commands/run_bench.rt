@@ -1,0 +1,135 @@
+//! `bench`: makes a log, infers its model, writes it, reads it back and checks it, and prints how large all is.
+ghost use Rattle.std.specs.Prelude.{◌≡◌, ◌++◌, IfOk, OnOk};
+ghost use Rattle.std.specs.Option.{IsSomeAnd};
+ghost use Rattle.command_line.specs.Task.{IsSessions};
+ghost use Rattle.model_check.specs.Verdicts.{typed_words_of};
+ghost use Rattle.synoptic_cli.specs.Commands.RunBench.{Answers, AnswersOf, IsChecked, SaysModel, TellsRun, count_line, log_lines, model_lines, summary};
+ghost use Rattle.synoptic_cli.specs.Steps.{Gives};
+
+use crate::answer::{Answer, NoAnswer};
+use crate::commands::inference::inferred;
+use crate::status::Status;
+use infer_core::{Stage, Workbench, log_is_typed};
+use invariants::{Model, Seq};
+use itoa::Buffer;
+use made_logs::read_made_log;
+use model_check::{Verdict, check};
+use model_file::{FileError, read_model, write_model};
+use models::{first_part_fails, models_are_shaped, models_pass, models_tell};
+use std::alloc::{AllocError, Global};
+use traces::TraceSet;
+
+/// A model that was read, and whether it is valid.
+#[derive(Drop)]
+struct Checked {
+    model: Model,
+    verdict: Verdict,
+}
+
+/// Puts the line that says how many there are of something at the end of the text.
+fn push_count(text: &mut Vec<u8>, what: &str, number: usize) -> Result<(), AllocError>
+    ensures { OnOk result (text.new.items ≡ text.old.items ++ count_line what.now number) }
+{
+    let mut digits = Buffer::new();
+    text.extend_from_slice(what.as_bytes())?;
+    text.extend_from_slice(digits.format(number).as_bytes())?;
+    text.push(10)?;
+    Ok(())
+}
+
+/// Puts how large the log is at the end of the text.
+fn push_log(text: &mut Vec<u8>, traces: &TraceSet) -> Result<(), AllocError>
+    ensures { OnOk result (text.new.items ≡ text.old.items ++ log_lines traces.now) }
+{
+    push_count(text, "traces ", traces.trace_count() as usize)?;
+    push_count(text, "events ", traces.event_count() as usize)?;
+    push_count(text, "types ", traces.types().len())?;
+    Ok(())
+}
+
+/// Puts how large the model is at the end of the text.
+fn push_model(text: &mut Vec<u8>, model: &Model) -> Result<(), AllocError>
+    ensures { OnOk result (text.new.items ≡ text.old.items ++ model_lines model.now) }
+{
+    push_count(text, "invariants ", model.invariants.len())?;
+    push_count(text, "splits ", model.splits.len())?;
+    push_count(text, "merges ", model.merges.len())?;
+    push_count(text, "partitions ", model.partitions.len())?;
+    Ok(())
+}
+
+/// The eight lines of a log and of its model, which the check accepts.
+fn summary(alloc: Global, traces: &TraceSet, model: &Model) -> Result<Seq<u8>, AllocError>
+    ensures { IfOk result (λ text. text ≡ summary traces.now model.now) }
+{
+    let mut text = Vec::new(alloc);
+    push_log(&mut text, traces)?;
+    push_model(&mut text, model)?;
+    text.extend_from_slice(b"check yes\n")?;
+    Ok(Seq::from_vec(text))
+}
+
+/// Reads the model that stands in the text of a file, and checks it against the log.
+fn read_and_check(alloc: Global, text: &[u8], traces: &TraceSet) -> Result<Checked, AllocError>
+    requires { SaysModel text.now }
+    ensures { IfOk result (λ c. IsChecked text.now (typed_words_of traces.now) c.model c.verdict) }
+{
+    let model = match read_model(alloc, text) {
+        Ok(model) => model,
+        Err(FileError::Memory) => return Err(AllocError),
+        Err(_) => unreachable!(),
+    };
+    let verdict = check(alloc, &model, traces)?;
+    Ok(Checked { model, verdict })
+}
+
+/// How large the log and its model are, once the model was written, read back and checked, where memory is not wanted.
+fn tell(alloc: Global, bench: &Workbench) -> Result<Answer, AllocError>
+    requires { (bench.now).stage ≡ Stage.Inferred }
+    ensures { IfOk result (TellsRun (bench.now).log) }
+{
+    models_are_shaped();
+    models_pass();
+    models_tell();
+    first_part_fails();
+    let traces = bench.traces();
+    log_is_typed(traces);
+    let model = bench.model(alloc)?;
+    let file = write_model(alloc, &model)?;
+    let checked = read_and_check(alloc, file.as_slice(), traces)?;
+    match checked.verdict {
+        Verdict::Yes => Ok(Answer {
+            status: Status::Done,
+            text: summary(alloc, traces, &checked.model)?,
+        }),
+        Verdict::No(_) => unreachable!(),
+    }
+}
+
+/// How large the log of these traces and its model are, and that the check accepts it.
+fn tell_of(alloc: Global, traces: TraceSet) -> Result<Answer, NoAnswer>
+    ensures { Gives (AnswersOf traces) result }
+{
+    let bench = match inferred(alloc, traces) {
+        Ok(bench) => bench,
+        Err(why) => return Err(why),
+    };
+    match tell(alloc, &bench) {
+        Ok(answer) => Ok(answer),
+        Err(_) => Err(NoAnswer::Memory),
+    }
+}
+
+/// How large the made log of so many sessions and its model are, and that the check accepts it.
+pub fn answer(alloc: Global, number: Option<u32>) -> Result<Answer, NoAnswer>
+    requires { IsSomeAnd number IsSessions }
+    ensures { Gives (Answers number) result }
+{
+    let Some(sessions) = number else {
+        unreachable!()
+    };
+    match read_made_log(alloc, sessions) {
+        Ok(traces) => tell_of(alloc, traces),
+        Err(_) => Err(NoAnswer::Memory),
+    }
+}
