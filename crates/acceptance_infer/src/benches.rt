@@ -21,7 +21,19 @@ fn the_largest_log(rt: HostRuntime) -> Result<(), Fail> {
     let setting = make_setting(&words, b"", b"");
     let first = run_in(rt.alloc(), &setting)?;
     assert_eq!(rt; first.status, Status::Done);
-    assert!(rt; first.out.as_str().starts_with("traces 20000\nevents 90491\n"));
+    assert!(rt;
+        first
+            .out
+            .as_str()
+            .starts_with("traces 20000\nevents 90491\n")
+    );
     assert!(rt; first.out.as_str().ends_with("\ncheck yes\n"));
-    ends(&rt, rt.alloc(), &setting, "", first.out.as_str(), Status::Done)
+    ends(
+        &rt,
+        rt.alloc(),
+        &setting,
+        "",
+        first.out.as_str(),
+        Status::Done,
+    )
 }
