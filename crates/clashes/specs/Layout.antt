@@ -1,9 +1,8 @@
 -- How the rows lie in one table: those of the ids, and masks that say what types do.
 use Rattle.std.specs.Prelude.{ℕ, ◌≡◌, ◌≢◌, ◌+◌, ◌*◌, ◌<◌, ◌≤◌, Bool, List, length, take, drop, slice_get, Some}
-use Rattle.limits.specs.declared.TheConstants.{MAX_PARTITIONS}
+use Rattle.limits.specs.declared.TheConstants.{LAST_TYPE, MAX_INVARIANTS, MAX_PARTITIONS}
 use Rattle.invariants.specs.declared.Invariant.{Invariant}
 use Rattle.bit_rows.specs.Tables.{HasShape}
-use Rattle.clashes.specs.declared.TheConstants.{MAX_KEPT, MAX_NAMED}
 use Rattle.clashes.specs.declared.places.TheConstants.{START, BAD, FIRST_MASK, MASKS}
 use Rattle.clashes.specs.Rules.{enters, stays, falls, starts, is_bad_itself, AreNamedBelow}
 use Rattle.clashes.specs.Marks.{Marks, on}
@@ -68,7 +67,7 @@ AreColumns rows others invs n =
 -- a table of this form, with the masks of these invariants
 pub record IsLaid (invs : List Invariant) (others : ℕ) (rows : List (List Bool)) : Type 0 where
   pub shape : HasShape rows (row_count others) (length invs)
-  pub few : length invs ≤ MAX_KEPT
-  pub low : others ≤ MAX_NAMED + 1
+  pub few : length invs ≤ MAX_INVARIANTS
+  pub low : others ≤ LAST_TYPE + 1
   pub named : AreNamedBelow others invs
   pub columns : AreColumns rows others invs (length invs)

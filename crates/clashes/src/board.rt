@@ -1,12 +1,12 @@
 //! Two rows of marks for each id, and the masks by which they spread.
 ghost use Rattle.std.specs.Prelude.{◌≡◌, ◌≢◌, ◌<◌, ◌≤◌, length, IfOk, MatchOption};
+ghost use Rattle.limits.specs.declared.TheConstants.{LAST_TYPE, MAX_INVARIANTS};
 ghost use Rattle.clashes.specs.Rules.{AreNamedUpTo};
 
 use crate::masks::{first_unnamed, put_columns};
 use crate::places::{
     BAD, SCRATCH, START, back_row, enters_row, falls_row, fore_row, row_count, stays_row,
 };
-use crate::{MAX_KEPT, MAX_NAMED};
 use bit_rows::Rows;
 use invariants::Invariant;
 use limits::{INITIAL, MAX_PARTITIONS, TERMINAL};
@@ -40,8 +40,8 @@ impl Board {
 
     /// The board of these invariants. It takes the memory for `MAX_PARTITIONS` ids.
     pub fn make(alloc: Global, invs: &[Invariant]) -> Result<Board, AllocError>
-        requires few { length invs.now ≤ MAX_KEPT }
-        requires named { AreNamedUpTo MAX_NAMED invs.now }
+        requires few { length invs.now ≤ MAX_INVARIANTS }
+        requires named { AreNamedUpTo LAST_TYPE invs.now }
         ensures { IfOk result (λ board. board.invs ≡ invs.now) }
     {
         let others = first_unnamed(invs);

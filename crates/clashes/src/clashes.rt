@@ -1,12 +1,12 @@
 //! What a merge loses, for all invariants at once.
 ghost use Rattle.std.specs.Prelude.{◌≡◌, ◌≢◌, ◌<◌, ◌≤◌, length, IfOk, MatchOption};
+ghost use Rattle.limits.specs.declared.TheConstants.{LAST_TYPE, MAX_INVARIANTS};
 ghost use Rattle.partition_model.specs.Assignments.{Assignment, G, IsTyped};
 ghost use Rattle.partition_model.specs.Coarsening.{merge, IsPair};
 ghost use Rattle.clashes.specs.Rules.{AreNamedUpTo};
 
 use crate::board::Board;
 use crate::growing::{grow, grow_from};
-use crate::{MAX_KEPT, MAX_NAMED};
 use invariants::Invariant;
 use limits::MAX_PARTITIONS;
 use partition_graph::{Links, PartGraph, View};
@@ -38,11 +38,11 @@ impl Model for Clashes {
 impl Clashes {
     ghost use Rattle.clashes.specs.Marks.{AreMarksOf, NoClash, IsFirstClash};
 
-    /// Room for the marks of at most `MAX_KEPT` invariants, which name numbers of types up to `MAX_NAMED`, at
+    /// Room for the marks of at most `MAX_INVARIANTS` invariants, which name numbers of types up to `LAST_TYPE`, at
     /// `MAX_PARTITIONS` ids. This alone takes memory: `AllocError` comes where there is not enough.
     pub fn make(alloc: Global, invs: &[Invariant]) -> Result<Clashes, AllocError>
-        requires few { length invs.now ≤ MAX_KEPT }
-        requires named { AreNamedUpTo MAX_NAMED invs.now }
+        requires few { length invs.now ≤ MAX_INVARIANTS }
+        requires named { AreNamedUpTo LAST_TYPE invs.now }
         ensures { IfOk result (λ made. made.invs ≡ invs.now) }
     {
         let board = Board::make(alloc, invs)?;

@@ -17,9 +17,3 @@ mod tests;
 
 pub use clashes::Clashes;
 pub use law::clashes_tell;
-
-/// How many invariants there are at most.
-pub const MAX_KEPT: usize = 262_144;
-
-/// The greatest number that an invariant names at most.
-pub const MAX_NAMED: u16 = 257;

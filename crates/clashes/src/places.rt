@@ -1,9 +1,8 @@
 //! Where each row stands: a row of what is met for each id, a row of what is ahead for each id, and then the masks.
 ghost use Rattle.std.specs.Prelude.{◌≡◌, ◌+◌, ◌<◌, ◌≤◌};
 ghost use Rattle.clashes.specs.Layout.{back_row, enters_row, stays_row, falls_row, row_count};
-ghost use Rattle.limits.specs.declared.TheConstants.{MAX_PARTITIONS};
+ghost use Rattle.limits.specs.declared.TheConstants.{LAST_TYPE, MAX_PARTITIONS};
 
-use crate::MAX_NAMED;
 use limits::MAX_PARTITIONS;
 
 /// How many ids have rows.
@@ -41,7 +40,7 @@ pub(crate) fn back_row(p: u32) -> usize
 
 /// The row of the invariants that the type brings into their critical state.
 pub(crate) fn enters_row(x: u16) -> usize
-    requires { x ≤ MAX_NAMED + 1 }
+    requires { x ≤ LAST_TYPE + 1 }
     ensures { result ≡ enters_row x }
 {
     FIRST_MASK + usize::from(x) * MASKS
@@ -49,7 +48,7 @@ pub(crate) fn enters_row(x: u16) -> usize
 
 /// The row of the invariants that the type leaves in their critical state.
 pub(crate) fn stays_row(x: u16) -> usize
-    requires { x ≤ MAX_NAMED + 1 }
+    requires { x ≤ LAST_TYPE + 1 }
     ensures { result ≡ stays_row x }
 {
     FIRST_MASK + usize::from(x) * MASKS + 1
@@ -57,7 +56,7 @@ pub(crate) fn stays_row(x: u16) -> usize
 
 /// The row of the invariants that the type brings from their critical state into their bad one.
 pub(crate) fn falls_row(x: u16) -> usize
-    requires { x ≤ MAX_NAMED + 1 }
+    requires { x ≤ LAST_TYPE + 1 }
     ensures { result ≡ falls_row x }
 {
     FIRST_MASK + usize::from(x) * MASKS + 2
@@ -65,7 +64,7 @@ pub(crate) fn falls_row(x: u16) -> usize
 
 /// How many rows there are, where the last masks are those of `others`.
 pub(crate) fn row_count(others: u16) -> usize
-    requires { others ≤ MAX_NAMED + 1 }
+    requires { others ≤ LAST_TYPE + 1 }
     ensures { result ≡ row_count others }
 {
     FIRST_MASK + (usize::from(others) + 1) * MASKS

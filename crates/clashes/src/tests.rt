@@ -1,8 +1,8 @@
 ghost use Rattle.std.specs.Prelude.{◌<◌};
 
-use crate::{Clashes, MAX_KEPT, MAX_NAMED};
+use crate::Clashes;
 use invariants::{Invariant, Monitor, candidate, candidate_count};
-use limits::{FIRST_TYPE, MAX_PARTITIONS, MAX_TYPE_BYTES};
+use limits::{FIRST_TYPE, LAST_TYPE, MAX_INVARIANTS, MAX_PARTITIONS, MAX_TYPE_BYTES};
 use partition_graph::{PartGraph, View};
 use std::alloc::Global;
 use std::process::Abort;
@@ -94,10 +94,10 @@ fn clashes_of(
     graph: &PartGraph,
     invs: &[Invariant],
 ) -> Result<Clashes, Fail> {
-    assert!(rt; invs.len() <= MAX_KEPT);
+    assert!(rt; invs.len() <= MAX_INVARIANTS);
     assert!(rt;
         invs.iter()
-            .all(|inv| inv.a <= MAX_NAMED && inv.b <= MAX_NAMED)
+            .all(|inv| inv.a <= LAST_TYPE && inv.b <= LAST_TYPE)
     );
     let mut clashes = Clashes::make(alloc, invs)?;
     clashes.find(graph);

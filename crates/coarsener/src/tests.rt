@@ -12,10 +12,10 @@ use crate::{blocks, coarsen};
 use cell_pool::{RunLog, Spans};
 use count_miner::mine;
 use invariants::{Block, Invariant, Merge, Seq};
-use labelling::{LAST_NUMBER, MAX_LISTED, Planes};
+use labelling::Planes;
 use limits::{
-    FIRST_TYPE, MAX_PAIRS, MAX_PARTITIONS, MAX_PATH_NUMBERS, MAX_STEPS, MAX_TRACE_BYTES,
-    MAX_TYPE_BYTES,
+    FIRST_TYPE, LAST_TYPE, MAX_INVARIANTS, MAX_PAIRS, MAX_PARTITIONS, MAX_PATH_NUMBERS, MAX_STEPS,
+    MAX_TRACE_BYTES, MAX_TYPE_BYTES,
 };
 use partition_graph::{PartGraph, View};
 use path_finder::Finder;
@@ -70,9 +70,9 @@ fn finish<L: Ledger>(
     requires numbers { (spans.old).room ≡ MAX_PATH_NUMBERS }
     requires paths { HoldsPaths log.old spans.old }
 {
-    assert!(rt; invs.len() <= MAX_LISTED);
+    assert!(rt; invs.len() <= MAX_INVARIANTS);
     for inv in invs {
-        assert!(rt; inv.a <= LAST_NUMBER && inv.b <= LAST_NUMBER);
+        assert!(rt; inv.a <= LAST_TYPE && inv.b <= LAST_TYPE);
     }
     let mut planes = Planes::make(alloc, invs)?;
     coarsen(graph, &mut planes, log, steps);

@@ -2,7 +2,7 @@
 use Rattle.std.proofs.Common.{◌≡◌, ℕ, ◌+◌, ◌*◌, ◌<◌, ◌≤◌, List, [], ◌∷◌, map, length, slice_get, Some, count_by, sym, ◌∙◌, refl, ap, subst, subst₂, inl, inr, arith}
 use Rattle.std.proofs.lemmas.List.Sums.{length-filter, count_by-le-length}
 use Rattle.std.proofs.Math.Nat.{mul-le-mul_right}
-use Rattle.limits.specs.declared.TheConstants.{MAX_PAIRS, MAX_PATH_NUMBERS, MAX_STEPS, MAX_TYPES}
+use Rattle.limits.specs.declared.TheConstants.{LAST_TYPE, MAX_INVARIANTS, MAX_PAIRS, MAX_PATH_NUMBERS, MAX_STEPS, MAX_TYPES}
 use Rattle.invariants.specs.declared.Invariant.{Invariant}
 use Rattle.invariants.specs.Candidates.{candidates}
 use Rattle.invariants.specs.Mined.{mined, holds_of_all, IsListed}
@@ -15,7 +15,6 @@ use Rattle.partition_model.specs.Assignments.{events, inner_words, with_ends}
 use Rattle.partition_model.specs.Laws.{HoldAll}
 use Rattle.models.specs.Models.{mined_of}
 use Rattle.partition_graph.specs.Parts.{Parts, start_of}
-use Rattle.labelling.specs.declared.layout.TheConstants.{LAST_NUMBER, MAX_LISTED}
 use Rattle.labelling.specs.Labelled.{Labelling}
 use Rattle.splitter.specs.Refining.{IsOpened}
 use Rattle.splitter.proofs.Mining.{mined-hold}
@@ -31,7 +30,7 @@ pub mined-again : (log : Log) → mined (length log.types) (words_of log) ≡ mi
 mined-again log = ap (λ (ws : List (List ℕ)). mined (length log.types) ws) (words-again log.traces)
 
 -- no more are mined than there are candidates
-pub mined-few : (types : ℕ) (words : List (List ℕ)) → types ≤ MAX_TYPES → length (mined types words) ≤ MAX_LISTED
+pub mined-few : (types : ℕ) (words : List (List ℕ)) → types ≤ MAX_TYPES → length (mined types words) ≤ MAX_INVARIANTS
 mined-few types words few =
     let a : length (mined types words) ≡ count_by (holds_of_all words) (candidates types) = length-filter (holds_of_all words) (candidates types) in
     let b : count_by (holds_of_all words) (candidates types) ≤ length (candidates types) = count_by-le-length (holds_of_all words) (candidates types) in
@@ -41,7 +40,7 @@ mined-few types words few =
 
 -- and each names types of the log, or INITIAL
 pub mined-named : (types : ℕ) (words : List (List ℕ)) → types ≤ MAX_TYPES → (k : ℕ) (inv : Invariant) → slice_get (mined types words) k ≡ Some inv
-    → (inv.a ≤ LAST_NUMBER) × (inv.b ≤ LAST_NUMBER)
+    → (inv.a ≤ LAST_TYPE) × (inv.b ≤ LAST_TYPE)
 mined-named types words few k inv at =
     let l : IsListed types words inv = (mined_tells types words inv).0 (Contains-from_place (mined types words) k inv at) in
     elim ((candidates_tell types inv).0 l.candidate) [
@@ -57,7 +56,7 @@ pub at-start : (log : Log) (invs : List Invariant) (graph : Parts) (stitcher : �
     → IsAtStart log invs graph stitcher planes spans run
 at-start log invs graph stitcher planes spans run opened few g i made listed s r =
     let n : length invs ≡ length (mined (length log.types) (words_of log)) = ap (λ (xs : List Invariant). length xs) i in
-    let l : length (mined (length log.types) (words_of log)) ≤ MAX_LISTED = mined-few (length log.types) (words_of log) few in
+    let l : length (mined (length log.types) (words_of log)) ≤ MAX_INVARIANTS = mined-few (length log.types) (words_of log) few in
     record {
       mined = i ∙ mined-again log;
       first = g;

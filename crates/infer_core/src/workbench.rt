@@ -1,8 +1,7 @@
 //! The workbench: a log, and all that its inference needs.
 ghost use Rattle.std.specs.Prelude.{◌≡◌, ◌↔◌, ◌≤◌, ℕ, [], IfOk, OnErr, OnOk, Err, Some, length, slice_get};
-ghost use Rattle.limits.specs.declared.TheConstants.{MAX_PAIRS, MAX_PATH_NUMBERS, MAX_STEPS};
+ghost use Rattle.limits.specs.declared.TheConstants.{LAST_TYPE, MAX_INVARIANTS, MAX_PAIRS, MAX_PATH_NUMBERS, MAX_STEPS};
 ghost use Rattle.partition_model.specs.Assignments.{events};
-ghost use Rattle.labelling.specs.declared.layout.TheConstants.{LAST_NUMBER, MAX_LISTED};
 ghost use Rattle.models.specs.Limits.{KeepsLimits};
 ghost use Rattle.models.specs.Models.{IsModelOf};
 ghost use Rattle.infer_core.specs.Runs.{typed_words, AreFinal, CountsAtMost, PassesNumbers, PassesPartitions};
@@ -79,9 +78,9 @@ struct Tools {
 
 /// All that inference of this graph by these invariants needs, with room for all that it can write.
 fn tools_for(alloc: Global, graph: &PartGraph, invs: &[Invariant]) -> Result<Tools, AllocError>
-    requires few { length invs.now ≤ MAX_LISTED }
+    requires few { length invs.now ≤ MAX_INVARIANTS }
     requires named { (k : ℕ) (inv : Invariant) → slice_get invs.now k ≡ Some inv
-        → (inv.a ≤ LAST_NUMBER) × (inv.b ≤ LAST_NUMBER) }
+        → (inv.a ≤ LAST_TYPE) × (inv.b ≤ LAST_TYPE) }
     ensures stitcher { IfOk result (λ tools. tools.stitcher ≡ length (events (graph.now).traces)) }
     ensures planes { IfOk result (λ tools. tools.planes.invs ≡ invs.now) }
     ensures spans { IfOk result (λ tools. tools.spans ≡ record { numbers = []; room = MAX_PATH_NUMBERS }) }

@@ -1,9 +1,10 @@
 -- A table of rows of truth values, one for each invariant: which row says what.
 use Rattle.std.specs.Prelude.{◌≡◌, ◌≢◌, ◌⊎◌, ℕ, ◌+◌, ◌*◌, ◌<◌, ◌≤◌, ◌==◌, Bool, true, not, if◌then◌else◌, List, length, slice_get, Some}
+use Rattle.limits.specs.declared.TheConstants.{LAST_TYPE}
 use Rattle.invariants.specs.declared.Invariant.{Invariant}
 use Rattle.invariants.specs.Monitors.{step, is_bad}
 use Rattle.bit_rows.specs.Tables.{row_at, is_set, HasShape}
-use Rattle.labelling.specs.declared.layout.TheConstants.{STATES, LABEL_ROWS, BROKEN_ROW, ALL_ROW, MOVE_ROWS, MOVES, LAST_NUMBER}
+use Rattle.labelling.specs.declared.layout.TheConstants.{STATES, LABEL_ROWS, BROKEN_ROW, ALL_ROW, MOVE_ROWS, MOVES}
 
 -- the row of a state at an id
 abbrev pub label_row : ℕ → ℕ → ℕ
@@ -47,7 +48,7 @@ IsApart x k r j = (j ≢ k) ⊎ ((r < move_row x 0 0) ⊎ (move_row (x + 1) 0 0 
 
 -- each invariant is marked
 pub record AreMarked (bound : ℕ) (invs : List Invariant) (table : List (List Bool)) : Type 0 where
-  pub limit : bound ≤ LAST_NUMBER + 1
+  pub limit : bound ≤ LAST_TYPE + 1
   pub named : AreNamedBelow bound invs
   pub shape : HasShape table (MOVE_ROWS + (bound + 1) * MOVES) (length invs)
   pub marked : (k : ℕ) (inv : Invariant) → slice_get invs k ≡ Some inv → IsMarked bound table k inv

@@ -1,8 +1,8 @@
 //! The rows of all invariants.
 ghost use Rattle.std.specs.Prelude.{◌≡◌, ◌≤◌, ◌<◌, ℕ, true, false, length, IfOk, MatchOption, slice_get, Some};
-ghost use Rattle.limits.specs.declared.TheConstants.{INITIAL, MAX_PARTITIONS};
+ghost use Rattle.limits.specs.declared.TheConstants.{INITIAL, LAST_TYPE, MAX_INVARIANTS, MAX_PARTITIONS};
 ghost use Rattle.invariants.specs.declared.Invariant.{Invariant};
-ghost use Rattle.labelling.specs.declared.layout.TheConstants.{LAST_NUMBER, MAX_LISTED, STATES};
+ghost use Rattle.labelling.specs.declared.layout.TheConstants.{STATES};
 ghost use Rattle.labelling.specs.Layout.{AreMarked};
 
 use crate::carrying::{clear_labels, note_broken, pass};
@@ -30,9 +30,9 @@ impl Board {
 
     /// A board of these invariants, with nothing found.
     pub fn make(alloc: Global, invs: &[Invariant]) -> Result<Board, AllocError>
-        requires few { length invs.now ≤ MAX_LISTED }
+        requires few { length invs.now ≤ MAX_INVARIANTS }
         requires named { (k : ℕ) (inv : Invariant) → slice_get invs.now k ≡ Some inv
-            → (inv.a ≤ LAST_NUMBER) × (inv.b ≤ LAST_NUMBER) }
+            → (inv.a ≤ LAST_TYPE) × (inv.b ≤ LAST_TYPE) }
         ensures list { IfOk result (λ board. (found board).invs ≡ invs.now) }
         ensures nothing { IfOk result (λ board. IsNothing (found board)) }
         ensures unbroken { IfOk result (λ board. (k : ℕ) → (found board).broken k ≡ false) }

@@ -1,15 +1,9 @@
 //! Which row of the table says what.
 ghost use Rattle.std.specs.Prelude.{◌≡◌, ◌≤◌, ◌<◌, ◌+◌, ◌*◌};
-ghost use Rattle.limits.specs.declared.TheConstants.{MAX_PARTITIONS};
+ghost use Rattle.limits.specs.declared.TheConstants.{LAST_TYPE, MAX_PARTITIONS};
 ghost use Rattle.labelling.specs.Layout.{label_row, bad_row, move_row};
 
 use limits::MAX_PARTITIONS;
-
-/// How many invariants are labelled at once at most.
-pub const MAX_LISTED: usize = 262_144;
-
-/// The greatest number of a type that an invariant names.
-pub const LAST_NUMBER: u16 = 257;
 
 /// How many states a monitor has.
 pub(crate) const STATES: usize = 3;
@@ -54,7 +48,7 @@ pub(crate) fn bad_row(state: u8) -> usize
 /// The row of the move from `state` to `next` at a type: of the invariants for which it is made where the two differ,
 /// and of those for which it is not made where they are the same.
 pub(crate) fn move_row(typ: usize, state: u8, next: u8) -> usize
-    requires typ { typ ≤ LAST_NUMBER + 1 }
+    requires typ { typ ≤ LAST_TYPE + 1 }
     requires state { state < STATES }
     requires next { next < STATES }
     ensures value { result ≡ move_row typ state next }

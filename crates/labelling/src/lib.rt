@@ -13,5 +13,4 @@ mod spreading;
 #[cfg(test)]
 mod tests;
 
-pub use layout::{LAST_NUMBER, MAX_LISTED};
 pub use planes::Planes;

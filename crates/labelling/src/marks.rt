@@ -2,7 +2,8 @@
 ghost use Rattle.std.specs.Prelude.{◌≡◌, ◌≢◌, ◌≤◌, ◌<◌, ◌+◌, ◌*◌, ℕ, true, false, length, slice_get, Some};
 ghost use Rattle.bit_rows.specs.Tables.{HasShape, KeepsShape};
 ghost use Rattle.invariants.specs.declared.Invariant.{Invariant};
-ghost use Rattle.labelling.specs.declared.layout.TheConstants.{LAST_NUMBER, MOVES, MOVE_ROWS, STATES};
+ghost use Rattle.labelling.specs.declared.layout.TheConstants.{MOVES, MOVE_ROWS, STATES};
+ghost use Rattle.limits.specs.declared.TheConstants.{LAST_TYPE};
 ghost use Rattle.labelling.specs.Layout.{is_on, is_move, move_row, AreMarked, AreNamedBelow, IsApart, IsFree, IsMarked};
 
 use crate::layout::{ALL_ROW, bad_row, move_row};
@@ -12,9 +13,9 @@ use invariants::{Invariant, Monitor};
 /// The least number that is greater than those of all types that the invariants name.
 pub(crate) fn bound_of(invs: &[Invariant]) -> usize
     requires { (k : ℕ) (inv : Invariant) → slice_get invs.now k ≡ Some inv
-        → (inv.a ≤ LAST_NUMBER) × (inv.b ≤ LAST_NUMBER) }
+        → (inv.a ≤ LAST_TYPE) × (inv.b ≤ LAST_TYPE) }
     ensures named { AreNamedBelow result invs.now }
-    ensures limit { result ≤ LAST_NUMBER + 1 }
+    ensures limit { result ≤ LAST_TYPE + 1 }
 {
     let mut bound = 0;
     for inv in invs {
@@ -25,7 +26,7 @@ pub(crate) fn bound_of(invs: &[Invariant]) -> usize
 
 /// Marks the invariants in rows in which nothing is on.
 pub(crate) fn mark_all(rows: &mut Rows, invs: &[Invariant], bound: usize)
-    requires limit { bound ≤ LAST_NUMBER + 1 }
+    requires limit { bound ≤ LAST_TYPE + 1 }
     requires named { AreNamedBelow bound invs.now }
     requires shape { HasShape rows.old (MOVE_ROWS + (bound + 1) * MOVES) (length invs.now) }
     requires blank { (r k : ℕ) → is_on rows.old r k ≡ false }
@@ -39,7 +40,7 @@ pub(crate) fn mark_all(rows: &mut Rows, invs: &[Invariant], bound: usize)
 
 /// Marks the invariant with number k.
 fn mark(rows: &mut Rows, bound: usize, count: usize, k: usize, inv: Invariant)
-    requires limit { bound ≤ LAST_NUMBER + 1 }
+    requires limit { bound ≤ LAST_TYPE + 1 }
     requires named { (inv.a < bound) × (inv.b < bound) }
     requires shape { HasShape rows.old (MOVE_ROWS + (bound + 1) * MOVES) count }
     requires number { k < count }
@@ -59,7 +60,7 @@ fn mark(rows: &mut Rows, bound: usize, count: usize, k: usize, inv: Invariant)
 
 /// Marks what a type does to the states of the monitor of the invariant with number k.
 fn mark_moves(rows: &mut Rows, count: usize, k: usize, inv: Invariant, typ: u16)
-    requires named { typ ≤ LAST_NUMBER }
+    requires named { typ ≤ LAST_TYPE }
     requires shape { (n : ℕ) × (MOVE_ROWS + (typ + 1) * MOVES ≤ n) × HasShape rows.old n count }
     requires number { k < count }
     ensures shape { KeepsShape rows.old rows.new }

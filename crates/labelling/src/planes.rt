@@ -1,11 +1,10 @@
 //! The labels.
 ghost use Rattle.std.specs.Prelude.{true, false, ◌≡◌, ◌≢◌, ◌≤◌, ◌<◌, ◌+◌, ℕ, IfOk, MatchOption, length, slice_get, Some};
-ghost use Rattle.limits.specs.declared.TheConstants.{MAX_PARTITIONS};
+ghost use Rattle.limits.specs.declared.TheConstants.{LAST_TYPE, MAX_INVARIANTS, MAX_PARTITIONS};
 ghost use Rattle.invariants.specs.declared.Invariant.{Invariant};
 ghost use Rattle.partition_model.specs.Graphs.{Graph};
 ghost use Rattle.partition_model.specs.Refinement.{IsFirstBroken, SatisfiesAll};
 ghost use Rattle.partition_graph.specs.Seen.{seen, IsSound};
-ghost use Rattle.labelling.specs.declared.layout.TheConstants.{LAST_NUMBER, MAX_LISTED};
 ghost use Rattle.labelling.specs.Labelled.{AreLabelsOf, digit, number_of, KeepsLabels};
 ghost use Rattle.clashes.specs.Marks.{AreMarksOf, NoClash, IsFirstClash};
 ghost use Rattle.partition_model.specs.Assignments.{Assignment, G, IsTyped};
@@ -33,7 +32,7 @@ pub struct Planes {
 
 impl Model for Planes {
     ghost use Rattle.std.specs.Prelude.{◌≡◌, ◌≤◌, length};
-    ghost use Rattle.labelling.specs.declared.layout.TheConstants.{MAX_LISTED};
+    ghost use Rattle.limits.specs.declared.TheConstants.{MAX_INVARIANTS};
     ghost use Rattle.labelling.specs.Boards.{found};
     ghost use Rattle.labelling.specs.Found.{AreNoted};
     ghost use Rattle.labelling.specs.Labelled.{Labelling, labelling_in};
@@ -43,16 +42,16 @@ impl Model for Planes {
     ghost view = { λ p. labelling_in p.board.invs.items p.board.rows p.clashes };
 
     ghost invariant = { λ p. AreNoted (found p.board) × (p.clashes.invs ≡ p.board.invs.items)
-        × (length p.board.invs.items ≤ MAX_LISTED) };
+        × (length p.board.invs.items ≤ MAX_INVARIANTS) };
 }
 
 impl Planes {
-    /// Planes for these invariants, at most `MAX_LISTED`, each of which names types up to `LAST_NUMBER`. Nothing is
+    /// Planes for these invariants, at most `MAX_INVARIANTS`, each of which names types up to `LAST_TYPE`. Nothing is
     /// labelled yet. This alone takes memory: `AllocError` comes where there is not enough.
     pub fn make(alloc: Global, invs: &[Invariant]) -> Result<Planes, AllocError>
-        requires few { length invs.now ≤ MAX_LISTED }
+        requires few { length invs.now ≤ MAX_INVARIANTS }
         requires named { (k : ℕ) (inv : Invariant) → slice_get invs.now k ≡ Some inv
-            → (inv.a ≤ LAST_NUMBER) × (inv.b ≤ LAST_NUMBER) }
+            → (inv.a ≤ LAST_TYPE) × (inv.b ≤ LAST_TYPE) }
         ensures list { IfOk result (λ made. made.invs ≡ invs.now) }
         ensures listed { IfOk result (λ made. made.clashes.invs ≡ made.invs) }
     {
@@ -123,7 +122,7 @@ impl Planes {
         ensures keeps { KeepsLabels self.old self.new }
         ensures labels { (g : Graph) → AreLabelsOf self.old g → AreLabelsOf self.new g }
         ensures marks { AreMarksOf (self.new).clashes (G (graph.now).traces) }
-        ensures few { length (self.new).invs ≤ MAX_LISTED }
+        ensures few { length (self.new).invs ≤ MAX_INVARIANTS }
     {
         self.clashes.find(graph);
     }

@@ -1,13 +1,12 @@
 ghost use Rattle.std.specs.Prelude.{◌≡◌, ◌≤◌, ◌<◌, IfOk, length, true};
-ghost use Rattle.limits.specs.declared.TheConstants.{MAX_PARTITIONS};
+ghost use Rattle.limits.specs.declared.TheConstants.{MAX_INVARIANTS, MAX_PARTITIONS};
 ghost use Rattle.partition_model.specs.Assignments.{G};
 ghost use Rattle.partition_model.specs.Coarsening.{IsPair};
 ghost use Rattle.partition_graph.specs.Seen.{IsSound};
-ghost use Rattle.labelling.specs.declared.layout.TheConstants.{MAX_LISTED};
 
-use crate::{LAST_NUMBER, Planes};
+use crate::Planes;
 use invariants::{Invariant, Kind, Monitor};
-use limits::{FIRST_TYPE, INITIAL, MAX_TYPE_BYTES, TERMINAL};
+use limits::{FIRST_TYPE, INITIAL, LAST_TYPE, MAX_TYPE_BYTES, TERMINAL};
 use partition_graph::{PartGraph, View};
 use std::alloc::Global;
 use std::marker::Brand;
@@ -37,11 +36,11 @@ fn invariant(kind: Kind, a: u16, b: u16) -> Invariant {
 
 /// Planes of invariants of few types.
 fn planes_of(rt: &impl Abort, alloc: Global, invs: &[Invariant]) -> Result<Planes, Fail>
-    requires { length invs.now ≤ MAX_LISTED }
+    requires { length invs.now ≤ MAX_INVARIANTS }
     ensures { IfOk result (λ made. made.invs ≡ invs.now) }
 {
     for inv in invs {
-        assert!(rt; inv.a <= LAST_NUMBER && inv.b <= LAST_NUMBER);
+        assert!(rt; inv.a <= LAST_TYPE && inv.b <= LAST_TYPE);
     }
     Ok(Planes::make(alloc, invs)?)
 }

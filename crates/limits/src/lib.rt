@@ -15,6 +15,12 @@ pub const FIRST_TYPE: u32 = 2;
 /// How many types of events a log has at most.
 pub const MAX_TYPES: u32 = 128;
 
+/// The greatest number that a type of a log has at most.
+pub const LAST_TYPE: u16 = 129;
+
+/// How many invariants are mined of a log at most: all its candidates, where it has `MAX_TYPES` types.
+pub const MAX_INVARIANTS: usize = 49_280;
+
 /// How many events a log has at most, over all its traces.
 pub const MAX_EVENTS: u32 = 1_000_000;
 

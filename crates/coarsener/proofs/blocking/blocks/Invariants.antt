@@ -1,8 +1,7 @@
 use Rattle.std.proofs.Common.{◌≡◌, ◌≤◌, ◌<◌, ◌+◌, ◌-◌, ◌*◌, length}
-use Rattle.limits.specs.declared.TheConstants.{FIRST_TYPE, MAX_PARTITIONS, MAX_PATH_NUMBERS}
+use Rattle.limits.specs.declared.TheConstants.{FIRST_TYPE, MAX_INVARIANTS, MAX_PARTITIONS, MAX_PATH_NUMBERS}
 use Rattle.partition_model.specs.Assignments.{G}
 use Rattle.clashes.specs.Marks.{AreMarksOf}
-use Rattle.labelling.specs.declared.layout.TheConstants.{MAX_LISTED}
 use Rattle.coarsener.specs.Blocking.{pair_count}
 use Rattle.coarsener.specs.Deciding.{IsFirstBad}
 use Rattle.coarsener.proofs.BlockingTurns.{IsBlocking}
@@ -18,7 +17,7 @@ invariant-loop-pair g l =
       listed : l.planes.clashes.invs ≡ l.invs;
       marks : AreMarksOf l.planes.clashes (G l.graph.traces);
       bad : IsFirstBad (G l.graph.traces) l.planes.clashes.invs l.bad;
-      few : length l.invs ≤ MAX_LISTED;
+      few : length l.invs ≤ MAX_INVARIANTS;
       some : 0 < pair_count l.graph;
       counted : l.steps ≡ l.fn.steps + 1 + length l.log.blocks;
       within : length l.spans.numbers ≤ MAX_PATH_NUMBERS;

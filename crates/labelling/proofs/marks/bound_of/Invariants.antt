@@ -1,11 +1,11 @@
 use Rattle.std.proofs.Common.{◌≡◌, ◌≤◌, ◌<◌, ◌+◌, ℕ, slice_get, Some}
 use Rattle.invariants.specs.declared.Invariant.{Invariant}
-use Rattle.labelling.specs.declared.layout.TheConstants.{LAST_NUMBER}
+use Rattle.limits.specs.declared.TheConstants.{LAST_TYPE}
 use Rattle.labelling.proofs.marks.bound_of.Given as goal
 
 abbrev pub invariant-loop-inv : goal.invariant-loop-inv
 invariant-loop-inv l =
     record {
       named : (k : ℕ) (inv : Invariant) → k < l.inv-index → slice_get l.invs k ≡ Some inv → (inv.a < l.bound) × (inv.b < l.bound);
-      limit : l.bound ≤ LAST_NUMBER + 1;
+      limit : l.bound ≤ LAST_TYPE + 1;
     }
