@@ -32,7 +32,7 @@ struct Reader<'a> {
     ignore: bool,
     join: bool,
     model: Option<&'a str>,
-    /// A number was given, which no command takes yet.
+    /// A number was given. This reader does not know `bench`, the one command that takes it.
     has_number: bool,
     /// The option that waits for its value.
     waiting: Option<&'a str>,

@@ -20,7 +20,7 @@ use Rattle.partition_model.proofs.Runs.{broken}
 use Rattle.partition_model.proofs.Unique.{one-broken, one_refinement, one_coarsening}
 use Rattle.partition_bounds.specs.Pairs.{pair_of, pairs_of, pairs_below}
 use Rattle.partition_bounds.proofs.Ordered.{pair-asym, pair-next, get-In}
-use Rattle.partition_bounds.proofs.Steps.{steps_exclude}
+use Rattle.partition_bounds.proofs.FirstSplits.{steps_exclude}
 use Rattle.models.specs.Models.{TypedWords, mined_of}
 use Rattle.models.specs.Histories.{first_new}
 use Rattle.partition_graph.specs.Parts.{Parts}

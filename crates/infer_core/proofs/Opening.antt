@@ -13,12 +13,11 @@ use Rattle.cell_pool.specs.RunLists.{RunLists}
 use Rattle.traces.specs.Words.{Log, Trace, word_of, words_of}
 use Rattle.partition_model.specs.Assignments.{events, inner_words, with_ends}
 use Rattle.partition_model.specs.Laws.{HoldAll}
-use Rattle.models.specs.Models.{mined_of}
+use Rattle.models.specs.Models.{mined_of, typed_words}
 use Rattle.partition_graph.specs.Parts.{Parts, start_of}
 use Rattle.labelling.specs.Labelled.{Labelling}
 use Rattle.splitter.specs.Refining.{IsOpened}
 use Rattle.splitter.proofs.Mining.{mined-hold}
-use Rattle.infer_core.specs.Runs.{typed_words}
 use Rattle.infer_core.specs.Benches.{IsAtStart}
 
 -- the words of a log, put between their ends

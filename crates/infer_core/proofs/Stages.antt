@@ -5,14 +5,14 @@ use Rattle.cell_pool.specs.Numbers.{Numbers}
 use Rattle.cell_pool.specs.RunLists.{RunLists}
 use Rattle.run_history.specs.Records.{splits_of, merges_of, blocks_of}
 use Rattle.traces.specs.Words.{Log}
-use Rattle.models.specs.Models.{TypedWords}
+use Rattle.models.specs.Models.{typed_words, TypedWords}
 use Rattle.partition_graph.specs.Parts.{Parts}
 use Rattle.labelling.specs.Labelled.{Labelling}
 use Rattle.infer_core.specs.declared.workbench.InferLimit.{InferLimit}
 use Rattle.infer_core.specs.declared.workbench.InferLimit.TheVariants.{Partitions, Evidence}
 use Rattle.infer_core.specs.declared.workbench.Stage.{Stage}
 use Rattle.infer_core.specs.declared.workbench.Stage.TheVariants.{Opened, Inferred}
-use Rattle.infer_core.specs.Runs.{typed_words, PassesNumbers, PassesPartitions}
+use Rattle.infer_core.specs.Runs.{PassesNumbers, PassesPartitions}
 use Rattle.infer_core.specs.Ends.{BeginsWith, RunGives}
 use Rattle.infer_core.specs.Benches.{Bench, IsAtStart, IsAtEnd, Stands}
 use Rattle.infer_core.proofs.Excluding.{both-exclude, numbers-exclude, partitions-exclude}

@@ -26,13 +26,13 @@ use Rattle.partition_model.proofs.Lists.{In, In-map}
 use Rattle.partition_model.proofs.Listing.{In-filter}
 use Rattle.partition_bounds.proofs.Merges.{In-range}
 use Rattle.partition_bounds.proofs.Ordered.{get-In}
-use Rattle.models.specs.Models.{mined_of, has_state, AreReached, IsModelOf}
+use Rattle.models.specs.Models.{has_state, mined_of, typed_words, AreReached, IsModelOf}
 use Rattle.models.specs.Histories.{first_new}
 use Rattle.models.specs.Limits.{KeepsLimits}
 use Rattle.models.proofs.Listed.{numbers_give_labels}
 use Rattle.partition_graph.specs.Parts.{Parts}
 use Rattle.labelling.specs.Labelled.{Labelling, AreLabelsOf, digit}
-use Rattle.infer_core.specs.Runs.{typed_words, AreFinal}
+use Rattle.infer_core.specs.Runs.{AreFinal}
 use Rattle.infer_core.specs.Ends.{HasEnded}
 use Rattle.infer_core.specs.Benches.{Tells}
 

@@ -16,7 +16,7 @@ use Rattle.models.specs.Laws.{IsTypedLog}
 use Rattle.models.specs.Limits.{IsWithinLimits}
 use Rattle.partition_graph.specs.Parts.{inner_words_of, start_of}
 use Rattle.partition_graph.specs.Starts.{AreTypedParts}
-use Rattle.infer_core.specs.Runs.{typed_words}
+use Rattle.models.specs.Models.{typed_words}
 
 -- each event has the number of a type, and each type's number is that of some event
 pub log-typed : (log : Log) → AreTypedParts (start_of log) → IsTypedLog (typed_words log)

@@ -9,12 +9,11 @@ use Rattle.cell_pool.specs.RunLists.{RunLists}
 use Rattle.run_history.specs.Records.{splits_of, merges_of, blocks_of}
 use Rattle.partition_model.specs.Listings.{ArePartitions, AreEdges}
 use Rattle.model_shape.specs.Shapes.{listing_of}
-use Rattle.models.specs.Models.{mined_of, AreReached}
+use Rattle.models.specs.Models.{mined_of, typed_words, AreReached}
 use Rattle.partition_graph.specs.Parts.{Parts, start_of}
 use Rattle.labelling.specs.Labelled.{Labelling}
 use Rattle.infer_core.specs.declared.workbench.Stage.{Stage}
 use Rattle.infer_core.specs.declared.workbench.Stage.TheVariants.{Opened, Inferred, Refused}
-use Rattle.infer_core.specs.Runs.{typed_words}
 use Rattle.infer_core.specs.Ends.{IsReady, HasEnded}
 
 -- the log, and how far its inference is

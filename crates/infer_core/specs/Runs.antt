@@ -4,7 +4,6 @@ use Rattle.limits.specs.declared.TheConstants.{MAX_PARTITIONS}
 use Rattle.invariants.specs.declared.records.Block.{Block}
 use Rattle.invariants.specs.declared.records.Merge.{Merge}
 use Rattle.invariants.specs.declared.records.Split.{Split}
-use Rattle.traces.specs.Words.{Log}
 use Rattle.model_shape.specs.Numbers.{split_numbers, block_numbers}
 use Rattle.partition_model.specs.Assignments.{Assignment, G, by_type}
 use Rattle.partition_model.specs.Refinement.{IsNextSplit, IsRefined, Splits}
@@ -13,12 +12,8 @@ use Rattle.partition_model.specs.Listings.{parts_of}
 use Rattle.partition_bounds.specs.Pairs.{pairs_below}
 use Rattle.models.specs.Models.{TypedWords, mined_of}
 use Rattle.models.specs.Histories.{first_new}
-use Rattle.partition_graph.specs.Parts.{Parts, inner_words_of}
+use Rattle.partition_graph.specs.Parts.{Parts}
 use Rattle.coarsener.specs.Blocking.{EndsWithoutRoom}
-
--- what inference takes of a log: the texts of its types, and its words without their ends
-abbrev pub typed_words : Log → TypedWords
-typed_words log = record { types = log.types; words = inner_words_of log }
 
 -- where its run begins: each event in the partition of its type, and the first new id
 abbrev pub first_parts : TypedWords → Parts

@@ -2,7 +2,7 @@
 ghost use Rattle.models.specs.Laws.{IsTypedLog};
 ghost use Rattle.models.specs.Limits.{IsWithinLimits};
 ghost use Rattle.infer_core.specs.Laws.{EndsExclude, OneFinal};
-ghost use Rattle.infer_core.specs.Runs.{typed_words};
+ghost use Rattle.models.specs.Models.{typed_words};
 
 use partition_graph::set_is_typed;
 use traces::TraceSet;

@@ -3,8 +3,8 @@ ghost use Rattle.std.specs.Prelude.{◌≡◌, ◌↔◌, ◌≤◌, ℕ, [], If
 ghost use Rattle.limits.specs.declared.TheConstants.{LAST_TYPE, MAX_INVARIANTS, MAX_PAIRS, MAX_PATH_NUMBERS, MAX_STEPS};
 ghost use Rattle.partition_model.specs.Assignments.{events};
 ghost use Rattle.models.specs.Limits.{KeepsLimits};
-ghost use Rattle.models.specs.Models.{IsModelOf};
-ghost use Rattle.infer_core.specs.Runs.{typed_words, AreFinal, CountsAtMost, PassesNumbers, PassesPartitions};
+ghost use Rattle.models.specs.Models.{typed_words, IsModelOf};
+ghost use Rattle.infer_core.specs.Runs.{AreFinal, CountsAtMost, PassesNumbers, PassesPartitions};
 
 use crate::law::log_is_typed;
 use crate::model::model_of;

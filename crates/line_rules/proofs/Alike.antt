@@ -18,10 +18,10 @@ same-group m n slots whole None = refl
 same-group m n slots whole (Some k) = same-span m n slots whole k
 
 -- what the spans of the groups TYPE, TRACE and TIME in a match give
-abbrev by-match : ℕ → spec.Form → (a b t : Option ℕ) → List ℕ → Match → Option (Result Decision DecideError)
+abbrev by-match : ℕ → spec.RuleForm → (a b t : Option ℕ) → List ℕ → Match → Option (Result Decision DecideError)
 by-match number form a b t line m = decided_at number form (option_and_then (span_of m) a) (option_and_then (span_of m) b) (time_by t line (option_and_then (span_of m) t))
 
-same-decision : (number : ℕ) (form : spec.Form) (a b t : Option ℕ) (line : List ℕ) (o p : Option Match) → is_some o ≡ is_some p → option_map span o ≡ option_map span p
+same-decision : (number : ℕ) (form : spec.RuleForm) (a b t : Option ℕ) (line : List ℕ) (o p : Option Match) → is_some o ≡ is_some p → option_map span o ≡ option_map span p
     → ((m : Match) → o ≡ Some m → (n : Match) × (p ≡ Some n) × (slot_of n ≡ slot_of m))
     → option_and_then (by-match number form a b t line) o ≡ option_and_then (by-match number form a b t line) p
 same-decision number form a b t line None None found spans slots = refl
@@ -39,7 +39,7 @@ same-decision number form a b t line (Some m) (Some n) found spans slots =
 -- so one rule decides as the other
 pub alike-decide : (number : ℕ) (r s : spec.Rule) (line : List ℕ) → ((k : ℕ) → get_or line k 0 < 256) → Alike r s → decided_by number r line ≡ decided_by number s line
 alike-decide number r s line bytes alike =
-    let D : spec.Form → List (Option (List ℕ)) → Option Match → Option (Result Decision DecideError) = λ form names o.
+    let D : spec.RuleForm → List (Option (List ℕ)) → Option Match → Option (Result Decision DecideError) = λ form names o.
     option_and_then (by-match number form (group_named names (codes "TYPE")) (group_named names (codes "TRACE")) (group_named names (codes "TIME")) line) o in
     ap₂ (λ form names. D form names (find_str r.re line 0)) alike.form alike.names
     ∙ same-decision number s.form (group_named s.names (codes "TYPE")) (group_named s.names (codes "TRACE")) (group_named s.names (codes "TIME")) line (find_str r.re line 0) (find_str s.re line 0)

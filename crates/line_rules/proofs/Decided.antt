@@ -20,7 +20,7 @@ use Rattle.line_rules.specs.declared.spans.Spans.{Spans}
 use Rattle.line_rules.specs.declared.decision.DecideError.{DecideError}
 use Rattle.line_rules.specs.declared.matchers.RuleMatcher.{RuleMatcher}
 
-of-spans : (r : Rule) (number : ℕ) (form : spec.Form) (line : List ℕ) (o : Option Match)
+of-spans : (r : Rule) (number : ℕ) (form : spec.RuleForm) (line : List ℕ) (o : Option Match)
     → option_and_then (λ m. decided_at number form (option_and_then (span_of m) r.type_group) (option_and_then (span_of m) r.trace_group) (time_by r.time_group line (option_and_then (span_of m) r.time_group))) o
     ≡ option_and_then (λ (s : Spans). decided_at number form s.typ s.trace (time_by r.time_group line s.time)) (option_map (spans_of r) o)
 of-spans r number form line None = refl
@@ -30,7 +30,7 @@ of-spans r number form line (Some m) = refl
 pub decided-when : (number : ℕ) (r : Rule) (re : Re) (line : List ℕ) (spans : Option Spans) → re ≡ regex_pattern r.regex → spans ≡ option_map (spans_of r) (find_str re line 0)
     → decided_by number (rule_view r) line ≡ option_and_then (λ (s : Spans). decided_at number (form_view r.form) s.typ s.trace (time_by r.time_group line s.time)) spans
 decided-when number r re line spans same found =
-    let form : spec.Form = form_view r.form in
+    let form : spec.RuleForm = form_view r.form in
     let D : Option ℕ → Option ℕ → Option ℕ → Re → Option (Result Decision DecideError) = λ a b t p.
     option_and_then (λ m. decided_at number form (option_and_then (span_of m) a) (option_and_then (span_of m) b) (time_by t line (option_and_then (span_of m) t))) (find_str p line 0) in
     let names : List (Option (List ℕ)) = regex_names r.regex in
@@ -85,7 +85,7 @@ name-stands rules number r name at form =
     rw named refl
 
 -- what a rule decides has parts of the line
-pub decided-parts : (rules : List spec.Rule) (line : List ℕ) → IsCharBoundary line 0 → (number : ℕ) (r : spec.Rule) (form : spec.Form) → slice_get rules number ≡ Some r → r.form ≡ form
+pub decided-parts : (rules : List spec.Rule) (line : List ℕ) → IsCharBoundary line 0 → (number : ℕ) (r : spec.Rule) (form : spec.RuleForm) → slice_get rules number ≡ Some r → r.form ≡ form
     → (typ trace : Option (ℕ × ℕ)) (time : Option ℕ) → IfSome typ (IsSpanOf line) → IfSome trace (IsSpanOf line)
     → IfSome (decided_at number form typ trace time) (λ answer. IfOk answer (HasParts rules line))
 decided-parts rules line start number r spec.Skip at is typ trace time t u = tt

@@ -7,7 +7,7 @@ use Rattle.limits.specs.declared.TheConstants.{MAX_RULES}
 use Rattle.line_rules.specs.Rules as spec
 use Rattle.line_rules.specs.Rules.{rule_of, group_named, Alike}
 use Rattle.line_rules.specs.Files.{spelled_by, rule_at, rule_spelled, rule_read, lacks_type, takes_type, is_event, first_time, mixes_time, differ}
-use Rattle.line_rules.specs.Steps.{IsRuleOf}
+use Rattle.line_rules.specs.Building.{IsRuleOf}
 use Rattle.line_rules.specs.declared.line_rules.RuleError.TheVariants as refused
 
 same-lacks : (r s : spec.Rule) → Alike r s → lacks_type r ≡ lacks_type s
@@ -20,14 +20,14 @@ read-plain : (rules : List spec.Rule) (number : ℕ) (plain : spec.Rule) → lac
 read-plain rules number plain typed unmixed = rw (typed, unmixed) refl
 
 -- a line that is spelled, where there is room for its rule
-pub spelled-few : (rules : List spec.Rule) (number : ℕ) (line : List ℕ) (form : spec.Form) (pattern : List ℕ) → Some (form, pattern) ≡ spelled_by line → length rules < MAX_RULES
+pub spelled-few : (rules : List spec.Rule) (number : ℕ) (line : List ℕ) (form : spec.RuleForm) (pattern : List ℕ) → Some (form, pattern) ≡ spelled_by line → length rules < MAX_RULES
     → rule_at rules (number, line) ≡ rule_read rules number (rule_of form pattern)
 spelled-few rules number line form pattern spelled few =
     let below : nat_le MAX_RULES (length rules) ≡ false = lt-leb MAX_RULES (length rules) few in
     ap (rule_spelled rules number) (sym spelled) ∙ rw below refl
 
 -- what is built is the rule of the line
-pub line-rule : (rules : List spec.Rule) (number : ℕ) (line : List ℕ) (form : spec.Form) (pattern : List ℕ) (r : spec.Rule) → Some (form, pattern) ≡ spelled_by line → length rules < MAX_RULES
+pub line-rule : (rules : List spec.Rule) (number : ℕ) (line : List ℕ) (form : spec.RuleForm) (pattern : List ℕ) (r : spec.Rule) → Some (form, pattern) ≡ spelled_by line → length rules < MAX_RULES
     → IsSomeAnd (rule_of form pattern) (Alike r) → lacks_type r ≡ false → mixes_time rules r ≡ false → IsRuleOf rules number line r
 line-rule rules number line form pattern r spelled few built typed unmixed = by-rule (rule_of form pattern) refl built
   where
@@ -41,7 +41,7 @@ line-rule rules number line form pattern r spelled few built typed unmixed = by-
     }
 
 -- what is built is refused where it lacks a group TYPE that it needs
-pub line-lacks : (rules : List spec.Rule) (number : ℕ) (line : List ℕ) (form : spec.Form) (pattern : List ℕ) (r : spec.Rule) → Some (form, pattern) ≡ spelled_by line → length rules < MAX_RULES
+pub line-lacks : (rules : List spec.Rule) (number : ℕ) (line : List ℕ) (form : spec.RuleForm) (pattern : List ℕ) (r : spec.Rule) → Some (form, pattern) ≡ spelled_by line → length rules < MAX_RULES
     → IsSomeAnd (rule_of form pattern) (Alike r) → lacks_type r ≡ true → rule_at rules (number, line) ≡ Err (refused.NoType number)
 line-lacks rules number line form pattern r spelled few built lacks = spelled-few rules number line form pattern spelled few ∙ by-rule (rule_of form pattern) built
   where
@@ -52,7 +52,7 @@ line-lacks rules number line form pattern r spelled few built lacks = spelled-fe
         rw lacks' refl
 
 -- and where it mixes rules with a time and rules without
-pub line-mixes : (rules : List spec.Rule) (number : ℕ) (line : List ℕ) (form : spec.Form) (pattern : List ℕ) (r : spec.Rule) → Some (form, pattern) ≡ spelled_by line → length rules < MAX_RULES
+pub line-mixes : (rules : List spec.Rule) (number : ℕ) (line : List ℕ) (form : spec.RuleForm) (pattern : List ℕ) (r : spec.Rule) → Some (form, pattern) ≡ spelled_by line → length rules < MAX_RULES
     → IsSomeAnd (rule_of form pattern) (Alike r) → lacks_type r ≡ false → mixes_time rules r ≡ true → rule_at rules (number, line) ≡ Err (refused.MixedTime number)
 line-mixes rules number line form pattern r spelled few built typed mixes = spelled-few rules number line form pattern spelled few ∙ by-rule (rule_of form pattern) built
   where

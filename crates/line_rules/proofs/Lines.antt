@@ -10,7 +10,7 @@ use Rattle.line_rules.specs.Patterns.{PatternsState, Stays, Rose, NestsTooDeep}
 use Rattle.line_rules.specs.Rules as spec
 use Rattle.line_rules.specs.Rules.{Alike, AreAlike, group_named, rule_of}
 use Rattle.line_rules.specs.Files.{is_skipped, is_event, numbered, rule_lines, rule_at, with_rule, rules_from, with_event, rules_of, AreRead, IsRefused, first_time, has_time, lacks_type, differ, rule_read, rule_spelled, spelled_by, KeepsAt}
-use Rattle.line_rules.specs.Steps.{IsRuleOf, Builds, IsLineRefused, AddsLine, AreRulesOf, BuildsAt, AreLinesRefused}
+use Rattle.line_rules.specs.Building.{IsRuleOf, Builds, IsLineRefused, AddsLine, AreRulesOf, BuildsAt, AreLinesRefused}
 use Rattle.line_rules.specs.declared.line_rules.RuleError.{RuleError}
 use Rattle.line_rules.specs.declared.line_rules.RuleError.TheVariants as refused
 
@@ -56,7 +56,7 @@ alike-first [] [] alike = refl
 alike-first [] (s ∷ ss) alike = absurd alike
 alike-first (r ∷ rs) [] alike = absurd alike
 alike-first (r ∷ rs) (s ∷ ss) alike =
-    ap₂ (λ (form : spec.Form) (t : Option Bool). if is_event form then Some (has_time r) else t) alike.0.form (alike-first rs ss alike.1)
+    ap₂ (λ (form : spec.RuleForm) (t : Option Bool). if is_event form then Some (has_time r) else t) alike.0.form (alike-first rs ss alike.1)
     ∙ ap (λ (names : List (Option (List ℕ))). if is_event s.form then Some (is_some (group_named names (codes "TIME"))) else first_time ss) alike.0.names
 
 -- a rule that is read is refused alike after rules that are alike
@@ -66,7 +66,7 @@ read-after rs ss number (Some rule) first =
     ap (λ (t : Option Bool). if lacks_type rule then Err (refused.NoType number)
     else if is_event rule.form && option_map_or (λ timed. differ timed (has_time rule)) t false then Err (refused.MixedTime number) else Ok rule) first
 
-spelled-after : (rs ss : List spec.Rule) (number : ℕ) (o : Option (spec.Form × List ℕ)) → length rs ≡ length ss → first_time rs ≡ first_time ss → rule_spelled rs number o ≡ rule_spelled ss number o
+spelled-after : (rs ss : List spec.Rule) (number : ℕ) (o : Option (spec.RuleForm × List ℕ)) → length rs ≡ length ss → first_time rs ≡ first_time ss → rule_spelled rs number o ≡ rule_spelled ss number o
 spelled-after rs ss number None few first = refl
 spelled-after rs ss number (Some spelled) few first =
     ap₂ (λ (n : ℕ) (r : Result spec.Rule RuleError). if nat_le MAX_RULES n then Err (refused.TooMany number) else r) few (read-after rs ss number (rule_of spelled.0 spelled.1) first)

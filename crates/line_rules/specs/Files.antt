@@ -6,7 +6,7 @@ use Rattle.std.specs.Str.{bytes_eq, is_utf8}
 use Rattle.limits.specs.declared.TheConstants.{MAX_RULES, MAX_RULES_BYTES, MAX_TYPE_BYTES}
 use Rattle.lines.specs.Lines.{pieces, line_of}
 use Rattle.line_rules.specs.Patterns.{PatternsState, Rose, NestsTooDeep}
-use Rattle.line_rules.specs.Rules.{Form, Skip, Separator, Event, EventOf, Rule, rule_of, group_named, AreAlike}
+use Rattle.line_rules.specs.Rules.{RuleForm, Skip, Separator, Event, EventOf, Rule, rule_of, group_named, AreAlike}
 use Rattle.line_rules.specs.declared.line_rules.RuleError.{RuleError}
 use Rattle.line_rules.specs.declared.line_rules.RuleError.TheVariants as refused
 
@@ -15,12 +15,12 @@ abbrev pub is_space : ℕ → Bool
 is_space b = b == 32
 
 -- `event=NAME`, where NAME has 1 to 256 bytes
-abbrev pub named_form : List ℕ → Option Form
+abbrev pub named_form : List ℕ → Option RuleForm
 named_form word = if bytes_eq (take 6 word) (codes "event=") && nat_lt 6 (length word)
     && nat_le (length word) (6 + MAX_TYPE_BYTES) then Some (EventOf (drop 6 word)) else None
 
 -- the form of a rule that begins with this word
-abbrev pub form_of_word : List ℕ → Option Form
+abbrev pub form_of_word : List ℕ → Option RuleForm
 form_of_word word =
     if bytes_eq word (codes "skip") then Some Skip
     else if bytes_eq word (codes "separator") then Some Separator
@@ -28,7 +28,7 @@ form_of_word word =
     else named_form word
 
 -- the form and the pattern of a line that has one of the four forms: a word, one space, and a pattern that is not empty
-abbrev pub spelled_by : List ℕ → Option (Form × List ℕ)
+abbrev pub spelled_by : List ℕ → Option (RuleForm × List ℕ)
 spelled_by line =
     if is_utf8 line && nat_lt 0 (length (after_first is_space line)) then option_map (λ form. (form, after_first is_space line)) (form_of_word (before_first is_space line))
     else None
@@ -47,14 +47,14 @@ abbrev pub rule_lines : List ℕ → List (ℕ × List ℕ)
 rule_lines bytes = numbered 1 (pieces bytes)
 
 -- an event rule is of this form
-abbrev pub is_event : Form → Bool
+abbrev pub is_event : RuleForm → Bool
 is_event Skip = false
 is_event Separator = false
 is_event Event = true
 is_event (EventOf name) = true
 
 -- a rule `event PATTERN`
-abbrev pub takes_type : Form → Bool
+abbrev pub takes_type : RuleForm → Bool
 takes_type Skip = false
 takes_type Separator = false
 takes_type Event = true
@@ -89,7 +89,7 @@ rule_read rules number None = Err (refused.Syntax number)
 rule_read rules number (Some rule) = if lacks_type rule then Err (refused.NoType number) else if mixes_time rules rule then Err (refused.MixedTime number) else Ok rule
 
 -- the rule of a line that is spelled so, after these rules, or its first refusal
-abbrev pub rule_spelled : List Rule → ℕ → Option (Form × List ℕ) → Result Rule RuleError
+abbrev pub rule_spelled : List Rule → ℕ → Option (RuleForm × List ℕ) → Result Rule RuleError
 rule_spelled rules number None = Err (refused.BadLine number)
 rule_spelled rules number (Some spelled) = if nat_le MAX_RULES (length rules) then Err (refused.TooMany number) else rule_read rules number (rule_of spelled.0 spelled.1)
 
@@ -126,7 +126,7 @@ pub record IsBuilt (bytes : List ℕ) (number : ℕ) (pattern : List ℕ) : Type
   pub rules : List Rule
   pub read : rules_from [] before ≡ Ok rules
   pub few : length rules < MAX_RULES
-  pub form : Form
+  pub form : RuleForm
   pub spelled : spelled_by line ≡ Some (form, pattern)
 
 -- the rules are those of the file, up to what a search tells apart

@@ -14,15 +14,15 @@ use Rattle.line_rules.specs.declared.decision.Named.{Named}
 use Rattle.line_rules.specs.declared.decision.Named.TheVariants as named
 
 -- the form of a rule; the last gives its events a type of its own
-pub data Form : Type 0 where
-  Skip : Form
-  Separator : Form
-  Event : Form
-  EventOf : (name : List ℕ) → Form
+pub data RuleForm : Type 0 where
+  Skip : RuleForm
+  Separator : RuleForm
+  Event : RuleForm
+  EventOf : (name : List ℕ) → RuleForm
 
 -- a rule: its form, its pattern, and the names of the pattern's groups
 pub record Rule : Type 0 where
-  pub form : Form
+  pub form : RuleForm
   pub re : Re
   pub names : List (Option (List ℕ))
 
@@ -74,7 +74,7 @@ event None name (Some time) = Ok (decision.Event name 0 0 time)
 event (Some s) name (Some time) = Ok (decision.Event name s.0 s.1 time)
 
 -- what a rule with this number decides where the groups TYPE and TRACE of its match have these spans, and its time is this
-abbrev pub decided_at : ℕ → Form → (typ trace : Option (ℕ × ℕ)) → Option ℕ → Option (Result Decision DecideError)
+abbrev pub decided_at : ℕ → RuleForm → (typ trace : Option (ℕ × ℕ)) → Option ℕ → Option (Result Decision DecideError)
 decided_at number Skip typ trace time = Some (Ok decision.Skip)
 decided_at number Separator typ trace time = Some (Ok decision.Separator)
 decided_at number Event typ trace time = option_map (λ s. event trace (named.Part s.0 s.1) time) (not_empty typ)
@@ -95,7 +95,7 @@ abbrev pub decision_of : List Rule → List ℕ → Result Decision DecideError
 decision_of = decision_from 0
 
 -- the name of a rule's own type, where it has one
-abbrev pub name_of : Form → Option (List ℕ)
+abbrev pub name_of : RuleForm → Option (List ℕ)
 name_of Skip = None
 name_of Separator = None
 name_of Event = None
@@ -130,7 +130,7 @@ HasParts rules line decision.Separator = Unit {0}
 HasParts rules line decision.Undecided = Unit {0}
 
 -- the rule that the grammar reads from the text of a pattern, if it reads one
-abbrev pub rule_of : Form → List ℕ → Option Rule
+abbrev pub rule_of : RuleForm → List ℕ → Option Rule
 rule_of form text = option_map (λ (tree, names). record { form = form; re = tree.value; names = names }) (read default_config (chars text))
 
 -- the rules have one form and one list of names, and a search gives the same by both

@@ -15,14 +15,14 @@ use Rattle.line_rules.specs.declared.matchers.Matchers.{Matchers}
 use Rattle.line_rules.specs.declared.line_rules.LineRules.{LineRules}
 
 -- the form of a rule
-abbrev pub form_view : RuleForm → spec.Form
+abbrev pub form_view : RuleForm → spec.RuleForm
 form_view Skip = spec.Skip
 form_view Separator = spec.Separator
 form_view Event = spec.Event
 form_view (EventOf name) = spec.EventOf (string_bytes name.text)
 
 -- the form that a word spells
-abbrev pub word_view : Word → spec.Form
+abbrev pub word_view : Word → spec.RuleForm
 word_view word.Skip = spec.Skip
 word_view word.Separator = spec.Separator
 word_view word.Event = spec.Event

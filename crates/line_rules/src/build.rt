@@ -4,7 +4,7 @@ ghost use Rattle.limits.specs.declared.TheConstants.{MAX_RULES};
 ghost use Rattle.line_rules.specs.Patterns.{IsNoPattern, NestsTooDeep, Stays, Rose, KeepsCount};
 ghost use Rattle.line_rules.specs.Rules.{rule_of, Alike};
 ghost use Rattle.line_rules.specs.Files.{first_time, mixes_time, KeepsRefusals};
-ghost use Rattle.line_rules.specs.Steps.{IsRuleOf, IsLineRefused};
+ghost use Rattle.line_rules.specs.Building.{IsRuleOf, IsLineRefused};
 ghost use Rattle.line_rules.specs.Views.{form_view, rule_view};
 
 use crate::line_rules::RuleError;

@@ -4,7 +4,7 @@ ghost use Rattle.std.specs.List.{list_any};
 ghost use Rattle.limits.specs.declared.TheConstants.{MAX_RULES, MAX_RULES_BYTES};
 ghost use Rattle.line_rules.specs.Patterns.{Stays};
 ghost use Rattle.line_rules.specs.Files.{is_event, is_skipped, KeepsRefusals};
-ghost use Rattle.line_rules.specs.Steps.{AddsLine, IsLineRefused, AreRulesOf, AreLinesRefused};
+ghost use Rattle.line_rules.specs.Building.{AddsLine, IsLineRefused, AreRulesOf, AreLinesRefused};
 ghost use Rattle.line_rules.specs.Views.{rule_view};
 
 use crate::build::rule_of_line;

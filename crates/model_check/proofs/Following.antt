@@ -9,7 +9,7 @@ use Rattle.partition_model.specs.Graphs.{Graph, Walk, IsPath, word, Accepts}
 use Rattle.partition_model.specs.Assignments.{with_ends}
 use Rattle.model_check.specs.declared.sets.TheConstants.{MEMBERS, LISTED, NOW, ROWS, TYPES}
 use Rattle.model_check.specs.Rows.{bit, shown, IsLaid}
-use Rattle.model_check.specs.Steps.{in_hand, IsEnteredFrom}
+use Rattle.model_check.specs.InHand.{in_hand, IsEnteredFrom}
 
 -- from some id of the set goes a walk with these types that ends at TERMINAL
 abbrev pub Continues : Graph → (ℕ → Bool) → List ℕ → Type 0

@@ -9,8 +9,7 @@ use Rattle.std.proofs.Math.Nat.{mul-le-mul_right}
 use Rattle.invariants.specs.Mined.{mined, holds_of_all}
 use Rattle.partition_model.specs.Assignments.{with_ends}
 use Rattle.traces.specs.Words.{Log, Trace, words_of, word_of}
-use Rattle.models.specs.Models.{mined_of}
-use Rattle.model_check.specs.Verdicts.{typed_words_of}
+use Rattle.models.specs.Models.{mined_of, typed_words}
 
 -- the events of a trace are its word
 pub word-at : (traces : List Trace) (t : ℕ) (numbers : List ℕ) → t < length traces → IfSome (slice_get traces t) (λ trace. numbers ≡ trace.events) → slice_get (map (λ (trace : Trace). trace.events) traces) t ≡ Some numbers
@@ -23,7 +22,7 @@ words-again : (traces : List Trace) → map word_of traces ≡ map with_ends (ma
 words-again [] = refl
 words-again (x ∷ xs) = ap (λ (ws : List (List ℕ)). word_of x ∷ ws) (words-again xs)
 
-pub mined-again : (log : Log) → mined (length log.types) (words_of log) ≡ mined_of (typed_words_of log)
+pub mined-again : (log : Log) → mined (length log.types) (words_of log) ≡ mined_of (typed_words log)
 mined-again log = ap (λ (ws : List (List ℕ)). mined (length log.types) ws) (words-again log.traces)
 
 -- no more are mined than there are candidates

@@ -5,7 +5,7 @@ use Rattle.limits.specs.declared.TheConstants.{MAX_PARTITIONS}
 use Rattle.bit_rows.specs.Tables.{HasShape}
 use Rattle.model_check.specs.declared.sets.TheConstants.{MEMBERS, NOW, ROWS, TYPES}
 use Rattle.model_check.specs.Rows.{bit, IsEntered}
-use Rattle.model_check.specs.Steps.{known, in_hand, AreTargets, IsEnteredFrom}
+use Rattle.model_check.specs.InHand.{known, in_hand, AreTargets, IsEnteredFrom}
 use Rattle.model_check.proofs.Following.{bit-within}
 use Rattle.model_check.proofs.Tabling.{zeros}
 

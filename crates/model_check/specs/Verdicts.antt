@@ -1,19 +1,14 @@
 -- What a check answers of a model and of a log.
-use Rattle.std.specs.Prelude.{ℕ, List, map}
+use Rattle.std.specs.Prelude.{ℕ, List}
 use Rattle.invariants.specs.declared.Invariant.{Invariant}
 use Rattle.invariants.specs.declared.records.Listed.{Listed}
 use Rattle.invariants.specs.declared.records.Model.{Model}
 use Rattle.partition_model.specs.Graphs.{Graph, Accepts}
 use Rattle.partition_model.specs.Assignments.{with_ends}
-use Rattle.traces.specs.Words.{Log}
 use Rattle.models.specs.Models.{TypedWords}
 use Rattle.models.specs.Checks.{IsValid, IsFirstPart}
 use Rattle.model_check.specs.declared.verdict.Verdict.{Verdict}
 use Rattle.model_check.specs.declared.verdict.Verdict.TheVariants.{Yes, No}
-
--- the texts of a log's types, and its words without their ends
-abbrev pub typed_words_of : Log → TypedWords
-typed_words_of log = record { types = log.types; words = map (λ trace. trace.events) log.traces }
 
 -- a listed invariant without its labels
 abbrev pub inv_of : Listed → Invariant

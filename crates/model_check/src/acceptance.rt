@@ -4,7 +4,8 @@ ghost use Rattle.std.specs.List.{AllByRecursion};
 ghost use Rattle.limits.specs.declared.TheConstants.{INITIAL};
 ghost use Rattle.models.specs.Checks.{IsFirstFailure};
 ghost use Rattle.model_check.specs.Rows.{shown};
-ghost use Rattle.model_check.specs.Verdicts.{typed_words_of, HasPathFor};
+ghost use Rattle.models.specs.Models.{typed_words};
+ghost use Rattle.model_check.specs.Verdicts.{HasPathFor};
 
 use crate::graph::ModelGraph;
 use traces::TraceSet;
@@ -13,8 +14,8 @@ use traces::TraceSet;
 pub fn first_refused(graph: &mut ModelGraph, traces: &TraceSet) -> Option<u32>
     requires { (shown graph.old).typ INITIAL ≡ INITIAL }
     ensures first { MatchOption result
-        (AllByRecursion (HasPathFor (shown graph.old)) (typed_words_of traces.now).words)
-        (IsFirstFailure (HasPathFor (shown graph.old)) (typed_words_of traces.now).words) }
+        (AllByRecursion (HasPathFor (shown graph.old)) (typed_words traces.now).words)
+        (IsFirstFailure (HasPathFor (shown graph.old)) (typed_words traces.now).words) }
     ensures stays { shown graph.new ≡ shown graph.old }
 {
     // No log has more types than there are rows for.

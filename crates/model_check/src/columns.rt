@@ -145,7 +145,8 @@ fn lay_columns(
     requires graph { shown graph.now ≡ graph_of model.now }
     requires from { from ≤ length (model.now).invariants }
     requires size { length labels.old ≡ MAX_PARTITIONS }
-    ensures { IsTrue result → AreColumnsOf model.now (columns.new).labels.items (columns.new).sources.items from TOGETHER }
+    ensures { IsTrue result
+        → AreColumnsOf model.now (columns.new).labels.items (columns.new).sources.items from TOGETHER }
 {
     let invariants = model.invariants.as_slice();
     for k in 0..TOGETHER {

@@ -54,7 +54,7 @@ pub struct ModelGraph {
 
 impl Model for ModelGraph {
     ghost use Rattle.model_check.specs.Rows.{Tables, IsLaid};
-    ghost use Rattle.model_check.specs.Steps.{AreTargets};
+    ghost use Rattle.model_check.specs.InHand.{AreTargets};
 
     ghost Value = { Tables };
 

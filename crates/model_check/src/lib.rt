@@ -7,7 +7,8 @@
 
 ghost use Rattle.std.specs.Prelude.{IfOk};
 ghost use Rattle.model_shape.specs.Shapes.{IsWellShaped};
-ghost use Rattle.model_check.specs.Verdicts.{typed_words_of, IsVerdict};
+ghost use Rattle.models.specs.Models.{typed_words};
+ghost use Rattle.model_check.specs.Verdicts.{IsVerdict};
 
 mod acceptance;
 mod blocks;
@@ -37,7 +38,7 @@ pub use verdict::Verdict;
 /// there is not enough memory for the mined list or for the tables of the graph.
 pub fn check(alloc: Global, model: &Model, traces: &TraceSet) -> Result<Verdict, AllocError>
     requires { IsWellShaped model.now }
-    ensures { IfOk result (λ verdict. IsVerdict model.now (typed_words_of traces.now) verdict) }
+    ensures { IfOk result (λ verdict. IsVerdict model.now (typed_words traces.now) verdict) }
 {
     let types = traces.types();
     if !are_same(model.types.as_slice(), types.as_slice()) {

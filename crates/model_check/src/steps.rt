@@ -4,7 +4,7 @@ ghost use Rattle.std.specs.Prelude.{◌≡◌, ◌↔◌, ◌<◌, ◌≤◌, �
 ghost use Rattle.limits.specs.declared.TheConstants.{MAX_PARTITIONS};
 ghost use Rattle.bit_rows.specs.Tables.{HasShape};
 ghost use Rattle.model_check.specs.Rows.{bit};
-ghost use Rattle.model_check.specs.Steps.{known, in_hand, AreTargets, IsEnteredFrom};
+ghost use Rattle.model_check.specs.InHand.{known, in_hand, AreTargets, IsEnteredFrom};
 
 use crate::sets::{IDS, NOW, ROWS, TYPES, advance, only_one, take_up};
 use bit_rows::Rows;

@@ -25,7 +25,7 @@ use Rattle.model_file.proofs.Places.{place-is, place-some}
 use Rattle.model_file.proofs.Bounds.{all-by, some-place, both-some}
 use Rattle.model_file.proofs.Shapes.{read-passes}
 use Rattle.model_file.proofs.Passing.{all-of, differs, differ, any, Gives, ascends-tell, Takes, ascends-told, pairs-give, pairs-take, types-tell, partitions-tell}
-use Rattle.model_file.proofs.Steps.{edges-rule-same, blocks-rule-same}
+use Rattle.model_file.proofs.PartByPart.{edges-rule-same, blocks-rule-same}
 
 -- ---- listed partitions
 

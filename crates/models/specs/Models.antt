@@ -1,6 +1,7 @@
 -- What a model says of a graph and of labels, and the model of a log.
 use Rattle.std.specs.Prelude.{◌≡◌, ◌↔◌, ◌==◌, ◌&&◌, ◌||◌, ℕ, zero, suc, ◌/◌, ◌%◌, ◌<◌, ◌≤◌, Bool, true, false, if◌then◌else◌, List, [], ◌∷◌, map, length}
 use Rattle.std.specs.List.{AllByRecursion}
+use Rattle.traces.specs.Words.{Log}
 use Rattle.invariants.specs.declared.Invariant.{Invariant}
 use Rattle.invariants.specs.declared.records.Partition.{Partition}
 use Rattle.invariants.specs.declared.records.Edge.{Edge}
@@ -19,6 +20,10 @@ use Rattle.model_shape.specs.Shapes.{listed_type, is_listed, listing_of, IsLabel
 pub record TypedWords : Type 0 where
   pub types : List (List ℕ)
   pub words : List (List ℕ)
+
+-- the same of the log of some traces
+abbrev pub typed_words : Log → TypedWords
+typed_words log = record { types = log.types; words = map (λ trace. trace.events) log.traces }
 
 -- the invariants that hold of every word
 abbrev pub mined_of : TypedWords → List Invariant

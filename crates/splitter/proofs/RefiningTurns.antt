@@ -16,7 +16,7 @@ use Rattle.partition_model.proofs.Stitching.{stitch_divides}
 use Rattle.partition_model.proofs.Runs.{start-run, one_pass_splits, words-typed, fresh-run, traces-hold, ids_within_rests, fewer_splits}
 use Rattle.model_shape.specs.Numbers.{split_numbers}
 use Rattle.partition_bounds.proofs.SplitPaths.{split_paths_within_limit}
-use Rattle.partition_bounds.proofs.Steps.{steps_exclude}
+use Rattle.partition_bounds.proofs.FirstSplits.{steps_exclude}
 use Rattle.partition_graph.specs.Parts.{Parts, inner_words_of, start_of}
 use Rattle.splitter.specs.Refining.{IsOpened, event_count, after, split_by, EndsRefined, IsStopped, IsFull, WantsMoreIds, AreFewer}
 

@@ -2,17 +2,15 @@
 use Rattle.std.proofs.Common.{◌≡◌, List, ℕ, Option, Some, None, Result, Ok, Err, refl, sym, ap, ◌∙◌}
 use Rattle.outside.specs.Inputs.{Files}
 use Rattle.invariants.specs.declared.records.Model.{Model}
-use Rattle.models.specs.Models.{TypedWords}
+use Rattle.models.specs.Models.{typed_words, TypedWords}
 use Rattle.models.specs.declared.parts.Part.{Part}
 use Rattle.models.proofs.FirstParts.{one_first_part}
-use Rattle.model_check.specs.Verdicts.{typed_words_of}
 use Rattle.model_check.specs.declared.verdict.Verdict.{Verdict}
 use Rattle.model_check.specs.declared.verdict.Verdict.TheVariants.{Yes, No}
 use Rattle.command_line.specs.Task.{Task, task_of}
 use Rattle.traces.specs.Words.{Log}
 use Rattle.models.specs.Laws.{OneModel}
 use Rattle.infer_core.specs.Laws.{EndsExclude, OneFinal}
-use Rattle.infer_core.specs.Runs.{typed_words}
 use Rattle.made_logs.specs.MadeLogs.{made_log}
 use Rattle.model_file.specs.Tree.{file_text}
 use Rattle.reports.specs.Paths.{path_report}
@@ -99,7 +97,7 @@ one-answer laws Graph task m r s a b = a.value ∙ sym b.value
 one-answer laws GraphOfModel task m r s a b = a.value ∙ sym b.value
 one-answer laws Infer task m r s a b = one-inferred laws (typed_words m.log) (WritesModel (typed_words m.log)) (one-file laws (typed_words m.log)) r s a b
 one-answer laws Check task m r s a b =
-    let same : a.verdict ≡ b.verdict = one-verdict m.model (typed_words_of m.log) a.verdict b.verdict a.exact b.exact in
+    let same : a.verdict ≡ b.verdict = one-verdict m.model (typed_words m.log) a.verdict b.verdict a.exact b.exact in
     a.value ∙ (ap (λ (v : Verdict). let t : Result Answer LimitKind = Ok (answer_of v) in t) same ∙ sym b.value)
 one-answer laws Paths task m r s a b = one-inferred laws (typed_words m.log) (TellsPaths m.log) (one-text laws m.log) r s a b
 one-answer laws Bench task m r s a b = one-run laws task.number r s a b

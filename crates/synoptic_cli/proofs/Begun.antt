@@ -5,7 +5,7 @@ use Rattle.invariants.specs.declared.records.Model.{Model}
 use Rattle.model_shape.specs.Shapes.{IsWellShaped}
 use Rattle.synoptic_cli.specs.declared.material.Material.{Material}
 use Rattle.synoptic_cli.specs.Stages.{at_start, no_model}
-use Rattle.synoptic_cli.specs.Steps.{IsHeld}
+use Rattle.synoptic_cli.specs.Halts.{IsHeld}
 
 -- a model of no types and of no traces is well shaped
 no_model-shaped : IsWellShaped no_model

@@ -2,11 +2,10 @@
 use Rattle.std.proofs.Common.{◌≡◌, ℕ, List, Ok, ap, subst, ◌∙◌}
 use Rattle.traces.specs.Words.{Log}
 use Rattle.invariants.specs.declared.records.Model.{Model}
-use Rattle.models.specs.Models.{IsModelOf}
+use Rattle.models.specs.Models.{typed_words, IsModelOf}
 use Rattle.models.specs.Laws.{IsTypedLog, ModelsTell}
 use Rattle.models.specs.Limits.{KeepsLimits}
 use Rattle.models.specs.Checks.{IsValid}
-use Rattle.infer_core.specs.Runs.{typed_words}
 use Rattle.model_check.specs.declared.verdict.Verdict.TheVariants.{Yes}
 use Rattle.model_file.specs.Tree.{file_text}
 use Rattle.model_file.specs.Reading.{reads}

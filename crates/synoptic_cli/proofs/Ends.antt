@@ -18,7 +18,7 @@ use Rattle.synoptic_cli.specs.Task.{LogFiles, Stage, input_count, log_stages, fi
 use Rattle.synoptic_cli.specs.Stages.{Filled, SoFar, Stop, at_start, reads, setting_by, status_of, stop_after}
 use Rattle.synoptic_cli.specs.Endings.{EndsAfter, EndsOver, IsFirstLacking, SomeBytes}
 use Rattle.synoptic_cli.specs.Causes.{World, FailsToRead, HasCause, Stops, world}
-use Rattle.synoptic_cli.specs.Steps.{Ends, HasRead, IsHeld, LogHalts, Reads, ReadsTask, StopsReading, held_form, setting_of}
+use Rattle.synoptic_cli.specs.Halts.{Ends, HasRead, IsHeld, LogHalts, Reads, ReadsTask, StopsReading, held_form, setting_of}
 use Rattle.synoptic_cli.proofs.Texts.{rose-since}
 use Rattle.synoptic_cli.proofs.Bytes.{bytes-map, bytes-told, input_count-append, later}
 use Rattle.synoptic_cli.proofs.Through.{opens-through, read-faults, read-more, read-most, read-stop, stop-bytes, stops-through}

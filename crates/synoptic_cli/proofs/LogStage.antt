@@ -21,7 +21,7 @@ use Rattle.synoptic_cli.specs.declared.stages.SoFar as rust
 use Rattle.synoptic_cli.specs.Task.{LogFiles, Stage, log_stage, log_stages}
 use Rattle.synoptic_cli.specs.Stages.{SoFar, Stop, and_then, reads, reads_log, setting_by, status_of, stop_after, stop_at, with_log}
 use Rattle.synoptic_cli.specs.Endings.{ReadAll, SomeBytes}
-use Rattle.synoptic_cli.specs.Steps.{AreAlikeForms, HasRead, Reads, StopsReading, held_form, setting_of}
+use Rattle.synoptic_cli.specs.Halts.{AreAlikeForms, HasRead, Reads, StopsReading, held_form, setting_of}
 use Rattle.synoptic_cli.proofs.Bytes.{contents-map}
 
 -- how a log is read by rules

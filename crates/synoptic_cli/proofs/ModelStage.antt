@@ -28,7 +28,7 @@ use Rattle.synoptic_cli.specs.Task.{ModelFile, Stage, first_stages, input_count,
 use Rattle.synoptic_cli.specs.Stages.{Filled, SoFar, Stop, and_then, at_start, reads, reads_model, stop_after, with_model}
 use Rattle.synoptic_cli.specs.Endings.{EndsAfter, EndsOver, IsFirstLacking, IsTold, ReadAll, SomeBytes}
 use Rattle.synoptic_cli.specs.Causes.{FailsToRead, RefusesModel, Stops, World, world}
-use Rattle.synoptic_cli.specs.Steps.{Ends, HasRead, IsHeld, ModelHalts, Reads, ReadsModel, RefusesFile, StopsReading, halt_of, halt_status}
+use Rattle.synoptic_cli.specs.Halts.{Ends, HasRead, IsHeld, ModelHalts, Reads, ReadsModel, RefusesFile, StopsReading, halt_of, halt_status}
 use Rattle.synoptic_cli.proofs.Bytes.{bytes-first, bytes-map, bytes-told, contents-one, input_count-append, later, reads-stop}
 use Rattle.synoptic_cli.proofs.Through.{opens-through, read-faults, read-most, read-stop, stop-bytes, stop-first, stops-through}
 use Rattle.synoptic_cli.proofs.Texts.{rose-since}

@@ -5,10 +5,9 @@ use Rattle.std.proofs.lemmas.List.{append-nil, map-append}
 use Rattle.outside.specs.Inputs.{Files, bytes_of}
 use Rattle.invariants.specs.declared.records.Model.{Model}
 use Rattle.traces.specs.Words.{Log, log_of}
-use Rattle.models.specs.Models.{IsModelOf}
+use Rattle.models.specs.Models.{typed_words, IsModelOf}
 use Rattle.models.specs.Checks.{IsValid}
 use Rattle.models.proofs.Valid.{models-valid}
-use Rattle.model_check.specs.Verdicts.{typed_words_of}
 use Rattle.model_check.specs.declared.verdict.Verdict.{Verdict}
 use Rattle.model_check.specs.declared.verdict.Verdict.TheVariants.{Yes, No}
 use Rattle.model_file.specs.Reading.{reads as file_reads}
@@ -24,7 +23,6 @@ use Rattle.synoptic_cli.specs.declared.material.Material.{Material}
 use Rattle.synoptic_cli.specs.declared.status.LimitKind.{LimitKind}
 use Rattle.synoptic_cli.specs.Task.{ModelFile, Stage, file_stage, log_stage, log_stages, rules_stages, stage_names, stages_of}
 use Rattle.synoptic_cli.specs.Stages.{Filled, SoFar, Stop, after, and_then, at_start, reads, reads_model, setting_by, stage_reads, with_log, with_model}
-use Rattle.infer_core.specs.Runs.{typed_words}
 use Rattle.synoptic_cli.specs.declared.status.Status.{Status}
 use Rattle.synoptic_cli.specs.declared.status.Status.TheVariants.{Done}
 use Rattle.synoptic_cli.specs.Commands.{AnswersBy}
@@ -109,11 +107,11 @@ check-reads files task name bytes model s none whole told read =
     (λ a is. put-stage files model a s task.form task.files task.ignore task.join is) (sym (ap (reads at_start) (without-file files task none)) ∙ whole) (reads at_start rules) refl
 
 -- a valid model gives yes
-said-yes : (m : Material) (v : Verdict) (r : Result Answer LimitKind) → IsValid m.model (typed_words_of m.log) → Says m.model (typed_words_of m.log) v → r ≡ Ok (answer_of v) → r ≡ Ok (answer_of Yes)
+said-yes : (m : Material) (v : Verdict) (r : Result Answer LimitKind) → IsValid m.model (typed_words m.log) → Says m.model (typed_words m.log) v → r ≡ Ok (answer_of v) → r ≡ Ok (answer_of Yes)
 said-yes m Yes r valid says is = is
 said-yes m (No part) r valid says is = absurd (says.0 valid)
 
-ends-yes : (task : Task) (name : List ℕ) (s : SoFar) (end : Result Answer Stop) → IsValid s.material.model (typed_words_of s.material.log) → EndsAfter (checking task name) (Ok s) end → end ≡ Ok (answer_of Yes)
+ends-yes : (task : Task) (name : List ℕ) (s : SoFar) (end : Result Answer Stop) → IsValid s.material.model (typed_words s.material.log) → EndsAfter (checking task name) (Ok s) end → end ≡ Ok (answer_of Yes)
 ends-yes task name s (Ok a) valid ends =
     let same : ◌≡◌ {A = Result Answer LimitKind} (Ok a) (Ok (answer_of Yes)) = said-yes s.material ends.verdict (Ok a) valid ends.exact ends.value in
     let is : a ≡ answer_of Yes = cc in
@@ -124,7 +122,7 @@ ends-yes task name s (Err last) valid ends =
 
 pub models-accepted : ModelsAreAccepted
 models-accepted files task name bytes model so_far end none whole typed is told read ends =
-    ends-yes task name (put model so_far) end (models-valid model (typed_words_of so_far.material.log) typed is)
+    ends-yes task name (put model so_far) end (models-valid model (typed_words so_far.material.log) typed is)
     (subst (λ (r : Result SoFar Stop). EndsAfter (checking task name) r end) (check-reads files task name bytes model so_far none whole told read) ends)
 
 -- what was inferred of a log is the file of a model that is valid for it

@@ -23,7 +23,7 @@ use Rattle.synoptic_cli.specs.Causes.{RefusesRules, world}
 use Rattle.synoptic_cli.specs.declared.status.Status.TheVariants.{Expressions, ReadFault, Memory}
 use Rattle.synoptic_cli.specs.declared.status.Source.TheVariants as sources
 use Rattle.synoptic_cli.specs.declared.stages.SoFar as rust
-use Rattle.synoptic_cli.specs.Steps.{rules_answer, Ends, EndsByRules, HasRead, Reads, ReadsRules}
+use Rattle.synoptic_cli.specs.Halts.{rules_answer, Ends, EndsByRules, HasRead, Reads, ReadsRules}
 use Rattle.synoptic_cli.proofs.Bytes.{contents-one}
 
 too-long : (bytes : List ℕ) → 65536 < length bytes → rules_of bytes ≡ Err refused.TooLong

@@ -8,7 +8,7 @@ use Rattle.synoptic_cli.specs.Task.{Stage, input_count}
 use Rattle.synoptic_cli.specs.Stages.{SoFar, Stop, after, reads}
 use Rattle.synoptic_cli.specs.Endings.{SomeBytes, OpenedAll, ReadAll}
 use Rattle.synoptic_cli.specs.declared.stages.SoFar as rust
-use Rattle.synoptic_cli.specs.Steps.{HasRead, IsHeld, Reads, StopsReading}
+use Rattle.synoptic_cli.specs.Halts.{HasRead, IsHeld, Reads, StopsReading}
 use Rattle.synoptic_cli.proofs.Bytes.{bytes-both, bytes-count, bytes-first, filled_count, input_count-append, later, reads-append, reads-stop}
 
 -- the same count by another word

@@ -13,10 +13,10 @@ use Rattle.partition_model.specs.Listings.{parts_of}
 use Rattle.partition_model.proofs.Lists.{In, In-append, In-map}
 use Rattle.partition_model.proofs.Listing.{Contains-In, In-Contains}
 use Rattle.partition_graph.specs.Parts.{inner_words_of}
-use Rattle.models.specs.Models.{mined_of}
+use Rattle.models.specs.Models.{mined_of, typed_words}
 use Rattle.models.specs.Laws.{IsTypedLog}
 use Rattle.models.proofs.Valid.{mined-hold}
-use Rattle.infer_core.specs.Runs.{AreFinal, typed_words}
+use Rattle.infer_core.specs.Runs.{AreFinal}
 use Rattle.reports.specs.Paths.{TracePath, Taken, PathsTell, paths_of, same_ids, taken, taken_by, total, trace_path}
 use Rattle.synoptic_cli.specs.Commands.PrintPaths.{IsWalked, ShowsPaths, lines, paths}
 

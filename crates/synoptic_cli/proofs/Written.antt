@@ -21,7 +21,7 @@ use Rattle.synoptic_cli.specs.Stages.{SoFar, Stop, at_start, reads, stop_after}
 use Rattle.synoptic_cli.specs.Commands.{Answers}
 use Rattle.synoptic_cli.specs.Endings.{EndsAfter, EndsOver}
 use Rattle.synoptic_cli.specs.Causes.{World, HasAnswer, HasCause, KeepsCount, WritesAll, WritesPart}
-use Rattle.synoptic_cli.specs.Steps.{Ends, Gives, IsVerdict, ReadsTask}
+use Rattle.synoptic_cli.specs.Halts.{Ends, Gives, IsVerdict, ReadsTask}
 use Rattle.synoptic_cli.proofs.Bytes.{bytes-map}
 use Rattle.synoptic_cli.proofs.Through.{read-faults, read-most, read-opens}
 use Rattle.synoptic_cli.proofs.Rules.{memory-ends}

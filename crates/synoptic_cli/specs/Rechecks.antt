@@ -2,14 +2,12 @@
 use Rattle.std.specs.Prelude.{ℕ, ◌≡◌, List, Some, None, Result, Ok}
 use Rattle.outside.specs.Inputs.{Files, bytes_of}
 use Rattle.invariants.specs.declared.records.Model.{Model}
-use Rattle.models.specs.Models.{IsModelOf}
+use Rattle.models.specs.Models.{typed_words, IsModelOf}
 use Rattle.models.specs.Laws.{IsTypedLog}
-use Rattle.model_check.specs.Verdicts.{typed_words_of}
 use Rattle.model_check.specs.declared.verdict.Verdict.TheVariants.{Yes}
 use Rattle.model_file.specs.Reading as model_file
 use Rattle.command_line.specs.Task.{Task}
 use Rattle.command_line.specs.declared.table.Command.TheVariants as commands
-use Rattle.infer_core.specs.Runs.{typed_words}
 use Rattle.synoptic_cli.specs.declared.answer.Answer.{Answer}
 use Rattle.synoptic_cli.specs.declared.status.Status.{Status}
 use Rattle.synoptic_cli.specs.declared.status.Status.TheVariants.{Done}
@@ -30,7 +28,7 @@ ModelsAreAccepted =
     (files : Files) (task : Task) (name bytes : List ℕ) (model : Model) (so_far : SoFar)
     (end : Result Answer Stop)
     → task.model ≡ None → reads at_start (told_stages files (stages_of task)) ≡ Ok so_far
-    → IsTypedLog (typed_words_of so_far.material.log) → IsModelOf model (typed_words_of so_far.material.log)
+    → IsTypedLog (typed_words so_far.material.log) → IsModelOf model (typed_words so_far.material.log)
     → bytes_of files name ≡ Some bytes → model_file.reads bytes ≡ Ok model
     → EndsOver (checking task name) (told_stages files (stages_of (checking task name))) end
     → end ≡ Ok (answer_of Yes)

@@ -2,7 +2,7 @@
 ghost use Rattle.command_line.specs.Task.{HasSessions, task_held};
 ghost use Rattle.model_shape.specs.Shapes.{IsWellShaped};
 ghost use Rattle.synoptic_cli.specs.Commands.{Answers};
-ghost use Rattle.synoptic_cli.specs.Steps.{Gives};
+ghost use Rattle.synoptic_cli.specs.Halts.{Gives};
 
 mod check_model;
 mod infer_model;

@@ -1,7 +1,7 @@
 //! Reads the file of a model.
 ghost use Rattle.std.specs.Prelude.{◌≡◌, Err, IfOk, IfErr};
 ghost use Rattle.outside.specs.Inputs.{Stays};
-ghost use Rattle.synoptic_cli.specs.Steps.{ModelHalts, ReadsModel, halt_of, halt_status};
+ghost use Rattle.synoptic_cli.specs.Halts.{ModelHalts, ReadsModel, halt_of, halt_status};
 
 use crate::status::{Source, Status};
 use invariants::Model;

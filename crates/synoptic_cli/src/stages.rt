@@ -11,7 +11,7 @@ ghost use Rattle.model_shape.specs.Shapes.{end_of};
 ghost use Rattle.synoptic_cli.specs.Causes.{KeepsCounts};
 ghost use Rattle.synoptic_cli.specs.Task.{log_stages, model_stages, rules_stages};
 ghost use Rattle.synoptic_cli.specs.Stages.{at_start, no_model};
-ghost use Rattle.synoptic_cli.specs.Steps.{Ends, IsHeld, LogHalts, ModelHalts, Reads, ReadsTask, form_with, held_form, setting_of};
+ghost use Rattle.synoptic_cli.specs.Halts.{Ends, IsHeld, LogHalts, ModelHalts, Reads, ReadsTask, form_with, held_form, setting_of};
 
 use crate::material::Material;
 use crate::model_stage::{ModelHalt, halt_status, read_model_file};

@@ -4,7 +4,7 @@ ghost use Rattle.std.specs.String.{string_bytes};
 ghost use Rattle.command_line.specs.Task.{HasSessions, task_held, task_of};
 ghost use Rattle.synoptic_cli.specs.Causes.{HasCause, IsExpected, KeepsCount, Stays, world};
 ghost use Rattle.synoptic_cli.specs.Messages.{Tells, message_of};
-ghost use Rattle.synoptic_cli.specs.Steps.{status_without_task};
+ghost use Rattle.synoptic_cli.specs.Halts.{status_without_task};
 
 use crate::answer::NoAnswer;
 use crate::commands;
@@ -99,7 +99,7 @@ fn status_without_task(error: ParseError) -> Status
 ///     partitions of one type the file has a path of the graph in which they are merged that breaks a listed
 ///     invariant, so no two can be merged without loss. What `infer` wrote of a log is accepted by `check`, by the
 ///     same rules and options (`models_are_accepted`). What `bench` tells is of the made log and of its model, which
-///     is read back as it was written, and is valid for that log.
+///     is valid for that log; that it was written and read back is told by no clause.
 ///   - `NoCheck`: each input was read to its end, and nothing in it is refused. The model in the file is not
 ///     valid for the log, and this part fails first: those before it, in the order of `Part`, stand, and it
 ///     fails first at the number or the pair that it names. The whole answer, which names it, stands in `out`.

@@ -7,16 +7,16 @@ use Rattle.invariants.specs.declared.records.Listed.{Listed}
 use Rattle.partition_model.specs.Graphs.{Graph}
 use Rattle.model_shape.specs.Shapes.{listing_of}
 use Rattle.traces.specs.Words.{words_of}
-use Rattle.models.specs.Models.{mined_of, IsLabelled}
+use Rattle.models.specs.Models.{mined_of, typed_words, IsLabelled}
 use Rattle.models.specs.Checks.{DiffersAt, IsAccepted, IsFirstFailure}
 use Rattle.models.proofs.Formed.{shaped_are_formed}
-use Rattle.model_check.specs.Verdicts.{inv_of, typed_words_of, HasPathFor}
+use Rattle.model_check.specs.Verdicts.{inv_of, HasPathFor}
 use Rattle.model_check.proofs.Reading.{mined-again, mined-few}
 use Rattle.model_check.proofs.check.Goals as goal
 use Rattle.model_check.proofs.check.Goals.{After-as_slice-4, In_default, In_ok-graph, In_default-first_refused, In_ok-i, In_default-2}
 
 -- the mined list
-mined-is : (c : After-as_slice-4) → c.as_slice-4.result.now ≡ mined_of (typed_words_of c.args.traces.now)
+mined-is : (c : After-as_slice-4) → c.as_slice-4.result.now ≡ mined_of (typed_words c.args.traces.now)
 mined-is c = c.as_slice-4.ensures ∙ c.in_ok-mined.ensures ∙ mined-again c.args.traces.now
 
 few : (c : After-as_slice-4) → length c.as_slice-4.result.now < 4294967296
@@ -39,14 +39,14 @@ returns-in-Some c =
     )
 
 -- the list is the mined one
-same-listing : (c : In_default) → listing_of c.args.model.now ≡ mined_of (typed_words_of c.args.traces.now)
+same-listing : (c : In_default) → listing_of c.args.model.now ≡ mined_of (typed_words c.args.traces.now)
 same-listing c =
     sym (ap (λ (xs : List Listed). map inv_of xs) c.as_slice-3.ensures) ∙ c.in_default.ensures ∙ c.as_slice-4.ensures ∙ c.in_ok-mined.ensures ∙ mined-again c.args.traces.now
 
 -- each word has a path
-same-words : (c : In_default-first_refused) → AllByRecursion (IsAccepted c.args.model.now) (typed_words_of c.args.traces.now).words
+same-words : (c : In_default-first_refused) → AllByRecursion (IsAccepted c.args.model.now) (typed_words c.args.traces.now).words
 same-words c =
-    subst (λ (g : Graph). AllByRecursion (HasPathFor g) (typed_words_of c.args.traces.now).words) c.in_ok-graph.ensures c.in_default-first_refused.ensures.first
+    subst (λ (g : Graph). AllByRecursion (HasPathFor g) (typed_words c.args.traces.now).words) c.in_ok-graph.ensures c.in_default-first_refused.ensures.first
 
 -- the labels of each invariant are inductive
 same-labels : (c : In_default-2) → AllByRecursion (IsLabelled c.args.model.now) c.args.model.now.invariants
@@ -60,7 +60,7 @@ returns-in-Some-first_refused c =
     let a = goal.at.returns-in-Some-first_refused c in (
       same-types a.After-as_slice-4,
       same-listing a.In_default,
-      subst (λ (g : Graph). IsFirstFailure (HasPathFor g) (typed_words_of c.args.traces.now).words c.in-Some-first_refused.t) c.in_ok-graph.ensures c.in-Some-first_refused.ensures.first,
+      subst (λ (g : Graph). IsFirstFailure (HasPathFor g) (typed_words c.args.traces.now).words c.in-Some-first_refused.t) c.in_ok-graph.ensures c.in-Some-first_refused.ensures.first,
     )
 
 pub first_unlabelled-requires-clause-few : goal.first_unlabelled-requires-clause-few

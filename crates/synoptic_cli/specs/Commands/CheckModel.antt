@@ -1,11 +1,10 @@
 -- `check`: whether the model of a file is valid for a log, and the first part in which it is not.
 use Rattle.std.specs.Prelude.{ℕ, ◌≡◌, ◌++◌, List, codes, decimal, Result, Ok}
 use Rattle.invariants.specs.declared.records.Model.{Model}
-use Rattle.models.specs.Models.{TypedWords}
+use Rattle.models.specs.Models.{typed_words, TypedWords}
 use Rattle.models.specs.Checks.{IsValid, IsFirstPart, Promises}
 use Rattle.models.specs.declared.parts.Part.{Part}
 use Rattle.models.specs.declared.parts.Part.TheVariants as parts
-use Rattle.model_check.specs.Verdicts.{typed_words_of}
 use Rattle.model_check.specs.declared.verdict.Verdict.{Verdict}
 use Rattle.model_check.specs.declared.verdict.Verdict.TheVariants.{Yes, No}
 use Rattle.synoptic_cli.specs.declared.answer.Answer.{Answer}
@@ -36,4 +35,4 @@ Says m log (No part) = (IsValid m log → ⊥) × IsFirstPart m log part
 pub record Answers (m : Material) (r : Result Answer LimitKind) : Type 0 where
   pub verdict : Verdict
   pub value : r ≡ Ok (answer_of verdict)
-  pub exact : Says m.model (typed_words_of m.log) verdict
+  pub exact : Says m.model (typed_words m.log) verdict

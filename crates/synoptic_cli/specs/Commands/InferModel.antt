@@ -1,11 +1,10 @@
 -- `infer`: the model of a log.
 use Rattle.std.specs.Prelude.{◌≡◌, Result, Ok}
 use Rattle.invariants.specs.declared.records.Model.{Model}
-use Rattle.models.specs.Models.{TypedWords, IsModelOf}
+use Rattle.models.specs.Models.{typed_words, TypedWords, IsModelOf}
 use Rattle.models.specs.Limits.{KeepsLimits}
 use Rattle.models.specs.Checks.{IsValid, Promises}
 use Rattle.models.specs.Histories.{IsJustified}
-use Rattle.infer_core.specs.Runs.{typed_words}
 use Rattle.model_file.specs.Tree.{file_text}
 use Rattle.model_file.specs.Reading.{reads}
 use Rattle.synoptic_cli.specs.declared.answer.Answer.{Answer}

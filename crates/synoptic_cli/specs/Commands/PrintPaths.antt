@@ -4,7 +4,8 @@ use Rattle.std.specs.List.{AllByRecursion}
 use Rattle.traces.specs.Words.{Log}
 use Rattle.partition_model.specs.Graphs.{Graph, IsPath, word}
 use Rattle.partition_model.specs.Assignments.{Assignment, G, with_ends}
-use Rattle.infer_core.specs.Runs.{typed_words, AreFinal}
+use Rattle.models.specs.Models.{typed_words}
+use Rattle.infer_core.specs.Runs.{AreFinal}
 use Rattle.reports.specs.Paths.{TracePath, Taken, paths_of, path_report, same_ids, taken, total}
 use Rattle.synoptic_cli.specs.declared.answer.Answer.{Answer}
 use Rattle.synoptic_cli.specs.declared.material.Material.{Material}

@@ -3,10 +3,9 @@ use Rattle.std.specs.Prelude.{ℕ, ◌≡◌, ◌++◌, List, length, codes, dec
 use Rattle.std.specs.Option.{IsSomeAnd}
 use Rattle.traces.specs.Words.{Log, event_count_of}
 use Rattle.invariants.specs.declared.records.Model.{Model}
-use Rattle.models.specs.Models.{TypedWords, IsModelOf}
+use Rattle.models.specs.Models.{typed_words, TypedWords, IsModelOf}
 use Rattle.models.specs.Limits.{KeepsLimits}
 use Rattle.models.specs.Checks.{IsValid, Promises}
-use Rattle.infer_core.specs.Runs.{typed_words}
 use Rattle.model_check.specs.Verdicts.{IsVerdict}
 use Rattle.model_check.specs.declared.verdict.Verdict.{Verdict}
 use Rattle.model_file.specs.Tree.{file_text}

@@ -2,7 +2,7 @@
 ghost use Rattle.std.specs.Prelude.{◌≡◌, ◌++◌, IfOk, OnOk, Ok, codes, decimal};
 ghost use Rattle.model_shape.specs.Shapes.{IsWellShaped};
 ghost use Rattle.synoptic_cli.specs.Commands.CheckModel.{Answers, answer_of, no_text};
-ghost use Rattle.synoptic_cli.specs.Steps.{Gives, IsVerdict};
+ghost use Rattle.synoptic_cli.specs.Halts.{Gives, IsVerdict};
 
 use crate::answer::{Answer, NoAnswer};
 use crate::material::Material;

@@ -1,8 +1,8 @@
 //! `infer`: infers the model of a log, and writes its file.
 ghost use Rattle.std.specs.Prelude.{◌≡◌, IfOk};
-ghost use Rattle.infer_core.specs.Runs.{typed_words};
+ghost use Rattle.models.specs.Models.{typed_words};
 ghost use Rattle.synoptic_cli.specs.Commands.InferModel.{Answers, WritesModel};
-ghost use Rattle.synoptic_cli.specs.Steps.{Gives};
+ghost use Rattle.synoptic_cli.specs.Halts.{Gives};
 
 use crate::answer::{Answer, NoAnswer};
 use crate::commands::inference::inferred;

@@ -1,6 +1,6 @@
 //! The inference that commands rest on.
 ghost use Rattle.std.specs.Prelude.{◌≡◌, ◌<◌, IfOk, IfErr, OnOk};
-ghost use Rattle.infer_core.specs.Runs.{typed_words};
+ghost use Rattle.models.specs.Models.{typed_words};
 ghost use Rattle.synoptic_cli.specs.Commands.Inference.{kind_of, NotInferred, PassesLimit, PassesNone};
 
 use crate::answer::NoAnswer;

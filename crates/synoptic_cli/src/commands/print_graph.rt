@@ -1,7 +1,7 @@
 //! `graph`: prints the graph of a log that has one partition for each type.
 ghost use Rattle.std.specs.Prelude.{IfOk, Ok};
 ghost use Rattle.synoptic_cli.specs.Commands.PrintGraph.{Answers};
-ghost use Rattle.synoptic_cli.specs.Steps.{Gives};
+ghost use Rattle.synoptic_cli.specs.Halts.{Gives};
 
 use crate::answer::{Answer, NoAnswer};
 use crate::material::Material;

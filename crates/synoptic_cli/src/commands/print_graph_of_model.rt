@@ -1,7 +1,7 @@
 //! `graph` with a model's file: prints the graph of that model.
 ghost use Rattle.std.specs.Prelude.{IfOk, Ok};
 ghost use Rattle.synoptic_cli.specs.Commands.PrintGraphOfModel.{Answers};
-ghost use Rattle.synoptic_cli.specs.Steps.{Gives};
+ghost use Rattle.synoptic_cli.specs.Halts.{Gives};
 
 use crate::answer::{Answer, NoAnswer};
 use crate::material::Material;

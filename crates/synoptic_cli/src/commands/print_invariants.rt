@@ -1,7 +1,7 @@
 //! `invariants`: prints the invariants that hold in every trace of a log.
 ghost use Rattle.std.specs.Prelude.{IfOk, Ok};
 ghost use Rattle.synoptic_cli.specs.Commands.PrintInvariants.{Answers};
-ghost use Rattle.synoptic_cli.specs.Steps.{Gives};
+ghost use Rattle.synoptic_cli.specs.Halts.{Gives};
 
 use crate::answer::{Answer, NoAnswer};
 use crate::material::Material;

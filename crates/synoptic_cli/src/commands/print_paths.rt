@@ -1,7 +1,7 @@
 //! `paths`: prints the paths that the traces of a log take through its model.
 ghost use Rattle.std.specs.Prelude.{◌≡◌, IfOk};
 ghost use Rattle.synoptic_cli.specs.Commands.PrintPaths.{Answers, TellsPaths};
-ghost use Rattle.synoptic_cli.specs.Steps.{Gives};
+ghost use Rattle.synoptic_cli.specs.Halts.{Gives};
 
 use crate::answer::{Answer, NoAnswer};
 use crate::commands::inference::inferred;

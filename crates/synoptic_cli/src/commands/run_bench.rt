@@ -2,9 +2,9 @@
 ghost use Rattle.std.specs.Prelude.{◌≡◌, ◌++◌, IfOk, OnOk};
 ghost use Rattle.std.specs.Option.{IsSomeAnd};
 ghost use Rattle.command_line.specs.Task.{IsSessions};
-ghost use Rattle.model_check.specs.Verdicts.{typed_words_of};
+ghost use Rattle.models.specs.Models.{typed_words};
 ghost use Rattle.synoptic_cli.specs.Commands.RunBench.{Answers, AnswersOf, IsChecked, SaysModel, TellsRun, count_line, log_lines, model_lines, summary};
-ghost use Rattle.synoptic_cli.specs.Steps.{Gives};
+ghost use Rattle.synoptic_cli.specs.Halts.{Gives};
 
 use crate::answer::{Answer, NoAnswer};
 use crate::commands::inference::inferred;
@@ -72,7 +72,7 @@ fn summary(alloc: Global, traces: &TraceSet, model: &Model) -> Result<Seq<u8>, A
 /// Reads the model that stands in the text of a file, and checks it against the log.
 fn read_and_check(alloc: Global, text: &[u8], traces: &TraceSet) -> Result<Checked, AllocError>
     requires { SaysModel text.now }
-    ensures { IfOk result (λ c. IsChecked text.now (typed_words_of traces.now) c.model c.verdict) }
+    ensures { IfOk result (λ c. IsChecked text.now (typed_words traces.now) c.model c.verdict) }
 {
     let model = match read_model(alloc, text) {
         Ok(model) => model,

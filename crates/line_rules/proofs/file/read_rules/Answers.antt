@@ -3,7 +3,7 @@ use Rattle.lines.specs.Lines.{line_of}
 use Rattle.line_rules.specs.Patterns.{PatternsState}
 use Rattle.line_rules.specs.Rules as spec
 use Rattle.line_rules.specs.Files.{is_skipped}
-use Rattle.line_rules.specs.Steps.{AddsLine, IsLineRefused}
+use Rattle.line_rules.specs.Building.{AddsLine, IsLineRefused}
 use Rattle.line_rules.specs.Views.{rule_view}
 use Rattle.line_rules.proofs.Lines.{begin, step, refuse, stays-on, count-on}
 use Rattle.line_rules.proofs.file.read_rules.Goals as goal

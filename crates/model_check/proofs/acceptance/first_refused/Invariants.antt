@@ -1,6 +1,7 @@
 use Rattle.std.proofs.Common.{◌≡◌}
 use Rattle.model_check.specs.Rows.{shown}
-use Rattle.model_check.specs.Verdicts.{typed_words_of, HasPathFor}
+use Rattle.models.specs.Models.{typed_words}
+use Rattle.model_check.specs.Verdicts.{HasPathFor}
 use Rattle.model_check.proofs.Failing.{HoldBelow}
 use Rattle.model_check.proofs.acceptance.first_refused.Given as goal
 
@@ -8,5 +9,5 @@ abbrev pub invariant-loop-t : goal.invariant-loop-t
 invariant-loop-t l =
     record {
       stays : shown l.graph ≡ shown l.fn.graph;
-      held : HoldBelow (HasPathFor (shown l.fn.graph)) (typed_words_of l.traces).words l.t;
+      held : HoldBelow (HasPathFor (shown l.fn.graph)) (typed_words l.traces).words l.t;
     }

@@ -1,6 +1,6 @@
 use Rattle.std.proofs.Common.{◌≡◌, ◌↔◌, ◌<◌, ℕ, arith, sym, subst}
 use Rattle.limits.specs.declared.TheConstants.{MAX_PARTITIONS}
-use Rattle.model_check.specs.Steps.{known}
+use Rattle.model_check.specs.InHand.{known}
 use Rattle.model_check.proofs.Stepping.{Leads, targets-stay, row-step, one-target, target-within}
 use Rattle.model_check.proofs.steps.step.Goals as goal
 use Rattle.model_check.proofs.steps.step.Goals.{Then-target-ne0}

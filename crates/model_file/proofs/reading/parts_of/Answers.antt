@@ -9,7 +9,7 @@ use Rattle.model_file.specs.Reading.{◌>>=◌, Fails, types_in, partitions_in, 
 use Rattle.model_file.proofs.Shapes.{types-hold, partitions-hold}
 use Rattle.model_file.proofs.Bounds.{few-types, all-weaker, numbered, IsNumbered}
 use Rattle.model_file.proofs.Fails.{Fails-at}
-use Rattle.model_file.proofs.Steps.{from-types, from-partitions, table-edges, counted-invariants, from-merges, from-splits, from-blocks}
+use Rattle.model_file.proofs.PartByPart.{from-types, from-partitions, table-edges, counted-invariants, from-merges, from-splits, from-blocks}
 use Rattle.model_file.proofs.reading.parts_of.Goals as goal
 
 pub returns-in-Err : goal.returns-in-Err

@@ -2,7 +2,7 @@ use Rattle.std.proofs.Common.{subst, sym}
 use Rattle.command_line.specs.Task.{task_held}
 use Rattle.command_line.specs.declared.table.Command.{Command}
 use Rattle.synoptic_cli.specs.Commands.{AnswersBy}
-use Rattle.synoptic_cli.specs.Steps.{Gives}
+use Rattle.synoptic_cli.specs.Halts.{Gives}
 use Rattle.synoptic_cli.proofs.commands.answer.Goals as goal
 
 pub returns-in-Invariants : goal.returns-in-Invariants

@@ -1,6 +1,6 @@
 use Rattle.std.proofs.Common.{◌∙◌, ℕ, List, ap, subst, sym}
 use Rattle.model_file.specs.Reading.{Fails, reads}
-use Rattle.synoptic_cli.specs.Steps.{ModelHalts}
+use Rattle.synoptic_cli.specs.Halts.{ModelHalts}
 use Rattle.synoptic_cli.proofs.ModelStage.{model-halts, model-read}
 use Rattle.synoptic_cli.proofs.model_stage.read_model_file.Goals as goal
 

@@ -1,7 +1,7 @@
 use Rattle.std.proofs.Common.{List, ℕ, subst, sym}
 use Rattle.line_rules.specs.Files.{AreRead, IsRefused}
 use Rattle.line_rules.specs.Views.{rules_in}
-use Rattle.synoptic_cli.specs.Steps.{EndsByRules}
+use Rattle.synoptic_cli.specs.Halts.{EndsByRules}
 use Rattle.synoptic_cli.specs.declared.status.Status.{Status}
 use Rattle.synoptic_cli.proofs.Rules.{rules-read, rules-end}
 use Rattle.synoptic_cli.proofs.reading.read_rules.Goals as goal

@@ -4,7 +4,7 @@ use Rattle.command_line.specs.Task.{task_held}
 use Rattle.synoptic_cli.specs.declared.status.Status.{Status}
 use Rattle.synoptic_cli.specs.declared.model_stage.ModelHalt.TheVariants as halts
 use Rattle.synoptic_cli.specs.Task.{model_stages, rules_stages}
-use Rattle.synoptic_cli.specs.Steps.{Ends}
+use Rattle.synoptic_cli.specs.Halts.{Ends}
 use Rattle.synoptic_cli.proofs.LogStage.{ReadAlike}
 use Rattle.synoptic_cli.proofs.ModelStage.{halt-memory, model-stage-ends}
 use Rattle.synoptic_cli.proofs.Through.{reads-both, stays-both}

@@ -1,7 +1,7 @@
 use Rattle.std.proofs.Common.{◌∙◌, ℕ, List, Option, ap, subst, sym}
 use Rattle.std.specs.Option.{option_map}
 use Rattle.synoptic_cli.specs.Task.{file_stage, ModelFile}
-use Rattle.synoptic_cli.specs.Steps.{Reads}
+use Rattle.synoptic_cli.specs.Halts.{Reads}
 use Rattle.synoptic_cli.proofs.ModelStage.{model-held}
 use Rattle.synoptic_cli.proofs.stages.read_model_stage.Goals as goal
 

@@ -2,7 +2,7 @@ use Rattle.std.proofs.Common.{◌∙◌, ℕ, List, Option, Some, ap, subst, sym
 use Rattle.std.specs.Option.{option_map}
 use Rattle.command_line.specs.Task.{task_held}
 use Rattle.synoptic_cli.specs.Task.{file_stage, RulesFile}
-use Rattle.synoptic_cli.specs.Steps.{Reads}
+use Rattle.synoptic_cli.specs.Halts.{Reads}
 use Rattle.synoptic_cli.proofs.Rules.{rules-held}
 use Rattle.synoptic_cli.proofs.stages.read_rules_stage.Goals as goal
 

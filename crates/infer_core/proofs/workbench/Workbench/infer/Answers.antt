@@ -5,7 +5,8 @@ use Rattle.infer_core.specs.declared.workbench.InferLimit.{InferLimit}
 use Rattle.infer_core.specs.declared.workbench.InferLimit.TheVariants.{Partitions, Evidence}
 use Rattle.infer_core.specs.Benches.{Bench, IsAtStart}
 use Rattle.infer_core.specs.Ends.{BeginsWith, IsReady, HasEnded, RunGives}
-use Rattle.infer_core.specs.Runs.{typed_words, CountsAtMost, PassesNumbers, PassesPartitions}
+use Rattle.models.specs.Models.{typed_words}
+use Rattle.infer_core.specs.Runs.{CountsAtMost, PassesNumbers, PassesPartitions}
 use Rattle.infer_core.proofs.Stages.{stands-opened, partitions-told, evidence-told}
 use Rattle.infer_core.proofs.workbench.Workbench.infer.Goals as goal
 

@@ -2,9 +2,8 @@ use Rattle.std.proofs.Common.{◌≡◌, List, ℕ, ◌∙◌, sym, ap, subst}
 use Rattle.std.proofs.lemmas.Result.{IfOk-weaker}
 use Rattle.invariants.specs.declared.Invariant.{Invariant}
 use Rattle.traces.specs.Words.{Log}
-use Rattle.models.specs.Models.{IsModelOf}
+use Rattle.models.specs.Models.{typed_words, IsModelOf}
 use Rattle.infer_core.specs.Benches.{Bench, IsAtEnd, Tells}
-use Rattle.infer_core.specs.Runs.{typed_words}
 use Rattle.infer_core.proofs.Stages.{stands-inferred}
 use Rattle.infer_core.proofs.Telling.{told-keeps, told-model}
 use Rattle.infer_core.proofs.workbench.Workbench.model.Goals as goal

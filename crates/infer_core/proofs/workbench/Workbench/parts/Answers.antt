@@ -2,7 +2,8 @@ use Rattle.std.proofs.Common.{◌≡◌, List, ℕ, ◌∙◌, sym, ap, subst}
 use Rattle.std.proofs.lemmas.Result.{IfOk-weaker}
 use Rattle.traces.specs.Words.{Log}
 use Rattle.infer_core.specs.Benches.{Bench, IsAtEnd}
-use Rattle.infer_core.specs.Runs.{typed_words, AreFinal}
+use Rattle.models.specs.Models.{typed_words}
+use Rattle.infer_core.specs.Runs.{AreFinal}
 use Rattle.infer_core.proofs.Stages.{stands-inferred}
 use Rattle.infer_core.proofs.Telling.{told-final}
 use Rattle.infer_core.proofs.workbench.Workbench.parts.Goals as goal

@@ -3,7 +3,7 @@ use Rattle.std.proofs.lemmas.List.{drop_more, drop_all}
 use Rattle.limits.specs.declared.TheConstants.{TERMINAL, FIRST_TYPE, MAX_TYPES}
 use Rattle.traces.specs.Kept.{IsTypeNumber}
 use Rattle.model_check.specs.Rows.{shown}
-use Rattle.model_check.specs.Steps.{in_hand, IsEnteredFrom}
+use Rattle.model_check.specs.InHand.{in_hand, IsEnteredFrom}
 use Rattle.model_check.proofs.Following.{IsFollowed, follow_first, follow_more, follow_end, still-shown}
 use Rattle.model_check.proofs.graph.ModelGraph.accepts.Goals as goal
 

@@ -1,7 +1,7 @@
 use Rattle.std.proofs.Common.{◌++◌, ◌∷◌, [], drop}
 use Rattle.limits.specs.declared.TheConstants.{TERMINAL}
 use Rattle.model_check.specs.Rows.{shown}
-use Rattle.model_check.specs.Steps.{AreTargets}
+use Rattle.model_check.specs.InHand.{AreTargets}
 use Rattle.model_check.proofs.Following.{IsFollowed}
 use Rattle.model_check.proofs.graph.ModelGraph.accepts.Given as goal
 

@@ -2,7 +2,7 @@ use Rattle.std.proofs.Common.{subst}
 use Rattle.traces.specs.Words.{Log}
 use Rattle.models.specs.Laws.{IsTypedLog}
 use Rattle.models.specs.Limits.{IsWithinLimits}
-use Rattle.infer_core.specs.Runs.{typed_words}
+use Rattle.models.specs.Models.{typed_words}
 use Rattle.synoptic_cli.proofs.Inferred.{model-written}
 use Rattle.synoptic_cli.proofs.commands.infer_model.write.Goals as goal
 

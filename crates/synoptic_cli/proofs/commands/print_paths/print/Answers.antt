@@ -1,7 +1,7 @@
 use Rattle.std.proofs.Common.{◌∙◌, ℕ, List, ap, ap₂, sym, subst, length}
 use Rattle.traces.specs.Words.{Log, event_count_of}
 use Rattle.models.specs.Laws.{IsTypedLog}
-use Rattle.infer_core.specs.Runs.{typed_words}
+use Rattle.models.specs.Models.{typed_words}
 use Rattle.reports.specs.Paths.{path_report}
 use Rattle.synoptic_cli.specs.declared.answer.Answer.{Answer}
 use Rattle.synoptic_cli.specs.declared.status.Status.TheVariants.{Done}

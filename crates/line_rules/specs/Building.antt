@@ -2,7 +2,7 @@
 use Rattle.std.specs.Prelude.{ℕ, ◌≡◌, ◌<◌, ◌⊎◌, IsTrue, IsFalse, List, [], ◌∷◌, ◌++◌, length, Some, Ok, Err}
 use Rattle.limits.specs.declared.TheConstants.{MAX_RULES}
 use Rattle.line_rules.specs.Patterns.{PatternsState, Rose, NestsTooDeep}
-use Rattle.line_rules.specs.Rules.{Form, Rule, Alike, AreAlike}
+use Rattle.line_rules.specs.Rules.{RuleForm, Rule, Alike, AreAlike}
 use Rattle.line_rules.specs.Files.{spelled_by, is_skipped, rule_at, rules_from, rule_lines, IsBuilt}
 use Rattle.line_rules.specs.declared.line_rules.RuleError.{RuleError}
 use Rattle.line_rules.specs.declared.line_rules.RuleError.TheVariants as refused
@@ -16,7 +16,7 @@ pub record IsRuleOf (rules : List Rule) (number : ℕ) (line : List ℕ) (rule :
 -- after these rules a line's pattern is built, and this holds of the pattern
 pub record Builds (rules : List Rule) (line : List ℕ) (Holds : List ℕ → Type 0) : Type 0 where
   pub few : length rules < MAX_RULES
-  pub form : Form
+  pub form : RuleForm
   pub pattern : List ℕ
   pub spelled : spelled_by line ≡ Some (form, pattern)
   pub holds : Holds pattern
