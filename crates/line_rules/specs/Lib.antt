@@ -3,5 +3,5 @@ pub mod Listed
 pub mod Times
 pub mod Rules
 pub mod Files
-pub mod Steps
+pub mod Building
 pub mod Views

@@ -3,5 +3,5 @@ pub mod States
 pub mod Kept
 pub mod Rows
 pub mod Pairs
-pub mod Steps
+pub mod InHand
 pub mod Columns

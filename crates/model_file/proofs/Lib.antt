@@ -10,7 +10,7 @@ pub mod Tokens
 pub mod Room
 pub mod Places
 pub mod Fails
-pub mod Steps
+pub mod PartByPart
 pub mod Tables
 pub mod Forth
 pub mod Objects

@@ -3,7 +3,7 @@ pub mod Ordered
 pub mod Blocks
 pub mod Short
 pub mod Shorter
-pub mod Steps
+pub mod FirstSplits
 pub mod BlockPairs
 pub mod Merges
 pub mod SplitPaths
