@@ -1,5 +1,5 @@
 //! The labels.
-ghost use Rattle.std.specs.Prelude.{true, false, ◌≡◌, ◌≢◌, ◌≤◌, ◌<◌, ◌+◌, ℕ, IfOk, MatchOption, length, slice_get, Some};
+ghost use Rattle.std.specs.Prelude.{◌≡◌, ◌≢◌, ◌≤◌, ◌<◌, ◌+◌, ℕ, IfOk, MatchOption, length, slice_get, Some};
 ghost use Rattle.limits.specs.declared.TheConstants.{LAST_TYPE, MAX_INVARIANTS, MAX_PARTITIONS};
 ghost use Rattle.invariants.specs.declared.Invariant.{Invariant};
 ghost use Rattle.partition_model.specs.Graphs.{Graph};

@@ -2,7 +2,6 @@ use Rattle.std.proofs.Common.{◌∙◌, List, length, ap, sym, arith}
 use Rattle.invariants.specs.declared.Invariant.{Invariant}
 use Rattle.partition_model.specs.Graphs.{Graph}
 use Rattle.partition_graph.specs.Seen.{seen}
-use Rattle.labelling.specs.Labelled.{Labelling}
 use Rattle.labelling.proofs.Telling.{exact_labels, told_satisfied}
 use Rattle.labelling.proofs.planes.Planes.tell_satisfied.Goals as goal
 
