@@ -1,36 +1,33 @@
 -- What a run leaves.
-use Rattle.std.proofs.Common.{◌≡◌, ℕ, ◌+◌, ◌*◌, ◌<◌, ◌≤◌, List, [], ◌∷◌, ◌++◌, map, length, All, sym, ◌∙◌, refl, ap, ap₂, subst, subst₂, arith, length-append}
+use Rattle.std.proofs.Common.{◌≡◌, ℕ, ◌+◌, ◌*◌, ◌≤◌, List, [], ◌++◌, map, length, sym, ◌∙◌, ap, subst, subst₂, arith, length-append}
 use Rattle.std.proofs.lemmas.List.Concat.{length-flat_map}
-use Rattle.std.proofs.lemmas.List.Elements.{All-from_recursion}
-use Rattle.limits.specs.declared.TheConstants.{MAX_PAIRS, MAX_PARTITIONS, MAX_PATH_NUMBERS, MAX_STEPS}
+use Rattle.limits.specs.declared.TheConstants.{MAX_PAIRS, MAX_PARTITIONS, MAX_PATH_NUMBERS}
 use Rattle.invariants.specs.declared.Invariant.{Invariant}
 use Rattle.invariants.specs.declared.records.Split.{Split}
 use Rattle.invariants.specs.declared.records.Merge.{Merge}
 use Rattle.invariants.specs.declared.records.Block.{Block}
 use Rattle.cell_pool.specs.declared.run_log.SplitEntry.{SplitEntry}
-use Rattle.cell_pool.specs.declared.run_log.BlockEntry.{BlockEntry}
-use Rattle.cell_pool.specs.declared.run_log.MergeEntry.{MergeEntry}
 use Rattle.cell_pool.specs.Numbers.{Numbers, KeepsLists}
 use Rattle.cell_pool.specs.RunLists.{RunLists}
-use Rattle.run_history.specs.Records.{split_of, merge_of, splits_of, merges_of, blocks_of, HoldsPaths, IsWithin}
+use Rattle.run_history.specs.Records.{split_of, splits_of, merges_of, blocks_of, HoldsPaths}
 use Rattle.run_history.proofs.Adding.{splits-stay}
 use Rattle.model_shape.specs.Numbers.{split_numbers, block_numbers}
-use Rattle.partition_model.specs.Assignments.{Assignment, G, IsTyped}
+use Rattle.partition_model.specs.Assignments.{G, IsTyped}
 use Rattle.partition_model.specs.Refinement.{IsNextSplit, IsRefined, Refines, SatisfiesAll, Splits}
 use Rattle.partition_model.specs.Coarsening.{Coarsens, AreBlocks}
-use Rattle.partition_bounds.specs.Pairs.{pair_of, pairs_of, pairs_below}
+use Rattle.partition_bounds.specs.Pairs.{pairs_below}
 use Rattle.partition_bounds.proofs.Pairing.{pairs_within_limit}
 use Rattle.models.specs.Models.{TypedWords, mined_of}
 use Rattle.models.specs.Histories.{first_new}
 use Rattle.partition_graph.specs.Parts.{Parts}
 use Rattle.labelling.specs.Labelled.{Labelling, AreLabelsOf}
 use Rattle.splitter.specs.Refining.{EndsRefined, IsFull, IsStopped}
-use Rattle.splitter.specs.Writing.{AreEmpty, HaveRoom, WritesSplits, paths_of}
+use Rattle.splitter.specs.Writing.{AreEmpty, WritesSplits}
 use Rattle.splitter.proofs.WritingTurns.{paths-long}
 use Rattle.coarsener.specs.Blocking.{pair_count, EndsWithoutRoom, paths_of as block_paths}
 use Rattle.coarsener.proofs.Ended.{refined-satisfies}
 use Rattle.infer_core.specs.Runs.{first_parts, CountsAtMost, PassesNumbers, PassesPartitions}
-use Rattle.infer_core.specs.Ends.{BeginsWith, HasEnded, IsReady}
+use Rattle.infer_core.specs.Ends.{BeginsWith, HasEnded}
 use Rattle.infer_core.proofs.Pairs.{pairs-fewer}
 
 -- after refinement the graph satisfies what the planes were made for
@@ -72,30 +69,6 @@ stopped-passes words invs old new splits counted b f s =
       full = omega (arith, s.used, f.used);
       next = f.next;
       is_next = subst (λ (xs : List Invariant). IsNextSplit xs new.traces f.next) e f.is_next;
-    }
-
--- where nothing is refined, nothing is written
-pub none-written : (run : RunLists) (spans : Numbers) → AreEmpty run spans → WritesSplits run run spans spans
-none-written run spans e =
-    record {
-      log_is = refl;
-      spans_are = ap (λ (ns : List ℕ). let x : Numbers = record spans { numbers = ns } in x)
-          (e.numbers ∙ sym (ap (λ (es : List SplitEntry). paths_of (map (split_of spans.numbers) es)) e.splits));
-      paths = record {
-        splits = subst (λ (es : List SplitEntry). All (λ e. IsWithin spans.numbers e.path) es) (sym e.splits) (All-from_recursion (λ (e : SplitEntry). IsWithin spans.numbers e.path) [] tt);
-        blocks = subst (λ (es : List BlockEntry). All (λ e. IsWithin spans.numbers e.path) es) (sym e.blocks) (All-from_recursion (λ (e : BlockEntry). IsWithin spans.numbers e.path) [] tt);
-      };
-    }
-
--- and that is all of refinement where the graph breaks no invariant
-pub none-refined : (invs : List Invariant) (parts : Parts) (run : RunLists) (spans : Numbers) → AreEmpty run spans → parts.used ≤ MAX_PARTITIONS → SatisfiesAll (G parts.traces) invs
-    → EndsRefined invs parts (splits_of run spans) parts
-none-refined invs parts run spans e few all =
-    let none : splits_of run spans ≡ [] = ap (λ (es : List SplitEntry). map (split_of spans.numbers) es) e.splits in
-    record {
-      run = subst (λ (ss : List Split). Refines invs parts.traces parts.used ss parts.traces) (sym none) (all, refl);
-      used = omega (arith, ap (λ (ss : List Split). length ss) none);
-      within = few;
     }
 
 -- what is known of a run where blocks were begun: run0 and spans0 stand before it, run1, spans1 and parts1 after refinement,

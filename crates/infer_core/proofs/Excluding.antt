@@ -1,7 +1,6 @@
 -- No log ends in two ways.
-use Rattle.std.proofs.Common.{◌≡◌, ℕ, ◌+◌, ◌<◌, ◌≤◌, List, [], ◌∷◌, ◌++◌, map, length, slice_get, Some, sym, ◌∙◌, refl, ap, subst, subst₂, inl, inr, arith}
+use Rattle.std.proofs.Common.{◌≡◌, ℕ, ◌+◌, ◌<◌, ◌≤◌, List, [], ◌∷◌, ◌++◌, length, slice_get, Some, sym, ◌∙◌, refl, ap, subst, subst₂, inl, inr, arith}
 use Rattle.std.proofs.lemmas.List.Sums.{sum_by-cons, sum_by-append}
-use Rattle.std.specs.List.{AllByRecursion}
 use Rattle.limits.specs.declared.TheConstants.{MAX_PARTITIONS, MAX_PATH_NUMBERS}
 use Rattle.invariants.specs.declared.Invariant.{Invariant}
 use Rattle.invariants.specs.declared.records.Split.{Split}
@@ -12,13 +11,13 @@ use Rattle.partition_model.specs.Graphs.{Graph, Satisfies, IsLeastViolation, Mer
 use Rattle.partition_model.specs.Assignments.{Assignment, G, by_type}
 use Rattle.partition_model.specs.Listings.{parts_of}
 use Rattle.partition_model.specs.Refinement.{IsFirstBroken, IsRefined}
-use Rattle.partition_model.specs.Coarsening.{Coarsens, PairBefore, IsPair, IsBlock, AscendFrom, AreBlocks}
+use Rattle.partition_model.specs.Coarsening.{Coarsens, PairBefore, IsBlock, AscendFrom, AreBlocks}
 use Rattle.partition_model.specs.Laws.{PairsAscend}
 use Rattle.partition_model.proofs.Lists.{In, In-append, all_in}
 use Rattle.partition_model.proofs.Least.{one_least}
 use Rattle.partition_model.proofs.Runs.{broken}
 use Rattle.partition_model.proofs.Unique.{one-broken, one_refinement, one_coarsening}
-use Rattle.partition_bounds.specs.Pairs.{pair_of, pairs_of, pairs_below}
+use Rattle.partition_bounds.specs.Pairs.{pair_of, pairs_of}
 use Rattle.partition_bounds.proofs.Ordered.{pair-asym, pair-next, get-In}
 use Rattle.partition_bounds.proofs.FirstSplits.{steps_exclude}
 use Rattle.models.specs.Models.{TypedWords, mined_of}
@@ -26,7 +25,7 @@ use Rattle.models.specs.Histories.{first_new}
 use Rattle.partition_graph.specs.Parts.{Parts}
 use Rattle.coarsener.specs.Blocking.{EndsWithoutRoom}
 use Rattle.infer_core.specs.Laws.{EndsExclude, OneFinal}
-use Rattle.infer_core.specs.Runs.{AreFinal, PassesNumbers, PassesPartitions}
+use Rattle.infer_core.specs.Runs.{PassesNumbers, PassesPartitions}
 use Rattle.infer_core.proofs.Pairs.{pairs-ascend}
 
 -- two blocks of one pair

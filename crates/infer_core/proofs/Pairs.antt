@@ -1,5 +1,5 @@
 -- Coarsening makes no pairs of one type, and the list of the pairs ascends in each graph.
-use Rattle.std.proofs.Common.{◌≡◌, ℕ, suc, ◌+◌, ◌<◌, ◌≤◌, ◌==◌, ◌&&◌, nat_lt, Bool, true, false, cond, List, [], ◌∷◌, ◌++◌, map, filter, length, refl, ap, ap₂, subst, inl, inr, arith, lt-ltb, ltb-true, length-append}
+use Rattle.std.proofs.Common.{◌≡◌, ℕ, ◌+◌, ◌<◌, ◌≤◌, ◌==◌, ◌&&◌, nat_lt, Bool, true, false, cond, List, [], ◌∷◌, ◌++◌, map, filter, length, refl, ap, ap₂, subst, inl, inr, arith, lt-ltb, ltb-true, length-append}
 use Rattle.std.proofs.lemmas.Bool.{cases_Bool, cond-true, cond-false, and_parts}
 use Rattle.std.proofs.lemmas.List.{length-map}
 use Rattle.std.specs.List.{flat_map}
@@ -13,7 +13,6 @@ use Rattle.partition_model.specs.Laws.{MergeInTurn, PairsAscend}
 use Rattle.partition_model.proofs.Lists.{In}
 use Rattle.partition_model.proofs.Passes.{lost_through_merges}
 use Rattle.partition_bounds.specs.Pairs.{is_pair, pair_of, pairs_from, pairs_below}
-use Rattle.partition_bounds.specs.Laws.{IsBelow}
 use Rattle.partition_bounds.proofs.Merges.{In-range}
 use Rattle.partition_bounds.proofs.Pairing.{pair-passes, passed-pair, pairs_tell}
 

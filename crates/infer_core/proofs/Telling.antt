@@ -1,5 +1,5 @@
 -- The model of a run that has ended.
-use Rattle.std.proofs.Common.{◌≡◌, ◌↔◌, ℕ, zero, suc, ◌+◌, ◌<◌, ◌≤◌, true, List, [], ◌∷◌, ◌++◌, map, filter, take, get_or, length, slice_get, Some, sym, ◌∙◌, refl, ap, subst, subst₂, add-one, arith}
+use Rattle.std.proofs.Common.{◌≡◌, ◌↔◌, ℕ, zero, suc, ◌+◌, ◌<◌, ◌≤◌, true, List, [], ◌∷◌, ◌++◌, map, filter, take, get_or, length, slice_get, Some, sym, ◌∙◌, ap, subst, subst₂, add-one, arith}
 use Rattle.std.proofs.Math.Seq.{take-suc}
 use Rattle.std.proofs.lemmas.List.{length-map, map-append}
 use Rattle.std.specs.List.{AllByRecursion}
@@ -13,7 +13,7 @@ use Rattle.invariants.specs.declared.records.Block.{Block}
 use Rattle.invariants.specs.declared.records.Model.{Model}
 use Rattle.cell_pool.specs.Numbers.{Numbers}
 use Rattle.cell_pool.specs.RunLists.{RunLists}
-use Rattle.run_history.specs.Records.{splits_of, merges_of, blocks_of}
+use Rattle.run_history.specs.Records.{splits_of, merges_of}
 use Rattle.traces.specs.Words.{Log}
 use Rattle.model_shape.specs.Numbers.{split_numbers, block_numbers}
 use Rattle.model_shape.specs.Shapes.{IsLabel}

@@ -15,23 +15,25 @@ use labelling::Planes;
 use limits::MAX_PARTITIONS;
 use partition_graph::{PartGraph, View};
 use path_finder::Finder;
-use splitter::{PartitionLimit, Stitcher, refine};
+use splitter::{PartitionLimit, Stitcher, refine_skipping};
 use std::sync::ledger::Ledger;
 use steps::Steps;
 
-/// Refines the graph, as `refine` does. Labels tell at once for all invariants whether it breaks any; where it breaks
-/// none, no path is asked for.
+/// Refines the graph, as `refine` does. Labels tell at once, in the flags, which invariants it satisfies; no path is asked
+/// for these.
 fn refine_broken<L: Ledger>(
     graph: &mut PartGraph,
     finder: &mut Finder,
     stitcher: &mut Stitcher,
     planes: &mut Planes,
+    flags: &mut [bool],
     invs: &[Invariant],
     spans: &mut Spans,
     log: &mut RunLog,
     steps: &mut Steps<L>,
 ) -> Result<(), PartitionLimit>
-    requires { IsReady invs.now graph.old stitcher.old planes.old spans.old log.old }
+    requires ready { IsReady invs.now graph.old stitcher.old planes.old spans.old log.old }
+    requires flags { length flags.old ≡ length invs.now }
     ensures list { planes.new.invs ≡ planes.old.invs }
     ensures writes { WritesSplits log.old log.new spans.old spans.new }
 
@@ -46,11 +48,8 @@ fn refine_broken<L: Ledger>(
     ensures stands { OnErr result (IsStopped invs.now graph.old graph.new
         (splits_of log.new spans.new) (steps.new - steps.old)) }
 {
-    prove!(graph.ids_used() <= MAX_PARTITIONS);
-    if planes.satisfies_all(&View::Plain(graph)) {
-        return Ok(());
-    }
-    refine(graph, finder, stitcher, invs, spans, log, steps)
+    planes.tell_satisfied(&View::Plain(graph), flags);
+    refine_skipping(graph, finder, stitcher, invs, flags, spans, log, steps)
 }
 
 /// Runs inference on a graph that was opened of a log, by the invariants that are mined of it. It takes no memory.
@@ -62,18 +61,22 @@ pub fn run<L: Ledger>(
     finder: &mut Finder,
     stitcher: &mut Stitcher,
     planes: &mut Planes,
+    flags: &mut [bool],
     invs: &[Invariant],
     spans: &mut Spans,
     log: &mut RunLog,
     steps: &mut Steps<L>,
 ) -> Result<(), InferLimit>
-    requires { IsReady invs.now graph.old stitcher.old planes.old spans.old log.old }
+    requires ready { IsReady invs.now graph.old stitcher.old planes.old spans.old log.old }
+    requires flags { length flags.old ≡ length invs.now }
     ensures gives { (words : TypedWords) → BeginsWith words invs.now graph.old
         → RunGives result words graph.new planes.new spans.new log.new }
     ensures counted { OnOk result ((words : TypedWords) → BeginsWith words invs.now graph.old
         → CountsAtMost words steps.old steps.new) }
 {
-    let refined = refine_broken(graph, finder, stitcher, planes, invs, spans, log, steps);
+    let refined = refine_broken(
+        graph, finder, stitcher, planes, flags, invs, spans, log, steps,
+    );
     let Ok(()) = refined else {
         return Err(InferLimit::Partitions);
     };

@@ -51,19 +51,23 @@ pub struct Workbench {
     finder: Finder,
     stitcher: Stitcher,
     planes: Planes,
+    /// For each invariant whether the first graph satisfies it, as refinement asks.
+    flags: Vec<bool>,
     spans: Spans,
     log: RunLog,
     stage: Stage,
 }
 
 impl std::marker::Model for Workbench {
+    ghost use Rattle.std.specs.Prelude.{◌≡◌, length};
     ghost use Rattle.infer_core.specs.Benches.{Bench, Stands};
 
     ghost Value = { Bench };
 
     ghost view = { λ b. record { log = b.traces; stage = b.stage } };
 
-    ghost invariant = { λ b. Stands b.stage b.traces b.invs b.graph b.stitcher b.planes b.spans b.log };
+    ghost invariant = { λ b. Stands b.stage b.traces b.invs b.graph b.stitcher b.planes b.spans b.log
+        × (length b.flags.items ≡ length b.invs) };
 }
 
 /// What inference needs beside the invariants and the graph.
@@ -72,6 +76,7 @@ struct Tools {
     finder: Finder,
     stitcher: Stitcher,
     planes: Planes,
+    flags: Vec<bool>,
     spans: Spans,
     log: RunLog,
 }
@@ -83,6 +88,7 @@ fn tools_for(alloc: Global, graph: &PartGraph, invs: &[Invariant]) -> Result<Too
         → (inv.a ≤ LAST_TYPE) × (inv.b ≤ LAST_TYPE) }
     ensures stitcher { IfOk result (λ tools. tools.stitcher ≡ length (events (graph.now).traces)) }
     ensures planes { IfOk result (λ tools. tools.planes.invs ≡ invs.now) }
+    ensures flags { IfOk result (λ tools. length tools.flags.items ≡ length invs.now) }
     ensures spans { IfOk result (λ tools. tools.spans ≡ record { numbers = []; room = MAX_PATH_NUMBERS }) }
     ensures log { IfOk result (λ tools. tools.log ≡ record {
       splits = [];
@@ -97,6 +103,7 @@ fn tools_for(alloc: Global, graph: &PartGraph, invs: &[Invariant]) -> Result<Too
         finder: Finder::make(alloc)?,
         stitcher: Stitcher::make(alloc, graph)?,
         planes: Planes::make(alloc, invs)?,
+        flags: Vec::from_elem(alloc, false, invs.len())?,
         spans: Spans::make(alloc, MAX_PATH_NUMBERS)?,
         log: RunLog::make(alloc, MAX_STEPS, MAX_STEPS, MAX_PAIRS)?,
     })
@@ -121,6 +128,7 @@ impl Workbench {
             finder: tools.finder,
             stitcher: tools.stitcher,
             planes: tools.planes,
+            flags: tools.flags,
             spans: tools.spans,
             log: tools.log,
             stage: Stage::Opened,
@@ -152,6 +160,7 @@ impl Workbench {
             &mut self.finder,
             &mut self.stitcher,
             &mut self.planes,
+            self.flags.as_mut_slice(),
             self.invs.as_slice(),
             &mut self.spans,
             &mut self.log,

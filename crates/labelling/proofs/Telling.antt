@@ -1,7 +1,7 @@
 -- What labels tell of a graph.
-use Rattle.std.proofs.Common.{◌≡◌, ◌↔◌, ℕ, zero, suc, ◌<◌, ◌≤◌, Bool, true, false, List, [], ◌∷◌, length, get_or, slice_get, Some, refl, sym, ap, ap₂, ◌∙◌, subst, arith, inl, inr}
+use Rattle.std.proofs.Common.{◌≡◌, ◌↔◌, ℕ, zero, suc, ◌<◌, ◌≤◌, Bool, true, false, not, List, [], ◌∷◌, length, get_or, slice_get, Some, refl, sym, ap, ap₂, ◌∙◌, subst, arith, inl, inr}
 use Rattle.std.proofs.lemmas.Bool.{false≢true, true≢false, cases_Bool, eqb-true, eq-eqb}
-use Rattle.std.proofs.lemmas.Option.{slice_get-get_or}
+use Rattle.std.proofs.lemmas.Option.{slice_get-get_or, slice_get_within}
 use Rattle.std.proofs.lemmas.List.{get_or-take}
 use Rattle.std.specs.List.{AllByRecursion}
 use Rattle.limits.specs.declared.TheConstants.{MAX_PARTITIONS, TERMINAL}
@@ -19,7 +19,7 @@ use Rattle.bit_rows.specs.Tables.{is_set}
 use Rattle.labelling.specs.declared.layout.TheConstants.{STATES, LABEL_ROWS, BROKEN_ROW}
 use Rattle.labelling.specs.Boards.{found_in}
 use Rattle.labelling.specs.Found.{IsExact, AreNoted}
-use Rattle.labelling.specs.Labelled.{Labelling, AreLabelsOf, digit, is_found, number_of, labelling_in}
+use Rattle.labelling.specs.Labelled.{Labelling, AreLabelsOf, digit, is_found, number_of, labelling_in, SaysSatisfied}
 use Rattle.labelling.specs.Layout.{is_on, label_row}
 use Rattle.labelling.proofs.Finding.{reached_more, bad_low}
 
@@ -136,6 +136,13 @@ module _ (g : Graph) (invs : List Invariant) (table : List (List Bool)) (marks :
       let inv : Invariant = get_or invs k (record { kind = AF; a = 0; b = 0 }) in
       let at : slice_get invs k ≡ Some inv = slice_get-get_or invs k (record { kind = AF; a = 0; b = 0 }) inside in
       broken-first g invs k inv at (λ j other below here. satisfied j other here (before j below)) (unsatisfied k inv at on)
+
+  -- flags that are true where nothing is noted say what is satisfied
+  pub told_satisfied : (flags : List Bool) → ((k : ℕ) → k < length invs → get_or flags k false ≡ not (is_on table BROKEN_ROW k)) → SaysSatisfied g invs flags
+  told_satisfied flags told k inv at = elim (cases_Bool (is_on table BROKEN_ROW k)) [
+    | inl on ↦ (λ yes. absurd (false≢true (sym (told k (slice_get_within invs k inv at) ∙ ap not on) ∙ yes)), λ sat. absurd (unsatisfied k inv at on sat))
+    | inr off ↦ (λ yes. satisfied k inv at off, λ sat. told k (slice_get_within invs k inv at) ∙ ap not off)
+  ]
 
 abbrev digit_in : List (List Bool) → ℕ → ℕ → ℕ
 digit_in rows k p = number_of (is_on rows (label_row p 0) k) (is_on rows (label_row p 1) k) (is_on rows (label_row p 2) k)

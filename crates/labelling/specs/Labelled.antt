@@ -1,8 +1,8 @@
 -- The labels of invariants: at each id the states that a monitor reaches there, as a number.
-use Rattle.std.specs.Prelude.{◌≡◌, ◌↔◌, ℕ, ◌+◌, ◌<◌, ◌≤◌, Bool, true, if◌then◌else◌, List, take, slice_get, Some}
+use Rattle.std.specs.Prelude.{◌≡◌, ◌↔◌, ℕ, ◌+◌, ◌<◌, ◌≤◌, Bool, true, false, if◌then◌else◌, List, take, slice_get, slice_index_or, Some}
 use Rattle.limits.specs.declared.TheConstants.{MAX_PARTITIONS}
 use Rattle.invariants.specs.declared.Invariant.{Invariant}
-use Rattle.partition_model.specs.Graphs.{Graph}
+use Rattle.partition_model.specs.Graphs.{Graph, Satisfies}
 use Rattle.partition_model.specs.Labels.{Reached}
 use Rattle.clashes.specs.Marks.{Marks}
 use Rattle.models.specs.Models.{has_state}
@@ -43,3 +43,9 @@ pub record KeepsLabels (old new : Labelling) : Type 0 where
   pub invs : new.invs ≡ old.invs
   pub rows : new.rows ≡ old.rows
   pub listed : new.clashes.invs ≡ new.invs
+
+-- the flags say of each invariant, in their order, whether the graph satisfies it
+abbrev pub SaysSatisfied : Graph → List Invariant → List Bool → Type 0
+SaysSatisfied g invs flags =
+    (k : ℕ) (inv : Invariant) → slice_get invs k ≡ Some inv
+    → (slice_index_or flags k false ≡ true) ↔ Satisfies g inv

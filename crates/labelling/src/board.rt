@@ -1,5 +1,5 @@
 //! The rows of all invariants.
-ghost use Rattle.std.specs.Prelude.{◌≡◌, ◌≤◌, ◌<◌, ℕ, true, false, length, IfOk, MatchOption, slice_get, Some};
+ghost use Rattle.std.specs.Prelude.{◌≡◌, ◌≤◌, ◌<◌, ℕ, true, false, length, not, IfOk, MatchOption, slice_get, slice_index_or, Some};
 ghost use Rattle.limits.specs.declared.TheConstants.{INITIAL, LAST_TYPE, MAX_INVARIANTS, MAX_PARTITIONS};
 ghost use Rattle.invariants.specs.declared.Invariant.{Invariant};
 ghost use Rattle.labelling.specs.declared.layout.TheConstants.{STATES};
@@ -136,5 +136,16 @@ impl Board {
             × ((j : ℕ) → j < k → (found self.now).broken j ≡ false)) }
     {
         self.rows.first_set(BROKEN_ROW)
+    }
+
+    /// Says of each invariant, in their order, whether it was not noted.
+    pub fn tell_unnoted(&self, flags: &mut [bool])
+        requires { length flags.old ≡ length (found self.now).invs }
+        ensures { (k : ℕ) → k < length (found self.now).invs
+            → slice_index_or flags.new k false ≡ not ((found self.now).broken k) }
+    {
+        for k in 0..flags.len() {
+            flags[k] = !self.rows.get(BROKEN_ROW, k);
+        }
     }
 }

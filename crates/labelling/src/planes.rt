@@ -1,11 +1,11 @@
 //! The labels.
-ghost use Rattle.std.specs.Prelude.{true, false, ◌≡◌, ◌≢◌, ◌≤◌, ◌<◌, ◌+◌, ℕ, IfOk, MatchOption, length, slice_get, Some};
+ghost use Rattle.std.specs.Prelude.{◌≡◌, ◌≢◌, ◌≤◌, ◌<◌, ◌+◌, ℕ, IfOk, MatchOption, length, slice_get, Some};
 ghost use Rattle.limits.specs.declared.TheConstants.{LAST_TYPE, MAX_INVARIANTS, MAX_PARTITIONS};
 ghost use Rattle.invariants.specs.declared.Invariant.{Invariant};
 ghost use Rattle.partition_model.specs.Graphs.{Graph};
 ghost use Rattle.partition_model.specs.Refinement.{IsFirstBroken, SatisfiesAll};
 ghost use Rattle.partition_graph.specs.Seen.{seen, IsSound};
-ghost use Rattle.labelling.specs.Labelled.{AreLabelsOf, digit, number_of, KeepsLabels};
+ghost use Rattle.labelling.specs.Labelled.{AreLabelsOf, digit, number_of, KeepsLabels, SaysSatisfied};
 ghost use Rattle.clashes.specs.Marks.{AreMarksOf, NoClash, IsFirstClash};
 ghost use Rattle.partition_model.specs.Assignments.{Assignment, G, IsTyped};
 ghost use Rattle.partition_model.specs.Coarsening.{merge, IsPair};
@@ -79,17 +79,18 @@ impl Planes {
         label(&mut self.board, view, self.links.as_slice());
     }
 
-    /// Whether the graph satisfies each invariant of the list, by labelling it for all of them at once. It counts no step.
-    pub fn satisfies_all(&mut self, view: &View<'_>) -> bool
-        requires { IsSound view.now }
-        ensures yes { result ≡ true → SatisfiesAll (seen view.now) (self.new).invs }
-        ensures not { result ≡ false → SatisfiesAll (seen view.now) (self.new).invs → ⊥ }
+    /// Says of each invariant of the list, in their order, whether the graph that is viewed satisfies it, by labelling it for
+    /// all of them at once. There is a flag for each. It counts no step, and takes no memory.
+    pub fn tell_satisfied(&mut self, view: &View<'_>, flags: &mut [bool])
+        requires sound { IsSound view.now }
+        requires room { length flags.old ≡ length (self.old).invs }
+        ensures told { SaysSatisfied (seen view.now) (self.new).invs flags.new }
         ensures same { (self.new).invs ≡ (self.old).invs }
         ensures clashes { (self.new).clashes ≡ (self.old).clashes }
     {
         self.links.gather(view);
         label(&mut self.board, view, self.links.as_slice());
-        self.board.first_noted().is_none()
+        self.board.tell_unnoted(flags);
     }
 
     /// The label of the invariant with this number at p: 1 for the state 0, plus 2 for the state 1, plus 4 for the

@@ -113,6 +113,9 @@ fn labels_go_round(rt: HostRuntime) -> Result<(), Fail> {
     assert_labels(&rt, &planes, 0, &[2, 1, 1, 1, 1]);
     assert_labels(&rt, &planes, 1, &[1, 5, 1, 5, 6]);
     assert_eq!(rt; planes.first_bad(), Some(1));
+    let mut flags = [false; 2];
+    planes.tell_satisfied(&View::Plain(&graph), &mut flags);
+    assert!(rt; flags[0] && !flags[1]);
     Ok(())
 }
 

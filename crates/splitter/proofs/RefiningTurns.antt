@@ -1,5 +1,5 @@
 -- What each turn of refinement keeps, and what stands where it ends.
-use Rattle.std.proofs.Common.{◌≡◌, ◌⊎◌, ℕ, zero, suc, ◌+◌, ◌*◌, ◌<◌, ◌≤◌, List, [], ◌∷◌, ◌++◌, length, slice_get, Some, get_or, sym, refl, ap, ap₂, ◌∙◌, subst, inl, inr, arith, add-zero, length-append}
+use Rattle.std.proofs.Common.{◌≡◌, ◌⊎◌, ℕ, zero, suc, ◌+◌, ◌*◌, ◌<◌, ◌≤◌, Bool, true, List, [], ◌∷◌, ◌++◌, length, slice_get, slice_index, Some, get_or, sym, refl, ap, ap₂, ◌∙◌, subst, inl, inr, arith, add-zero, length-append}
 use Rattle.std.proofs.lemmas.Bool.{cases_lt}
 use Rattle.std.specs.List.{AllByRecursion, flat_map}
 use Rattle.limits.specs.declared.TheConstants.{INITIAL, FIRST_TYPE, MAX_PARTITIONS}
@@ -9,16 +9,17 @@ use Rattle.invariants.specs.Holds.{Holds}
 use Rattle.traces.specs.Words.{Log}
 use Rattle.partition_model.specs.Graphs.{Graph, Satisfies, IsLeastViolation}
 use Rattle.partition_model.specs.Assignments.{Event, Assignment, G, IsTyped, word_of, by_type, inner_words, types_of, events, members}
-use Rattle.partition_model.specs.Refinement.{Splits, Refines, SatisfiesAll, IsNextSplit, after_split}
+use Rattle.partition_model.specs.Refinement.{Splits, Refines, SatisfiesAll, IsNextSplit, after_split, stitch}
 use Rattle.partition_model.specs.Laws.{SatisfiesBefore, IsFresh, IsRun, AreTyped, HoldAll, Divides, EndsIn, NamesRests, IsOneOf}
 use Rattle.partition_model.proofs.Lists.{In, all_in, member-of}
+use Rattle.partition_model.proofs.Splitting.{split_keeps}
 use Rattle.partition_model.proofs.Stitching.{stitch_divides}
 use Rattle.partition_model.proofs.Runs.{start-run, one_pass_splits, words-typed, fresh-run, traces-hold, ids_within_rests, fewer_splits}
 use Rattle.model_shape.specs.Numbers.{split_numbers}
 use Rattle.partition_bounds.proofs.SplitPaths.{split_paths_within_limit}
 use Rattle.partition_bounds.proofs.FirstSplits.{steps_exclude}
 use Rattle.partition_graph.specs.Parts.{Parts, inner_words_of, start_of}
-use Rattle.splitter.specs.Refining.{IsOpened, event_count, after, split_by, EndsRefined, IsStopped, IsFull, WantsMoreIds, AreFewer}
+use Rattle.splitter.specs.Refining.{IsOpened, event_count, after, split_by, is_known, AreKnown, EndsRefined, IsStopped, IsFull, WantsMoreIds, AreFewer}
 
 -- a violation divides at the place of its stitch
 pub violation-divides : (h : Assignment) (inv : Invariant) (path : List ℕ) (n : ℕ) → IsTyped h → IsFresh n h → AllByRecursion (λ trace. Holds inv (word_of trace)) h
@@ -193,6 +194,19 @@ refining-some invs old now new k ss d path o a r l few v e =
       before = n.2;
       so_far = more-splits invs old now k ss s r n.0;
     })
+
+-- a turn for an invariant that is known to be satisfied
+pub refining-known : (invs : List Invariant) (old now : Parts) (k : ℕ) (ss : List Split) (d : Invariant) (known : List Bool) → IsRefining invs old now k ss → k < length invs
+    → AreKnown known invs (G now.traces) → is_known known k ≡ true → IsRefining invs old now (k + 1) ss
+refining-known invs old now k ss d known r l a e = refining-none invs old now k ss d r l (a k (get_or invs k d) (get_of invs k d l) e)
+
+-- what is known stays known after a split
+pub known-some : (invs : List Invariant) (old now new : Parts) (k : ℕ) (ss : List Split) (path : List ℕ) (known : List Bool) → IsOpened old → IsRefining invs old now k ss
+    → new ≡ after (split_by now path k) now → AreKnown known invs (G now.traces) → AreKnown known invs (G new.traces)
+known-some invs old now new k ss path known o r e a j inv at on =
+    let place : ℕ = stitch now.traces path in
+    subst (λ (p : Parts). Satisfies (G p.traces) inv) (sym e)
+    (split_keeps now.traces (slice_index path place) (slice_index path (place + 1)) now.used r.run.typed (refining-fresh invs old now k ss o r) inv (a j inv at on))
 
 -- where it stops
 pub refining-stopped : (invs : List Invariant) (old now : Parts) (k counted : ℕ) (ss : List Split) → IsRefining invs old now k ss → counted ≤ length invs + length ss → IsStopped invs old now ss counted

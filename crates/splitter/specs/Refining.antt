@@ -1,10 +1,12 @@
 -- What refinement needs, and what it leaves.
-use Rattle.std.specs.Prelude.{◌≡◌, ℕ, ◌+◌, ◌<◌, ◌≤◌, List, [], length, slice_index}
+use Rattle.std.specs.Prelude.{◌≡◌, ℕ, ◌+◌, ◌<◌, ◌≤◌, Bool, true, false, not, List, [], count_by, length, map, slice_get, slice_index, slice_index_or, Some}
+use Rattle.std.specs.List.{range_with_len}
 use Rattle.limits.specs.declared.TheConstants.{FIRST_TYPE, MAX_PARTITIONS}
 use Rattle.invariants.specs.declared.Invariant.{Invariant}
 use Rattle.invariants.specs.declared.records.Split.{Split}
 use Rattle.invariants.specs.Mined.{mined}
 use Rattle.traces.specs.Words.{Log, words_of}
+use Rattle.partition_model.specs.Graphs.{Graph, Satisfies}
 use Rattle.partition_model.specs.Assignments.{Assignment, G, by_type, events, inner_words}
 use Rattle.partition_model.specs.Laws.{HoldAll, NamesRests}
 use Rattle.partition_model.specs.Refinement.{Splits, Refines, SatisfiesAll, IsNextSplit, stitch}
@@ -27,6 +29,19 @@ after s parts = divided (slice_index s.path s.place) (slice_index s.path (s.plac
 -- the split for the invariant with this number, by this path, at the place of the path's stitch
 abbrev pub split_by : Parts → List ℕ → ℕ → Split
 split_by parts path number = record { inv = number; place = stitch parts.traces path; path = path }
+
+-- whether a flag says that the graph satisfies the invariant with this number
+abbrev pub is_known : List Bool → ℕ → Bool
+is_known known k = slice_index_or known k false
+
+-- the graph satisfies each invariant of which a flag says so
+abbrev pub AreKnown : List Bool → List Invariant → Graph → Type 0
+AreKnown known invs g =
+    (k : ℕ) (inv : Invariant) → slice_get invs k ≡ Some inv → is_known known k ≡ true → Satisfies g inv
+
+-- of how many of the first n invariants no flag says that they are satisfied
+abbrev pub asked_count : List Bool → ℕ → ℕ
+asked_count known n = count_by (λ b. not b) (map (λ k. is_known known k) (range_with_len 0 n))
 
 -- the splits are the whole run of refinement, each with one new id, and the ids suffice
 pub record EndsRefined (invs : List Invariant) (old : Parts) (splits : List Split) (new : Parts) : Type 0 where

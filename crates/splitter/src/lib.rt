@@ -12,5 +12,5 @@ mod stitcher;
 mod tests;
 
 pub use law::{mined_hold, start_is_opened};
-pub use refining::{PartitionLimit, refine};
+pub use refining::{PartitionLimit, refine, refine_skipping};
 pub use stitcher::Stitcher;

@@ -2,11 +2,11 @@
 ghost use Rattle.std.specs.Prelude.{◌≡◌, ◌<◌, ◌≤◌, ◌+◌, ◌-◌, ◌^◌, IsOk, OnErr, OnOk, Some, length, slice_get};
 ghost use Rattle.cell_pool.specs.Numbers.{Numbers};
 ghost use Rattle.cell_pool.specs.RunLists.{RunLists};
-ghost use Rattle.partition_model.specs.Assignments.{events, inner_words};
+ghost use Rattle.partition_model.specs.Assignments.{G, events, inner_words};
 ghost use Rattle.partition_model.specs.Laws.{Divides, HoldAll};
 ghost use Rattle.partition_model.specs.Refinement.{stitch};
 ghost use Rattle.run_history.specs.Records.{splits_of};
-ghost use Rattle.splitter.specs.Refining.{after, event_count, split_by, AreFewer, EndsRefined, HaveFewRests, IsFull, IsOpened, IsStopped, WantsMoreIds};
+ghost use Rattle.splitter.specs.Refining.{after, asked_count, event_count, is_known, split_by, AreFewer, AreKnown, EndsRefined, HaveFewRests, IsFull, IsOpened, IsStopped, WantsMoreIds};
 ghost use Rattle.splitter.specs.Writing.{AddsSplit, AreEmpty, HaveRoom, WritesSplits};
 
 use crate::stitcher::Stitcher;
@@ -74,6 +74,13 @@ fn divide(
     Ok(())
 }
 
+/// Whether the flag with this number says true. One that is not there does not.
+fn is_known(known: &[bool], k: usize) -> bool
+    ensures { result ≡ is_known known.now k }
+{
+    k < known.len() && known[k]
+}
+
 /// Divides partitions until the graph satisfies each invariant of the list, and writes the splits to the log, in their
 /// order, and their paths to the spans, one behind the other. Each split is for the first invariant that is not
 /// satisfied, by its least violation, at the place of that path's stitch.
@@ -117,9 +124,57 @@ pub fn refine<L: Ledger>(
     ensures stands { OnErr result (IsStopped invs.now graph.old graph.new
         (splits_of log.new spans.new) (steps.new - steps.old)) }
 {
+    refine_skipping(graph, finder, stitcher, invs, &[], spans, log, steps)
+}
+
+/// Refines as `refine` does, where flags tell which invariants the graph satisfies at the beginning. Where `known` has
+/// true, the graph satisfies the invariant with that number; it may be shorter than the list. Splits keep what is
+/// satisfied, so no path is asked for these.
+///
+/// It counts a step for each invariant that is not known, and one for each split. All else is as `refine` has it.
+pub fn refine_skipping<L: Ledger>(
+    graph: &mut PartGraph,
+    finder: &mut Finder,
+    stitcher: &mut Stitcher,
+    invs: &[Invariant],
+    known: &[bool],
+    spans: &mut Spans,
+    log: &mut RunLog,
+    steps: &mut Steps<L>,
+) -> Result<(), PartitionLimit>
+    requires few { length invs.now < 2 ^ 32 }
+    requires opened { IsOpened graph.old }
+    requires hold { HoldAll (inner_words (graph.old).traces) invs.now }
+    requires known { AreKnown known.now invs.now (G (graph.old).traces) }
+    requires made { stitcher.old ≡ length (events (graph.old).traces) }
+    requires empty { AreEmpty log.old spans.old }
+    requires room { HaveRoom log.old spans.old }
+
+    // What is written, whether or not the run ends.
+    ensures writes { WritesSplits log.old log.new spans.old spans.new }
+    ensures same { stitcher.new ≡ stitcher.old }
+
+    // The whole run.
+    ensures ok { OnOk result
+        (EndsRefined invs.now graph.old (splits_of log.new spans.new) graph.new) }
+    ensures counted { OnOk result (steps.new ≡ steps.old + asked_count known.now (length invs.now)
+        + length (splits_of log.new spans.new)) }
+    ensures fewer { OnOk result (AreFewer (splits_of log.new spans.new) (event_count graph.old)) }
+
+    // When the limit comes, and what it leaves.
+    ensures full { OnErr result (IsFull invs.now graph.new) }
+    ensures excludes { OnErr result (WantsMoreIds invs.now graph.old) }
+    ensures rests { HaveFewRests graph.old → IsOk result }
+    ensures stands { OnErr result (IsStopped invs.now graph.old graph.new
+        (splits_of log.new spans.new) (steps.new - steps.old)) }
+{
     prove!(graph.ids_used() <= MAX_PARTITIONS);
     let mut k = 0;
     while k < invs.len() {
+        if is_known(known, k) {
+            k += 1;
+            continue;
+        }
         match finder.least_violation(&View::Plain(graph), invs[k], steps) {
             None => k += 1,
             Some(path) => divide(graph, stitcher, path, k as u32, spans, log)?,

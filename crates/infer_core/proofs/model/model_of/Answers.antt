@@ -5,7 +5,7 @@ use Rattle.invariants.specs.declared.records.Partition.{Partition}
 use Rattle.invariants.specs.declared.records.Edge.{Edge}
 use Rattle.invariants.specs.declared.records.Listed.{Listed}
 use Rattle.partition_model.specs.Assignments.{Assignment}
-use Rattle.partition_model.specs.Listings.{AreBelow, ArePartitions, AreEdges, partitions_below, edges_below}
+use Rattle.partition_model.specs.Listings.{AreBelow, ArePartitions, AreEdges, partitions_below}
 use Rattle.partition_model.proofs.Listing.{are_partitions, are_edges}
 use Rattle.models.specs.Models.{AreReached}
 use Rattle.infer_core.proofs.Telling.{listed-below}

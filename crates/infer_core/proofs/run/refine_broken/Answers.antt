@@ -1,14 +1,15 @@
-use Rattle.std.proofs.Common.{List, arith, subst, ◌∙◌}
+use Rattle.std.proofs.Common.{◌≡◌, List, length, slice_get, Some, subst, sym, ◌∙◌, arith}
+use Rattle.std.proofs.lemmas.Result.{on_ok_weaker}
 use Rattle.invariants.specs.declared.Invariant.{Invariant}
-use Rattle.partition_model.specs.Assignments.{G}
-use Rattle.partition_model.specs.Refinement.{SatisfiesAll}
-use Rattle.infer_core.proofs.Ending.{none-refined, none-written}
+use Rattle.splitter.proofs.Asking.{asked-few}
 use Rattle.infer_core.proofs.run.refine_broken.Goals as goal
 
-pub returns-then-satisfies_all-clause-writes : goal.returns-then-satisfies_all-clause-writes
-returns-then-satisfies_all-clause-writes g c = none-written c.args.log.now c.args.spans.now c.requires.empty
+pub refine_skipping-requires-clause-known : goal.refine_skipping-requires-clause-known
+refine_skipping-requires-clause-known g c = λ k inv at yes.
+    (c.tell_satisfied.ensures.told k inv (subst (λ (invs : List Invariant). slice_get invs k ≡ Some inv) (sym (c.tell_satisfied.ensures.same ∙ c.requires.ready.listed)) at)).0 yes
 
-pub returns-then-satisfies_all-clause-ok : goal.returns-then-satisfies_all-clause-ok
-returns-then-satisfies_all-clause-ok g c =
-    none-refined c.args.invs.now c.args.graph.now c.args.log.now c.args.spans.now c.requires.empty (omega (arith, c.ids_used.ensures.value, c.ids_used.ensures.limit))
-    (subst (λ (invs : List Invariant). SatisfiesAll (G c.args.graph.now.traces) invs) (c.satisfies_all.ensures.same ∙ c.requires.listed) (c.satisfies_all.ensures.yes c.if-satisfies_all.true))
+pub returns-clause-more : goal.returns-clause-more
+returns-clause-more g c = on_ok_weaker c.refine_skipping.result (λ e. omega (arith, e)) c.refine_skipping.ensures.counted
+
+pub returns-clause-few : goal.returns-clause-few
+returns-clause-few g c = on_ok_weaker c.refine_skipping.result (λ e. omega (arith, e, asked-few c.tell_satisfied.new.flags (length c.args.invs.now))) c.refine_skipping.ensures.counted

@@ -1,7 +1,5 @@
-use Rattle.std.proofs.Common.{◌≡◌, ◌≤◌, ◌+◌, ℕ, List, [], length, sym, ◌∙◌, ap, subst, arith}
-use Rattle.limits.specs.declared.TheConstants.{MAX_PARTITIONS}
+use Rattle.std.proofs.Common.{List, ◌∙◌, ap, subst, arith}
 use Rattle.invariants.specs.declared.Invariant.{Invariant}
-use Rattle.partition_model.specs.Assignments.{G}
 use Rattle.partition_model.specs.Coarsening.{Coarsens}
 use Rattle.cell_pool.specs.RunLists.{RunLists}
 use Rattle.run_history.specs.Records.{splits_of, merges_of, HoldsPaths}
@@ -15,41 +13,41 @@ returns-in_default-clause-gives g c words b =
 
 pub coarsen-requires-clause-satisfied : goal.coarsen-requires-clause-satisfied
 coarsen-requires-clause-satisfied g c =
-    refined-keeps c.args.invs.now c.refine_broken-refined.new.planes.invs c.args.graph.now c.refine_broken-refined.new.graph (splits_of c.refine_broken-refined.new.log c.refine_broken-refined.new.spans) (c.refine_broken-refined.ensures.list ∙ c.requires.listed) c.in-Ok.ensures.ok
+    refined-keeps c.args.invs.now c.refine_broken-refined.new.planes.invs c.args.graph.now c.refine_broken-refined.new.graph (splits_of c.refine_broken-refined.new.log c.refine_broken-refined.new.spans) (c.refine_broken-refined.ensures.list ∙ c.requires.ready.listed) c.in-Ok.ensures.ok
 
 pub coarsen-requires-clause-begun : goal.coarsen-requires-clause-begun
-coarsen-requires-clause-begun g c = merges-none c.args.log.now c.refine_broken-refined.new.log c.args.spans.now c.refine_broken-refined.new.spans c.requires.empty c.in-Ok.ensures.writes
+coarsen-requires-clause-begun g c = merges-none c.args.log.now c.refine_broken-refined.new.log c.args.spans.now c.refine_broken-refined.new.spans c.requires.ready.empty c.in-Ok.ensures.writes
 
 pub coarsen-requires-clause-room : goal.coarsen-requires-clause-room
-coarsen-requires-clause-room g c = omega (arith, merge-room c.args.log.now c.refine_broken-refined.new.log c.args.spans.now c.refine_broken-refined.new.spans c.in-Ok.ensures.writes, c.requires.merges)
+coarsen-requires-clause-room g c = omega (arith, merge-room c.args.log.now c.refine_broken-refined.new.log c.args.spans.now c.refine_broken-refined.new.spans c.in-Ok.ensures.writes, c.requires.ready.merges)
 
 pub blocks-requires-clause-ended : goal.blocks-requires-clause-ended
 blocks-requires-clause-ended g c =
     coarsened-none c.args.invs.now (merges_of c.coarsen.new.log) c.refine_broken-refined.new.graph.traces c.coarsen.new.graph.traces
-    (subst (λ (invs : List Invariant). Coarsens invs c.refine_broken-refined.new.graph.traces (merges_of c.coarsen.new.log) c.coarsen.new.graph.traces) (c.refine_broken-refined.ensures.list ∙ c.requires.listed) c.coarsen.ensures.run)
+    (subst (λ (invs : List Invariant). Coarsens invs c.refine_broken-refined.new.graph.traces (merges_of c.coarsen.new.log) c.coarsen.new.graph.traces) (c.refine_broken-refined.ensures.list ∙ c.requires.ready.listed) c.coarsen.ensures.run)
 
 pub blocks-requires-clause-listed : goal.blocks-requires-clause-listed
-blocks-requires-clause-listed g c = c.coarsen.ensures.list ∙ (c.refine_broken-refined.ensures.list ∙ c.requires.listed)
+blocks-requires-clause-listed g c = c.coarsen.ensures.list ∙ (c.refine_broken-refined.ensures.list ∙ c.requires.ready.listed)
 
 pub blocks-requires-clause-numbers : goal.blocks-requires-clause-numbers
-blocks-requires-clause-numbers g c = numbers-room c.args.log.now c.refine_broken-refined.new.log c.args.spans.now c.refine_broken-refined.new.spans c.in-Ok.ensures.writes ∙ c.requires.numbers
+blocks-requires-clause-numbers g c = numbers-room c.args.log.now c.refine_broken-refined.new.log c.args.spans.now c.refine_broken-refined.new.spans c.in-Ok.ensures.writes ∙ c.requires.ready.numbers
 
 pub blocks-requires-clause-begun : goal.blocks-requires-clause-begun
 blocks-requires-clause-begun g c =
-    ap (λ (x : RunLists). x.blocks) c.coarsen.ensures.others ∙ blocks-none c.args.log.now c.refine_broken-refined.new.log c.args.spans.now c.refine_broken-refined.new.spans c.requires.empty c.in-Ok.ensures.writes
+    ap (λ (x : RunLists). x.blocks) c.coarsen.ensures.others ∙ blocks-none c.args.log.now c.refine_broken-refined.new.log c.args.spans.now c.refine_broken-refined.new.spans c.requires.ready.empty c.in-Ok.ensures.writes
 
 pub blocks-requires-clause-room : goal.blocks-requires-clause-room
 blocks-requires-clause-room g c =
     pairs-room c.coarsen.new.graph c.coarsen.new.log.block_room (omega (arith, c.coarsen.ensures.used, c.in-Ok.ensures.ok.within))
-    (omega (arith, ap (λ (x : RunLists). x.block_room) c.coarsen.ensures.others, block-room c.args.log.now c.refine_broken-refined.new.log c.args.spans.now c.refine_broken-refined.new.spans c.in-Ok.ensures.writes, c.requires.blocks))
+    (omega (arith, ap (λ (x : RunLists). x.block_room) c.coarsen.ensures.others, block-room c.args.log.now c.refine_broken-refined.new.log c.args.spans.now c.refine_broken-refined.new.spans c.in-Ok.ensures.writes, c.requires.ready.blocks))
 
 pub returns-in_default-blocks-clause-gives : goal.returns-in_default-blocks-clause-gives
 returns-in_default-blocks-clause-gives g c words b =
     let r : IsRun c.args.invs.now c.args.graph.now c.refine_broken-refined.new.graph c.coarsen.new.graph c.args.log.now c.refine_broken-refined.new.log c.coarsen.new.log c.blocks-2.new.log c.args.spans.now c.refine_broken-refined.new.spans c.blocks-2.new.spans = record {
-      empty = c.requires.empty;
+      empty = c.requires.ready.empty;
       writes = c.in-Ok.ensures.writes;
       refines = c.in-Ok.ensures.ok;
-      coarsens = subst (λ (invs : List Invariant). Coarsens invs c.refine_broken-refined.new.graph.traces (merges_of c.coarsen.new.log) c.coarsen.new.graph.traces) (c.refine_broken-refined.ensures.list ∙ c.requires.listed) c.coarsen.ensures.run;
+      coarsens = subst (λ (invs : List Invariant). Coarsens invs c.refine_broken-refined.new.graph.traces (merges_of c.coarsen.new.log) c.coarsen.new.graph.traces) (c.refine_broken-refined.ensures.list ∙ c.requires.ready.listed) c.coarsen.ensures.run;
       used = c.coarsen.ensures.used;
       merged = c.coarsen.ensures.others;
       blocked = c.in_default-blocks.ensures.others;
@@ -61,10 +59,10 @@ returns-in_default-blocks-clause-gives g c words b =
 pub returns-clause-gives : goal.returns-clause-gives
 returns-clause-gives g c words b =
     let r : IsRun c.args.invs.now c.args.graph.now c.refine_broken-refined.new.graph c.coarsen.new.graph c.args.log.now c.refine_broken-refined.new.log c.coarsen.new.log c.blocks-2.new.log c.args.spans.now c.refine_broken-refined.new.spans c.blocks-2.new.spans = record {
-      empty = c.requires.empty;
+      empty = c.requires.ready.empty;
       writes = c.in-Ok.ensures.writes;
       refines = c.in-Ok.ensures.ok;
-      coarsens = subst (λ (invs : List Invariant). Coarsens invs c.refine_broken-refined.new.graph.traces (merges_of c.coarsen.new.log) c.coarsen.new.graph.traces) (c.refine_broken-refined.ensures.list ∙ c.requires.listed) c.coarsen.ensures.run;
+      coarsens = subst (λ (invs : List Invariant). Coarsens invs c.refine_broken-refined.new.graph.traces (merges_of c.coarsen.new.log) c.coarsen.new.graph.traces) (c.refine_broken-refined.ensures.list ∙ c.requires.ready.listed) c.coarsen.ensures.run;
       used = c.coarsen.ensures.used;
       merged = c.coarsen.ensures.others;
       blocked = c.in-Ok-blocks.ensures.others;
@@ -73,15 +71,15 @@ returns-clause-gives g c words b =
     } in
     let held : HoldsPaths c.blocks-2.new.log c.blocks-2.new.spans = c.in-Ok-blocks.ensures.holds (holds-merged c.refine_broken-refined.new.log c.coarsen.new.log c.refine_broken-refined.new.spans c.coarsen.ensures.others c.in-Ok.ensures.writes.paths) in
     ended words c.args.invs.now c.args.graph.now c.refine_broken-refined.new.graph c.coarsen.new.graph c.args.log.now c.refine_broken-refined.new.log c.coarsen.new.log c.blocks-2.new.log c.args.spans.now c.refine_broken-refined.new.spans c.blocks-2.new.spans b r c.label_all.new.self c.in-Ok-blocks.ensures.ok c.in-Ok-blocks.ensures.within
-    (c.label_all.ensures.same ∙ c.in-Ok-blocks.ensures.list ∙ c.coarsen.ensures.list ∙ (c.refine_broken-refined.ensures.list ∙ c.requires.listed)) c.label_all.ensures.labels held
+    (c.label_all.ensures.same ∙ c.in-Ok-blocks.ensures.list ∙ c.coarsen.ensures.list ∙ (c.refine_broken-refined.ensures.list ∙ c.requires.ready.listed)) c.label_all.ensures.labels held
 
 pub returns-clause-counted : goal.returns-clause-counted
 returns-clause-counted g c words b =
     let r : IsRun c.args.invs.now c.args.graph.now c.refine_broken-refined.new.graph c.coarsen.new.graph c.args.log.now c.refine_broken-refined.new.log c.coarsen.new.log c.blocks-2.new.log c.args.spans.now c.refine_broken-refined.new.spans c.blocks-2.new.spans = record {
-      empty = c.requires.empty;
+      empty = c.requires.ready.empty;
       writes = c.in-Ok.ensures.writes;
       refines = c.in-Ok.ensures.ok;
-      coarsens = subst (λ (invs : List Invariant). Coarsens invs c.refine_broken-refined.new.graph.traces (merges_of c.coarsen.new.log) c.coarsen.new.graph.traces) (c.refine_broken-refined.ensures.list ∙ c.requires.listed) c.coarsen.ensures.run;
+      coarsens = subst (λ (invs : List Invariant). Coarsens invs c.refine_broken-refined.new.graph.traces (merges_of c.coarsen.new.log) c.coarsen.new.graph.traces) (c.refine_broken-refined.ensures.list ∙ c.requires.ready.listed) c.coarsen.ensures.run;
       used = c.coarsen.ensures.used;
       merged = c.coarsen.ensures.others;
       blocked = c.in-Ok-blocks.ensures.others;

@@ -1,40 +1,44 @@
-use Rattle.std.proofs.Common.{◌≡◌, ◌↔◌, List, ℕ, Result, Ok, Err, ◌∙◌, sym, ap, subst, subst₂}
+use Rattle.std.proofs.Common.{◌≡◌, ◌↔◌, Bool, List, Result, Err, length, ◌∙◌, sym, ap, subst, subst₂, arith}
+use Rattle.std.proofs.lemmas.List.{with_items_is}
 use Rattle.invariants.specs.declared.Invariant.{Invariant}
 use Rattle.traces.specs.Words.{Log}
 use Rattle.infer_core.specs.declared.workbench.InferLimit.{InferLimit}
 use Rattle.infer_core.specs.declared.workbench.InferLimit.TheVariants.{Partitions, Evidence}
-use Rattle.infer_core.specs.Benches.{Bench, IsAtStart}
-use Rattle.infer_core.specs.Ends.{BeginsWith, IsReady, HasEnded, RunGives}
+use Rattle.infer_core.specs.Benches.{Bench, IsAtEnd, IsAtStart}
+use Rattle.infer_core.specs.Ends.{BeginsWith, IsReady, RunGives}
 use Rattle.models.specs.Models.{typed_words}
 use Rattle.infer_core.specs.Runs.{CountsAtMost, PassesNumbers, PassesPartitions}
 use Rattle.infer_core.proofs.Stages.{stands-opened, partitions-told, evidence-told}
 use Rattle.infer_core.proofs.workbench.Workbench.infer.Goals as goal
 
-pub run-end-requires : goal.run-end-requires
-run-end-requires g c =
+pub run-end-requires-clause-ready : goal.run-end-requires-clause-ready
+run-end-requires-clause-ready g c =
     let b = c.self.inside in
     let s : IsAtStart b.traces b.invs b.graph b.stitcher b.planes b.spans b.log =
-    stands-opened c.args.self.now b.stage b.traces b.invs b.graph b.stitcher b.planes b.spans b.log c.self.view_is c.requires c.self.invariant in
+    stands-opened c.args.self.now b.stage b.traces b.invs b.graph b.stitcher b.planes b.spans b.log c.self.view_is c.requires c.self.invariant.0 in
     subst (λ (invs : List Invariant). IsReady invs b.graph b.stitcher b.planes b.spans b.log) (sym c.as_slice.ensures) s.ready
 
 pub invariant_of-self : goal.invariant_of-self
 invariant_of-self g c =
     let b = c.self.inside in
     let s : IsAtStart b.traces b.invs b.graph b.stitcher b.planes b.spans b.log =
-    stands-opened c.args.self.now b.stage b.traces b.invs b.graph b.stitcher b.planes b.spans b.log c.self.view_is c.requires c.self.invariant in
+    stands-opened c.args.self.now b.stage b.traces b.invs b.graph b.stitcher b.planes b.spans b.log c.self.view_is c.requires c.self.invariant.0 in
     let same : b.traces ≡ c.args.self.now.log = ap (λ (x : Bench). x.log) c.self.view_is in
     let begins : BeginsWith (typed_words b.traces) c.as_slice.result.now b.graph = record { mined = c.as_slice.ensures ∙ s.mined; first = s.first } in
     let gives : RunGives c.run-end.result (typed_words b.traces) c.run-end.new.graph c.run-end.new.planes c.run-end.new.spans c.run-end.new.log = c.run-end.ensures.gives (typed_words b.traces) begins in
-    record {
+    let stands : IsAtEnd b.traces b.invs c.run-end.new.graph c.run-end.new.planes c.run-end.new.spans c.run-end.new.log = record {
       mined = s.mined;
       ended = subst (λ (r : Result (Unit {0}) InferLimit). RunGives r (typed_words b.traces) c.run-end.new.graph c.run-end.new.planes c.run-end.new.spans c.run-end.new.log) c.in-Ok.is gives;
-    }
+    } in
+    let long : length c.run-end.new.flags ≡ b.flags.len =
+    omega (arith, c.run-end.auto.flags, ap (λ (flags : List Bool). length flags) c.as_mut_slice.ensures.value, b.flags.ok.0) in
+    (stands, ap (λ (flags : List Bool). length flags) (with_items_is b.flags c.run-end.new.flags long) ∙ (long ∙ (b.flags.ok.0 ∙ c.self.invariant.1)))
 
 pub returns-in-Ok-clause-partitions : goal.returns-in-Ok-clause-partitions
 returns-in-Ok-clause-partitions g c =
     let b = c.self.inside in
     let s : IsAtStart b.traces b.invs b.graph b.stitcher b.planes b.spans b.log =
-    stands-opened c.args.self.now b.stage b.traces b.invs b.graph b.stitcher b.planes b.spans b.log c.self.view_is c.requires c.self.invariant in
+    stands-opened c.args.self.now b.stage b.traces b.invs b.graph b.stitcher b.planes b.spans b.log c.self.view_is c.requires c.self.invariant.0 in
     let same : b.traces ≡ c.args.self.now.log = ap (λ (x : Bench). x.log) c.self.view_is in
     let begins : BeginsWith (typed_words b.traces) c.as_slice.result.now b.graph = record { mined = c.as_slice.ensures ∙ s.mined; first = s.first } in
     let gives : RunGives c.run-end.result (typed_words b.traces) c.run-end.new.graph c.run-end.new.planes c.run-end.new.spans c.run-end.new.log = c.run-end.ensures.gives (typed_words b.traces) begins in
@@ -45,7 +49,7 @@ pub returns-in-Ok-clause-evidence : goal.returns-in-Ok-clause-evidence
 returns-in-Ok-clause-evidence g c =
     let b = c.self.inside in
     let s : IsAtStart b.traces b.invs b.graph b.stitcher b.planes b.spans b.log =
-    stands-opened c.args.self.now b.stage b.traces b.invs b.graph b.stitcher b.planes b.spans b.log c.self.view_is c.requires c.self.invariant in
+    stands-opened c.args.self.now b.stage b.traces b.invs b.graph b.stitcher b.planes b.spans b.log c.self.view_is c.requires c.self.invariant.0 in
     let same : b.traces ≡ c.args.self.now.log = ap (λ (x : Bench). x.log) c.self.view_is in
     let begins : BeginsWith (typed_words b.traces) c.as_slice.result.now b.graph = record { mined = c.as_slice.ensures ∙ s.mined; first = s.first } in
     let gives : RunGives c.run-end.result (typed_words b.traces) c.run-end.new.graph c.run-end.new.planes c.run-end.new.spans c.run-end.new.log = c.run-end.ensures.gives (typed_words b.traces) begins in
@@ -56,7 +60,7 @@ pub returns-in-Err-clause-partitions : goal.returns-in-Err-clause-partitions
 returns-in-Err-clause-partitions g c =
     let b = c.self.inside in
     let s : IsAtStart b.traces b.invs b.graph b.stitcher b.planes b.spans b.log =
-    stands-opened c.args.self.now b.stage b.traces b.invs b.graph b.stitcher b.planes b.spans b.log c.self.view_is c.requires c.self.invariant in
+    stands-opened c.args.self.now b.stage b.traces b.invs b.graph b.stitcher b.planes b.spans b.log c.self.view_is c.requires c.self.invariant.0 in
     let same : b.traces ≡ c.args.self.now.log = ap (λ (x : Bench). x.log) c.self.view_is in
     let begins : BeginsWith (typed_words b.traces) c.as_slice.result.now b.graph = record { mined = c.as_slice.ensures ∙ s.mined; first = s.first } in
     let gives : RunGives c.run-end.result (typed_words b.traces) c.run-end.new.graph c.run-end.new.planes c.run-end.new.spans c.run-end.new.log = c.run-end.ensures.gives (typed_words b.traces) begins in
@@ -67,7 +71,7 @@ pub returns-in-Err-clause-evidence : goal.returns-in-Err-clause-evidence
 returns-in-Err-clause-evidence g c =
     let b = c.self.inside in
     let s : IsAtStart b.traces b.invs b.graph b.stitcher b.planes b.spans b.log =
-    stands-opened c.args.self.now b.stage b.traces b.invs b.graph b.stitcher b.planes b.spans b.log c.self.view_is c.requires c.self.invariant in
+    stands-opened c.args.self.now b.stage b.traces b.invs b.graph b.stitcher b.planes b.spans b.log c.self.view_is c.requires c.self.invariant.0 in
     let same : b.traces ≡ c.args.self.now.log = ap (λ (x : Bench). x.log) c.self.view_is in
     let begins : BeginsWith (typed_words b.traces) c.as_slice.result.now b.graph = record { mined = c.as_slice.ensures ∙ s.mined; first = s.first } in
     let gives : RunGives c.run-end.result (typed_words b.traces) c.run-end.new.graph c.run-end.new.planes c.run-end.new.spans c.run-end.new.log = c.run-end.ensures.gives (typed_words b.traces) begins in
@@ -78,7 +82,7 @@ pub returns-in-Ok-clause-counted : goal.returns-in-Ok-clause-counted
 returns-in-Ok-clause-counted g c =
     let b = c.self.inside in
     let s : IsAtStart b.traces b.invs b.graph b.stitcher b.planes b.spans b.log =
-    stands-opened c.args.self.now b.stage b.traces b.invs b.graph b.stitcher b.planes b.spans b.log c.self.view_is c.requires c.self.invariant in
+    stands-opened c.args.self.now b.stage b.traces b.invs b.graph b.stitcher b.planes b.spans b.log c.self.view_is c.requires c.self.invariant.0 in
     let same : b.traces ≡ c.args.self.now.log = ap (λ (x : Bench). x.log) c.self.view_is in
     let begins : BeginsWith (typed_words b.traces) c.as_slice.result.now b.graph = record { mined = c.as_slice.ensures ∙ s.mined; first = s.first } in
     subst (λ (log : Log). CountsAtMost (typed_words log) c.args.steps.now c.run-end.new.steps) same (c.in-Ok.ensures.counted (typed_words b.traces) begins)

@@ -1,4 +1,4 @@
-use Rattle.std.proofs.Common.{◌≡◌, ◌≤◌, List, length, slice_get, Some, ◌∙◌, ap, subst, arith}
+use Rattle.std.proofs.Common.{◌≡◌, List, length, slice_get, Some, ◌∙◌, ap, subst, arith}
 use Rattle.invariants.specs.declared.Invariant.{Invariant}
 use Rattle.traces.specs.Words.{words_of}
 use Rattle.infer_core.proofs.Opening.{at-start, mined-few, mined-named}
@@ -18,7 +18,9 @@ tools_for-requires-clause-named c k inv at =
     (subst (λ (xs : List Invariant). slice_get xs k ≡ Some inv) (c.as_slice.ensures ∙ c.in_ok-invs.ensures) at)
 
 pub invariant_of-result : goal.invariant_of-result
-invariant_of-result c =
-    at-start c.args.traces c.in_ok-invs.invs c.in_ok-graph.graph c.in_ok-tools.tools.stitcher c.in_ok-tools.tools.planes c.in_ok-tools.tools.spans c.in_ok-tools.tools.log
-    c.start_is_opened.ensures c.log_is_typed.ensures.within.types.few c.in_ok-graph.ensures c.in_ok-invs.ensures c.in_ok-tools.ensures.stitcher
-    (c.in_ok-tools.ensures.planes ∙ c.as_slice.ensures) c.in_ok-tools.ensures.spans c.in_ok-tools.ensures.log
+invariant_of-result c = (
+  at-start c.args.traces c.in_ok-invs.invs c.in_ok-graph.graph c.in_ok-tools.tools.stitcher c.in_ok-tools.tools.planes c.in_ok-tools.tools.spans c.in_ok-tools.tools.log
+      c.start_is_opened.ensures c.log_is_typed.ensures.within.types.few c.in_ok-graph.ensures c.in_ok-invs.ensures c.in_ok-tools.ensures.stitcher
+      (c.in_ok-tools.ensures.planes ∙ c.as_slice.ensures) c.in_ok-tools.ensures.spans c.in_ok-tools.ensures.log,
+  c.in_ok-tools.ensures.flags ∙ ap (λ (xs : List Invariant). length xs) c.as_slice.ensures,
+)

@@ -1,4 +1,4 @@
-use Rattle.std.proofs.Common.{◌≡◌, List, ℕ, ◌∙◌, sym, ap, subst}
+use Rattle.std.proofs.Common.{◌≡◌, ap, subst}
 use Rattle.std.proofs.lemmas.Result.{IfOk-weaker}
 use Rattle.traces.specs.Words.{Log}
 use Rattle.infer_core.specs.Benches.{Bench, IsAtEnd}
@@ -12,7 +12,7 @@ pub returns : goal.returns
 returns c =
     let b = c.self.inside in
     let s : IsAtEnd b.traces b.invs b.graph b.planes b.spans b.log =
-    stands-inferred c.args.self.now b.stage b.traces b.invs b.graph b.stitcher b.planes b.spans b.log c.self.view_is c.requires c.self.invariant in
+    stands-inferred c.args.self.now b.stage b.traces b.invs b.graph b.stitcher b.planes b.spans b.log c.self.view_is c.requires c.self.invariant.0 in
     let same : b.traces ≡ c.args.self.now.log = ap (λ (x : Bench). x.log) c.self.view_is in
     IfOk-weaker c.parts.result _ _
     (λ ids e. subst (λ (log : Log). AreFinal (typed_words log) ids) same (told-final b.traces ids b.graph b.planes b.spans b.log s.ended e)) c.parts.ensures

@@ -1,16 +1,19 @@
 use Rattle.std.proofs.Common.{◌≡◌, ◌+◌, ◌-◌, length}
 use Rattle.limits.specs.declared.TheConstants.{MAX_PARTITIONS}
+use Rattle.partition_model.specs.Assignments.{G}
 use Rattle.run_history.specs.Records.{splits_of}
+use Rattle.splitter.specs.Refining.{asked_count, AreKnown}
 use Rattle.splitter.specs.Writing.{WritesSplits}
 use Rattle.splitter.proofs.RefiningTurns.{IsRefining}
-use Rattle.splitter.proofs.refining.refine.Given as goal
+use Rattle.splitter.proofs.refining.refine_skipping.Given as goal
 
 abbrev pub invariant-loop-k : goal.invariant-loop-k
 invariant-loop-k g l =
     record {
       refining : IsRefining l.invs l.fn.graph l.graph l.k (splits_of l.log l.spans);
       writes : WritesSplits l.fn.log l.log l.fn.spans l.spans;
-      counted : l.steps ≡ l.fn.steps + l.k + length (splits_of l.log l.spans);
+      known : AreKnown l.known l.invs (G l.graph.traces);
+      counted : l.steps ≡ l.fn.steps + asked_count l.known l.k + length (splits_of l.log l.spans);
       same : l.stitcher ≡ l.fn.stitcher;
     }
 
