@@ -1,11 +1,9 @@
 -- How far a path follows a trace.
-use Rattle.std.proofs.Common.{◌≡◌, ℕ, zero, suc, ◌+◌, ◌-◌, ◌<◌, ◌≤◌, ◌==◌, Bool, true, false, not, max, List, [], ◌∷◌, ◌++◌, length, take, get_or, arith, ap, sym, ◌∙◌, refl, inl, inr, eq-eqb, ne_eqb, eqb-true, length-append, Option, Some, None, Bor, eqb, true≢false, nat_cmp, is_lt}
-use Rattle.std.proofs.lemmas.Bool.{cases_eq, cases_Bool}
-use Rattle.std.proofs.lemmas.Bool.Decides.{nat_tests}
-use Rattle.std.proofs.lemmas.Option.{slice_get_past, slice_get_read, same_Some, none-some}
+use Rattle.std.proofs.Common.{◌≡◌, ℕ, zero, suc, ◌+◌, ◌-◌, ◌<◌, ◌≤◌, ◌==◌, Bool, true, false, not, max, List, [], ◌∷◌, ◌++◌, length, take, get_or, arith, ap, sym, ◌∙◌, refl, inl, inr, eq-eqb, ne_eqb, eqb-true, length-append, Option, Some, None, Bor, eqb, true≢false}
+use Rattle.std.proofs.lemmas.Bool.{cases_eq, cases_lt, cases_Bool}
+use Rattle.std.proofs.lemmas.Option.{slice_get_past, slice_get_read, slice_get-get_or, same_Some, none-some}
 use Rattle.std.specs.List.{slice_get, HoldsAt}
 use Rattle.std.specs.Option.{IfSome, MatchOption, option_copied, option_eq}
-use Rattle.std.specs.Ordering.{ord_max}
 use Rattle.partition_model.specs.Assignments.{Event, Assignment, events, ids_of, id_list}
 use Rattle.partition_model.specs.Listings.{first_event, parts_of}
 use Rattle.partition_model.specs.Refinement.{common, followed, stitch}
@@ -199,27 +197,11 @@ followed-next path (x ∷ h) (suc t) n l e =
     let f : followed (take (suc t) (x ∷ h)) path ≡ max (common path (id_list x)) (followed (take t h) path) = refl in
     omega (arith, i, d, f)
 
--- the longest front with one trace more
-pub followed-more : (h : Assignment) (path : List ℕ) (t longest n now : ℕ) → t < length h → longest ≡ followed (take t h) path → IfSome (slice_get h t) (λ trace. n ≡ common path (id_list trace))
-    → now ≡ max longest n → now ≡ followed (take (t + 1) h) path
-followed-more h path t longest n now l k e m =
-    m ∙ ap (λ z. max z n) k ∙ sym (followed-next path h t n l e) ∙ ap (λ z. followed (take z h) path) (let z : suc t ≡ t + 1 = omega arith in z)
-
 take-whole : (h : Assignment) (t : ℕ) → length h ≤ t → take t h ≡ h
 take-whole [] zero l = refl
 take-whole [] (suc t) l = refl
 take-whole (x ∷ h) zero l = absurd (omega arith)
 take-whole (x ∷ h) (suc t) l = ap (λ (k : Assignment). x ∷ k) (take-whole h t (omega arith))
-
--- the longest front over all traces gives the stitch
-pub longest-whole : (h : Assignment) (path : List ℕ) (t longest : ℕ) → 0 < length h → slice_get path 0 ≡ Some 0 → longest ≡ followed (take t h) path → length h ≤ t
-    → (1 ≤ longest) × (longest - 1 ≡ stitch h path) × (longest - 1 < length path)
-longest-whole h path t longest s b e l =
-    let o = stitch_is_last h path s in
-    let w : followed h path ≤ length path = o.0.within in
-    let p : suc (stitch h path) ≡ followed h path = o.1 b in
-    let q : longest ≡ followed h path = e ∙ ap (λ k. followed k path) (take-whole h t l) in
-    (omega arith, omega arith, omega arith)
 
 events-take : (h : Assignment) (t : ℕ) → first_event h t ≤ length (events h)
 events-take h zero = omega arith
@@ -247,14 +229,6 @@ pub is-not-same : (o : Option ℕ) (x : ℕ) → false ≡ option_eq eqb o (Some
 is-not-same None x e q = none-some x q
 is-not-same (Some y) x e q = true≢false (sym (eq-eqb y x (same_Some y x q)) ∙ sym e)
 
--- the greater of two numbers
-pub ord_max-max : (a b : ℕ) → ord_max nat_cmp a b ≡ max a b
-ord_max-max a b =
-    elim (cases_Bool (is_lt (nat_cmp b a))) [
-      | inl t ↦ let l : b < a = grind (arith, nat_tests) in rw t (omega arith)
-      | inr f ↦ let l : a ≤ b = grind (arith, nat_tests) in rw f (omega arith)
-    ]
-
 -- what is not so by a test that succeeds
 pub not-false : (b : Bool) → not b ≡ true → false ≡ b
 not-false true e = e
@@ -271,3 +245,124 @@ first-le h t l =
     let m : first_event h (suc t) ≡ first_event h t + length (trace_at h t) = first-more h t l in
     let n : first_event h (t + 1) ≡ first_event h (suc t) = ap (first_event h) (let z : t + 1 ≡ suc t = omega arith in z) in
     omega arith
+
+-- what two lists have in common has the same ids at each place
+common-get : (k : ℕ) (xs ys : List ℕ) → k < common xs ys → slice_get ys k ≡ slice_get xs k
+common-get k [] ys l = let z : k < 0 = l in absurd (omega arith)
+common-get k (a ∷ xs) [] l = let z : k < 0 = l in absurd (omega arith)
+common-get zero (a ∷ xs) (b ∷ ys) l =
+    elim (cases_eq a b) [
+      | inl e ↦ ap Some (sym e)
+      | inr n ↦ let m : 0 < 0 = rw (ne_eqb a b n) at l in absurd (omega arith)
+    ]
+common-get (suc k) (a ∷ xs) (b ∷ ys) l =
+    elim (cases_Bool (a == b)) [
+      | inl t ↦ let m : suc k < suc (common xs ys) = rw t at l in common-get k xs ys (omega arith)
+      | inr n ↦ let m : suc k < 0 = rw n at l in absurd (omega arith)
+    ]
+
+-- where the id at a place is another one, no more than the ids before it are in common
+common-before : (k : ℕ) (xs ys : List ℕ) (x : ℕ) → slice_get xs k ≡ Some x → (slice_get ys k ≡ Some x → ⊥) → common xs ys ≤ k
+common-before k xs ys x e d =
+    elim (cases_lt k (common xs ys)) [
+      | inl l ↦ absurd (d (common-get k xs ys l ∙ e))
+      | inr g ↦ omega arith
+    ]
+
+-- a trace that leaves the path at this place at the latest is no longer one
+no-longer : (h : Assignment) (path : List ℕ) (t longest : ℕ) → t < length h → common path (id_list (trace_at h t)) ≤ longest
+    → IfSome (slice_get h t) (λ trace. longest ≡ max longest (common path (id_list trace)))
+no-longer h path t longest l k = rw (trace-there h t l) (omega arith)
+
+-- an event of the trace has another id than the path has behind its longest front
+pub longest-left : (h : Assignment) (path : List ℕ) (t first end event longest x : ℕ) → t < length h → first ≡ first_event h t → end ≡ first_event h (t + 1) → first + longest ≡ event + 1 → first ≤ event → event < end
+    → slice_get (parts_of h) event ≡ Some x → longest < length path → (x ≡ get_or path longest 0 → ⊥)
+    → IfSome (slice_get h t) (λ trace. longest ≡ max longest (common path (id_list trace)))
+longest-left h path t first end event longest x l f e p b k g w d =
+    let y : ℕ = get_or path longest 0 in
+    let s : slice_get path longest ≡ Some y = slice_get-get_or path longest 0 w in
+    let i : slice_get (id_list (trace_at h t)) longest ≡ Some x = id-of h t event end longest x l (omega arith) (omega arith) k e g in
+    no-longer h path t longest l (common-before longest path (id_list (trace_at h t)) y s (λ q. d (same_Some x y (sym i ∙ q))))
+
+-- how many events a trace has
+count-is : (h : Assignment) (t first end : ℕ) → t < length h → first ≡ first_event h t → end ≡ first_event h (t + 1) → end - first ≡ length (trace_at h t)
+count-is h t first end l f e =
+    let m : first_event h (suc t) ≡ first_event h t + length (trace_at h t) = first-more h t l in
+    let n : first_event h (t + 1) ≡ first_event h (suc t) = ap (first_event h) (let z : t + 1 ≡ suc t = omega arith in z) in
+    omega arith
+
+-- the ids of the trace end before the place behind the longest front
+pub longest-past : (h : Assignment) (path : List ℕ) (t first end longest : ℕ) → t < length h → first ≡ first_event h t → end ≡ first_event h (t + 1) → end - first + 1 < longest → longest < length path
+    → IfSome (slice_get h t) (λ trace. longest ≡ max longest (common path (id_list trace)))
+longest-past h path t first end zero l f e k w = absurd (omega arith)
+longest-past h path t first end (suc i) l f e k w =
+    let y : ℕ = get_or path (suc i) 0 in
+    let s : slice_get path (suc i) ≡ Some y = slice_get-get_or path (suc i) 0 w in
+    let c : end - first ≡ length (trace_at h t) = count-is h t first end l f e in
+    no-longer h path t (suc i) l (common-before (suc i) path (id_list (trace_at h t)) y s (id-past (trace_at h t) i y (omega arith)))
+
+-- the ids of the trace end at that place, and the path does not
+pub longest-end : (h : Assignment) (path : List ℕ) (t first end longest : ℕ) → t < length h → first ≡ first_event h t → end ≡ first_event h (t + 1) → end - first + 1 ≡ longest → longest < length path
+    → (get_or path longest 0 ≡ 1 → ⊥) → IfSome (slice_get h t) (λ trace. longest ≡ max longest (common path (id_list trace)))
+longest-end h path t first end zero l f e k w d = absurd (omega arith)
+longest-end h path t first end (suc i) l f e k w d =
+    let y : ℕ = get_or path (suc i) 0 in
+    let s : slice_get path (suc i) ≡ Some y = slice_get-get_or path (suc i) 0 w in
+    let c : end - first ≡ length (trace_at h t) = count-is h t first end l f e in
+    let g : slice_get (ids_of (trace_at h t) ++ 1 ∷ []) i ≡ Some 1 = id-end (trace_at h t) i (omega arith) in
+    no-longer h path t (suc i) l (common-before (suc i) path (id_list (trace_at h t)) y s (λ p. d (same_Some y 1 (sym p ∙ g))))
+
+-- what is kept while the traces before t are looked at, where the events of t begin with number first
+pub record IsLookedAt (h : Assignment) (path : List ℕ) (t longest first : ℕ) : Type 0 where
+  pub longest_is : longest ≡ max 1 (followed (take t h) path)
+  pub first_is : first ≡ first_event h t
+
+pub looked-start : (h : Assignment) (path : List ℕ) → IsLookedAt h path 0 1 0
+looked-start h path =
+    let f : followed (take 0 h) path ≡ 0 = refl in
+    record { longest_is = omega (arith, f); first_is = refl }
+
+pub looked-more : (h : Assignment) (path : List ℕ) (t longest first now end : ℕ) → t < length h → IsLookedAt h path t longest first → IfSome (slice_get h t) (λ trace. now ≡ max longest (common path (id_list trace)))
+    → end ≡ first_event h (t + 1) → IsLookedAt h path (t + 1) now end
+looked-more h path t longest first now end l k m e =
+    let n : now ≡ max longest (common path (id_list (trace_at h t))) = rw (trace-there h t l) at m in
+    let b : longest ≡ max 1 (followed (take t h) path) = k.longest_is in
+    let f : followed (take (suc t) h) path ≡ max (followed (take t h) path) (common path (id_list (trace_at h t))) =
+    followed-next path h t (common path (id_list (trace_at h t))) l (rw (trace-there h t l) refl) in
+    let g : followed (take (t + 1) h) path ≡ followed (take (suc t) h) path = ap (λ z. followed (take z h) path) (let z : t + 1 ≡ suc t = omega arith in z) in
+    record { longest_is = omega arith; first_is = e }
+
+followed-take : (h : Assignment) (path : List ℕ) (t : ℕ) → followed (take t h) path ≤ followed h path
+followed-take h path zero = omega arith
+followed-take [] path (suc t) = omega arith
+followed-take (x ∷ h) path (suc t) =
+    let i : followed (take t h) path ≤ followed h path = followed-take h path t in
+    let d : followed (take (suc t) (x ∷ h)) path ≡ max (common path (id_list x)) (followed (take t h) path) = refl in
+    let f : followed (x ∷ h) path ≡ max (common path (id_list x)) (followed h path) = refl in
+    omega (arith, i, d, f)
+
+-- some trace follows the path for the first id at least
+pub front-there : (h : Assignment) (path : List ℕ) → 0 < length h → slice_get path 0 ≡ Some 0 → 0 < followed h path
+front-there h path s b =
+    let o = stitch_is_last h path s in
+    let p : suc (stitch h path) ≡ followed h path = o.1 b in
+    omega arith
+
+-- no trace follows the path for more
+pub looked-enough : (h : Assignment) (path : List ℕ) (t longest first most : ℕ) → 0 < length h → slice_get path 0 ≡ Some 0 → followed h path ≤ most → IsLookedAt h path t longest first → most ≤ longest
+    → longest ≡ followed h path
+looked-enough h path t longest first most s b m k e =
+    let a : longest ≡ max 1 (followed (take t h) path) = k.longest_is in
+    omega (arith, followed-take h path t, front-there h path s b)
+
+-- all traces are looked at
+pub looked-whole : (h : Assignment) (path : List ℕ) (t longest first : ℕ) → 0 < length h → slice_get path 0 ≡ Some 0 → IsLookedAt h path t longest first → length h ≤ t
+    → longest ≡ followed h path
+looked-whole h path t longest first s b k l =
+    let a : longest ≡ max 1 (followed (take t h) path) = k.longest_is in
+    let q : followed (take t h) path ≡ followed h path = ap (λ k. followed k path) (take-whole h t l) in
+    omega (arith, front-there h path s b)
+
+-- no trace follows the path for more ids than it has
+pub followed-within : (h : Assignment) (path : List ℕ) → 0 < length h → slice_get path 0 ≡ Some 0 → followed h path ≤ length path
+followed-within h path s b = let o = stitch_is_last h path s in o.0.within

@@ -31,7 +31,7 @@ fn place_before_end(graph: &PartGraph, stitcher: &mut Stitcher, path: &[u32]) ->
     ensures before { result + 1 < length path.now }
     ensures same { stitcher.new ≡ stitcher.old }
 {
-    stitcher.place(graph, path)
+    stitcher.place_before_end(graph, path)
 }
 
 /// Divides a partition by a path, the violation of the invariant with number k, and writes the split.

@@ -1,8 +1,8 @@
 //! Where a path leaves the traces.
-ghost use Rattle.std.specs.Prelude.{◌≡◌, ◌<◌, ◌+◌, IfOk, IfSome, IsOk, Some, length, slice_get};
+ghost use Rattle.std.specs.Prelude.{◌≡◌, ◌<◌, ◌≤◌, ◌+◌, IfOk, IfSome, IsOk, Some, length, max, slice_get};
 ghost use Rattle.partition_model.specs.Assignments.{events, id_list};
 ghost use Rattle.partition_model.specs.Listings.{first_event};
-ghost use Rattle.partition_model.specs.Refinement.{common, stitch};
+ghost use Rattle.partition_model.specs.Refinement.{common, followed, stitch};
 
 use limits::{INITIAL, TERMINAL};
 use partition_graph::PartGraph;
@@ -57,6 +57,61 @@ fn followed_in(graph: &PartGraph, path: &[u32], t: u32) -> usize
     place
 }
 
+/// The greater one of `longest` and of how many of the path's first ids the ids of trace t begin with. The events of the
+/// trace are numbered from `first` on, and `end` is the number behind the last.
+///
+/// A trace begins with more than `longest` of them only where its id at that place is the path's. No other is followed.
+fn longest_with(
+    graph: &PartGraph,
+    path: &[u32],
+    t: u32,
+    first: u32,
+    end: u32,
+    longest: usize,
+) -> usize
+    requires starts { slice_get path.now 0 ≡ Some INITIAL }
+    requires there { t < length (graph.now).traces }
+    requires first { first ≡ first_event (graph.now).traces t }
+    requires end { end ≡ first_event (graph.now).traces (t + 1) }
+    requires some { 0 < longest }
+    requires within { longest < length path.now }
+    ensures { IfSome (slice_get (graph.now).traces t)
+        (λ trace. result ≡ max longest (common path.now (id_list trace))) }
+{
+    let count = (end - first) as usize;
+    let place = longest - 1;
+    if place < count {
+        if graph.part_of(first + place as u32) != path[longest] {
+            return longest;
+        }
+    } else if place > count || path[longest] != TERMINAL {
+        return longest;
+    }
+    longest.max(followed_in(graph, path, t))
+}
+
+/// How many ids the path's longest front has with which the ids of some trace begin. They are at most `most`, so no trace
+/// is looked at behind the first one that has so many.
+fn longest_front(graph: &PartGraph, path: &[u32], most: usize) -> usize
+    requires starts { slice_get path.now 0 ≡ Some INITIAL }
+    requires some { 0 < length (graph.now).traces }
+    requires most { followed (graph.now).traces path.now ≤ most }
+    requires within { most ≤ length path.now }
+    ensures { result ≡ followed (graph.now).traces path.now }
+{
+    let mut longest = 1;
+    let mut first = 0;
+    for t in 0..graph.trace_count() {
+        if longest >= most {
+            return longest;
+        }
+        let end = end_of(graph, t);
+        longest = longest_with(graph, path, t, first, end, longest);
+        first = end;
+    }
+    longest
+}
+
 impl Stitcher {
     /// A stitcher for graphs with as many events as this one. It takes no memory, so it never refuses; its answer is
     /// that of all that takes memory.
@@ -80,10 +135,18 @@ impl Stitcher {
         ensures within { result < length path.now }
         ensures same { self.new ≡ self.old }
     {
-        let mut longest = 0;
-        for t in 0..graph.trace_count() {
-            longest = longest.max(followed_in(graph, path, t));
-        }
-        longest - 1
+        longest_front(graph, path, path.len()) - 1
+    }
+
+    /// The same for a path that the traces leave before its last id, so that no trace is looked at behind the first one
+    /// that follows it to there.
+    pub(crate) fn place_before_end(&mut self, graph: &PartGraph, path: &[u32]) -> usize
+        requires starts { slice_get path.now 0 ≡ Some INITIAL }
+        requires some { 0 < length (graph.now).traces }
+        requires before { stitch (graph.now).traces path.now + 1 < length path.now }
+        ensures value { result ≡ stitch (graph.now).traces path.now }
+        ensures same { self.new ≡ self.old }
+    {
+        longest_front(graph, path, path.len() - 1) - 1
     }
 }

@@ -288,13 +288,27 @@ fn the_shop_in_forty_three_steps(rt: HostRuntime) -> Result<(), Fail> {
     Ok(())
 }
 
+/// The place of each path's stitch in the first graph of the log.
+fn assert_places(
+    rt: &impl Abort,
+    alloc: Global,
+    log: &str,
+    cases: &[(&[u32], usize)],
+) -> Result<(), Fail> {
+    let graph = PartGraph::open(alloc, &set_of(alloc, log)?)?;
+    assert!(rt; graph.trace_count() > 0);
+    let mut stitcher = Stitcher::make(alloc, &graph)?;
+    for (path, place) in cases {
+        assert!(rt; path.first() == Some(&INITIAL));
+        assert_eq!(rt; stitcher.place(&graph, path), *place, "{path:?}");
+    }
+    Ok(())
+}
+
 /// A path is followed by the trace that follows it furthest, whichever that is, and at most to its end.
 #[test]
 fn places_of_paths(rt: HostRuntime) -> Result<(), Fail> {
     let alloc = rt.alloc();
-    let graph = PartGraph::open(alloc, &set_of(alloc, TWO_WORDS.log)?)?;
-    assert!(rt; graph.trace_count() > 0);
-    let mut stitcher = Stitcher::make(alloc, &graph)?;
     let cases: [(&[u32], usize); 8] = [
         (&[0, 2, 3, 6, 1], 2),
         (&[0, 5, 3, 4, 1], 2),
@@ -305,9 +319,19 @@ fn places_of_paths(rt: HostRuntime) -> Result<(), Fail> {
         (&[0, 1], 0),
         (&[0], 0),
     ];
-    for (path, place) in cases {
-        assert!(rt; path.first() == Some(&INITIAL));
-        assert_eq!(rt; stitcher.place(&graph, path), place, "{path:?}");
-    }
-    Ok(())
+    assert_places(&rt, alloc, TWO_WORDS.log, &cases)
+}
+
+/// Of the words c b d e, a b and a b d, some have the path's next id, or end as it does, and leave it before that place.
+#[test]
+fn places_among_words_of_unlike_length(rt: HostRuntime) -> Result<(), Fail> {
+    let log = "1 c\n1 b\n1 d\n1 e\n2 a\n2 b\n3 a\n3 b\n3 d\n";
+    let cases: [(&[u32], usize); 5] = [
+        (&[0, 2, 3, 1], 2),
+        (&[0, 2, 3, 4, 1], 3),
+        (&[0, 6, 3, 4, 5, 1], 3),
+        (&[0, 6, 3, 4, 1], 4),
+        (&[0, 6, 3, 1], 3),
+    ];
+    assert_places(&rt, rt.alloc(), log, &cases)
 }
