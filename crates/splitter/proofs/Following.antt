@@ -1,11 +1,9 @@
 -- How far a path follows a trace.
-use Rattle.std.proofs.Common.{◌≡◌, ℕ, zero, suc, ◌+◌, ◌-◌, ◌<◌, ◌≤◌, ◌==◌, Bool, true, false, not, max, List, [], ◌∷◌, ◌++◌, length, take, get_or, arith, ap, sym, ◌∙◌, refl, inl, inr, eq-eqb, ne_eqb, eqb-true, length-append, Option, Some, None, Bor, eqb, true≢false, nat_cmp, is_lt}
+use Rattle.std.proofs.Common.{◌≡◌, ℕ, zero, suc, ◌+◌, ◌-◌, ◌<◌, ◌≤◌, ◌==◌, Bool, true, false, not, max, List, [], ◌∷◌, ◌++◌, length, take, get_or, arith, ap, sym, ◌∙◌, refl, inl, inr, eq-eqb, ne_eqb, eqb-true, length-append, Option, Some, None, Bor, eqb, true≢false}
 use Rattle.std.proofs.lemmas.Bool.{cases_eq, cases_lt, cases_Bool}
-use Rattle.std.proofs.lemmas.Bool.Decides.{nat_tests}
 use Rattle.std.proofs.lemmas.Option.{slice_get_past, slice_get_read, slice_get-get_or, same_Some, none-some}
 use Rattle.std.specs.List.{slice_get, HoldsAt}
 use Rattle.std.specs.Option.{IfSome, MatchOption, option_copied, option_eq}
-use Rattle.std.specs.Ordering.{ord_max}
 use Rattle.partition_model.specs.Assignments.{Event, Assignment, events, ids_of, id_list}
 use Rattle.partition_model.specs.Listings.{first_event, parts_of}
 use Rattle.partition_model.specs.Refinement.{common, followed, stitch}
