@@ -1,4 +1,4 @@
-ghost use Rattle.std.specs.Prelude.{◌≡◌, ◌<◌};
+ghost use Rattle.std.specs.Prelude.{◌≡◌, ◌<◌, ◌≤◌};
 ghost use Rattle.std.specs.Bool.{OnTrue};
 ghost use Rattle.partition_graph.specs.Seen.{IsSound};
 ghost use Rattle.partition_model.specs.Assignments.{G};
@@ -16,16 +16,23 @@ use std::test::Fail;
 use steps::Steps;
 use traces::Builder;
 
-/// The graph opened from these traces, each of types between spaces.
-fn graph_of(alloc: Global, traces: &[&str]) -> Result<PartGraph, Fail> {
-    let mut builder = Builder::new(alloc);
-    for (t, trace) in traces.iter().enumerate() {
-        let file = u32::try_from(t)?;
-        for type_text in trace.split_whitespace() {
-            if !type_text.is_empty() && type_text.len() <= MAX_TYPE_BYTES {
-                builder.add(file, 0, "", type_text, 0)?;
-            }
+/// Adds a trace of types between spaces.
+fn add_trace(builder: &mut Builder, number: u32, trace: &str) -> Result<(), Fail> {
+    for type_text in trace.split_whitespace() {
+        if !type_text.is_empty() && type_text.len() <= MAX_TYPE_BYTES {
+            builder.add(number, 0, "", type_text, 0)?;
         }
+    }
+    Ok(())
+}
+
+/// The graph opened from these traces, each in a line of types between spaces.
+fn graph_of(alloc: Global, traces: &str) -> Result<PartGraph, Fail> {
+    let mut builder = Builder::new(alloc);
+    let mut number = 0u32;
+    for trace in traces.lines() {
+        add_trace(&mut builder, number, trace)?;
+        number = number.wrapping_add(1);
     }
     Ok(PartGraph::open(alloc, &builder.finish()?)?)
 }
@@ -82,25 +89,44 @@ fn ask_loss<L: Ledger>(
     }
 }
 
-#[test]
-fn least_paths_of_small_logs(rt: HostRuntime) -> Result<(), Fail> {
-    let alloc = rt.alloc();
-    let two = graph_of(alloc, &["a c d", "b c e"])?;
-    let one = graph_of(alloc, &["a a a"])?;
-    let cases: [(&PartGraph, Kind, u16, u16, &[u32]); 6] = [
-        (&two, Kind::AF, 2, 4, &[0, 2, 3, 6, 1]),
-        (&two, Kind::NF, 3, 4, &[0, 2, 3, 4, 1]),
-        (&two, Kind::NF, 2, 2, &[]),
-        (&one, Kind::NF, 2, 2, &[0, 2, 2, 1]),
-        (&one, Kind::AP, 2, 2, &[0, 2, 1]),
-        (&one, Kind::AF, 0, 2, &[]),
-    ];
+/// Compares the ids of the least violation, each behind a space.
+fn assert_path(
+    rt: &impl Abort,
+    alloc: Global,
+    graph: &PartGraph,
+    inv: Invariant,
+    path: &str,
+) -> Result<(), Fail> {
     let mut finder = Finder::make(alloc)?;
-    for (graph, kind, a, b, path) in cases {
-        let found = find(alloc, &mut finder, graph, Invariant { kind, a, b })?;
-        assert_eq!(rt; found.as_slice(), path, "{kind:?}({a},{b})");
+    let mut ids = String::new(alloc);
+    for id in find(alloc, &mut finder, graph, inv)? {
+        ids.push_str(&format!(in alloc; " {id}")?)?;
     }
+    assert_eq!(rt; ids.as_str(), path, "{inv:?}");
     Ok(())
+}
+
+/// An invariant of a kind between two types.
+fn inv_of(kind: Kind, a: u16, b: u16) -> Invariant {
+    Invariant { kind, a, b }
+}
+
+#[test]
+fn least_paths_of_two_words(rt: HostRuntime) -> Result<(), Fail> {
+    let alloc = rt.alloc();
+    let graph = graph_of(alloc, "a c d\nb c e")?;
+    assert_path(&rt, alloc, &graph, inv_of(Kind::AF, 2, 4), " 0 2 3 6 1")?;
+    assert_path(&rt, alloc, &graph, inv_of(Kind::NF, 3, 4), " 0 2 3 4 1")?;
+    assert_path(&rt, alloc, &graph, inv_of(Kind::NF, 2, 2), "")
+}
+
+#[test]
+fn least_paths_of_one_type(rt: HostRuntime) -> Result<(), Fail> {
+    let alloc = rt.alloc();
+    let graph = graph_of(alloc, "a a a")?;
+    assert_path(&rt, alloc, &graph, inv_of(Kind::NF, 2, 2), " 0 2 2 1")?;
+    assert_path(&rt, alloc, &graph, inv_of(Kind::AP, 2, 2), " 0 2 1")?;
+    assert_path(&rt, alloc, &graph, inv_of(Kind::AF, 0, 2), "")
 }
 
 /// Whether the word breaks the invariant, by its places.
@@ -198,29 +224,51 @@ impl Random {
     }
 }
 
-/// A trace of up to six events, of up to three types.
-fn random_trace(alloc: Global, random: &mut Random, types: u64) -> Result<String, Fail>
+/// Puts a trace of up to six events, of up to three types, behind the others.
+fn push_trace(traces: &mut String, random: &mut Random, types: u64) -> Result<(), Fail>
     requires { 0 < types }
 {
-    let mut trace = String::new(alloc);
     for _ in 0..random.below(7) {
-        trace.push_str(match random.below(types) {
+        let letter = match random.below(types) {
             0 => "a ",
             1 => "b ",
             _ => "c ",
-        })?;
+        };
+        traces.push_str(letter)?;
     }
-    Ok(trace)
+    Ok(traces.push_str("\n")?)
 }
 
 /// The graph of a log of three such traces.
 fn random_graph(alloc: Global, random: &mut Random, types: u64) -> Result<PartGraph, Fail>
     requires { 0 < types }
 {
-    let first = random_trace(alloc, random, types)?;
-    let second = random_trace(alloc, random, types)?;
-    let third = random_trace(alloc, random, types)?;
-    graph_of(alloc, &[&first, &second, &third])
+    let mut traces = String::new(alloc);
+    for _ in 0..3 {
+        push_trace(&mut traces, random, types)?;
+    }
+    graph_of(alloc, &traces)
+}
+
+/// Compares each answer with the first violation by lengths of fewer edges than the limit.
+fn assert_answers(
+    rt: &impl Abort,
+    alloc: Global,
+    finder: &mut Finder,
+    graph: &PartGraph,
+    types: u32,
+    limit: u32,
+) -> Result<(), Fail>
+    requires { types ≤ 3 }
+{
+    for index in 0..candidate_count(types) {
+        if let Some(inv) = candidate(types, index) {
+            let found = find(alloc, finder, graph, inv)?;
+            let wanted = first_by_length(alloc, graph, inv, limit)?;
+            assert_eq!(rt; found, wanted, "{inv:?}");
+        }
+    }
+    Ok(())
 }
 
 /// As a walk between two ids can be cut where it meets an id twice, a least violation in a graph of three types has at
@@ -235,18 +283,7 @@ fn answers_as_all_paths_in_order(rt: HostRuntime) -> Result<(), Fail> {
         let types = graph.ids_used() - 2;
         assert!(rt; types <= 3);
         let limit = if types < 3 { 13 } else { 10 };
-        for index in 0..candidate_count(types) {
-            if let Some(inv) = candidate(types, index) {
-                let found = find(alloc, &mut finder, &graph, inv)?;
-                let wanted = first_by_length(alloc, &graph, inv, limit)?;
-                assert_eq!(rt;
-                    found,
-                    wanted,
-                    "round {round}: {:?}({},{})",
-                    inv.kind, inv.a, inv.b
-                );
-            }
-        }
+        assert_answers(&rt, alloc, &mut finder, &graph, types, limit)?;
     }
     Ok(())
 }
@@ -343,7 +380,38 @@ fn chain(alloc: Global) -> Result<PartGraph, Fail> {
     for number in 2..130u32 {
         trace.push_str(&format!(in alloc; "{number} ")?)?;
     }
-    graph_of(alloc, &[&trace])
+    graph_of(alloc, &trace)
+}
+
+/// Compares how many ids the least violation has, 0 where there is none.
+fn assert_length(
+    rt: &impl Abort,
+    alloc: Global,
+    finder: &mut Finder,
+    graph: &PartGraph,
+    inv: Invariant,
+    wanted: usize,
+) -> Result<(), Fail> {
+    let found = find(alloc, finder, graph, inv)?;
+    assert_eq!(rt; found.len(), wanted, "{inv:?}");
+    Ok(())
+}
+
+/// Compares the answers for two types in the graph of one trace of 128 types, each once.
+fn assert_chain(
+    rt: &impl Abort,
+    alloc: Global,
+    finder: &mut Finder,
+    graph: &PartGraph,
+    a: u16,
+    b: u16,
+) -> Result<(), Fail> {
+    for kind in [Kind::AF, Kind::NF, Kind::AP] {
+        let breaks = (kind == Kind::NF) == (a < b);
+        let wanted = if breaks { 130 } else { 0 };
+        assert_length(rt, alloc, finder, graph, inv_of(kind, a, b), wanted)?;
+    }
+    Ok(())
 }
 
 /// There are as many ids as types can be; more come only with splits. The one path goes through all of them, and many
@@ -352,36 +420,31 @@ fn chain(alloc: Global) -> Result<PartGraph, Fail> {
 fn thousands_of_asks_of_a_long_graph(rt: HostRuntime) -> Result<(), Fail> {
     let alloc = rt.alloc();
     let graph = chain(alloc)?;
-    assert_eq!(rt; graph.ids_used(), 130);
+    assert!(rt; graph.ids_used() == 130);
     let mut finder = Finder::make(alloc)?;
     for a in (2..130u16).step_by(6) {
         for b in (2..130u16).step_by(8) {
-            for (kind, breaks) in [(Kind::AF, b <= a), (Kind::NF, a < b), (Kind::AP, b <= a)] {
-                let found = find(alloc, &mut finder, &graph, Invariant { kind, a, b })?;
-                let wanted = if breaks { 130 } else { 0 };
-                assert_eq!(rt; found.len(), wanted, "{kind:?}({a},{b})");
-            }
+            assert_chain(&rt, alloc, &mut finder, &graph, a, b)?;
         }
     }
     Ok(())
 }
 
-/// A trace of two types with so many of a between them.
-fn row(alloc: Global, first: &str, letters: u32, last: &str) -> Result<String, Fail> {
-    let mut trace = String::new(alloc);
-    trace.push_str(first)?;
+/// Puts a trace of two types with so many of a between them behind the others.
+fn push_row(traces: &mut String, first: &str, letters: u32, last: &str) -> Result<(), Fail> {
+    traces.push_str(first)?;
     for _ in 0..letters {
-        trace.push_str(" a ")?;
+        traces.push_str(" a ")?;
     }
-    trace.push_str(last)?;
-    Ok(trace)
+    Ok(traces.push_str(last)?)
 }
 
 /// Two rows whose partition of a, with the id 3, is divided one place of the second row after another, from its end on.
 fn divided_rows(alloc: Global, letters: u32) -> Result<PartGraph, Fail> {
-    let first = row(alloc, "p", letters, "q")?;
-    let second = row(alloc, "r", letters, "s")?;
-    let mut graph = graph_of(alloc, &[&first, &second])?;
+    let mut traces = String::new(alloc);
+    push_row(&mut traces, "p", letters, "q\n")?;
+    push_row(&mut traces, "r", letters, "s")?;
+    let mut graph = graph_of(alloc, &traces)?;
     let mut next = 6;
     for _ in 0..letters {
         if let Some(id) = graph.split(3, next) {
@@ -391,13 +454,13 @@ fn divided_rows(alloc: Global, letters: u32) -> Result<PartGraph, Fail> {
     Ok(graph)
 }
 
-/// In the end all ids are used, and no edge leads from one row to the other. The second row has one path, of
-/// 1,021 ids: its own, with the two ends.
-#[test]
-fn a_thousand_asks_of_a_graph_of_all_ids(rt: HostRuntime) -> Result<(), Fail> {
-    let alloc = rt.alloc();
-    let graph = divided_rows(alloc, 1017)?;
-    assert_eq!(rt; graph.ids_used(), MAX_PARTITIONS);
+/// Eight asks of the graph of two rows.
+fn assert_rows(
+    rt: &impl Abort,
+    alloc: Global,
+    finder: &mut Finder,
+    graph: &PartGraph,
+) -> Result<(), Fail> {
     let cases = [
         (Kind::AF, 2, 4, 0),
         (Kind::AF, 5, 4, 1021),
@@ -408,12 +471,22 @@ fn a_thousand_asks_of_a_graph_of_all_ids(rt: HostRuntime) -> Result<(), Fail> {
         (Kind::NF, 2, 4, 5),
         (Kind::AF, 3, 4, 1021),
     ];
+    for (kind, a, b, wanted) in cases {
+        assert_length(rt, alloc, finder, graph, inv_of(kind, a, b), wanted)?;
+    }
+    Ok(())
+}
+
+/// In the end all ids are used, and no edge leads from one row to the other. The second row has one path, of
+/// 1,021 ids: its own, with the two ends.
+#[test]
+fn a_thousand_asks_of_a_graph_of_all_ids(rt: HostRuntime) -> Result<(), Fail> {
+    let alloc = rt.alloc();
+    let graph = divided_rows(alloc, 1017)?;
+    assert!(rt; graph.ids_used() == MAX_PARTITIONS);
     let mut finder = Finder::make(alloc)?;
     for _ in 0..125 {
-        for (kind, a, b, wanted) in cases {
-            let found = find(alloc, &mut finder, &graph, Invariant { kind, a, b })?;
-            assert_eq!(rt; found.len(), wanted, "{kind:?}({a},{b})");
-        }
+        assert_rows(&rt, alloc, &mut finder, &graph)?;
     }
     Ok(())
 }
