@@ -5,3 +5,5 @@ pub mod Ending
 pub mod Opening
 pub mod Telling
 pub mod Stages
+pub mod Sharing
+pub mod Distinct

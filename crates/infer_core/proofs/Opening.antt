@@ -1,5 +1,5 @@
 -- What is mined of a log, and what stands where a workbench is opened.
-use Rattle.std.proofs.Common.{◌≡◌, ℕ, ◌+◌, ◌*◌, ◌≤◌, List, [], ◌∷◌, map, length, slice_get, Some, count_by, sym, ◌∙◌, refl, ap, subst, subst₂, inl, inr, arith}
+use Rattle.std.proofs.Common.{◌≡◌, ℕ, ◌+◌, ◌*◌, ◌≤◌, List, [], ◌∷◌, map, length, slice_get, Some, count_by, sym, ◌∙◌, refl, ap, subst, inl, inr, arith}
 use Rattle.std.proofs.lemmas.List.Sums.{length-filter, count_by-le-length}
 use Rattle.std.proofs.Math.Nat.{mul-le-mul_right}
 use Rattle.limits.specs.declared.TheConstants.{LAST_TYPE, MAX_INVARIANTS, MAX_PAIRS, MAX_PATH_NUMBERS, MAX_STEPS, MAX_TYPES}
@@ -11,14 +11,18 @@ use Rattle.invariants.proofs.Members.{Contains-from_place, candidates_tell, mine
 use Rattle.cell_pool.specs.Numbers.{Numbers}
 use Rattle.cell_pool.specs.RunLists.{RunLists}
 use Rattle.traces.specs.Words.{Log, Trace, word_of, words_of}
-use Rattle.partition_model.specs.Assignments.{events, inner_words, with_ends}
+use Rattle.partition_model.specs.Assignments.{events, with_ends}
 use Rattle.partition_model.specs.Laws.{HoldAll}
+use Rattle.partition_model.proofs.Runs.{words-typed}
+use Rattle.models.specs.Limits.{IsWithinLimits}
 use Rattle.models.specs.Models.{mined_of, typed_words}
-use Rattle.partition_graph.specs.Parts.{Parts, start_of}
+use Rattle.partition_graph.specs.Parts.{Parts, inner_words_of, start_of}
+use Rattle.partition_graph.specs.Spread.{SharesWords}
 use Rattle.labelling.specs.Labelled.{Labelling}
 use Rattle.splitter.specs.Refining.{IsOpened}
 use Rattle.splitter.proofs.Mining.{mined-hold}
 use Rattle.infer_core.specs.Benches.{IsAtStart}
+use Rattle.infer_core.proofs.Distinct.{hold-few, opened-few}
 
 -- the words of a log, put between their ends
 words-again : (traces : List Trace) → map word_of traces ≡ map with_ends (map (λ (trace : Trace). trace.events) traces)
@@ -48,21 +52,24 @@ mined-named types words few k inv at =
     ]
 
 -- all stands ready
-pub at-start : (log : Log) (invs : List Invariant) (graph : Parts) (stitcher : ℕ) (planes : Labelling) (spans : Numbers) (run : RunLists)
-    → IsOpened (start_of log) → length log.types ≤ MAX_TYPES → graph ≡ start_of log → invs ≡ mined (length log.types) (words_of log)
+pub at-start : (log : Log) (invs : List Invariant) (graph : Parts) (numbers : List ℕ) (stitcher : ℕ) (planes : Labelling) (spans : Numbers) (run : RunLists)
+    → IsOpened (start_of log) → IsWithinLimits (typed_words log) → SharesWords log graph numbers → invs ≡ mined (length log.types) (words_of log)
     → stitcher ≡ length (events graph.traces) → planes.invs ≡ invs → spans ≡ record { numbers = []; room = MAX_PATH_NUMBERS }
     → run ≡ record { splits = []; merges = []; blocks = []; split_room = MAX_STEPS; merge_room = MAX_STEPS; block_room = MAX_PAIRS }
-    → IsAtStart log invs graph stitcher planes spans run
-at-start log invs graph stitcher planes spans run opened few g i made listed s r =
+    → IsAtStart log invs graph numbers stitcher planes spans run
+at-start log invs graph numbers stitcher planes spans run opened within shares i made listed s r =
     let n : length invs ≡ length (mined (length log.types) (words_of log)) = ap (λ (xs : List Invariant). length xs) i in
-    let l : length (mined (length log.types) (words_of log)) ≤ MAX_INVARIANTS = mined-few (length log.types) (words_of log) few in
+    let l : length (mined (length log.types) (words_of log)) ≤ MAX_INVARIANTS = mined-few (length log.types) (words_of log) within.types.few in
+    let all : HoldAll (inner_words_of log) (mined (length log.types) (words_of log)) =
+    subst (λ (ws : List (List ℕ)). HoldAll ws (mined (length log.types) (words_of log))) (words-typed (inner_words_of log)) (mined-hold log (length log.types)) in
     record {
       mined = i ∙ mined-again log;
-      first = g;
+      within = within;
+      shares = shares;
       ready = record {
         few = omega arith;
-        opened = subst (λ (x : Parts). IsOpened x) (sym g) opened;
-        hold = subst₂ (λ (x : Parts) (xs : List Invariant). HoldAll (inner_words x.traces) xs) (sym g) (sym i) (mined-hold log (length log.types));
+        opened = opened-few log graph numbers shares opened;
+        hold = hold-few log graph numbers shares invs (subst (λ (xs : List Invariant). HoldAll (inner_words_of log) xs) (sym i) all);
         made = made;
         listed = listed;
         empty = record {

@@ -5,7 +5,7 @@ use Rattle.cell_pool.specs.Numbers.{Numbers}
 use Rattle.cell_pool.specs.RunLists.{RunLists}
 use Rattle.run_history.specs.Records.{splits_of, merges_of, blocks_of}
 use Rattle.traces.specs.Words.{Log}
-use Rattle.models.specs.Models.{typed_words, TypedWords}
+use Rattle.models.specs.Models.{TypedWords}
 use Rattle.partition_graph.specs.Parts.{Parts}
 use Rattle.labelling.specs.Labelled.{Labelling}
 use Rattle.infer_core.specs.declared.workbench.InferLimit.{InferLimit}
@@ -13,26 +13,21 @@ use Rattle.infer_core.specs.declared.workbench.InferLimit.TheVariants.{Partition
 use Rattle.infer_core.specs.declared.workbench.Stage.{Stage}
 use Rattle.infer_core.specs.declared.workbench.Stage.TheVariants.{Opened, Inferred}
 use Rattle.infer_core.specs.Runs.{PassesNumbers, PassesPartitions}
-use Rattle.infer_core.specs.Ends.{BeginsWith, RunGives}
+use Rattle.infer_core.specs.Ends.{RunGives}
 use Rattle.infer_core.specs.Benches.{Bench, IsAtStart, IsAtEnd, Stands}
 use Rattle.infer_core.proofs.Excluding.{both-exclude, numbers-exclude, partitions-exclude}
 
 -- what stands in an opened workbench
-pub stands-opened : (b : Bench) (stage : Stage) (log : Log) (invs : List Invariant) (graph : Parts) (stitcher : ℕ) (planes : Labelling) (spans : Numbers) (run : RunLists)
-    → record { log = log; stage = stage } ≡ b → b.stage ≡ Opened → Stands stage log invs graph stitcher planes spans run → IsAtStart log invs graph stitcher planes spans run
-stands-opened b stage log invs graph stitcher planes spans run e o s =
-    subst (λ (x : Stage). Stands x log invs graph stitcher planes spans run) (ap (λ (x : Bench). x.stage) e ∙ o) s
+pub stands-opened : (b : Bench) (stage : Stage) (log : Log) (invs : List Invariant) (graph : Parts) (numbers : List ℕ) (stitcher : ℕ) (planes : Labelling) (spans : Numbers) (run : RunLists)
+    → record { log = log; stage = stage } ≡ b → b.stage ≡ Opened → Stands stage log invs graph numbers stitcher planes spans run → IsAtStart log invs graph numbers stitcher planes spans run
+stands-opened b stage log invs graph numbers stitcher planes spans run e o s =
+    subst (λ (x : Stage). Stands x log invs graph numbers stitcher planes spans run) (ap (λ (x : Bench). x.stage) e ∙ o) s
 
 -- and in one whose inference is done
-pub stands-inferred : (b : Bench) (stage : Stage) (log : Log) (invs : List Invariant) (graph : Parts) (stitcher : ℕ) (planes : Labelling) (spans : Numbers) (run : RunLists)
-    → record { log = log; stage = stage } ≡ b → b.stage ≡ Inferred → Stands stage log invs graph stitcher planes spans run → IsAtEnd log invs graph planes spans run
-stands-inferred b stage log invs graph stitcher planes spans run e o s =
-    subst (λ (x : Stage). Stands x log invs graph stitcher planes spans run) (ap (λ (x : Bench). x.stage) e ∙ o) s
-
--- the run begins with the words of the log
-pub start-begins : (log : Log) (invs : List Invariant) (graph : Parts) (stitcher : ℕ) (planes : Labelling) (spans : Numbers) (run : RunLists)
-    → IsAtStart log invs graph stitcher planes spans run → BeginsWith (typed_words log) invs graph
-start-begins log invs graph stitcher planes spans run s = record { mined = s.mined; first = s.first }
+pub stands-inferred : (b : Bench) (stage : Stage) (log : Log) (invs : List Invariant) (graph : Parts) (numbers : List ℕ) (stitcher : ℕ) (planes : Labelling) (spans : Numbers) (run : RunLists)
+    → record { log = log; stage = stage } ≡ b → b.stage ≡ Inferred → Stands stage log invs graph numbers stitcher planes spans run → IsAtEnd log invs graph numbers planes spans run
+stands-inferred b stage log invs graph numbers stitcher planes spans run e o s =
+    subst (λ (x : Stage). Stands x log invs graph numbers stitcher planes spans run) (ap (λ (x : Bench). x.stage) e ∙ o) s
 
 -- each limit comes exactly where it is passed
 pub partitions-told : (r : Result (Unit {0}) InferLimit) (words : TypedWords) (graph : Parts) (planes : Labelling) (spans : Numbers) (run : RunLists)

@@ -1,16 +1,20 @@
 -- What contracts see of a workbench, and what stands in it at each stage.
-use Rattle.std.specs.Prelude.{◌≡◌, ℕ, List}
+use Rattle.std.specs.Prelude.{◌≡◌, ◌≤◌, ℕ, List, length}
 use Rattle.std.specs.List.{AllByRecursion}
+use Rattle.limits.specs.declared.TheConstants.{MAX_EVENTS}
 use Rattle.invariants.specs.declared.Invariant.{Invariant}
 use Rattle.invariants.specs.declared.records.Model.{Model}
 use Rattle.traces.specs.Words.{Log}
 use Rattle.cell_pool.specs.Numbers.{Numbers}
 use Rattle.cell_pool.specs.RunLists.{RunLists}
 use Rattle.run_history.specs.Records.{splits_of, merges_of, blocks_of}
+use Rattle.partition_model.specs.Assignments.{events}
 use Rattle.partition_model.specs.Listings.{ArePartitions, AreEdges}
 use Rattle.model_shape.specs.Shapes.{listing_of}
+use Rattle.models.specs.Limits.{IsWithinLimits}
 use Rattle.models.specs.Models.{mined_of, typed_words, AreReached}
-use Rattle.partition_graph.specs.Parts.{Parts, start_of}
+use Rattle.partition_graph.specs.Parts.{Parts}
+use Rattle.partition_graph.specs.Spread.{spread, AreAllOf, SharesWords}
 use Rattle.labelling.specs.Labelled.{Labelling}
 use Rattle.infer_core.specs.declared.workbench.Stage.{Stage}
 use Rattle.infer_core.specs.declared.workbench.Stage.TheVariants.{Opened, Inferred, Refused}
@@ -21,24 +25,31 @@ pub record Bench : Type 0 where
   pub log : Log
   pub stage : Stage
 
--- what is mined of the log and its first graph stand ready for a run
-pub record IsAtStart (log : Log) (invs : List Invariant) (graph : Parts) (stitcher : ℕ)
+-- the graph of all traces of a log, of which each has its number here
+abbrev pub whole_of : List ℕ → Parts → Parts
+whole_of numbers graph = record { traces = spread numbers graph.traces; used = graph.used }
+
+-- what is mined of the log and the first graph of its distinct words stand ready for a run
+pub record IsAtStart (log : Log) (invs : List Invariant) (graph : Parts) (numbers : List ℕ) (stitcher : ℕ)
     (planes : Labelling) (spans : Numbers) (run : RunLists) : Type 0 where
   pub mined : invs ≡ mined_of (typed_words log)
-  pub first : graph ≡ start_of log
+  pub within : IsWithinLimits (typed_words log)
+  pub shares : SharesWords log graph numbers
   pub ready : IsReady invs graph stitcher planes spans run
 
--- what is mined of the log stands beside its run
-pub record IsAtEnd (log : Log) (invs : List Invariant) (graph : Parts)
+-- what is mined of the log stands beside its run, whose graph becomes that of the log where it is spread over all traces
+pub record IsAtEnd (log : Log) (invs : List Invariant) (graph : Parts) (numbers : List ℕ)
     (planes : Labelling) (spans : Numbers) (run : RunLists) : Type 0 where
   pub mined : invs ≡ mined_of (typed_words log)
-  pub ended : HasEnded (typed_words log) graph planes spans run
+  pub all : AreAllOf numbers graph.traces
+  pub few : length (events (spread numbers graph.traces)) ≤ MAX_EVENTS
+  pub ended : HasEnded (typed_words log) (whole_of numbers graph) planes spans run
 
 -- what stands at each stage; after a refusal it is good for nothing
-abbrev pub Stands : Stage → Log → List Invariant → Parts → ℕ → Labelling → Numbers → RunLists → Type 0
-Stands Opened log invs graph stitcher planes spans run = IsAtStart log invs graph stitcher planes spans run
-Stands Inferred log invs graph stitcher planes spans run = IsAtEnd log invs graph planes spans run
-Stands Refused log invs graph stitcher planes spans run = Unit {0}
+abbrev pub Stands : Stage → Log → List Invariant → Parts → List ℕ → ℕ → Labelling → Numbers → RunLists → Type 0
+Stands Opened log invs graph numbers stitcher planes spans run = IsAtStart log invs graph numbers stitcher planes spans run
+Stands Inferred log invs graph numbers stitcher planes spans run = IsAtEnd log invs graph numbers planes spans run
+Stands Refused log invs graph numbers stitcher planes spans run = Unit {0}
 
 -- the model says the types of the log, what the graph is and what is reached there, and what the run tells
 pub record Tells (m : Model) (log : Log) (invs : List Invariant) (graph : Parts)

@@ -47,7 +47,10 @@ pub enum Stage {
 pub struct Workbench {
     traces: TraceSet,
     invs: Seq<Invariant>,
+    /// The graph of the distinct words.
     graph: PartGraph,
+    /// For each trace the number of the one that has its word in the graph.
+    numbers: Vec<u32>,
     finder: Finder,
     stitcher: Stitcher,
     planes: Planes,
@@ -66,7 +69,7 @@ impl std::marker::Model for Workbench {
 
     ghost view = { λ b. record { log = b.traces; stage = b.stage } };
 
-    ghost invariant = { λ b. Stands b.stage b.traces b.invs b.graph b.stitcher b.planes b.spans b.log
+    ghost invariant = { λ b. Stands b.stage b.traces b.invs b.graph b.numbers.items b.stitcher b.planes b.spans b.log
         × (length b.flags.items ≡ length b.invs) };
 }
 
@@ -118,13 +121,14 @@ impl Workbench {
     {
         start_is_opened(&traces);
         log_is_typed(&traces);
-        let graph = PartGraph::open(alloc, &traces)?;
+        let (graph, numbers) = PartGraph::open_shared(alloc, &traces)?;
         let invs = mine(alloc, &traces)?;
         let tools = tools_for(alloc, &graph, invs.as_slice())?;
         Ok(Workbench {
             traces,
             invs,
             graph,
+            numbers,
             finder: tools.finder,
             stitcher: tools.stitcher,
             planes: tools.planes,
@@ -184,11 +188,12 @@ impl Workbench {
         ensures value { IfOk result (λ m. IsModelOf m (typed_words (self.now).log)) }
         ensures within { IfOk result (λ m. KeepsLimits m) }
     {
+        let whole = self.graph.spread(alloc, self.numbers.as_slice())?;
         model_of(
             alloc,
             &self.traces,
             self.invs.as_slice(),
-            &self.graph,
+            &whole,
             &self.planes,
             &self.spans,
             &self.log,
@@ -201,7 +206,8 @@ impl Workbench {
         requires { (self.now).stage ≡ Stage.Inferred }
         ensures { IfOk result (λ ids. AreFinal (typed_words (self.now).log) ids) }
     {
-        self.graph.parts(alloc)
+        let whole = self.graph.spread(alloc, self.numbers.as_slice())?;
+        whole.parts(alloc)
     }
 
     /// The traces of the log.

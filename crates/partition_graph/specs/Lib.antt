@@ -12,3 +12,4 @@ pub mod Starts
 pub mod Tables
 pub mod Changes
 pub mod Members
+pub mod Spread

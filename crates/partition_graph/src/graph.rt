@@ -45,6 +45,9 @@ impl PartGraph {
     ghost use Rattle.partition_model.specs.Coarsening.{IsPair};
     ghost use Rattle.partition_graph.specs.Parts.{divided, joined, start_of, HasEdgesBelow, IsUsed};
     ghost use Rattle.partition_graph.specs.Nexts.{IsNextAnswer};
+    ghost use Rattle.partition_graph.specs.Spread.{spread, SharesWords};
+    ghost use Rattle.limits.specs.declared.TheConstants.{MAX_EVENTS};
+    ghost use Rattle.std.specs.Prelude.{All};
     ghost use Rattle.std.specs.Bool.{OnTrue};
 
     /// The graph with one partition for each type, whose id is the type's number. It takes the memory for `MAX_PARTITIONS` ids.
@@ -61,6 +64,26 @@ impl PartGraph {
             tables,
             used,
         })
+    }
+
+    /// The graph of the distinct words of some traces, with one partition for each type as `open` has it, and for each
+    /// of the traces the number of the one that has its word here. It takes the memory for `MAX_PARTITIONS` ids.
+    pub fn open_shared(alloc: Global, traces: &TraceSet) -> Result<(PartGraph, Vec<u32>), AllocError>
+        ensures { IfOk result (λ pair. SharesWords traces.now pair.0 pair.1.items) }
+    {
+        Err(AllocError)
+    }
+
+    /// The graph of the traces with these numbers, one for each number, whose events have the ids that they have here.
+    pub fn spread(&self, alloc: Global, numbers: &[u32]) -> Result<PartGraph, AllocError>
+        requires within { All (λ k. k < length (self.now).traces) numbers.now }
+        requires few { length (events (spread numbers.now (self.now).traces)) ≤ MAX_EVENTS }
+        ensures { IfOk result (λ graph. graph ≡ record {
+            traces = spread numbers.now (self.now).traces;
+            used = (self.now).used;
+        }) }
+    {
+        Err(AllocError)
     }
 
     /// Moves the events of p that are followed at once by one of `next`, or that end their traces where `next` is

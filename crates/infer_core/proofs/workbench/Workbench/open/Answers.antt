@@ -19,8 +19,8 @@ tools_for-requires-clause-named c k inv at =
 
 pub invariant_of-result : goal.invariant_of-result
 invariant_of-result c = (
-  at-start c.args.traces c.in_ok-invs.invs c.in_ok-graph.graph c.in_ok-tools.tools.stitcher c.in_ok-tools.tools.planes c.in_ok-tools.tools.spans c.in_ok-tools.tools.log
-      c.start_is_opened.ensures c.log_is_typed.ensures.within.types.few c.in_ok-graph.ensures c.in_ok-invs.ensures c.in_ok-tools.ensures.stitcher
+  at-start c.args.traces c.in_ok-invs.invs c.in_ok-graph.graph c.in_ok-graph.numbers.items c.in_ok-tools.tools.stitcher c.in_ok-tools.tools.planes c.in_ok-tools.tools.spans c.in_ok-tools.tools.log
+      c.start_is_opened.ensures c.log_is_typed.ensures.within c.in_ok-graph.ensures c.in_ok-invs.ensures c.in_ok-tools.ensures.stitcher
       (c.in_ok-tools.ensures.planes ∙ c.as_slice.ensures) c.in_ok-tools.ensures.spans c.in_ok-tools.ensures.log,
   c.in_ok-tools.ensures.flags ∙ ap (λ (xs : List Invariant). length xs) c.as_slice.ensures,
 )
