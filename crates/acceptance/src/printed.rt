@@ -33,7 +33,7 @@ fn reports_of_small_logs(rt: HostRuntime) -> Result<(), Fail> {
         ("1 a\n1 a\n1 a\n", "INITIAL AlwaysFollowedBy \"a\"\n"),
     ];
     for (log, report) in cases {
-        for piece in [1usize, 7, 1000] {
+        for piece in [1usize, 7, 65_536] {
             let mut setting = plain(log.as_bytes());
             setting.piece = piece;
             let ended = run_in(rt.alloc(), &setting)?;

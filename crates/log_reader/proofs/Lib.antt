@@ -6,3 +6,6 @@ pub mod FirstRefusal
 pub mod OneInput
 pub mod InputByInput
 pub mod WhyRefused
+pub mod Feeds
+pub mod Buffered
+pub mod LineByLine

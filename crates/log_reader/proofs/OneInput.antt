@@ -1,35 +1,30 @@
 -- One input of a log.
-use Rattle.std.proofs.Common.{◌≡◌, ◌⊎◌, ℕ, ◌+◌, ◌<◌, ◌≤◌, List, length, take, drop, nat_lt, Option, Some, None, refl, sym, ap, ap₂, ◌∙◌, arith, inl, inr, ⊎_elim, take_all, length-take}
-use Rattle.std.proofs.lemmas.Bool.{cases_lt}
-use Rattle.std.proofs.lemmas.Bool.Decides.{nat_tests}
-use Rattle.outside.specs.Inputs.{Files, InputState}
-use Rattle.outside.specs.Reading.{IfTold, ReadsInput}
-use Rattle.lines.specs.Lines.{pieces}
-use Rattle.traces.specs.Words.{Event as KeyedEvent}
-use Rattle.log_reader.specs.Reading.{Setting, pieces_refusal, bytes_refusal}
-use Rattle.log_reader.specs.SoFar.{setting_of, IsPiecesRefusal}
-use Rattle.log_reader.specs.Files.{HasContent, HasFileCause}
+use Rattle.std.proofs.Common.{◌≡◌, ◌⊎◌, ℕ, ◌-◌, List, ◌++◌, Option, Some, None, refl, sym, ap, ◌∙◌, subst, inl, inr, ⊎_elim, true≢false, IsTrue}
+use Rattle.std.specs.Io.KnownBytes.{Consumes}
+use Rattle.limits.specs.declared.TheConstants.{MAX_INPUT_BYTES}
+use Rattle.outside.specs.Counts.{Rose, next_call}
+use Rattle.outside.specs.Inputs.{Files, InputState, TellsFile}
+use Rattle.outside.specs.Reading.{IfTold, LosesFront}
+use Rattle.log_reader.specs.LineReader.{SeenLines}
+use Rattle.log_reader.specs.Files.{HasContent, HasFileCause, HasLinesCause, FailsWithin, RefusesLines, known_rest}
 use Rattle.log_reader.specs.declared.reader.LogReader.{LogReader}
 use Rattle.log_reader.specs.declared.refusal.ReadError.{ReadError}
 use Rattle.log_reader.specs.declared.refusal.ReadError.TheVariants as refused
 
--- the bytes of the input, of which some front was read
-told-content : (files : Option Files) (name bytes : List ℕ) (room : ℕ) (rest : Option (List ℕ)) → length bytes ≤ room + 1
-    → IfTold files name (λ content. (bytes ≡ take (room + 1) content) × (rest ≡ Some (drop (room + 1) content)))
-    → (content : List ℕ) × HasContent files name content × (bytes ≡ take (room + 1) content)
-told-content None name bytes room rest short told = (bytes, tt, sym (take_all (room + 1) bytes short))
-told-content (Some files) name bytes room rest short told = (told.0, told.1, told.2.0)
+-- where files are told, what was read and what is left are the bytes of the named one
+told-content : (files : Option Files) (name : List ℕ) (opened rest : Option (List ℕ)) (bytes : List ℕ) → TellsFile files name opened → Consumes opened rest bytes
+    → HasContent files name (bytes ++ known_rest rest)
+told-content None name opened rest bytes tells read = tt
+told-content (Some files) name None rest bytes tells read = absurd (true≢false (sym tells.0))
+told-content (Some files) name (Some content) None bytes tells read = absurd read
+told-content (Some files) name (Some content) (Some rest) bytes tells read = sym tells.1 ∙ ap (λ (x : List ℕ). Some x) read
 
-same-cut : (room : ℕ) (bytes content : List ℕ) → bytes ≡ take (room + 1) content → nat_lt room (length bytes) ≡ nat_lt room (length content)
-same-cut room bytes content front = ⊎_elim
-    (λ (over : room < length content). let past : room < length bytes = omega (arith, ap length front, length-take (room + 1) content) in grind (arith, nat_tests))
-    (λ (within : length content ≤ room). let same : length bytes ≡ length content = ap length (front ∙ take_all (room + 1) content (omega arith)) in grind (arith, nat_tests))
-    (cases_lt room (length content))
-
-same-refusal : (s : Setting) (number section : ℕ) (events : List KeyedEvent) (room : ℕ) (bytes content : List ℕ) → bytes ≡ take (room + 1) content
-    → pieces_refusal s number (nat_lt room (length bytes)) section events 1 (pieces bytes) ≡ bytes_refusal s number section events room content
-same-refusal s number section events room bytes content front =
-    ap₂ (λ cut bs. pieces_refusal s number cut section events 1 (pieces bs)) (same-cut room bytes content front) front
+-- a front of it is gone
+told-front : (files : Option Files) (name : List ℕ) (opened rest : Option (List ℕ)) (room : ℕ) → TellsFile files name opened → LosesFront opened rest room
+    → IfTold files name (λ content. LosesFront (Some content) rest room)
+told-front None name opened rest room tells loses = tt
+told-front (Some files) name None rest room tells loses = absurd (true≢false (sym tells.0))
+told-front (Some files) name (Some content) rest room tells loses = (content, sym tells.1, loses)
 
 is-memory : (e : ReadError) → (e ≡ refused.Memory) ⊎ (e ≡ refused.Memory → ⊥)
 is-memory (refused.ReadFault n) = inr (λ is. cc)
@@ -43,22 +38,28 @@ is-memory (refused.EventLimit at) = inr (λ is. cc)
 is-memory refused.InputLimit = inr (λ is. cc)
 is-memory refused.Memory = inl refl
 
--- a file whose pieces are refused
-pub file-refused : (before after : InputState) (name : List ℕ) (number room : ℕ) (bytes : List ℕ) (old : LogReader) (e : ReadError)
-    → ReadsInput before after name room bytes → IsPiecesRefusal number (nat_lt room (length bytes)) (pieces bytes) old e → HasFileCause before after name number room old e
-file-refused before after name number room bytes old e reads refusal =
-    let s = setting_of old in
-    let content = told-content before.files name bytes room after.rest reads.short reads.told in
-    ⊎_elim
+-- a file whose lines are refused, or could not be read
+pub file-refused : (before opened after : InputState) (name : List ℕ) (number : ℕ) (first : SeenLines) (old : LogReader) (e : ReadError)
+    → TellsFile before.files name opened.rest → opened.mark ≡ before.may_fail name → opened.opens ≡ next_call before.opens → opened.faults ≡ before.faults
+    → after.opens ≡ opened.opens → after.mark ≡ opened.mark → HasLinesCause opened after number first old e
+    → HasFileCause before after name number (MAX_INPUT_BYTES - first.taken) old e
+file-refused before opened after name number first old e tells mark opens faults stay stays cause = ⊎_elim
+    (λ (fails : FailsWithin opened after number first e). inr (inl (record {
+      answer = fails.answer;
+      cause = inl (
+        subst (λ n. Rose n after.faults) faults fails.rose,
+        subst IsTrue mark fails.mark,
+        inr (record { opens = stay ∙ opens; mark = stays ∙ mark; left = told-front before.files name opened.rest after.rest (MAX_INPUT_BYTES - first.taken) tells fails.left }),
+      );
+    })))
+    (λ (refuses : RefusesLines opened after number first old e). ⊎_elim
     (λ memory. inl memory)
     (λ other. inr (inr (record {
-      opens = reads.opens;
-      faults = reads.faults;
-      content = content.0;
-      told = content.1;
-      refusal = λ events so_far. ⊎_elim
-          (λ memory. absurd (other memory))
-          (λ is. sym (same-refusal s number old.log.section events room bytes content.0 content.2) ∙ is)
-          (refusal events so_far);
+      opens = stay ∙ opens;
+      faults = refuses.faults ∙ faults;
+      content = refuses.bytes ++ known_rest after.rest;
+      told = told-content before.files name opened.rest after.rest refuses.bytes tells refuses.read;
+      refusal = λ events so_far. ⊎_elim (λ memory. absurd (other memory)) (λ is. is) (refuses.refusal events so_far);
     })))
-    (is-memory e)
+    (is-memory e))
+    cause

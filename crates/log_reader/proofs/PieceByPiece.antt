@@ -1,5 +1,5 @@
 -- Pieces of a file, one by one.
-use Rattle.std.proofs.Common.{◌≡◌, ℕ, ◌+◌, ◌<◌, ◌≤◌, ◌&&◌, ◌==◌, Bool, true, false, List, [], ◌∷◌, ◌++◌, length, nat_lt, cond, Option, Some, None, refl, sym, ap, ap₂, ◌∙◌, subst, arith, inl, ⊎_elim, true≢false, append_assoc, IsUtf8, encode_utf8_all}
+use Rattle.std.proofs.Common.{◌≡◌, ℕ, ◌+◌, ◌<◌, ◌≤◌, ◌&&◌, ◌==◌, Bool, false, List, [], ◌∷◌, ◌++◌, length, nat_lt, cond, Option, Some, None, refl, sym, ap, ap₂, ◌∙◌, subst, arith, inl, ⊎_elim, append_assoc, IsUtf8, encode_utf8_all}
 use Rattle.std.proofs.lemmas.Bool.{cases_Bool, cond-true, cond-false}
 use Rattle.std.proofs.lemmas.Bool.Decides.{nat_tests}
 use Rattle.std.proofs.lemmas.Option.{none-some}
@@ -8,7 +8,7 @@ use Rattle.std.specs.Str.Lossy.{utf8_lossy}
 use Rattle.bstr.specs.Utf8.{lossy_chars}
 use Rattle.bstr.proofs.lemmas.LossyLemmas.{lossy_chars-utf8_lossy}
 use Rattle.limits.specs.declared.TheConstants.{MAX_LINE_BYTES}
-use Rattle.lines.specs.Lines.{pieces, on_first, line_of, text_of}
+use Rattle.lines.specs.Lines.{pieces, on_first}
 use Rattle.traces.specs.Words.{Event as KeyedEvent, Gathering, event_count_of}
 use Rattle.traces.proofs.Grown.{count-gathered_of}
 use Rattle.log_reader.specs.Reading as spec
@@ -17,7 +17,7 @@ use Rattle.log_reader.specs.declared.refusal.At.{At}
 use Rattle.log_reader.specs.declared.refusal.ReadError.{ReadError}
 use Rattle.log_reader.specs.declared.refusal.ReadError.TheVariants as refused
 use Rattle.log_reader.specs.declared.reader.LogReader.{LogReader}
-use Rattle.log_reader.specs.SoFar.{decider_view, setting_of, IsGatheredOf, IsReady, IsRefusal, TakesLine, refusal_in, piece_refusal_in, ReadsText, ReadsPiece, IsPiecesRefusal}
+use Rattle.log_reader.specs.SoFar.{decided_line, decider_view, setting_of, IsGatheredOf, IsReady, IsRefusal, TakesLine, refusal_in, piece_refusal_in, ReadsText, ReadsPiece, IsPiecesRefusal}
 
 -- one piece
 
@@ -25,17 +25,16 @@ short : (n : ℕ) → n ≤ MAX_LINE_BYTES → nat_lt MAX_LINE_BYTES n ≡ false
 short n h = grind (arith, nat_tests)
 
 -- a line that is UTF-8 is its own text
-pub read-as_it_stands : (piece line text : List ℕ) → line ≡ line_of piece → text ≡ line → IsUtf8 line → text ≡ text_of piece
-read-as_it_stands piece line text same reads utf8 = reads ∙ (sym (utf8_lossy-IsUtf8 line utf8) ∙ ap utf8_lossy same)
+pub read-as_it_stands : (line text : List ℕ) → text ≡ line → IsUtf8 line → text ≡ utf8_lossy line
+read-as_it_stands line text reads utf8 = reads ∙ sym (utf8_lossy-IsUtf8 line utf8)
 
--- a line that is decoded is the text of its piece
-pub read-as_decoded : (piece line text : List ℕ) → line ≡ line_of piece → text ≡ encode_utf8_all (lossy_chars line) → text ≡ text_of piece
-read-as_decoded piece line text same reads = reads ∙ (lossy_chars-utf8_lossy line ∙ ap utf8_lossy same)
+-- a line that is decoded is its text
+pub read-as_decoded : (line text : List ℕ) → text ≡ encode_utf8_all (lossy_chars line) → text ≡ utf8_lossy line
+read-as_decoded line text reads = reads ∙ lossy_chars-utf8_lossy line
 
--- a piece with bytes in its line is what its text is
-pub piece-decided : (form : Form) (piece line text : List ℕ) → line ≡ line_of piece → (length line == 0) ≡ false → text ≡ text_of piece → decided form text ≡ decided_piece form piece
-piece-decided form piece line text same some is =
-    ap (decided form) is ∙ sym (cond-false _ _ _ (subst (λ l. (length l == 0) ≡ false) same some))
+-- a line with bytes is what its text is
+pub line-decided : (form : Form) (line text : List ℕ) → (length line == 0) ≡ false → text ≡ utf8_lossy line → decided form text ≡ decided_line form line
+line-decided form line text some is = ap (decided form) is ∙ sym (cond-false _ _ _ some)
 
 -- the refusal of a piece that is short enough is that of its line
 pub piece-in : (s : Setting) (at : At) (log : Gathering) (piece : List ℕ) (d : Decided) → length piece ≤ MAX_LINE_BYTES → d ≡ decided_piece s.form piece → refusal_in s.ignore at log d ≡ piece_refusal_in s at log piece
@@ -84,11 +83,6 @@ some-pieces (b ∷ bytes) some = ⊎_elim
     (λ feed. subst (λ ps. 0 < length ps) (sym (cond-true (b == 10) ([] ∷ pieces bytes) (on_first b (pieces bytes)) feed)) (omega arith))
     (λ other. subst (λ ps. 0 < length ps) (sym (cond-false (b == 10) ([] ∷ pieces bytes) (on_first b (pieces bytes)) other)) (some-first b (pieces bytes)))
     (cases_Bool (b == 10))
-
--- no piece is left exactly where no byte is
-pub no-pieces : (bytes : List ℕ) → (length (pieces bytes) == 0) ≡ (length bytes == 0)
-no-pieces [] = refl
-no-pieces (b ∷ bytes) = let some : 0 < length (pieces (b ∷ bytes)) = some-pieces (b ∷ bytes) (omega arith) in grind (arith, nat_tests)
 
 -- a file that is read up to a piece
 
@@ -173,15 +167,6 @@ way-refused number cut all old now line piece rest after e way is uncut refusal 
     subst (λ o. IsRefusal o e)
     (sym (part.refusal ∙ (ap (pieces_refusal s number cut now.log.section es line) is ∙ cond-false (cut && length after == 0) (Some (limit_refusal at piece)) (first_of (piece_refusal s at es piece) next) uncut)))
     (first-of (piece_refusal s at es piece) next e here)
-
--- where the file is cut, bytes follow
-pub some-after : (cut : Bool) (after : List ℕ) → cut ≡ true → (cut && length (pieces after) == 0) ≡ false → 0 < length after
-some-after cut [] is uncut = absurd (true≢false (sym is ∙ (sym (and-true cut) ∙ uncut)))
-  where
-    and-true : (b : Bool) → (b && true) ≡ b
-    and-true true = refl
-    and-true false = refl
-some-after cut (b ∷ after) is uncut = omega arith
 
 -- a piece takes a byte or more, and ends a section at most
 pub few-more : (now new : LogReader) (at : At) (piece : List ℕ) → ReadsPiece at piece now new → (after before limit : ℕ) → after < before → now.log.section + before ≤ limit → new.log.section + after ≤ limit

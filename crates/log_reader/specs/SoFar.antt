@@ -1,10 +1,11 @@
 -- A log that is read line by line: its events so far, and what one line more makes of them.
-use Rattle.std.specs.Prelude.{ℕ, ◌≡◌, ◌≤◌, ◌⊎◌, Bool, List, ◌++◌, length, nat_lt, Option, Some, None, if◌then◌else◌}
+use Rattle.std.specs.Prelude.{ℕ, ◌≡◌, ◌≤◌, ◌⊎◌, ◌==◌, Bool, List, ◌++◌, length, nat_lt, Option, Some, None, if◌then◌else◌}
+use Rattle.std.specs.Str.Lossy.{utf8_lossy}
 use Rattle.limits.specs.declared.TheConstants.{MAX_EVENTS, MAX_LINE_BYTES, MAX_TYPES}
 use Rattle.traces.specs.Words.{Event as KeyedEvent, Gathering, gathered_of, event_count_of}
 use Rattle.line_rules.specs.Views.{rules_in, matched_rules}
 use Rattle.log_reader.specs.Reading as spec
-use Rattle.log_reader.specs.Reading.{Setting, Decided, decided_piece, event_refusal, key_file, line_events, setting}
+use Rattle.log_reader.specs.Reading.{Setting, Decided, decided, decided_piece, event_refusal, key_file, line_events, setting}
 use Rattle.log_reader.specs.Reading.{piece_events, pieces_refusal, section_after, section_at_end}
 use Rattle.log_reader.specs.declared.decider.Decider.{Decider}
 use Rattle.log_reader.specs.declared.decider.Decider.TheVariants.{Plain, Rules}
@@ -69,6 +70,10 @@ setting_of reader = setting (decider_view reader.decider) reader.log.ignore read
 pub record IsReady (reader : LogReader) : Type 0 where
   pub matchers : HasMatchers reader.decider
   pub within : IsWithin reader.log.builder
+
+-- what a line is, by its bytes; one without bytes is skipped
+abbrev pub decided_line : spec.Form → List ℕ → Decided
+decided_line form line = if length line == 0 then spec.Skip else decided form (utf8_lossy line)
 
 -- the refusal of a piece after what was gathered
 abbrev pub piece_refusal_in : Setting → At → Gathering → List ℕ → Option ReadError

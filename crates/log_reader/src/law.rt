@@ -1,8 +1,11 @@
 //! Laws over the definitions.
-ghost use Rattle.std.specs.Prelude.{◌≡◌, List, ℕ, Bool};
+ghost use Rattle.std.specs.Prelude.{◌≡◌, ◌++◌, List, [], ℕ, Bool, Some};
+ghost use Rattle.outside.specs.Inputs.{InputState};
 ghost use Rattle.log_reader.specs.Inputs.{file_past};
 ghost use Rattle.line_rules.specs.Rules.{Rule, AreAlike};
 ghost use Rattle.log_reader.specs.Reading.{Rules, Setting, events_of, first_refusal, setting};
+ghost use Rattle.log_reader.specs.LineReader.{SeenLines, GivesLine, GivesNone, RefusesPiece, TellsLine, refusal_to_come};
+ghost use Rattle.log_reader.specs.declared.line_reader.LineError.{LineError};
 ghost use Rattle.log_reader.specs.LogLines.{AllTaken, TellsPast, TellsRefusal, events_at, lines_of};
 
 /// Rules that are alike read each log alike: they have one first refusal, and the same events.
@@ -37,4 +40,18 @@ pub fn a_refusal_is_of_the_first_line()
 /// they are not. Where there is none, all files together are within.
 pub fn one_file_passes_the_limit()
     ensures { (room : ℕ) (files : List (List ℕ)) → TellsPast room files (file_past room files) }
+{}
+
+/// What the answers of [`Lines::next`](crate::Lines::next) say of an input whose rest is told: the given line is the first
+/// of the bytes to come, in which no refusal comes first, and those after it are still to come; without a line no byte is
+/// to come; and a refusal is the first in them.
+pub fn lines_come_in_order()
+    ensures line { (old new : SeenLines) (before after : InputState) (rest : List ℕ) →
+        before.rest ≡ Some rest → GivesLine old new before after
+        → TellsLine old new rest after.rest }
+    ensures none { (old new : SeenLines) (before after : InputState) (rest : List ℕ) →
+        before.rest ≡ Some rest → GivesNone old new before after → old.buffered ++ rest ≡ [] }
+    ensures refusal { (old new : SeenLines) (before after : InputState) (rest : List ℕ) (e : LineError) →
+        before.rest ≡ Some rest → RefusesPiece old new before after e
+        → refusal_to_come old.taken (old.buffered ++ rest) ≡ Some e }
 {}

@@ -4,6 +4,9 @@
 mod decider;
 mod form;
 mod law;
+mod line_reader;
+#[cfg(test)]
+mod line_tests;
 mod reader;
 mod reading;
 mod refusal;
@@ -14,7 +17,8 @@ mod tests;
 pub use form::Form;
 pub use law::{
     a_refusal_is_of_the_first_line, alike_rules_read_alike, events_are_those_of_lines,
-    one_file_passes_the_limit,
+    lines_come_in_order, one_file_passes_the_limit,
 };
+pub use line_reader::{LineError, Lines};
 pub use reading::read_log;
 pub use refusal::{At, ReadError};

@@ -1,19 +1,15 @@
-//! Reads the lines of the files of a log.
-ghost use Rattle.std.specs.Prelude.{◌≡◌, ◌<◌, ◌≤◌, ◌+◌, ◌-◌, ◌^◌, length, OnOk, IfOk, IfErr, [], true, false};
-ghost use Rattle.lines.specs.Lines.{pieces};
+//! Takes in the lines of the files of a log.
+ghost use Rattle.std.specs.Prelude.{◌≡◌, ◌<◌, ◌≤◌, ◌-◌, ◌^◌, OnOk, IfOk, IfErr, []};
 ghost use Rattle.traces.specs.Words.{gathered_of, in_order};
 ghost use Rattle.log_reader.specs.Views.{form_view};
-ghost use Rattle.log_reader.specs.Reading.{decided, limit_refusal, next_section, setting};
-ghost use Rattle.log_reader.specs.SoFar.{IsReady, IsRefusal, piece_refusal_in, refusal_in, setting_of};
-ghost use Rattle.log_reader.specs.SoFar.{IsPiecesRefusal, ReadsPiece, ReadsPieces, ReadsText};
+ghost use Rattle.log_reader.specs.Reading.{decided, next_section, setting};
+ghost use Rattle.log_reader.specs.SoFar.{IsReady, IsRefusal, ReadsText, decided_line, refusal_in, setting_of};
 
 use crate::decider::Decider;
 use crate::form::Form;
 use crate::refusal::{At, ReadError};
 use crate::so_far::LogSoFar;
 use bstr::ByteSlice;
-use limits::MAX_LINE_BYTES;
-use lines::{next_piece, without_return};
 use std::alloc::{AllocError, Global};
 use std::str;
 use traces::{Builder, TraceSet};
@@ -25,17 +21,6 @@ pub struct LogReader<'r> {
     pub decider: Decider<'r>,
     /// The lines that were read.
     pub log: LogSoFar,
-}
-
-/// The refusal of the piece in which the first byte past the limit on all input stands.
-fn refusal_at_limit(at: At, piece: &[u8]) -> ReadError
-    ensures { result ≡ limit_refusal at piece.now }
-{
-    if piece.len() > MAX_LINE_BYTES {
-        ReadError::LineTooLong(at)
-    } else {
-        ReadError::InputLimit
-    }
 }
 
 impl<'r> LogReader<'r> {
@@ -80,18 +65,16 @@ impl<'r> LogReader<'r> {
         }
     }
 
-    /// Takes in the line of a piece. Text that is read as it stands takes no memory of its own.
-    fn read_piece(&mut self, alloc: Global, at: At, piece: &[u8]) -> Result<(), ReadError>
+    /// Takes in a line. Text that is read as it stands takes no memory of its own.
+    pub fn read_line(&mut self, alloc: Global, at: At, line: &[u8]) -> Result<(), ReadError>
         requires ready { IsReady self.old }
         requires room { self.old.log.section < 2 ^ 32 - 1 }
-        ensures ok { OnOk result (ReadsPiece at piece.now self.old self.new) }
+        ensures ok { OnOk result
+            (ReadsText at (decided_line (setting_of self.old).form line.now) self.old self.new) }
         ensures err { IfErr result (IsRefusal
-            (piece_refusal_in (setting_of self.old) at self.old.log.builder piece.now)) }
+            (refusal_in (setting_of self.old).ignore at self.old.log.builder
+            (decided_line (setting_of self.old).form line.now))) }
     {
-        if piece.len() > MAX_LINE_BYTES {
-            return Err(ReadError::LineTooLong(at));
-        }
-        let line = without_return(piece);
         if line.is_empty() {
             return Ok(());
         }
@@ -102,40 +85,6 @@ impl<'r> LogReader<'r> {
             Ok(text) => self.read_text(at, &text),
             Err(_) => Err(ReadError::Memory),
         }
-    }
-
-    /// Takes in the lines of the file with this number. Where the limit on all input cuts the file, its last
-    /// piece is the one with the first byte past the limit, and the file is refused.
-    pub fn read_pieces(
-        &mut self,
-        alloc: Global,
-        number: u32,
-        bytes: &[u8],
-        cut: bool,
-    ) -> Result<(), ReadError>
-        requires ready { IsReady self.old }
-        requires room { self.old.log.section + length bytes.now < 2 ^ 32 - 1 }
-        requires past { cut ≡ true → 0 < length bytes.now }
-        ensures uncut { OnOk result (cut ≡ false) }
-        ensures ok { OnOk result (ReadsPieces number cut (pieces bytes.now) self.old self.new) }
-        ensures few { OnOk result (self.new.log.section ≤ self.old.log.section + length bytes.now) }
-        ensures err { IfErr result (IsPiecesRefusal number cut (pieces bytes.now) self.old) }
-    {
-        let mut rest = bytes;
-        let mut line: u32 = 0;
-        while !rest.is_empty() {
-            let (piece, after) = next_piece(rest);
-            line += 1;
-            let at = At { file: number, line };
-            if cut && after.is_empty() {
-                return Err(refusal_at_limit(at, piece));
-            }
-            match self.read_piece(alloc, at, piece) {
-                Ok(()) => rest = after,
-                Err(error) => return Err(error),
-            }
-        }
-        Ok(())
     }
 
     /// Ends a file: the sections of the next one are counted anew, unless files are joined.

@@ -1,18 +1,19 @@
 //! Reads the traces of a log.
-ghost use Rattle.std.specs.Prelude.{◌≡◌, ◌<◌, ◌≤◌, ◌+◌, ◌^◌, length, slice_get, Some, Err, IfOk, IfErr};
+ghost use Rattle.std.specs.Prelude.{◌≡◌, ◌<◌, ◌≤◌, ◌+◌, ◌-◌, ◌^◌, length, slice_get, Some, Err, IfOk, IfErr, OnOk};
 ghost use Rattle.limits.specs.declared.TheConstants.{MAX_INPUT_BYTES};
 ghost use Rattle.outside.specs.Inputs.{Stays};
-ghost use Rattle.log_reader.specs.Files.{ReadsFile, HasFileCause};
+ghost use Rattle.log_reader.specs.Files.{ReadsFile, ReadsLines, HasFileCause, HasLinesCause, IsBetween};
 ghost use Rattle.log_reader.specs.Inputs.{ReadsLog, HasReadCause};
 ghost use Rattle.log_reader.specs.Reading.{setting};
 ghost use Rattle.log_reader.specs.SoFar.{IsReady};
 ghost use Rattle.log_reader.specs.Views.{form_view, names_in};
 
 use crate::form::Form;
+use crate::line_reader::{LineError, Lines};
 use crate::reader::LogReader;
-use crate::refusal::ReadError;
+use crate::refusal::{At, ReadError};
 use limits::MAX_INPUT_BYTES;
-use outside::{InputError, Inputs, read_input};
+use outside::{Inputs, OpenError};
 use std::alloc::Global;
 use traces::{TraceSet, gathering_in_order_is_the_log};
 
@@ -27,45 +28,93 @@ fn name_at(names: &[String], number: usize) -> &str
     }
 }
 
-/// Takes in the lines of the input with this number, where all inputs that are left may have so many
-/// bytes, and says how many are left after it.
+/// Takes in the lines of the open input, which has this number.
+fn read_lines<I: Inputs>(
+    alloc: Global,
+    inputs: &mut I,
+    lines: &mut Lines,
+    reader: &mut LogReader<'_>,
+    number: u32,
+) -> Result<(), ReadError>
+    requires ready { IsReady reader.old }
+    requires between { IsBetween lines.old }
+    requires first { (lines.old).number ≡ 0 }
+    requires few { reader.old.log.section ≤ (lines.old).taken }
+    ensures stays { Stays (I.state inputs.old) (I.state inputs.new) }
+    ensures mark { (I.state inputs.new).mark ≡ (I.state inputs.old).mark }
+    ensures opens { (I.state inputs.new).opens ≡ (I.state inputs.old).opens }
+    ensures ok { OnOk result (ReadsLines (I.state inputs.old) (I.state inputs.new) number
+        lines.old lines.new reader.old reader.new) }
+    ensures err { IfErr result
+        (HasLinesCause (I.state inputs.old) (I.state inputs.new) number lines.old reader.old) }
+    ensures memory { result ≡ Err ReadError.Memory
+        → (I.state inputs.new).faults ≡ (I.state inputs.old).faults }
+{
+    'lines: loop {
+        match lines.next(inputs) {
+            Ok(true) => {}
+            Ok(false) => return Ok(()),
+            Err(LineError::ReadFault) => return Err(ReadError::ReadFault(number)),
+            Err(LineError::TooLong) => {
+                let line = lines.number() + 1;
+                return Err(ReadError::LineTooLong(At { file: number, line }));
+            }
+            Err(LineError::InputLimit) => return Err(ReadError::InputLimit),
+        }
+        let at = At {
+            file: number,
+            line: lines.number(),
+        };
+        match reader.read_line(alloc, at, lines.line()) {
+            Ok(()) => {}
+            Err(error) => return Err(error),
+        }
+        if !lines.ends_with_feed() {
+            return Ok(());
+        }
+    }
+}
+
+/// Takes in the lines of the input with this number, line by line. The bytes of all inputs so far count against the limit.
 fn read_file<I: Inputs>(
     alloc: Global,
     inputs: &mut I,
+    lines: &mut Lines,
     reader: &mut LogReader<'_>,
     name: &str,
     number: u32,
-    room: usize,
-) -> Result<usize, ReadError>
+) -> Result<(), ReadError>
     requires ready { IsReady reader.old }
-    requires few { reader.old.log.section + room ≤ MAX_INPUT_BYTES }
+    requires between { IsBetween lines.old }
+    requires few { reader.old.log.section ≤ (lines.old).taken }
     ensures stays { Stays (I.state inputs.old) (I.state inputs.new) }
-    ensures ok { IfOk result (λ left.
-        ReadsFile (I.state inputs.old) (I.state inputs.new) name.now number room left
+    ensures ok { OnOk result (ReadsFile (I.state inputs.old) (I.state inputs.new) name.now number
+        (MAX_INPUT_BYTES - (lines.old).taken) (MAX_INPUT_BYTES - (lines.new).taken)
         reader.old reader.new) }
-    ensures err { IfErr result
-        (HasFileCause (I.state inputs.old) (I.state inputs.new) name.now number room reader.old) }
+    ensures between { OnOk result (IsBetween lines.new) }
+    ensures err { IfErr result (HasFileCause (I.state inputs.old) (I.state inputs.new) name.now
+        number (MAX_INPUT_BYTES - (lines.old).taken) reader.old) }
     ensures memory { result ≡ Err ReadError.Memory
         → (I.state inputs.new).faults ≡ (I.state inputs.old).faults }
     ensures opens { (I.state inputs.new).opens ≤ (I.state inputs.old).opens + 1 }
 {
-    let bytes = match read_input(alloc, inputs, name, room) {
-        Ok(bytes) => bytes,
-        Err(InputError::Missing) => return Err(ReadError::ReadFault(number)),
-        Err(InputError::Fault) => return Err(ReadError::ReadFault(number)),
-        Err(InputError::Memory) => return Err(ReadError::Memory),
-    };
-    let cut = bytes.len() > room;
-    match reader.read_pieces(alloc, number, &bytes, cut) {
+    match inputs.open(name) {
+        Ok(()) => {}
+        Err(OpenError::Missing) => return Err(ReadError::ReadFault(number)),
+        Err(OpenError::Failed) => return Err(ReadError::ReadFault(number)),
+    }
+    lines.start();
+    match read_lines(alloc, inputs, lines, reader, number) {
         Ok(()) => {}
         Err(error) => return Err(error),
     }
     reader.end_file();
-    Ok(room - bytes.len())
+    Ok(())
 }
 
 /// The types and the traces of the log in the named inputs, in this order. Without any name it is read
-/// from standard input, as input 0. There are fewer than 2^32 names.
+/// from standard input, as input 0. There are fewer than 2^32 names. Lines are taken in as they are read, and of an input
+/// no more than a buffer of a fixed size is held.
 ///
 /// Lines are decided by the form. A line that nothing decides is refused, or with `ignore` skipped; one whose
 /// time is bad is refused either way. With `join` the inputs are one log: traces go on from one to the next,
@@ -102,11 +151,13 @@ pub fn read_log<I: Inputs>(
     let Ok(mut reader) = LogReader::new(alloc, form, ignore, join) else {
         return Err(ReadError::Memory);
     };
-    let mut room = MAX_INPUT_BYTES;
+    let Ok(mut lines) = Lines::make(alloc) else {
+        return Err(ReadError::Memory);
+    };
     for number in 0..names.len().max(1) {
         let name = name_at(names, number);
-        match read_file(alloc, inputs, &mut reader, name, number as u32, room) {
-            Ok(left) => room = left,
+        match read_file(alloc, inputs, &mut lines, &mut reader, name, number as u32) {
+            Ok(()) => {}
             Err(error) => return Err(error),
         }
     }

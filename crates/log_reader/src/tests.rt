@@ -73,7 +73,11 @@ fn two_files_are_apart_or_joined(rt: HostRuntime) -> Result<(), Fail> {
         (1, "", &[2]),
     ];
     let joined: &[(u32, &str, &[u16])] = &[(0, "1", &[2, 4, 3]), (0, "2", &[3]), (0, "", &[2])];
-    for (piece, join, traces) in [(1usize, false, apart), (7, false, apart), (7, true, joined)] {
+    for (piece, join, traces) in [
+        (1usize, false, apart),
+        (7, true, joined),
+        (65_536, false, apart),
+    ] {
         assert!(rt; piece > 0);
         let first = "1 a\n2 b\n1 c d";
         let second = "1 b\r\n\n\r\n a\n";

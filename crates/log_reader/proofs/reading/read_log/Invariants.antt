@@ -1,8 +1,13 @@
+use Rattle.std.proofs.Common.{◌-◌}
+use Rattle.limits.specs.declared.TheConstants.{MAX_INPUT_BYTES}
+use Rattle.log_reader.specs.Files.{IsBetween}
 use Rattle.log_reader.specs.Reading.{setting}
 use Rattle.log_reader.specs.Views.{form_view, names_in}
 use Rattle.log_reader.proofs.InputByInput.{IsUpTo}
 use Rattle.log_reader.proofs.reading.read_log.Given as goal
 
 abbrev pub invariant-loop-number : goal.invariant-loop-number
-invariant-loop-number g l =
-    IsUpTo (setting (form_view l.fn.form) l.fn.ignore l.fn.join) (names_in l.names) l.number (g.I.Inputs.state l.fn.inputs) (g.I.Inputs.state l.inputs) l.reader l.room
+invariant-loop-number g l = record {
+  inputs : IsUpTo (setting (form_view l.fn.form) l.fn.ignore l.fn.join) (names_in l.names) l.number (g.I.Inputs.state l.fn.inputs) (g.I.Inputs.state l.inputs) l.reader (MAX_INPUT_BYTES - l.lines.taken);
+  lines : IsBetween l.lines;
+}

@@ -1,0 +1,85 @@
+use Rattle.std.proofs.Common.{◌≡◌, ◌+◌, Bool, true, false, Result, Ok, Err, [], refl, sym, ap, ◌∙◌, subst, inl, inr}
+use Rattle.log_reader.specs.LineReader.{SeenLines, NextGives, GivesLine, GivesNone, FailsToRead, RefusesPiece}
+use Rattle.log_reader.specs.Reading.{at_line}
+use Rattle.log_reader.specs.SoFar.{decided_line, refusal_in, setting_of, IsRefusal, ReadsText}
+use Rattle.log_reader.specs.declared.line_reader.LineError.{LineError}
+use Rattle.log_reader.specs.declared.line_reader.LineError.TheVariants.{ReadFault, TooLong, InputLimit}
+use Rattle.log_reader.specs.declared.refusal.ReadError.TheVariants as refused
+use Rattle.log_reader.proofs.LineByLine.{reading-begins, reading-more, reading-ends, reading-ends-in-line, reading-refused, reading-refused-at, reading-fails}
+use Rattle.log_reader.proofs.reading.read_lines.Goals as goal
+
+pub lines-init : goal.lines-init
+lines-init g c =
+    reading-begins c.args.number (g.I.Inputs.state c.args.inputs.now) c.args.lines.now c.args.reader.now c.requires.ready c.requires.between.nothing c.requires.first c.requires.between.refused c.requires.between.taken
+
+pub returns-in-Ok-false-clause-ok : goal.returns-in-Ok-false-clause-ok
+returns-in-Ok-false-clause-ok g c =
+    let before = g.I.Inputs.state c.lines.inputs in
+    let after = g.I.Inputs.state c.next.new.inputs in
+    let is : ◌≡◌ {A = Result Bool LineError} c.next.result (Ok false) = cc (c.in-Ok-false.is) in
+    let none : GivesNone c.lines.lines c.next.new.self before after = subst (λ r. NextGives c.lines.lines before r c.next.new.self after) is c.next.ensures.gives in
+    reading-ends c.args.number (g.I.Inputs.state c.args.inputs.now) before after c.args.lines.now c.lines.lines c.next.new.self c.args.reader.now c.lines.reader c.lines.invariant none
+
+pub returns-in-Err-ReadFault-clause-err : goal.returns-in-Err-ReadFault-clause-err
+returns-in-Err-ReadFault-clause-err g c =
+    let before = g.I.Inputs.state c.lines.inputs in
+    let after = g.I.Inputs.state c.next.new.inputs in
+    let is : ◌≡◌ {A = Result Bool LineError} c.next.result (Err ReadFault) = cc (c.in-Err-ReadFault.is, c.in-Err-ReadFault.field-0-is) in
+    let fails : FailsToRead c.lines.lines c.next.new.self before after = subst (λ r. NextGives c.lines.lines before r c.next.new.self after) is c.next.ensures.gives in
+    inl (reading-fails c.args.number (g.I.Inputs.state c.args.inputs.now) before after c.args.lines.now c.lines.lines c.next.new.self c.args.reader.now c.lines.reader (refused.ReadFault c.args.number) c.lines.invariant fails refl)
+
+pub returns-in-Err-TooLong-clause-err : goal.returns-in-Err-TooLong-clause-err
+returns-in-Err-TooLong-clause-err g c =
+    let before = g.I.Inputs.state c.lines.inputs in
+    let after = g.I.Inputs.state c.next.new.inputs in
+    let is : ◌≡◌ {A = Result Bool LineError} c.next.result (Err TooLong) = cc (c.in-Err-TooLong.is, c.in-Err-TooLong.field-0-is) in
+    let refuses : RefusesPiece c.lines.lines c.next.new.self before after TooLong = subst (λ r. NextGives c.lines.lines before r c.next.new.self after) is c.next.ensures.gives in
+    let number : c.number-line.result ≡ c.lines.lines.number = c.number-line.ensures ∙ ap (λ (s : SeenLines). s.number) refuses.leaves in
+    inr (reading-refused c.args.number (g.I.Inputs.state c.args.inputs.now) before after c.args.lines.now c.lines.lines c.next.new.self c.args.reader.now c.lines.reader TooLong _ c.lines.invariant refuses
+    (ap (λ k. refused.LineTooLong (at_line c.args.number (k + 1))) number))
+
+pub returns-in-Err-InputLimit-clause-err : goal.returns-in-Err-InputLimit-clause-err
+returns-in-Err-InputLimit-clause-err g c =
+    let before = g.I.Inputs.state c.lines.inputs in
+    let after = g.I.Inputs.state c.next.new.inputs in
+    let is : ◌≡◌ {A = Result Bool LineError} c.next.result (Err InputLimit) = cc (c.in-Err-InputLimit.is, c.in-Err-InputLimit.field-0-is) in
+    let refuses : RefusesPiece c.lines.lines c.next.new.self before after InputLimit = subst (λ r. NextGives c.lines.lines before r c.next.new.self after) is c.next.ensures.gives in
+    inr (reading-refused c.args.number (g.I.Inputs.state c.args.inputs.now) before after c.args.lines.now c.lines.lines c.next.new.self c.args.reader.now c.lines.reader InputLimit refused.InputLimit c.lines.invariant refuses refl)
+
+pub read_line-requires-clause-ready : goal.read_line-requires-clause-ready
+read_line-requires-clause-ready g c = (c.lines.invariant.way false [] refl).ready
+
+pub returns-in-Err-clause-err : goal.returns-in-Err-clause-err
+returns-in-Err-clause-err g c =
+    let before = g.I.Inputs.state c.lines.inputs in
+    let after = g.I.Inputs.state c.next.new.inputs in
+    let reader = c.lines.reader in
+    let is : ◌≡◌ {A = Result Bool LineError} c.next.result (Ok true) = cc (c.in-Ok-true.is) in
+    let gives : GivesLine c.lines.lines c.next.new.self before after = subst (λ r. NextGives c.lines.lines before r c.next.new.self after) is c.next.ensures.gives in
+    inr (reading-refused-at c.args.number (g.I.Inputs.state c.args.inputs.now) before after c.args.lines.now c.lines.lines c.next.new.self c.args.reader.now reader c.line.result.now c.in-Err.error c.lines.invariant gives
+    c.next.ensures.taken c.line.ensures
+    (subst (λ k. IsRefusal (refusal_in (setting_of reader).ignore (at_line c.args.number k) reader.log.builder (decided_line (setting_of reader).form c.line.result.now)) c.in-Err.error) c.number.ensures c.in-Err.ensures.err))
+
+pub returns-then-not-ends_with_feed-clause-ok : goal.returns-then-not-ends_with_feed-clause-ok
+returns-then-not-ends_with_feed-clause-ok g c =
+    let before = g.I.Inputs.state c.lines.inputs in
+    let after = g.I.Inputs.state c.next.new.inputs in
+    let reader = c.lines.reader in
+    let is : ◌≡◌ {A = Result Bool LineError} c.next.result (Ok true) = cc (c.in-Ok-true.is) in
+    let gives : GivesLine c.lines.lines c.next.new.self before after = subst (λ r. NextGives c.lines.lines before r c.next.new.self after) is c.next.ensures.gives in
+    let unfed : c.next.new.self.fed ≡ false = sym c.ends_with_feed.ensures ∙ c.if-not-ends_with_feed.true in
+    reading-ends-in-line c.args.number (g.I.Inputs.state c.args.inputs.now) before after c.args.lines.now c.lines.lines c.next.new.self c.args.reader.now reader c.read_line.new.self c.line.result.now c.lines.invariant gives
+    c.next.ensures.taken c.line.ensures unfed
+    (subst (λ k. ReadsText (at_line c.args.number k) (decided_line (setting_of reader).form c.line.result.now) reader c.read_line.new.self) c.number.ensures c.in-Ok.ensures.ok)
+
+pub lines-preserved : goal.lines-preserved
+lines-preserved g c =
+    let before = g.I.Inputs.state c.lines.inputs in
+    let after = g.I.Inputs.state c.next.new.inputs in
+    let reader = c.lines.reader in
+    let is : ◌≡◌ {A = Result Bool LineError} c.next.result (Ok true) = cc (c.in-Ok-true.is) in
+    let gives : GivesLine c.lines.lines c.next.new.self before after = subst (λ r. NextGives c.lines.lines before r c.next.new.self after) is c.next.ensures.gives in
+    let fed : c.next.new.self.fed ≡ true = sym c.ends_with_feed.ensures ∙ c.if-not-ends_with_feed.false in
+    reading-more c.args.number (g.I.Inputs.state c.args.inputs.now) before after c.args.lines.now c.lines.lines c.next.new.self c.args.reader.now reader c.read_line.new.self c.line.result.now c.lines.invariant
+    c.next.ensures.stays c.next.ensures.opens c.next.ensures.mark gives c.next.ensures.taken c.line.ensures fed
+    (subst (λ k. ReadsText (at_line c.args.number k) (decided_line (setting_of reader).form c.line.result.now) reader c.read_line.new.self) c.number.ensures c.in-Ok.ensures.ok)

@@ -1,0 +1,342 @@
+//! Reads the lines of inputs, one by one, through a buffer of a fixed size.
+ghost use Rattle.std.specs.Prelude.{◌≡◌, ◌≢◌, ◌<◌, ◌≤◌, ◌+◌, ◌-◌, [], length, take, drop, Some, Err, IfOk, IfErr, IfNone, IfSome, IsSome, false};
+ghost use Rattle.std.specs.List.{position_or_len};
+ghost use Rattle.limits.specs.declared.TheConstants.{MAX_INPUT_BYTES, MAX_LINE_BYTES};
+ghost use Rattle.lines.specs.Lines.{is_feed, line_of};
+ghost use Rattle.outside.specs.Inputs.{Stays};
+ghost use Rattle.log_reader.specs.LineReader.{NextGives, at_start, feed_bytes, unused_lines, without_line};
+ghost use Rattle.log_reader.specs.Buffers.{FillGives, FindsEnd, IsWithinLimits, MissesEnd, PassesLimit, ReadsBehind, part_of};
+
+use limits::{MAX_INPUT_BYTES, MAX_LINE_BYTES};
+use lines::without_return;
+use memchr::memchr;
+use outside::{Failed, Inputs};
+use std::alloc::{AllocError, Global};
+use std::marker::Model;
+
+/// How many bytes the buffer has: a piece of the greatest length with its line feed, and room to read many more at once.
+const BUFFER_BYTES: usize = 131_072;
+
+/// Why a line is not given.
+#[derive(Clone, Copy, Debug, PartialEq, Eq)]
+pub enum LineError {
+    /// The open input could not be read.
+    ReadFault,
+    /// The line has more than 65,536 bytes, a final carriage return counted.
+    TooLong,
+    /// All inputs have more than 268,435,456 bytes, and the first byte past them stands in this line or ends it.
+    InputLimit,
+}
+
+/// Where the current line stands in the buffer.
+#[derive(Clone, Copy)]
+struct Part {
+    /// The place of its first byte.
+    from: usize,
+    /// The place behind its last byte.
+    to: usize,
+}
+
+/// Where a piece ends.
+#[derive(Clone, Copy)]
+struct Cut {
+    /// How many bytes the piece has.
+    length: usize,
+    /// Whether a line feed ends it.
+    fed: bool,
+}
+
+impl Cut {
+    /// How many bytes the piece takes, with the line feed that ends it.
+    fn used(self) -> usize
+        requires { self.length ≤ MAX_INPUT_BYTES + 1 }
+        ensures { result ≡ self.length + feed_bytes self.fed }
+    {
+        if self.fed {
+            self.length + 1
+        } else {
+            self.length
+        }
+    }
+}
+
+/// A reader of the lines of inputs, one input after the other. It keeps a buffer of 131,072 bytes, which is made once, and a
+/// line is read where it stands in it.
+///
+/// Contracts see the bytes that are buffered, the current line where there is one, whether a line feed ends it, the number
+/// of the line in its input, how many bytes all lines have taken since the reader was made, and whether a call of `next`
+/// was refused. The bytes still to come are those that are buffered, and then the rest of the open input.
+#[derive(Drop)]
+pub struct Lines {
+    buf: Vec<u8>,
+    /// Where what is buffered begins.
+    from: usize,
+    /// Where it ends.
+    to: usize,
+    line: Option<Part>,
+    fed: bool,
+    number: u32,
+    taken: usize,
+    refused: bool,
+}
+
+impl Model for Lines {
+    ghost use Rattle.log_reader.specs.LineReader.{SeenLines};
+
+    ghost Value = { SeenLines };
+
+    ghost use Rattle.log_reader.specs.Buffers.{IsSound, line_in, part_of};
+
+    ghost view = { λ l. record {
+      buffered = part_of l.buf.items l.from l.to;
+      line = line_in l.buf.items l.line;
+      fed = l.fed;
+      number = l.number;
+      taken = l.taken;
+      refused = l.refused;
+    } };
+
+    ghost invariant = { λ l. IsSound l.buf.items l.from l.to l.line l.number l.taken };
+}
+
+/// Where the first line feed stands, if there is one. None stands before the place from which the search begins.
+fn first_feed(bytes: &[u8], searched: usize) -> Option<usize>
+    requires inside { searched ≤ length bytes.now }
+    requires before { searched ≤ position_or_len is_feed bytes.now }
+    ensures some { IfSome result (λ n. n ≡ position_or_len is_feed bytes.now) }
+    ensures found { IfSome result (λ n. n < length bytes.now) }
+    ensures none { IfNone result (position_or_len is_feed bytes.now ≡ length bytes.now) }
+{
+    match memchr(10, &bytes[searched..]) {
+        Some(n) => Some(searched + n),
+        None => None,
+    }
+}
+
+/// The cut of a piece that is within the limits, after lines that have taken so many bytes.
+fn within_limits(taken: usize, cut: Cut) -> Result<Cut, LineError>
+    requires taken { taken ≤ MAX_INPUT_BYTES }
+    requires length { cut.length ≤ MAX_INPUT_BYTES + 1 }
+    ensures ok { IfOk result (λ same. (same ≡ cut) × IsWithinLimits taken cut) }
+    ensures err { IfErr result (PassesLimit taken cut) }
+{
+    if cut.length > MAX_LINE_BYTES {
+        return Err(LineError::TooLong);
+    }
+    if taken + cut.used() > MAX_INPUT_BYTES {
+        return Err(LineError::InputLimit);
+    }
+    Ok(cut)
+}
+
+/// Moves the bytes between two places to the front of a buffer.
+fn to_front(buf: &mut [u8], from: usize, to: usize)
+    requires order { from ≤ to }
+    requires inside { to ≤ length buf.old }
+    ensures front { take (to - from) buf.new ≡ part_of buf.old from to }
+    ensures size { length buf.new ≡ length buf.old }
+{
+    if from > 0 {
+        buf.copy_within(from..to, 0);
+    }
+}
+
+/// Reads into a buffer behind the bytes that it holds, at most so many.
+fn read_behind<I: Inputs>(
+    inputs: &mut I,
+    buf: &mut [u8],
+    held: usize,
+    room: usize,
+) -> Result<usize, Failed>
+    requires some { 0 < room }
+    requires inside { held + room ≤ length buf.old }
+    ensures stays { Stays (I.state inputs.old) (I.state inputs.new) }
+    ensures mark { (I.state inputs.new).mark ≡ (I.state inputs.old).mark }
+    ensures opens { (I.state inputs.new).opens ≡ (I.state inputs.old).opens }
+    ensures size { length buf.new ≡ length buf.old }
+    ensures gives { ReadsBehind (I.state inputs.old) held room buf.old result buf.new (I.state inputs.new) }
+{
+    inputs.read(&mut buf[held..held + room])
+}
+
+impl Lines {
+    /// A reader with nothing buffered. This alone takes memory: `AllocError` comes where there is not enough.
+    pub fn make(alloc: Global) -> Result<Lines, AllocError>
+        ensures { IfOk result (λ lines. lines ≡ unused_lines) }
+    {
+        let buf = vec![in alloc; 0u8; BUFFER_BYTES]?;
+        Ok(Lines {
+            buf,
+            from: 0,
+            to: 0,
+            line: None,
+            fed: false,
+            number: 0,
+            taken: 0,
+            refused: false,
+        })
+    }
+
+    /// Begins an input that was opened, behind the end of the one before: its lines are numbered from 1. The bytes that
+    /// lines have taken are counted over all inputs.
+    pub fn start(&mut self)
+        requires { (self.old).buffered ≡ [] }
+        ensures { self.new ≡ at_start self.old }
+    {
+        self.line = None;
+        self.fed = false;
+        self.number = 0;
+    }
+
+    /// The current line: its bytes without the line feed that ends it, and without one carriage return at its end.
+    pub fn line(&self) -> &[u8]
+        requires { IsSome (self.now).line }
+        ensures { (self.now).line ≡ Some result.now }
+    {
+        match self.line {
+            Some(part) => &self.buf[part.from..part.to],
+            None => &[],
+        }
+    }
+
+    /// The number of the current line in its input, from 1: how many of the input's lines were given.
+    pub fn number(&self) -> u32
+        ensures { result ≡ (self.now).number }
+    {
+        self.number
+    }
+
+    /// Whether a line feed ends the current line. Where none does, it is the last of its input.
+    pub fn ends_with_feed(&self) -> bool
+        ensures { result ≡ (self.now).fed }
+    {
+        self.fed
+    }
+
+    /// What is buffered.
+    fn buffered(&self) -> &[u8]
+        ensures value { result.now ≡ (self.now).buffered }
+        ensures taken { (self.now).taken ≤ MAX_INPUT_BYTES }
+        ensures within { (self.now).taken + length result.now ≤ MAX_INPUT_BYTES + 1 }
+    {
+        &self.buf[self.from..self.to]
+    }
+
+    /// Reads more of the open input, and says whether there was more.
+    fn fill<I: Inputs>(&mut self, inputs: &mut I) -> Result<bool, Failed>
+        requires line { self.old ≡ without_line self.old }
+        requires short { length (self.old).buffered ≤ MAX_LINE_BYTES }
+        requires within { (self.old).taken + length (self.old).buffered ≤ MAX_INPUT_BYTES }
+        ensures stays { Stays (I.state inputs.old) (I.state inputs.new) }
+        ensures mark { (I.state inputs.new).mark ≡ (I.state inputs.old).mark }
+        ensures opens { (I.state inputs.new).opens ≡ (I.state inputs.old).opens }
+        ensures gives { FillGives self.old (I.state inputs.old) result self.new (I.state inputs.new) }
+    {
+        let held = self.to - self.from;
+        to_front(&mut self.buf, self.from, self.to);
+        self.from = 0;
+        self.to = held;
+        let room = (BUFFER_BYTES - held).min(MAX_INPUT_BYTES + 1 - self.taken - held);
+        match read_behind(inputs, &mut self.buf, held, room) {
+            Ok(count) => {
+                self.to = held + count;
+                Ok(count > 0)
+            }
+            Err(error) => Err(error),
+        }
+    }
+
+    /// Reads until the end of the first piece to come is buffered, and says where it is.
+    fn find_end<I: Inputs>(&mut self, inputs: &mut I) -> Result<Cut, LineError>
+        requires line { self.old ≡ without_line self.old }
+        ensures stays { Stays (I.state inputs.old) (I.state inputs.new) }
+        ensures mark { (I.state inputs.new).mark ≡ (I.state inputs.old).mark }
+        ensures opens { (I.state inputs.new).opens ≡ (I.state inputs.old).opens }
+        ensures ok { IfOk result (FindsEnd self.old self.new (I.state inputs.old) (I.state inputs.new)) }
+        ensures err { IfErr result (λ e. MissesEnd self.old (I.state inputs.old) e self.new (I.state inputs.new)) }
+    {
+        let mut searched = 0;
+        loop {
+            let held = self.buffered();
+            let length = held.len();
+            if let Some(length) = first_feed(held, searched) {
+                match within_limits(self.taken, Cut { length, fed: true }) {
+                    Ok(cut) => return Ok(cut),
+                    Err(error) => return Err(error),
+                }
+            }
+            let whole = match within_limits(self.taken, Cut { length, fed: false }) {
+                Ok(cut) => cut,
+                Err(error) => return Err(error),
+            };
+            match self.fill(inputs) {
+                Ok(true) => searched = length,
+                Ok(false) => return Ok(whole),
+                Err(_) => return Err(LineError::ReadFault),
+            }
+        }
+    }
+
+    /// Takes the piece that ends so from the front of what is buffered: its line is the current one.
+    fn take(&mut self, cut: Cut)
+        requires some { 0 < cut.length + feed_bytes cut.fed }
+        requires inside { cut.length + feed_bytes cut.fed ≤ length (self.old).buffered }
+        requires within { (self.old).taken + cut.length + feed_bytes cut.fed ≤ MAX_INPUT_BYTES }
+        ensures { self.new ≡ record {
+          buffered = drop (cut.length + feed_bytes cut.fed) (self.old).buffered;
+          line = Some (line_of (take cut.length (self.old).buffered));
+          fed = cut.fed;
+          number = (self.old).number + 1;
+          taken = (self.old).taken + (cut.length + feed_bytes cut.fed);
+          refused = (self.old).refused;
+        } }
+    {
+        let line = without_return(&self.buf[self.from..self.from + cut.length]).len();
+        self.line = Some(Part {
+            from: self.from,
+            to: self.from + line,
+        });
+        self.fed = cut.fed;
+        let size = cut.used();
+        self.from += size;
+        self.taken += size;
+        self.number += 1;
+    }
+
+    /// Goes on to the next line of the open input, and says whether there is one. It takes no memory. An input is begun by
+    /// `start`. After a refusal the reader may only be dropped.
+    ///
+    /// - `Ok(true)`: the current line is the first of the bytes still to come. Its piece and the line feed that ends it are
+    ///   gone from them, and are counted as taken.
+    /// - `Ok(false)`: exactly where no byte is to come. There is no current line, and nothing is buffered. The number of the
+    ///   line and the count of bytes stay.
+    /// - `ReadFault`: only where the inputs counted a fault in this call, and may fail the open input.
+    /// - `TooLong`, `InputLimit`: exactly where the first piece to come has its 65,537th byte, or the byte past the limit on
+    ///   all input; of the two what comes first, and at one byte `TooLong`. The bytes of all inputs count.
+    ///
+    /// At each refusal a front of the input was read and is buffered, up to one byte past the limit on all input.
+    pub fn next<I: Inputs>(&mut self, inputs: &mut I) -> Result<bool, LineError>
+        requires { (self.old).refused ≡ false }
+        ensures stays { Stays (I.state inputs.old) (I.state inputs.new) }
+        ensures mark { (I.state inputs.new).mark ≡ (I.state inputs.old).mark }
+        ensures opens { (I.state inputs.new).opens ≡ (I.state inputs.old).opens }
+        ensures gives { NextGives self.old (I.state inputs.old) result self.new (I.state inputs.new) }
+        ensures number { (self.new).number ≤ (self.new).taken }
+        ensures taken { (self.new).taken ≤ MAX_INPUT_BYTES }
+    {
+        self.line = None;
+        self.fed = false;
+        let cut = match self.find_end(inputs) {
+            Ok(cut) => cut,
+            Err(error) => {
+                self.refused = true;
+                return Err(error);
+            }
+        };
+        if cut.used() == 0 {
+            return Ok(false);
+        }
+        self.take(cut);
+        Ok(true)
+    }
+}
