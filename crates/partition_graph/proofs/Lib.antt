@@ -16,3 +16,5 @@ pub mod Joined
 pub mod Starting
 pub mod Members
 pub mod Passing
+pub mod Copied
+pub mod Sharing

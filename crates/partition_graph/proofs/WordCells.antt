@@ -71,7 +71,8 @@ first_event_of ws t =
 abbrev pub IsNew : ℕ → Cell → Type 0
 IsNew bound c = (2 ≤ c.id) × (c.id < bound) × (c.typ ≡ c.id)
 
-all_append : {X : Type 0} (P : X → Type 0) (xs ys : List X) → AllByRecursion P xs → AllByRecursion P ys → AllByRecursion P (xs ++ ys)
+-- what holds of the elements of two lists holds of both together
+pub all_append : {X : Type 0} (P : X → Type 0) (xs ys : List X) → AllByRecursion P xs → AllByRecursion P ys → AllByRecursion P (xs ++ ys)
 all_append P [] ys a b = b
 all_append P (x ∷ xs) ys a b = (a.0, all_append P xs ys a.1 b)
 
@@ -93,7 +94,8 @@ mapped : (P : Event → Type 0) (cs : List Cell) → AllByRecursion (λ (c : Cel
 mapped P [] a = tt
 mapped P (c ∷ cs) a = (a.0, mapped P cs a.1)
 
-all_events : (P : Event → Type 0) (cs : List Cell) → AllByRecursion (λ (c : Cell). P (event_of c)) cs → AllByRecursion P (events (traces_of cs))
+-- what holds of the events of cells holds of those of their traces
+pub all_events : (P : Event → Type 0) (cs : List Cell) → AllByRecursion (λ (c : Cell). P (event_of c)) cs → AllByRecursion P (events (traces_of cs))
 all_events P cs a = subst (λ (es : List Event). AllByRecursion P es) (sym (events_are cs)) (mapped P cs a)
 
 -- the ids of cells of words are below the bound of the numbers

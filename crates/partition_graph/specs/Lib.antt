@@ -13,3 +13,4 @@ pub mod Tables
 pub mod Changes
 pub mod Members
 pub mod Spread
+pub mod Shared

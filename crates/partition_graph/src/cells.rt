@@ -1,9 +1,11 @@
 //! A cell for each event, trace after trace.
-ghost use Rattle.std.specs.Prelude.{◌≡◌, ◌++◌, ◌<◌, ◌≤◌, OnOk, IfOk, drop, length};
+ghost use Rattle.std.specs.Prelude.{◌≡◌, ◌-◌, ◌++◌, ◌<◌, ◌≤◌, ◌^◌, ℕ, List, All, OnOk, IfOk, drop, take, length, slice_index_or, []};
 ghost use Rattle.limits.specs.declared.TheConstants.{MAX_EVENTS};
 ghost use Rattle.partition_graph.specs.Cells.{cells_of, id_behind, IsGatheredOf};
 ghost use Rattle.partition_graph.specs.Counts.{before_next};
+ghost use Rattle.partition_graph.specs.Shared.{joined_traces, picked, trace_cells, words_in, AreShared, Begin, IsNoted};
 
+use indexmap::IndexSet;
 use limits::{INITIAL, TERMINAL};
 use std::alloc::{AllocError, Global};
 use traces::TraceSet;
@@ -42,6 +44,107 @@ pub fn gather(alloc: Global, traces: &TraceSet) -> Result<(Vec<Cell>, Vec<u32>),
         push_cells(&mut cells, traces.events(t))?;
     }
     Ok((cells, firsts))
+}
+
+/// The cells of words that traces share.
+#[derive(Drop)]
+pub struct SharedCells {
+    /// A cell for each event of each word, word after word.
+    pub cells: Vec<Cell>,
+    /// The number of the first event of each word.
+    pub firsts: Vec<u32>,
+    /// For each trace, the number of its word.
+    pub numbers: Vec<u32>,
+}
+
+/// The cells of the distinct words of the traces, in the order first met, each with its type's number for its id.
+pub fn gather_shared(alloc: Global, traces: &TraceSet) -> Result<SharedCells, AllocError>
+    ensures shared { IfOk result
+        (λ s. (words : List (List ℕ)) × AreShared traces.now (length traces.now.traces) words s.cells.items s.firsts.items s.numbers.items) }
+    ensures few { IfOk result (λ s. length s.cells.items ≤ MAX_EVENTS) }
+{
+    let event_count = traces.event_count();
+    let mut words = IndexSet::new(alloc);
+    let mut cells = Vec::new(alloc);
+    let mut firsts = Vec::new(alloc);
+    let mut numbers = Vec::with_capacity(alloc, traces.trace_count() as usize)?;
+    for t in 0..traces.trace_count() {
+        prove!(cells.len() <= event_count as usize);
+        let place = note(&mut words, &mut cells, &mut firsts, traces.events(t))?;
+        numbers.push(place as u32)?;
+    }
+    Ok(SharedCells {
+        cells,
+        firsts,
+        numbers,
+    })
+}
+
+/// The place of a word among those that were noted: where it is new it is noted as the last one, and its cells stand
+/// behind the others.
+fn note<'a>(
+    words: &mut IndexSet<&'a [u16]>,
+    cells: &mut Vec<Cell>,
+    firsts: &mut Vec<u32>,
+    word: &'a [u16],
+) -> Result<usize, AllocError>
+    requires { length cells.old.items < 2 ^ 32 }
+    ensures { IfOk result (λ place. IsNoted word.now place (words_in words.old.keys) (words_in words.new.keys)
+        cells.old.items cells.new.items firsts.old.items firsts.new.items) }
+{
+    let (place, new) = words.insert_full(word)?;
+    if new {
+        firsts.push(cells.len() as u32)?;
+        push_cells(cells, word)?;
+        return Ok(place);
+    }
+    Ok(place)
+}
+
+/// The cells of the traces with these numbers, one trace behind another, and where each of them begins.
+pub fn copy_traces(
+    alloc: Global,
+    cells: &[Cell],
+    firsts: &[u32],
+    numbers: &[u32],
+) -> Result<(Vec<Cell>, Vec<u32>), AllocError>
+    requires begin { Begin firsts.now (trace_cells cells.now) }
+    requires within { All (λ k. k < length (trace_cells cells.now)) numbers.now }
+    requires few { length (joined_traces (picked numbers.now (trace_cells cells.now))) ≤ MAX_EVENTS }
+    ensures cells { IfOk result
+        (λ pair. pair.0.items ≡ joined_traces (picked numbers.now (trace_cells cells.now))) }
+    ensures begin { IfOk result
+        (λ pair. Begin pair.1.items (picked numbers.now (trace_cells cells.now))) }
+{
+    let mut copies = Vec::new(alloc);
+    let mut begins = Vec::with_capacity(alloc, numbers.len())?;
+    for number in numbers {
+        begins.push(copies.len() as u32)?;
+        copies.extend_from_slice(trace_at(cells, firsts, *number as usize))?;
+    }
+    Ok((copies, begins))
+}
+
+/// The cells of trace t.
+fn trace_at<'a>(cells: &'a [Cell], firsts: &[u32], t: usize) -> &'a [Cell]
+    requires begin { Begin firsts.now (trace_cells cells.now) }
+    requires within { t < length (trace_cells cells.now) }
+    ensures { result.now ≡ slice_index_or (trace_cells cells.now) t [] }
+{
+    let from = firsts[t] as usize;
+    if t + 1 == firsts.len() {
+        return part(cells, from, cells.len());
+    }
+    part(cells, from, firsts[t + 1] as usize)
+}
+
+/// The cells from one place on, up to another.
+fn part(cells: &[Cell], from: usize, to: usize) -> &[Cell]
+    requires rise { from ≤ to }
+    requires within { to ≤ length cells.now }
+    ensures { result.now ≡ take (to - from) (drop from cells.now) }
+{
+    &cells[from..to]
 }
 
 /// Puts the cells of a trace behind the others.

@@ -1,7 +1,7 @@
 //! The partitions of events, and the counts of edges.
 ghost use Rattle.std.specs.Prelude.{◌≡◌, ◌≤◌, ◌<◌, ◌+◌, ◌++◌, IfOk, OnOk, length, slice_index, slice_get, Some, MatchOption, IfSome};
 
-use crate::cells::gather;
+use crate::cells::{copy_traces, gather, gather_shared};
 use crate::changing::Change;
 use crate::events::Events;
 use crate::tables::Tables;
@@ -68,10 +68,23 @@ impl PartGraph {
 
     /// The graph of the distinct words of some traces, with one partition for each type as `open` has it, and for each
     /// of the traces the number of the one that has its word here. It takes the memory for `MAX_PARTITIONS` ids.
-    pub fn open_shared(alloc: Global, traces: &TraceSet) -> Result<(PartGraph, Vec<u32>), AllocError>
+    pub fn open_shared(
+        alloc: Global,
+        traces: &TraceSet,
+    ) -> Result<(PartGraph, Vec<u32>), AllocError>
         ensures { IfOk result (λ pair. SharesWords traces.now pair.0 pair.1.items) }
     {
-        Err(AllocError)
+        let used = traces.types().len() as u32 + FIRST_TYPE;
+        let shared = gather_shared(alloc, traces)?;
+        let tables = Tables::open(alloc, &shared.cells)?;
+        let events = Events::open(alloc, shared.cells)?;
+        let graph = PartGraph {
+            events,
+            firsts: shared.firsts,
+            tables,
+            used,
+        };
+        Ok((graph, shared.numbers))
     }
 
     /// The graph of the traces with these numbers, one for each number, whose events have the ids that they have here.
@@ -79,11 +92,19 @@ impl PartGraph {
         requires within { All (λ k. k < length (self.now).traces) numbers.now }
         requires few { length (events (spread numbers.now (self.now).traces)) ≤ MAX_EVENTS }
         ensures { IfOk result (λ graph. graph ≡ record {
-            traces = spread numbers.now (self.now).traces;
-            used = (self.now).used;
+          traces = spread numbers.now (self.now).traces;
+          used = (self.now).used;
         }) }
     {
-        Err(AllocError)
+        let (cells, firsts) = copy_traces(alloc, self.events.cells(), &self.firsts, numbers)?;
+        let tables = Tables::open(alloc, &cells)?;
+        let events = Events::open(alloc, cells)?;
+        Ok(PartGraph {
+            events,
+            firsts,
+            tables,
+            used: self.used,
+        })
     }
 
     /// Moves the events of p that are followed at once by one of `next`, or that end their traces where `next` is
