@@ -21,10 +21,11 @@ use Rattle.synoptic_cli.specs.declared.material.Material.{Material}
 use Rattle.synoptic_cli.specs.declared.status.LimitKind.{LimitKind}
 use Rattle.synoptic_cli.specs.declared.status.LimitKind.TheVariants as limits
 use Rattle.synoptic_cli.specs.declared.status.Status.{Status}
-use Rattle.synoptic_cli.specs.declared.status.Status.TheVariants.{Done, Limit}
+use Rattle.synoptic_cli.specs.declared.status.Status.TheVariants.{Limit}
 use Rattle.synoptic_cli.specs.Task.{input_count, stages_of}
 use Rattle.synoptic_cli.specs.Stages.{SoFar, Stop, at_start, reads, stop_after}
 use Rattle.synoptic_cli.specs.Commands.{AnswersBy}
+use Rattle.synoptic_cli.specs.Commands.Answered.{done}
 use Rattle.synoptic_cli.specs.Commands.CheckModel.{Says, answer_of}
 use Rattle.synoptic_cli.specs.Commands.Inference.{AnswersInferred, PassesLimit}
 use Rattle.synoptic_cli.specs.Commands.InferModel.{WritesModel}
@@ -48,19 +49,13 @@ pub record Laws : Type 0 where
 
 -- inference of a log passes one limit alone
 one-limit : Laws → (log : TypedWords) (j k : LimitKind) → PassesLimit j log → PassesLimit k log → j ≡ k
-one-limit laws log limits.Types k p q = absurd p
-one-limit laws log limits.Events k p q = absurd p
-one-limit laws log limits.Input k p q = absurd p
-one-limit laws log limits.Partitions limits.Types p q = absurd q
-one-limit laws log limits.Partitions limits.Events p q = absurd q
-one-limit laws log limits.Partitions limits.Input p q = absurd q
 one-limit laws log limits.Partitions limits.Partitions p q = refl
 one-limit laws log limits.Partitions limits.Paths p q = absurd (laws.ends.both log p q)
-one-limit laws log limits.Paths limits.Types p q = absurd q
-one-limit laws log limits.Paths limits.Events p q = absurd q
-one-limit laws log limits.Paths limits.Input p q = absurd q
+one-limit laws log limits.Partitions k p q = absurd q
 one-limit laws log limits.Paths limits.Partitions p q = absurd (laws.ends.both log q p)
 one-limit laws log limits.Paths limits.Paths p q = refl
+one-limit laws log limits.Paths k p q = absurd q
+one-limit laws log j k p q = absurd p
 
 -- where there is one answer alone, inference ends in one way alone
 one-inferred : Laws → (log : TypedWords) (IsAnswer : Answer → Type 0) → ((a b : Answer) → IsAnswer a → IsAnswer b → a ≡ b)
@@ -73,17 +68,17 @@ one-inferred laws log IsAnswer one (Err j) (Err k) p q = ap (λ (x : LimitKind).
 -- one file is written of a log
 one-file : Laws → (log : TypedWords) (a b : Answer) → WritesModel log a → WritesModel log b → a ≡ b
 one-file laws log a b p q =
-    p.value ∙ (ap (λ (m : Model). let x : Answer = record { status = Done; text = file_text m } in x) (laws.model p.model q.model log p.inferred q.inferred) ∙ sym q.value)
+    p.value ∙ (ap (λ (m : Model). done (file_text m)) (laws.model p.model q.model log p.inferred q.inferred) ∙ sym q.value)
 
 -- and one text of paths
 one-text : Laws → (log : Log) (a b : Answer) → TellsPaths log a → TellsPaths log b → a ≡ b
 one-text laws log a b p q =
-    p.value ∙ (ap (λ (ids : List ℕ). let x : Answer = record { status = Done; text = path_report log ids } in x) (laws.final (typed_words log) p.ids q.ids p.final q.final) ∙ sym q.value)
+    p.value ∙ (ap (λ (ids : List ℕ). done (path_report log ids)) (laws.final (typed_words log) p.ids q.ids p.final q.final) ∙ sym q.value)
 
 -- and one summary
 one-summary : Laws → (log : Log) (a b : Answer) → TellsRun log a → TellsRun log b → a ≡ b
 one-summary laws log a b p q =
-    p.value ∙ (ap (λ (m : Model). let x : Answer = record { status = Done; text = summary log m } in x) (laws.model p.model q.model (typed_words log) p.inferred q.inferred) ∙ sym q.value)
+    p.value ∙ (ap (λ (m : Model). done (summary log m)) (laws.model p.model q.model (typed_words log) p.inferred q.inferred) ∙ sym q.value)
 
 -- so of a made log
 one-run : Laws → (number : Option ℕ) (r s : Result Answer LimitKind) → run_bench.Answers number r → run_bench.Answers number s → r ≡ s

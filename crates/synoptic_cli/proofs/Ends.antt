@@ -1,27 +1,26 @@
 -- What a task reads, and why a run ends where its log is refused.
-use Rattle.std.proofs.Common.{◌≡◌, ◌∙◌, ◌⊎◌, ◌+◌, ◌≤◌, ℕ, Bool, List, [], ◌∷◌, length, sym, ap, subst, ⊎_elim, inl, inr, arith, Option, None, Some, Result, Err, IsTrue, slice_get, refl}
+use Rattle.std.proofs.Common.{◌≡◌, ◌∙◌, ◌⊎◌, ◌+◌, ◌≤◌, ℕ, Bool, List, [], ◌∷◌, length, sym, ap, subst, ⊎_elim, inl, inr, arith, Option, None, Some, Err, IsTrue, slice_get, refl}
 use Rattle.std.specs.Prelude.{IsSome}
 use Rattle.std.specs.Option.{IsSomeAnd}
 use Rattle.outside.specs.Inputs.{Files, InputState, Stays}
+use Rattle.limits.specs.declared.TheConstants.{MAX_INPUT_BYTES}
 use Rattle.line_rules.specs.Patterns.{PatternsState}
 use Rattle.log_reader.specs.Reading.{Setting}
-use Rattle.log_reader.specs.Inputs.{RefusesLog, Fails as LogFails, IsMissing as LogMissing, IsLacking, HasReadCause, StopsBefore, StopsWithin, inputs_of, opens_after}
+use Rattle.log_reader.specs.Inputs.{RefusesLog, Fails as LogFails, IsMissing as LogMissing, IsLacking, HasReadCause, StopsBefore, StopsWithin, inputs_of}
 use Rattle.log_reader.specs.declared.refusal.ReadError.{ReadError}
 use Rattle.log_reader.specs.declared.refusal.ReadError.TheVariants as refused
 use Rattle.command_line.specs.Task.{Task, task_of}
-use Rattle.synoptic_cli.specs.declared.status.Status.{Status}
 use Rattle.synoptic_cli.specs.declared.status.Status.TheVariants.{Memory, ReadFault}
-use Rattle.synoptic_cli.specs.declared.status.Source.{Source}
 use Rattle.synoptic_cli.specs.declared.status.Source.TheVariants as sources
 use Rattle.synoptic_cli.specs.declared.stages.SoFar as rust
 use Rattle.synoptic_cli.specs.Task.{LogFiles, Stage, input_count, log_stages, first_stages, rules_stages, stages_of}
-use Rattle.synoptic_cli.specs.Stages.{Filled, SoFar, Stop, at_start, reads, setting_by, status_of, stop_after}
-use Rattle.synoptic_cli.specs.Endings.{EndsAfter, EndsOver, IsFirstLacking, SomeBytes}
-use Rattle.synoptic_cli.specs.Causes.{World, FailsToRead, HasCause, Stops, world}
-use Rattle.synoptic_cli.specs.Halts.{Ends, HasRead, IsHeld, LogHalts, Reads, ReadsTask, StopsReading, held_form, setting_of}
+use Rattle.synoptic_cli.specs.Stages.{SoFar, Stop, at_start, reads, setting_by, status_of, stop_after}
+use Rattle.synoptic_cli.specs.Endings.{EndsOver, IsFirstLacking, ReadAll, SomeBytes}
+use Rattle.synoptic_cli.specs.Causes.{World, FailsToRead, HasCause, LeavesOpen, Stops, world}
+use Rattle.synoptic_cli.specs.Halts.{Ends, HasRead, IsHeld, LogHalts, Reads, ReadsTask, held_form, setting_of}
 use Rattle.synoptic_cli.proofs.Texts.{rose-since}
-use Rattle.synoptic_cli.proofs.Bytes.{bytes-map, bytes-told, input_count-append, later}
-use Rattle.synoptic_cli.proofs.Through.{opens-through, read-faults, read-more, read-most, read-stop, stop-bytes, stops-through}
+use Rattle.synoptic_cli.proofs.Bytes.{bytes-map, input_count-append, later}
+use Rattle.synoptic_cli.proofs.Through.{StopsReading, open-through, read-faults, read-more, read-most, read-stop, stop-bytes, stops-through}
 use Rattle.synoptic_cli.proofs.Rules.{memory-ends}
 use Rattle.synoptic_cli.proofs.ModelStage.{first-lacking, stopped}
 use Rattle.synoptic_cli.proofs.LogStage.{AreReadAlike, ReadAlike, alike-forms, log-lacks, log-stage-is, log-stops}
@@ -74,10 +73,12 @@ lacks task s old mid number before lacking =
     (stop-bytes old.files (first_stages task) (log_stages task) at_start before.so_far stop before.read.bytes
     (subst (λ (files : Option Files). SomeBytes files (log_stages task) (λ filled. reads before.so_far filled ≡ Err stop)) before.stays.files here))
 
--- as many inputs were opened as end with the one that failed
-opens-within : (o : Option (List ℕ)) (number : ℕ) (mid new : InputState) → IsSomeAnd o (StopsWithin number mid new) → new.opens ≡ opens_after mid.opens (number + 1)
-opens-within None number mid new within = absurd within
-opens-within (Some name) number mid new within = within.opens
+-- the file that failed at a read is open
+open-within : (o : Option (List ℕ)) (count number : ℕ) (old mid new : InputState) → ReadAll count old mid → Stays old mid → IsSomeAnd o (StopsWithin number mid new)
+    → IsSomeAnd o (LeavesOpen (count + number) MAX_INPUT_BYTES old new)
+open-within None count number old mid new read stays within = absurd within
+open-within (Some name) count number old mid new read stays within =
+    open-through count number MAX_INPUT_BYTES old mid new name read stays (record { opens = within.opens; mark = within.mark; left = within.left })
 
 -- a file of the log could not be read
 fails : (task : Task) (s : Setting) (old new : World) (mid : InputState) (number : ℕ) → Before task s old.inputs mid → new.out ≡ old.out
@@ -94,7 +95,7 @@ fails task s old new mid number before silent cause =
             opened =
                 ⊎_elim (λ (none : StopsBefore number mid new.inputs). inl (stops-through count number old.inputs mid new.inputs before.read.inputs none))
                 (λ (within : IsSomeAnd (slice_get (inputs_of task.files) number) (StopsWithin number mid new.inputs)).
-                inr (subst (λ (n : ℕ). new.inputs.opens ≡ opens_after old.inputs.opens n) (omega arith) (opens-through count (number + 1) new.inputs.opens old.inputs mid before.read.inputs (opens-within (slice_get (inputs_of task.files) number) number mid new.inputs within))))
+                inr (open-within (slice_get (inputs_of task.files) number) count number old.inputs mid new.inputs before.read.inputs before.stays within))
                 failed.1;
           }))
           (λ (missing : LogMissing s (inputs_of task.files) mid new.inputs number).
@@ -117,17 +118,10 @@ inputs-are task s old mid before =
 log-ends : (task : Task) (s : Setting) (words : List (List ℕ)) (old new : World) (mid : InputState) (e : ReadError) → Before task s old.inputs mid → new.out ≡ old.out → task_of words ≡ Some task
     → new.inputs.opens ≤ mid.opens + length (inputs_of task.files) → HasReadCause s (inputs_of task.files) mid new.inputs e → HasCause (status_of e) words old new
 log-ends task s words old new mid (refused.ReadFault number) before silent asks few cause = (task, asks, fails task s old new mid number before silent cause)
-log-ends task s words old new mid (refused.LineTooLong at) before silent asks few cause = (task, asks, refuses task s old new mid (refused.LineTooLong at) before silent cause)
-log-ends task s words old new mid (refused.Undecided at) before silent asks few cause = (task, asks, refuses task s old new mid (refused.Undecided at) before silent cause)
-log-ends task s words old new mid (refused.BadTime at) before silent asks few cause = (task, asks, refuses task s old new mid (refused.BadTime at) before silent cause)
-log-ends task s words old new mid (refused.TypeTooLong at) before silent asks few cause = (task, asks, refuses task s old new mid (refused.TypeTooLong at) before silent cause)
-log-ends task s words old new mid (refused.TraceTooLong at) before silent asks few cause = (task, asks, refuses task s old new mid (refused.TraceTooLong at) before silent cause)
-log-ends task s words old new mid (refused.TypeLimit at) before silent asks few cause = (task, asks, refuses task s old new mid (refused.TypeLimit at) before silent cause)
-log-ends task s words old new mid (refused.EventLimit at) before silent asks few cause = (task, asks, refuses task s old new mid (refused.EventLimit at) before silent cause)
-log-ends task s words old new mid refused.InputLimit before silent asks few cause = (task, asks, refuses task s old new mid refused.InputLimit before silent cause)
 log-ends task s words old new mid refused.Memory before silent asks few cause =
     let most = read-most (input_count (first_stages task)) old.inputs mid before.read.inputs in
     record { opens = (memory-ends task old.inputs new.inputs old.patterns old.patterns (omega (arith, few, most, inputs-are task s old.inputs mid before)) words old.out asks).opens; silent = silent }
+log-ends task s words old new mid e before silent asks few cause = (task, asks, refuses task s old new mid e before silent cause)
 
 -- the same for what the program holds
 pub log-stage-ends : ReadAlike → (task : Task) (start held : rust.SoFar) (old mid new : InputState) (before after : PatternsState) (e : ReadError) → IsHeld start at_start → Stays old mid
@@ -140,16 +134,8 @@ log-stage-ends law task start held old mid new before after e is stays first hal
 
 -- memory is answered where memory was wanted
 pub log-memory : (e : ReadError) → status_of e ≡ Memory → e ≡ refused.Memory
-log-memory (refused.ReadFault number) is = cc
-log-memory (refused.LineTooLong at) is = cc
-log-memory (refused.Undecided at) is = cc
-log-memory (refused.BadTime at) is = cc
-log-memory (refused.TypeTooLong at) is = cc
-log-memory (refused.TraceTooLong at) is = cc
-log-memory (refused.TypeLimit at) is = cc
-log-memory (refused.EventLimit at) is = cc
-log-memory refused.InputLimit is = cc
 log-memory refused.Memory is = refl
+log-memory e is = cc
 
 -- no fault was counted before the stage of the log
 pub stage-faults : (task : Task) (start held : rust.SoFar) (old mid : InputState) → IsHeld start at_start → Reads (first_stages task) start old mid held → mid.faults ≡ old.faults

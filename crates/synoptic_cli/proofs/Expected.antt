@@ -80,9 +80,6 @@ plainly words task name bytes files e asks is told refusal =
 -- the cause of a refusal of the file of rules, where no pattern's refusal was counted
 rules-expected : (words : List (List ℕ)) (task : Task) (name : List ℕ) (files : Files) (e : RuleError) (old new : World) → old.inputs.files ≡ Some files → task_of words ≡ Some task
     → rules_name task.form ≡ Some name → (Rose old.patterns.refusals new.patterns.refusals → ⊥) → RefusesRules e old new name → IsStatusOf words files (Expressions e) ⊎ IsTooDeep (Expressions e) words files
-rules-expected words task name files rule_error.TooLong old new some asks is calm cause = inl (plainly words task name cause.bytes files rule_error.TooLong asks is (subst (λ f. IsTold f name cause.bytes) some cause.told) cause.refusal)
-rules-expected words task name files (rule_error.BadLine number) old new some asks is calm cause = inl (plainly words task name cause.bytes files (rule_error.BadLine number) asks is (subst (λ f. IsTold f name cause.bytes) some cause.told) cause.refusal)
-rules-expected words task name files (rule_error.TooMany number) old new some asks is calm cause = inl (plainly words task name cause.bytes files (rule_error.TooMany number) asks is (subst (λ f. IsTold f name cause.bytes) some cause.told) cause.refusal)
 rules-expected words task name files (rule_error.Syntax number) old new some asks is calm cause =
     let told : bytes_of files name ≡ Some cause.bytes = subst (λ f. IsTold f name cause.bytes) some cause.told in
     ⊎_elim
@@ -91,10 +88,8 @@ rules-expected words task name files (rule_error.Syntax number) old new some ask
     inr (record { name = name; task = (task, asks, is); bytes = cause.bytes; told = told; number = number; answered = refl; pattern = deep.0; built = deep.1; deep = deep.2 }))
     cause.refusal
 rules-expected words task name files (rule_error.TooLarge number) old new some asks is calm cause = absurd (calm cause.refusal.0)
-rules-expected words task name files (rule_error.NoType number) old new some asks is calm cause = inl (plainly words task name cause.bytes files (rule_error.NoType number) asks is (subst (λ f. IsTold f name cause.bytes) some cause.told) cause.refusal)
-rules-expected words task name files (rule_error.MixedTime number) old new some asks is calm cause = inl (plainly words task name cause.bytes files (rule_error.MixedTime number) asks is (subst (λ f. IsTold f name cause.bytes) some cause.told) cause.refusal)
-rules-expected words task name files rule_error.NoEvent old new some asks is calm cause = inl (plainly words task name cause.bytes files rule_error.NoEvent asks is (subst (λ f. IsTold f name cause.bytes) some cause.told) cause.refusal)
 rules-expected words task name files rule_error.Memory old new some asks is calm cause = absurd (cause.not_memory refl)
+rules-expected words task name files e old new some asks is calm cause = inl (plainly words task name cause.bytes files e asks is (subst (λ f. IsTold f name cause.bytes) some cause.told) cause.refusal)
 
 -- the same, over what the words ask for
 rules-form : (words : List (List ℕ)) (task : Task) (w : Option (List ℕ)) (files : Files) (e : RuleError) (old new : World) → old.inputs.files ≡ Some files → task_of words ≡ Some task → rules_name task.form ≡ w

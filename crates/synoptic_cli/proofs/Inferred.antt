@@ -6,13 +6,12 @@ use Rattle.models.specs.Laws.{IsTypedLog, ModelsPass, ModelsTell}
 use Rattle.models.specs.Limits.{KeepsLimits}
 use Rattle.model_file.specs.Tree.{file_text}
 use Rattle.model_file.specs.Reading.{reads}
-use Rattle.synoptic_cli.specs.declared.answer.Answer.{Answer}
-use Rattle.synoptic_cli.specs.declared.status.Status.TheVariants.{Done}
+use Rattle.synoptic_cli.specs.Commands.Answered.{done}
 use Rattle.synoptic_cli.specs.Commands.InferModel.{WritesModel}
 
 -- the file of the log's model, with all that it promises
 pub model-written : (log : TypedWords) (m : Model) (text : List ℕ) → ModelsTell → ModelsPass → IsTypedLog log → IsModelOf m log → KeepsLimits m → text ≡ file_text m → reads text ≡ Ok m
-    → WritesModel log (record { status = Done; text = text })
+    → WritesModel log (done text)
 model-written log m text tell pass typed is within same back =
     let ids : length log.types + 2 + length m.splits ≤ 1024 = subst (λ (ts : List (List ℕ)). length ts + 2 + length m.splits ≤ 1024) is.types within.ids in
     let passes = pass m log typed is ids in
@@ -20,7 +19,7 @@ model-written log m text tell pass typed is within same back =
       model = m;
       inferred = is;
       within = within;
-      value = ap (λ (t : List ℕ). let a : Answer = record { status = Done; text = t } in a) same;
+      value = ap done same;
       reads_back = back;
       promises = tell m log typed is;
       valid = passes.0;

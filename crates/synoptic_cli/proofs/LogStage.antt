@@ -1,6 +1,6 @@
 -- The stage of the log: what was read of it, and where its reading stops.
-use Rattle.std.proofs.Common.{◌≡◌, ℕ, suc, ◌+◌, ◌<◌, ◌≤◌, Bool, true, false, nat_lt, List, [], ◌∷◌, length, refl, sym, ap, ◌∙◌, subst, inl, arith, Option, Some, None, Result, Ok, Err}
-use Rattle.std.specs.Prelude.{IfSome, IsSome}
+use Rattle.std.proofs.Common.{◌≡◌, ℕ, suc, ◌+◌, ◌<◌, Bool, true, false, nat_lt, List, [], ◌∷◌, length, refl, sym, ap, ◌∙◌, subst, inl, arith, Option, Some, None, Result, Ok, Err}
+use Rattle.std.specs.Prelude.{IsSome}
 use Rattle.std.proofs.lemmas.Bool.{cond-true, cond-false}
 use Rattle.std.proofs.lemmas.Bool.Decides.{nat_tests}
 use Rattle.std.proofs.lemmas.Option.{none-some, same_Some}
@@ -14,15 +14,15 @@ use Rattle.log_reader.specs.declared.refusal.ReadError.{ReadError}
 use Rattle.command_line.specs.Task.{Task}
 use Rattle.command_line.specs.Task as ask
 use Rattle.synoptic_cli.specs.declared.material.Material.{Material}
-use Rattle.synoptic_cli.specs.declared.status.Status.{Status}
 use Rattle.synoptic_cli.specs.declared.status.Status.TheVariants.{ReadFault}
 use Rattle.synoptic_cli.specs.declared.status.Source.TheVariants as sources
 use Rattle.synoptic_cli.specs.declared.stages.SoFar as rust
 use Rattle.synoptic_cli.specs.Task.{LogFiles, Stage, log_stage, log_stages}
 use Rattle.synoptic_cli.specs.Stages.{SoFar, Stop, and_then, reads, reads_log, setting_by, status_of, stop_after, stop_at, with_log}
 use Rattle.synoptic_cli.specs.Endings.{ReadAll, SomeBytes}
-use Rattle.synoptic_cli.specs.Halts.{AreAlikeForms, HasRead, Reads, StopsReading, held_form, setting_of}
+use Rattle.synoptic_cli.specs.Halts.{AreAlikeForms, HasRead, Reads, held_form, setting_of}
 use Rattle.synoptic_cli.proofs.Bytes.{contents-map}
+use Rattle.synoptic_cli.proofs.Through.{StopsReading}
 
 -- how a log is read by rules
 abbrev pub by_rules : List Rule → (ignore join : Bool) → Setting

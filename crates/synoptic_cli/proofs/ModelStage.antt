@@ -1,10 +1,9 @@
 -- The file of a model: what was read of it, and how a run ends where it gives none.
-use Rattle.std.proofs.Common.{Bool, ◌≡◌, ◌≢◌, ℕ, ◌+◌, ◌<◌, ◌≤◌, ◌⊎◌, List, [], ◌∷◌, ◌++◌, length, take, drop, nat_lt, true, sym, ap, ◌∙◌, subst, ⊎_elim, inl, inr, arith, Option, Some, None, Result, Ok, Err, take_all, length-take, refl, IsTrue}
+use Rattle.std.proofs.Common.{Bool, ◌≡◌, ◌≢◌, ℕ, ◌+◌, ◌<◌, ◌≤◌, ◌⊎◌, List, [], ◌∷◌, length, take, drop, nat_lt, true, sym, ap, ◌∙◌, subst, ⊎_elim, inl, inr, arith, Option, Some, None, Result, Ok, Err, refl, IsTrue}
 use Rattle.std.proofs.lemmas.Bool.{cond-true, cases_lt}
 use Rattle.std.proofs.lemmas.Bool.Decides.{nat_tests}
 use Rattle.std.specs.Prelude.{IsSome}
 use Rattle.std.specs.Option.{IsSomeAnd}
-use Rattle.outside.specs.Counts.{Rose}
 use Rattle.outside.specs.Inputs.{Files, InputState, Lacks, Stays}
 use Rattle.outside.specs.Reading.{IfTold, OpensNamed, OpensNone, ReadsInput}
 use Rattle.limits.specs.declared.TheConstants.{MAX_MODEL_BYTES}
@@ -15,8 +14,7 @@ use Rattle.model_file.specs.declared.refusal.FileError.{FileError}
 use Rattle.model_file.specs.declared.refusal.FileError.TheVariants as refused
 use Rattle.line_rules.specs.Patterns.{PatternsState}
 use Rattle.log_reader.specs.Inputs.{StopsBefore, with_content}
-use Rattle.command_line.specs.Task.{Task, task_of}
-use Rattle.synoptic_cli.specs.declared.status.Status.{Status}
+use Rattle.command_line.specs.Task.{Task}
 use Rattle.synoptic_cli.specs.declared.status.Status.TheVariants.{ReadFault, Memory}
 use Rattle.synoptic_cli.specs.declared.status.Status.TheVariants as statuses
 use Rattle.synoptic_cli.specs.declared.status.Source.{Source}
@@ -26,11 +24,11 @@ use Rattle.synoptic_cli.specs.declared.model_stage.ModelHalt.{ModelHalt}
 use Rattle.synoptic_cli.specs.declared.model_stage.ModelHalt.TheVariants as halts
 use Rattle.synoptic_cli.specs.Task.{ModelFile, Stage, first_stages, input_count, log_stages, file_stage, model_stages, rules_stages, stages_of}
 use Rattle.synoptic_cli.specs.Stages.{Filled, SoFar, Stop, and_then, at_start, reads, reads_model, stop_after, with_model}
-use Rattle.synoptic_cli.specs.Endings.{EndsAfter, EndsOver, IsFirstLacking, IsTold, ReadAll, SomeBytes}
-use Rattle.synoptic_cli.specs.Causes.{FailsToRead, RefusesModel, Stops, World, world}
-use Rattle.synoptic_cli.specs.Halts.{Ends, HasRead, IsHeld, ModelHalts, Reads, ReadsModel, RefusesFile, StopsReading, halt_of, halt_status}
+use Rattle.synoptic_cli.specs.Endings.{EndsAfter, EndsOver, IsFirstLacking, ReadAll, SomeBytes}
+use Rattle.synoptic_cli.specs.Causes.{LeavesOpen, Stops, World, world}
+use Rattle.synoptic_cli.specs.Halts.{Ends, HasRead, IsHeld, ModelHalts, Reads, ReadsModel, RefusesFile, halt_of, halt_status}
 use Rattle.synoptic_cli.proofs.Bytes.{bytes-first, bytes-map, bytes-told, contents-one, input_count-append, later, reads-stop}
-use Rattle.synoptic_cli.proofs.Through.{opens-through, read-faults, read-most, read-stop, stop-bytes, stop-first, stops-through}
+use Rattle.synoptic_cli.proofs.Through.{StopsReading, open-through, read-faults, read-most, read-stop, stop-bytes, stop-first, stops-through}
 use Rattle.synoptic_cli.proofs.Texts.{rose-since}
 use Rattle.synoptic_cli.proofs.Rules.{memory-ends, told-bytes, told-part, whole-or-long}
 
@@ -70,10 +68,7 @@ model-read old new name bytes model reads read shaped =
 -- a refusal that is not want of memory is that of the bytes
 fails-is : {A : Type 0} (e : FileError) (read : Result A FileError) → e ≢ refused.Memory → Fails e read → read ≡ Err e
 fails-is refused.Memory read other fails = absurd (other refl)
-fails-is refused.TooLong read other fails = fails
-fails-is refused.NotJson read other fails = fails
-fails-is (refused.Shape field) read other fails = fails
-fails-is (refused.Version n) read other fails = fails
+fails-is e read other fails = fails
 
 pub model-refused : (old new : InputState) (name bytes : List ℕ) (e : FileError) → ReadsInput old new name MAX_MODEL_BYTES bytes → e ≢ refused.Memory → Fails e (file_reads bytes)
     → RefusesFile old new name e
@@ -85,10 +80,7 @@ model-refused old new name bytes e reads other fails =
 -- why the file gives no model
 pub model-halts : (old new : InputState) (name bytes : List ℕ) (e : FileError) → ReadsInput old new name MAX_MODEL_BYTES bytes → Fails e (file_reads bytes) → ModelHalts old new name (halt_of e)
 model-halts old new name bytes refused.Memory reads fails = reads.opens
-model-halts old new name bytes refused.TooLong reads fails = model-refused old new name bytes refused.TooLong reads (λ same. cc) fails
-model-halts old new name bytes refused.NotJson reads fails = model-refused old new name bytes refused.NotJson reads (λ same. cc) fails
-model-halts old new name bytes (refused.Shape field) reads fails = model-refused old new name bytes (refused.Shape field) reads (λ same. cc) fails
-model-halts old new name bytes (refused.Version n) reads fails = model-refused old new name bytes (refused.Version n) reads (λ same. cc) fails
+model-halts old new name bytes e reads fails = model-refused old new name bytes e reads (λ same. cc) fails
 
 -- ---- the stage
 
@@ -184,6 +176,14 @@ one-more task name named =
     let one : input_count (model_stages task) ≡ 1 = stage-named task name (λ (stages : List Stage). input_count stages ≡ 1) named (omega arith) in
     omega (arith, one, input_count-append (rules_stages task) (model_stages task), input_count-append (first_stages task) (log_stages task))
 
+-- the model's file failed at a read, and is open
+stays-open : (task : Task) (name : List ℕ) (count : ℕ) (old mid new : InputState) → ReadAll count old mid → Stays old mid → task.model ≡ Some name → OpensNamed mid new name MAX_MODEL_BYTES
+    → IsSomeAnd task.model (LeavesOpen count MAX_MODEL_BYTES old new)
+stays-open task name count old mid new read stays named within =
+    let here : LeavesOpen 0 MAX_MODEL_BYTES mid new name = record { opens = within.opens; mark = within.mark; left = within.left } in
+    subst (λ (w : Option (List ℕ)). IsSomeAnd w (LeavesOpen count MAX_MODEL_BYTES old new)) (sym named)
+    (subst (λ (n : ℕ). LeavesOpen n MAX_MODEL_BYTES old new name) (omega arith) (open-through count 0 MAX_MODEL_BYTES old mid new name read stays here))
+
 -- the run ends so where the model's file gives none
 model-ends : (task : Task) (name : List ℕ) (old mid new : InputState) (before after : PatternsState) (halt : ModelHalt) → BeforeModel task name old mid → ModelHalts mid new name halt
     → Ends (halt_status halt) task old new before after
@@ -211,7 +211,8 @@ model-ends task name old mid new before after halts.Fault here cause = λ words 
           opened =
               ⊎_elim
               (λ (none : OpensNone mid new). inl (subst (λ (n : ℕ). StopsBefore n old new) (omega arith) (stops-through (input_count (rules_stages task)) 0 old mid new here.read.inputs (record { opens = none.opens; closed = none.closed }))))
-              (λ (named : OpensNamed mid new name MAX_MODEL_BYTES). inr (opens-through (input_count (rules_stages task)) 1 new.opens old mid here.read.inputs named.opens))
+              (λ (named : OpensNamed mid new name MAX_MODEL_BYTES).
+              inr (stays-open task name (input_count (rules_stages task)) old mid new here.read.inputs here.stays here.named named))
               cause.2;
         });
     silent = refl;
@@ -246,7 +247,5 @@ model-stage-ends task start held old mid new before after halt is stays first ca
 
 -- memory is answered where memory was wanted
 pub halt-memory : (halt : ModelHalt) → halt_status halt ≡ Memory → halt ≡ halts.Memory
-halt-memory halts.Missing is = cc
-halt-memory halts.Fault is = cc
-halt-memory (halts.Refused e) is = cc
 halt-memory halts.Memory is = refl
+halt-memory halt is = cc

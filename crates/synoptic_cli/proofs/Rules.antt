@@ -1,11 +1,10 @@
 -- The file of rules: what was read of it, and how a run ends by its refusal.
-use Rattle.std.proofs.Common.{◌≡◌, ◌≢◌, ℕ, ◌+◌, ◌<◌, ◌≤◌, ◌⊎◌, List, [], ◌∷◌, ◌++◌, length, take, nat_lt, true, sym, ap, ◌∙◌, subst, ⊎_elim, inl, inr, arith, Option, Some, None, Result, Ok, Err, take_all, length-take, refl, IsTrue}
+use Rattle.std.proofs.Common.{◌≡◌, ◌≢◌, ℕ, ◌+◌, ◌<◌, ◌≤◌, ◌⊎◌, List, [], ◌∷◌, ◌++◌, length, take, nat_lt, true, sym, ap, ◌∙◌, subst, ⊎_elim, inl, inr, arith, Option, Some, None, Result, Ok, Err, take_all, length-take, refl}
 use Rattle.std.proofs.lemmas.Bool.{cond-true, cases_lt}
 use Rattle.std.proofs.lemmas.Bool.Decides.{nat_tests}
 use Rattle.std.specs.Option.{IsSomeAnd, option_map_or}
-use Rattle.outside.specs.Counts.{Rose}
-use Rattle.outside.specs.Inputs.{Files, InputState, Lacks}
-use Rattle.outside.specs.Reading.{IfTold, OpensNamed, OpensNone, ReadsInput}
+use Rattle.outside.specs.Inputs.{Files, InputState}
+use Rattle.outside.specs.Reading.{IfTold, ReadsInput}
 use Rattle.line_rules.specs.Rules.{Rule, AreAlike}
 use Rattle.line_rules.specs.Views.{rules_in}
 use Rattle.line_rules.specs.declared.line_rules.LineRules.{LineRules}
@@ -15,13 +14,11 @@ use Rattle.line_rules.specs.declared.line_rules.RuleError.{RuleError}
 use Rattle.line_rules.specs.declared.line_rules.RuleError.TheVariants as refused
 use Rattle.log_reader.specs.Reading as form
 use Rattle.command_line.specs.Task.{Task}
-use Rattle.log_reader.specs.Inputs.{with_content}
 use Rattle.synoptic_cli.specs.Task.{file_stage, input_count, log_stages, model_stages, rules_name, RulesFile, stages_of}
-use Rattle.synoptic_cli.specs.Stages.{SoFar, Stop, and_then, at_start, reads, reads_rules, stop_after, with_rules}
-use Rattle.synoptic_cli.specs.Endings.{IsFirstLacking, IsTold, told_stages}
+use Rattle.synoptic_cli.specs.Stages.{SoFar, and_then, reads, with_rules}
+use Rattle.synoptic_cli.specs.Endings.{IsTold}
 use Rattle.synoptic_cli.specs.Causes.{RefusesRules, world}
-use Rattle.synoptic_cli.specs.declared.status.Status.TheVariants.{Expressions, ReadFault, Memory}
-use Rattle.synoptic_cli.specs.declared.status.Source.TheVariants as sources
+use Rattle.synoptic_cli.specs.declared.status.Status.TheVariants.{Expressions, Memory}
 use Rattle.synoptic_cli.specs.declared.stages.SoFar as rust
 use Rattle.synoptic_cli.specs.Halts.{rules_answer, Ends, EndsByRules, HasRead, Reads, ReadsRules}
 use Rattle.synoptic_cli.proofs.Bytes.{contents-one}
@@ -76,19 +73,14 @@ rules-read old new name bytes rules reads read =
 
 -- a file that is too long has no other refusal
 long-refused : (content bytes : List ℕ) (old new : PatternsState) (e : RuleError) → 65536 < length bytes → rules_of bytes ≡ rules_of content → IsRefused bytes old new e → IsRefused content old new e
-long-refused content bytes old new refused.TooLong over same refusal = sym same ∙ refusal
-long-refused content bytes old new (refused.BadLine number) over same refusal = sym same ∙ refusal
-long-refused content bytes old new (refused.TooMany number) over same refusal = sym same ∙ refusal
 long-refused content bytes old new (refused.Syntax number) over same refusal =
     ⊎_elim
     (λ (plain : rules_of bytes ≡ Err (refused.Syntax number)). inl (sym same ∙ plain))
     (λ (deep : (pattern : List ℕ) × IsBuilt bytes number pattern × NestsTooDeep pattern). absurd (omega (arith, deep.1.short)))
     refusal
 long-refused content bytes old new (refused.TooLarge number) over same refusal = absurd (omega (arith, refusal.1.1.short))
-long-refused content bytes old new (refused.NoType number) over same refusal = sym same ∙ refusal
-long-refused content bytes old new (refused.MixedTime number) over same refusal = sym same ∙ refusal
-long-refused content bytes old new refused.NoEvent over same refusal = sym same ∙ refusal
 long-refused content bytes old new refused.Memory over same refusal = tt
+long-refused content bytes old new e over same refusal = sym same ∙ refusal
 
 -- the refusal of what was read is that of the file
 pub refused-whole : (content bytes : List ℕ) (old new : PatternsState) (e : RuleError) → bytes ≡ take 65537 content → IsRefused bytes old new e → IsRefused content old new e
@@ -123,58 +115,11 @@ one-input task name is =
 pub memory-by-rules : (old new : InputState) (before after : PatternsState) (name : List ℕ) → new.opens ≤ old.opens + 1 → EndsByRules Memory name old new before after
 memory-by-rules old new before after name few = λ task is. memory-ends task old new before after (omega (arith, few, one-input task name is))
 
--- the file of rules failed, at its opening or at a read after it
-pub fault-by-rules : (old new : InputState) (before after : PatternsState) (name : List ℕ) (limit : ℕ) → Rose old.faults new.faults → IsTrue (old.may_fail name)
-    → OpensNone old new ⊎ OpensNamed old new name limit → EndsByRules (ReadFault sources.Expressions) name old new before after
-fault-by-rules old new before after name limit rose may opened = λ task is words out asks. (
-  task,
-  asks,
-  record {
-    why =
-        inl (record {
-          rose = rose;
-          may_fail = subst (λ (w : Option (List ℕ)). IsSomeAnd w (λ name. IsTrue (old.may_fail name))) (sym is) may;
-          opened =
-              ⊎_elim (λ (none : OpensNone old new). inl (record { opens = none.opens; closed = none.closed }))
-              (λ (named : OpensNamed old new name limit). inr named.opens) opened;
-        });
-    silent = refl;
-  },
-)
-
--- the file of rules is not there
-rules-lack : (told : Option Files) (task : Task) (name : List ℕ) → rules_name task.form ≡ Some name → Lacks told name → IsFirstLacking told task sources.Expressions
-rules-lack None task name is lacks = absurd lacks
-rules-lack (Some files) task name is lacks =
-    let next : SoFar → Result SoFar Stop = λ s. reads s (told_stages files (model_stages task ++ log_stages task)) in
-    let read : reads at_start (told_stages files (stages_of task)) ≡ Err (stop_after 0 (ReadFault sources.Expressions)) =
-    ap (λ (w : Option (List ℕ)). reads at_start (told_stages files ((file_stage RulesFile w ++ model_stages task) ++ log_stages task))) is
-    ∙ ap (λ (o : Option (List ℕ)). and_then (reads_rules at_start (with_content o [])) 1 next) lacks in
-    (0, read)
-
-pub missing-by-rules : (old new : InputState) (before after : PatternsState) (name : List ℕ) → Lacks old.files name → OpensNone old new → new.faults ≡ old.faults
-    → EndsByRules (ReadFault sources.Expressions) name old new before after
-missing-by-rules old new before after name lacks none faults = λ task is words out asks. (
-  task,
-  asks,
-  record {
-    why = inr (record { lacking = rules-lack old.files task name is lacks; opened = record { opens = none.opens; closed = none.closed }; faults = faults });
-    silent = refl;
-  },
-)
-
 -- the same, with want of memory among the refusals
 pub rules-end : (old new : InputState) (before after : PatternsState) (name bytes : List ℕ) (e : RuleError) → ReadsInput old new name 65536 bytes → IsRefused bytes before after e
     → EndsByRules (rules_answer e) name old new before after
-rules-end old new before after name bytes refused.TooLong reads refusal = rules-refused old new before after name bytes refused.TooLong reads (λ same. cc) refusal
-rules-end old new before after name bytes (refused.BadLine number) reads refusal = rules-refused old new before after name bytes (refused.BadLine number) reads (λ same. cc) refusal
-rules-end old new before after name bytes (refused.TooMany number) reads refusal = rules-refused old new before after name bytes (refused.TooMany number) reads (λ same. cc) refusal
-rules-end old new before after name bytes (refused.Syntax number) reads refusal = rules-refused old new before after name bytes (refused.Syntax number) reads (λ same. cc) refusal
-rules-end old new before after name bytes (refused.TooLarge number) reads refusal = rules-refused old new before after name bytes (refused.TooLarge number) reads (λ same. cc) refusal
-rules-end old new before after name bytes (refused.NoType number) reads refusal = rules-refused old new before after name bytes (refused.NoType number) reads (λ same. cc) refusal
-rules-end old new before after name bytes (refused.MixedTime number) reads refusal = rules-refused old new before after name bytes (refused.MixedTime number) reads (λ same. cc) refusal
-rules-end old new before after name bytes refused.NoEvent reads refusal = rules-refused old new before after name bytes refused.NoEvent reads (λ same. cc) refusal
 rules-end old new before after name bytes refused.Memory reads refusal = memory-by-rules old new before after name (omega (arith, reads.opens))
+rules-end old new before after name bytes e reads refusal = rules-refused old new before after name bytes e reads (λ same. cc) refusal
 
 -- ---- the stage of the rules
 
@@ -191,10 +136,6 @@ rules-through old new name rules so_far read = (
     inputs = read.opened;
   },
 )
-
--- no stage leaves all as it was
-pub none-read : (held : rust.SoFar) (now : InputState) → Reads [] held now now held
-none-read held now = λ so_far is. (so_far, is, record { bytes = refl; inputs = inr (refl, refl) })
 
 pub rules-held : (held : rust.SoFar) (old new : InputState) (name : List ℕ) (rules : LineRules) → ReadsRules old new name (rules_in rules)
     → Reads (RulesFile name ∷ []) held old new (record { rules = Some rules; material = held.material })

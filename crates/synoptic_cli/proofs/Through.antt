@@ -1,15 +1,22 @@
 -- Stages that were read one after another.
-use Rattle.std.proofs.Common.{◌≡◌, ℕ, zero, suc, refl, ◌+◌, ◌-◌, ◌^◌, ◌<◌, ◌≤◌, min, List, ◌++◌, Option, Result, Ok, Err, sym, ap, ◌∙◌, subst, arith, inl, inr, ⊎_elim}
+use Rattle.std.proofs.Common.{Bool, Some, ◌≡◌, ℕ, zero, suc, refl, ◌+◌, ◌-◌, ◌^◌, ◌<◌, ◌≤◌, min, List, ◌++◌, Option, Result, Ok, Err, sym, ap, ◌∙◌, subst, arith, inl, inr, ⊎_elim}
 use Rattle.std.specs.Io.KnownBytes.{IsAtEnd}
 use Rattle.outside.specs.Inputs.{Files, InputState, Stays}
+use Rattle.outside.specs.Reading.{IfTold, LosesFront}
 use Rattle.std.proofs.lemmas.Bool.{cases_lt}
 use Rattle.log_reader.specs.Inputs.{Opened, StopsBefore, opens_after}
 use Rattle.synoptic_cli.specs.Task.{Stage, input_count}
 use Rattle.synoptic_cli.specs.Stages.{SoFar, Stop, after, reads}
 use Rattle.synoptic_cli.specs.Endings.{SomeBytes, OpenedAll, ReadAll}
 use Rattle.synoptic_cli.specs.declared.stages.SoFar as rust
-use Rattle.synoptic_cli.specs.Halts.{HasRead, IsHeld, Reads, StopsReading}
+use Rattle.synoptic_cli.specs.Causes.{LeavesOpen}
+use Rattle.synoptic_cli.specs.Halts.{HasRead, Reads}
 use Rattle.synoptic_cli.proofs.Bytes.{bytes-both, bytes-count, bytes-first, filled_count, input_count-append, later, reads-append, reads-stop}
+
+-- the stages were read up to a stop
+pub record StopsReading (stages : List Stage) (old new : InputState) (before : SoFar) (stop : Stop) : Type 0 where
+  pub bytes : SomeBytes old.files stages (λ filled. reads before filled ≡ Err stop)
+  pub opened : OpenedAll stop.count old new
 
 -- the same count by another word
 pub opened-is : (a b : ℕ) (old new : InputState) → a ≡ b → Opened a old new → Opened b old new
@@ -75,7 +82,7 @@ after-some opens zero some = absurd (omega (arith, some))
 after-some opens (suc count) some = refl
 
 -- inputs that were opened after those that were read
-pub opens-through : (a b opens : ℕ) (old mid : InputState) → ReadAll a old mid → opens ≡ opens_after mid.opens b → opens ≡ opens_after old.opens (a + b)
+opens-through : (a b opens : ℕ) (old mid : InputState) → ReadAll a old mid → opens ≡ opens_after mid.opens b → opens ≡ opens_after old.opens (a + b)
 opens-through a b opens old mid read is =
     ⊎_elim
     (λ (some : (0 < a) × Opened a old mid × IsAtEnd mid.rest).
@@ -91,6 +98,14 @@ opens-through a b opens old mid read is =
 -- the same where nothing is open
 pub stops-through : (a b : ℕ) (old mid new : InputState) → ReadAll a old mid → StopsBefore b mid new → StopsBefore (a + b) old new
 stops-through a b old mid new read stops = record { opens = opens-through a b new.opens old mid read stops.opens; closed = stops.closed }
+
+-- an input that was opened after those that were read, and is open
+pub open-through : (a b limit : ℕ) (old mid new : InputState) (name : List ℕ) → ReadAll a old mid → Stays old mid → LeavesOpen b limit mid new name → LeavesOpen (a + b) limit old new name
+open-through a b limit old mid new name read stays within = record {
+  opens = subst (λ (n : ℕ). new.opens ≡ opens_after old.opens n) (omega arith) (opens-through a (b + 1) new.opens old mid read within.opens);
+  mark = within.mark ∙ ap (λ (may_fail : List ℕ → Bool). may_fail name) stays.may_fail;
+  left = subst (λ (files : Option Files). IfTold files name (λ content. LosesFront (Some content) new.rest limit)) stays.files within.left;
+}
 
 -- stages that were read, and then more
 pub read-more : (first second : List Stage) (old mid new : InputState) (a b c : SoFar) → Stays old mid → HasRead first old mid a b → HasRead second mid new b c

@@ -1,13 +1,10 @@
 -- What stands written, and why a run ends after its command was asked.
-use Rattle.std.proofs.Common.{◌≡◌, ℕ, List, Some, Result, Ok, Err, refl, sym, subst, arith}
+use Rattle.std.proofs.Common.{◌≡◌, ℕ, List, Some, Result, Ok, Err, refl, sym, subst}
 use Rattle.std.specs.Io.KnownBytes.{Appends}
 use Rattle.outside.specs.Counts.{Rose}
 use Rattle.outside.specs.Inputs.{InputState}
 use Rattle.outside.specs.Sinks.{AppendsFront}
 use Rattle.line_rules.specs.Patterns.{PatternsState}
-use Rattle.line_rules.specs.Files.{KeepsAt}
-use Rattle.line_rules.specs.declared.line_rules.RuleError.{RuleError}
-use Rattle.line_rules.specs.declared.line_rules.RuleError.TheVariants as rule_error
 use Rattle.command_line.specs.Task.{Task, task_of}
 use Rattle.synoptic_cli.specs.declared.answer.Answer.{Answer}
 use Rattle.synoptic_cli.specs.declared.answer.NoAnswer.{NoAnswer}
@@ -15,16 +12,15 @@ use Rattle.synoptic_cli.specs.declared.answer.NoAnswer.TheVariants as no_answer
 use Rattle.synoptic_cli.specs.declared.material.Material.{Material}
 use Rattle.synoptic_cli.specs.declared.status.LimitKind.{LimitKind}
 use Rattle.synoptic_cli.specs.declared.status.Status.{Status}
-use Rattle.synoptic_cli.specs.declared.status.Status.TheVariants.{Done, NoCheck, Usage, Expressions, Log, Limit, ReadFault, WriteFault, Memory, ModelFile}
+use Rattle.synoptic_cli.specs.declared.status.Status.TheVariants.{Done, NoCheck, Limit}
 use Rattle.synoptic_cli.specs.Task.{input_count, stages_of}
 use Rattle.synoptic_cli.specs.Stages.{SoFar, Stop, at_start, reads, stop_after}
 use Rattle.synoptic_cli.specs.Commands.{Answers}
 use Rattle.synoptic_cli.specs.Endings.{EndsAfter, EndsOver}
-use Rattle.synoptic_cli.specs.Causes.{World, HasAnswer, HasCause, KeepsCount, WritesAll, WritesPart}
+use Rattle.synoptic_cli.specs.Causes.{World, HasAnswer, HasCause, WritesAll, WritesPart}
 use Rattle.synoptic_cli.specs.Halts.{Ends, Gives, IsVerdict, ReadsTask}
 use Rattle.synoptic_cli.proofs.Bytes.{bytes-map}
-use Rattle.synoptic_cli.proofs.Through.{read-faults, read-most, read-opens}
-use Rattle.synoptic_cli.proofs.Rules.{memory-ends}
+use Rattle.synoptic_cli.proofs.Through.{read-opens}
 
 -- everything was read, and the command answered
 task-answered : (task : Task) (old new : World) (m : Material) (a : Answer) → ReadsTask task old.inputs new.inputs m → Answers task m (Ok a) → HasAnswer task a old new
@@ -39,19 +35,12 @@ task-answered task old new m a read answers = record {
 answer-cause : (status : Status) (words : List (List ℕ)) (task : Task) (old new : World) → IsVerdict status → task_of words ≡ Some task → WritesAll status old new task → HasCause status words old new
 answer-cause Done words task old new is asks written = (task, asks, written)
 answer-cause (NoCheck part) words task old new is asks written = (task, asks, written)
-answer-cause Usage words task old new is asks written = absurd is
-answer-cause (Expressions e) words task old new is asks written = absurd is
-answer-cause (Log fault) words task old new is asks written = absurd is
-answer-cause (Limit kind) words task old new is asks written = absurd is
-answer-cause (ReadFault source) words task old new is asks written = absurd is
-answer-cause WriteFault words task old new is asks written = absurd is
-answer-cause Memory words task old new is asks written = absurd is
-answer-cause (ModelFile e) words task old new is asks written = absurd is
+answer-cause status words task old new is asks written = absurd is
 
 pub written-whole : (task : Task) (words : List (List ℕ)) (old new : World) (m : Material) (a : Answer) → ReadsTask task old.inputs new.inputs m → Answers task m (Ok a) → IsVerdict a.status
-    → Appends old.out.written new.out.written a.text → task_of words ≡ Some task → HasCause a.status words old new
-written-whole task words old new m a read answers verdict appended asks =
-    answer-cause a.status words task old new verdict asks (record { text = a.text; answer = task-answered task old new m a read answers; written = appended })
+    → Appends old.out.written new.out.written a.text → new.out.faults ≡ old.out.faults → task_of words ≡ Some task → HasCause a.status words old new
+written-whole task words old new m a read answers verdict appended calm asks =
+    answer-cause a.status words task old new verdict asks (record { text = a.text; answer = task-answered task old new m a read answers; written = appended; faults = calm })
 
 pub written-in-part : (task : Task) (old new : World) (m : Material) (a : Answer) → ReadsTask task old.inputs new.inputs m → Answers task m (Ok a)
     → AppendsFront old.out a.text new.out → Rose old.out.faults new.out.faults → WritesPart old new task
@@ -78,34 +67,3 @@ limit-ends task old new before after m kind read answers = λ words out asks. (
     silent = refl;
   },
 )
-
--- the command wants memory
-pub answer-memory : (task : Task) (old new : InputState) (before after : PatternsState) (m : Material) → ReadsTask task old new m → Ends Memory task old new before after
-answer-memory task old new before after m read = memory-ends task old new before after (read-most (input_count (stages_of task)) old new read.read.inputs)
-
-pub task-faults : (task : Task) (old new : InputState) (m : Material) → ReadsTask task old new m → new.faults ≡ old.faults
-task-faults task old new m read = read-faults (input_count (stages_of task)) old new read.read.inputs
-
--- where no pattern was refused, each status keeps the count
-keeps-at : (e : RuleError) (before after : PatternsState) → after.refusals ≡ before.refusals → KeepsAt before e after
-keeps-at rule_error.TooLong before after same = same
-keeps-at (rule_error.BadLine number) before after same = same
-keeps-at (rule_error.TooMany number) before after same = same
-keeps-at (rule_error.Syntax number) before after same = same
-keeps-at (rule_error.TooLarge number) before after same = tt
-keeps-at (rule_error.NoType number) before after same = same
-keeps-at (rule_error.MixedTime number) before after same = same
-keeps-at rule_error.NoEvent before after same = same
-keeps-at rule_error.Memory before after same = same
-
-pub keeps-count : (status : Status) (before after : PatternsState) → after.refusals ≡ before.refusals → KeepsCount status before after
-keeps-count Done before after same = same
-keeps-count (NoCheck part) before after same = same
-keeps-count Usage before after same = same
-keeps-count (Expressions e) before after same = keeps-at e before after same
-keeps-count (Log fault) before after same = same
-keeps-count (Limit kind) before after same = same
-keeps-count (ReadFault source) before after same = same
-keeps-count WriteFault before after same = same
-keeps-count Memory before after same = same
-keeps-count (ModelFile e) before after same = same

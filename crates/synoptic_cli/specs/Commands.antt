@@ -13,6 +13,7 @@ use Rattle.synoptic_cli.specs.Commands.PrintGraphOfModel as print_graph_of_model
 use Rattle.synoptic_cli.specs.Commands.PrintInvariants as print_invariants
 use Rattle.synoptic_cli.specs.Commands.PrintPaths as print_paths
 use Rattle.synoptic_cli.specs.Commands.RunBench as run_bench
+pub mod Answered
 pub mod CheckModel
 pub mod Inference
 pub mod InferModel

@@ -17,7 +17,8 @@ use Rattle.synoptic_cli.specs.Commands.{Answers}
 abbrev pub told_stages : Files → List Stage → List Filled
 told_stages files stages = map (λ stage. (stage, told_contents files (stage_names stage))) stages
 
--- P holds of the bytes of the stages' inputs, where files are told; else of some bytes of a front of each stage's inputs
+-- P holds of the bytes of the stages' inputs, where files are told; else of some bytes of a front of each stage's
+-- inputs
 abbrev pub SomeBytes : Option Files → List Stage → (List Filled → Type 0) → Type 0
 SomeBytes files [] P = P []
 SomeBytes files (stage ∷ stages) P =
@@ -48,6 +49,7 @@ pub record EndsTold (files : Files) (task : Task) (status : Status) : Type 0 whe
   pub ends : EndsOver task (told_stages files (stages_of task)) end
   pub is : end_status end ≡ status
 
+-- the status that what the words ask for has over these files: without any task it is Usage
 abbrev pub HasStatus : Option Task → Files → Status → Type 0
 HasStatus None files status = status ≡ Usage
 HasStatus (Some task) files status = EndsTold files task status
@@ -84,6 +86,7 @@ IsFirstLacking (Some files) task source =
 abbrev pub OpenedAll : ℕ → InputState → InputState → Type 0
 OpenedAll count old new = ((0 < count) × Opened count old new) ⊎ ((count ≡ 0) × (new ≡ old))
 
--- so many inputs were opened, with no fault, and the last was read to its end; or there is none, and nothing was touched
+-- so many inputs were opened, with no fault, and the last was read to its end; or there is none, and nothing was
+-- touched
 abbrev pub ReadAll : ℕ → InputState → InputState → Type 0
 ReadAll count old new = ((0 < count) × Opened count old new × IsAtEnd new.rest) ⊎ ((count ≡ 0) × (new ≡ old))

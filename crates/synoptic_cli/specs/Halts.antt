@@ -30,13 +30,13 @@ use Rattle.synoptic_cli.specs.declared.material.Material.{Material}
 use Rattle.synoptic_cli.specs.declared.stages.SoFar as rust
 use Rattle.synoptic_cli.specs.declared.status.LimitKind.{LimitKind}
 use Rattle.synoptic_cli.specs.declared.status.Status.{Status}
-use Rattle.synoptic_cli.specs.declared.status.Status.TheVariants.{Done, NoCheck, Usage, Expressions, Log, Limit, ReadFault, WriteFault, Memory, ModelFile}
+use Rattle.synoptic_cli.specs.declared.status.Status.TheVariants.{Done, NoCheck, Usage, Expressions, ReadFault, Memory, ModelFile}
 use Rattle.synoptic_cli.specs.declared.status.Source.TheVariants as sources
 use Rattle.synoptic_cli.specs.declared.model_stage.ModelHalt.{ModelHalt}
 use Rattle.synoptic_cli.specs.declared.model_stage.ModelHalt.TheVariants as halts
 use Rattle.synoptic_cli.specs.Task.{input_count, rules_name, Stage, stages_of}
-use Rattle.synoptic_cli.specs.Stages.{SoFar, Stop, at_start, reads}
-use Rattle.synoptic_cli.specs.Endings.{IsTold, SomeBytes, OpenedAll, ReadAll}
+use Rattle.synoptic_cli.specs.Stages.{SoFar, at_start, reads}
+use Rattle.synoptic_cli.specs.Endings.{IsTold, SomeBytes, ReadAll}
 use Rattle.synoptic_cli.specs.Causes.{HasCause, world}
 
 -- the status that a refusal of the file of rules is answered by: want of memory is no fault of the file
@@ -147,11 +147,6 @@ pub record HasRead (stages : List Stage) (old new : InputState) (before now : So
 abbrev pub Reads : List Stage → rust.SoFar → (old new : InputState) → rust.SoFar → Type 0
 Reads stages before old new now =
     (so_far : SoFar) → IsHeld before so_far → (next : SoFar) × IsHeld now next × HasRead stages old new so_far next
-
--- the stages were read up to a stop
-pub record StopsReading (stages : List Stage) (old new : InputState) (before : SoFar) (stop : Stop) : Type 0 where
-  pub bytes : SomeBytes old.files stages (λ filled. reads before filled ≡ Err stop)
-  pub opened : OpenedAll stop.count old new
 
 -- the task's inputs were read, and this is what the command is to work on, with a model that is well shaped
 pub record ReadsTask (task : Task) (old new : InputState) (material : Material) : Type 0 where

@@ -31,6 +31,7 @@ abbrev pub shown_source : Option Task → Source → List ℕ
 shown_source None source = []
 shown_source (Some task) source = shown (source_name task source)
 
+-- what is wrong with a file of rules, and in which line
 abbrev pub rule_message : RuleError → List ℕ
 rule_message rule_error.TooLong = codes ": too long\n"
 rule_message (rule_error.BadLine number) = codes " line " ++ decimal number ++ codes ": bad line\n"
@@ -45,8 +46,10 @@ rule_message rule_error.Memory = codes ": out of memory\n"
 -- the line of a log, and what is wrong with it
 abbrev pub line_message : Option Task → At → List ℕ → List ℕ
 line_message task at what =
-    codes "synoptic: " ++ shown_source task (sources.Log at.file) ++ codes ":" ++ decimal at.line ++ codes ": " ++ what ++ codes "\n"
+    codes "synoptic: " ++ shown_source task (sources.Log at.file) ++ codes ":" ++ decimal at.line ++ codes ": " ++ what
+    ++ codes "\n"
 
+-- why a line of a log is refused
 abbrev pub log_message : Option Task → LogFault → List ℕ
 log_message task (faults.LineTooLong at) = line_message task at (codes "line too long")
 log_message task (faults.Undecided at) = line_message task at (codes "no rule decides")
@@ -54,6 +57,7 @@ log_message task (faults.BadTime at) = line_message task at (codes "bad time")
 log_message task (faults.TypeTooLong at) = line_message task at (codes "type too long")
 log_message task (faults.TraceTooLong at) = line_message task at (codes "trace too long")
 
+-- which quantity passes its limit, and the limit
 abbrev pub limit_message : LimitKind → List ℕ
 limit_message limits.Types = codes "synoptic: limit: types 128\n"
 limit_message limits.Events = codes "synoptic: limit: events 1000000\n"
@@ -86,7 +90,9 @@ file_fault file_error.Memory = codes "out of memory"
 abbrev pub task_message : Option Task → Status → List ℕ
 task_message task Done = []
 task_message task (NoCheck part) = []
-task_message task Usage = codes "usage: synoptic infer|check|replay|invariants|graph|paths|bench [-e FILE] [-p] [-m FILE] [-i] [-j] [-n N] [--] [FILE]...\n"
+task_message task Usage =
+    codes "usage: synoptic infer|check|replay|invariants|graph|paths|bench "
+    ++ codes "[-e FILE] [-p] [-m FILE] [-i] [-j] [-n N] [--] [FILE]...\n"
 task_message task (Expressions e) = codes "synoptic: expressions" ++ rule_message e
 task_message task (Log fault) = log_message task fault
 task_message task (Limit kind) = limit_message kind

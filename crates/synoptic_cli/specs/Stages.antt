@@ -54,20 +54,22 @@ pub record Stop : Type 0 where
 abbrev pub stop_after : ℕ → Status → Stop
 stop_after count status = record { status = status; count = count }
 
--- what the file of rules gives
+-- what the file of rules gives, once it is read as rules or refused
 abbrev pub with_rules : SoFar → Result (List Rule) RuleError → Result SoFar Stop
 with_rules so_far (Ok rules) = Ok (record { form = form.Rules rules; material = so_far.material })
 with_rules so_far (Err e) = Err (stop_after 1 (Expressions e))
 
+-- what the stage of the rules gives over the bytes of its file, if that is there
 abbrev pub reads_rules : SoFar → List (List ℕ) → Result SoFar Stop
 reads_rules so_far [] = Err (stop_after 0 (ReadFault sources.Expressions))
 reads_rules so_far (bytes ∷ more) = with_rules so_far (rules_of bytes)
 
--- what the file of a model gives
+-- what the file of a model gives, once it is read as a model or refused
 abbrev pub with_model : SoFar → Result Model FileError → Result SoFar Stop
 with_model so_far (Ok model) = Ok (record so_far { material = record so_far.material { model = model } })
 with_model so_far (Err e) = Err (stop_after 1 (statuses.ModelFile e))
 
+-- what the stage of the model gives over the bytes of its file, if that is there
 abbrev pub reads_model : SoFar → List (List ℕ) → Result SoFar Stop
 reads_model so_far [] = Err (stop_after 0 (ReadFault sources.ModelFile))
 reads_model so_far (bytes ∷ more) = with_model so_far (model_file.reads bytes)
@@ -98,9 +100,11 @@ setting_by so_far ignore join = record { form = so_far.form; ignore = ignore; jo
 abbrev pub with_log : SoFar → Setting → ℕ → List (List ℕ) → Option ReadError → Result SoFar Stop
 with_log so_far s count contents (Some e) = Err (stop_at (refused_input e contents) (status_of e))
 with_log so_far s count contents None =
-    if nat_lt (length contents) count then Err (stop_after (length contents) (ReadFault (sources.Log (length contents))))
+    if nat_lt (length contents) count
+    then Err (stop_after (length contents) (ReadFault (sources.Log (length contents))))
     else Ok (record so_far { material = record so_far.material { log = log_of (events_of s contents) } })
 
+-- what the stage of the log gives over the bytes of its files, up to the first that is not there
 abbrev pub reads_log : SoFar → Setting → ℕ → List (List ℕ) → Result SoFar Stop
 reads_log so_far s count contents = with_log so_far s count contents (first_refusal s contents)
 

@@ -19,7 +19,8 @@ const USAGE: &[u8] =
 
 /// Writes the texts, one after another, and takes no memory.
 fn write_texts<E: Sink>(texts: &[&str], err: &mut E) -> Result<(), Failed>
-    ensures { WholeGives (E.state err.old) (flat_map (λ text. text.now) texts.now) result (E.state err.new) }
+    ensures { WholeGives (E.state err.old)
+        (flat_map (λ text. text.now) texts.now) result (E.state err.new) }
 {
     for text in texts {
         write_whole(err, text.as_bytes())?;
@@ -88,7 +89,8 @@ fn write_log_line<E: Sink>(
     err: &mut E,
 ) -> Result<(), Failed>
     ensures { WholeGives (E.state err.old)
-        (line_message (option_map (λ t. task_held t.now) task.entry) at what.now) result (E.state err.new) }
+        (line_message (option_map (λ t. task_held t.now) task.entry) at what.now)
+        result (E.state err.new) }
 {
     let name = shown_source(task, Source::Log(at.file));
     let mut digits = Buffer::new();
@@ -113,7 +115,8 @@ fn write_log_fault<E: Sink>(
     err: &mut E,
 ) -> Result<(), Failed>
     ensures { WholeGives (E.state err.old)
-        (log_message (option_map (λ t. task_held t.now) task.entry) fault) result (E.state err.new) }
+        (log_message (option_map (λ t. task_held t.now) task.entry) fault)
+        result (E.state err.new) }
 {
     match fault {
         LogFault::LineTooLong(at) => write_log_line(task, at, "line too long", err),
@@ -158,7 +161,8 @@ fn field_name(field: Field) -> &'static str
 /// Writes what is wrong with a model's file, by two words.
 fn write_file_fault<E: Sink>(what: &str, which: &str, err: &mut E) -> Result<(), Failed>
     ensures { WholeGives (E.state err.old)
-        (codes "synoptic: model file: " ++ what.now ++ which.now ++ codes "\n") result (E.state err.new) }
+        (codes "synoptic: model file: " ++ what.now ++ which.now ++ codes "\n")
+        result (E.state err.new) }
 {
     write_texts(&["synoptic: model file: ", what, which, "\n"], err)
 }
@@ -166,7 +170,8 @@ fn write_file_fault<E: Sink>(what: &str, which: &str, err: &mut E) -> Result<(),
 /// Writes what is wrong with a model's file.
 fn write_file_error<E: Sink>(error: FileError, err: &mut E) -> Result<(), Failed>
     ensures { WholeGives (E.state err.old)
-        (codes "synoptic: model file: " ++ file_fault error ++ codes "\n") result (E.state err.new) }
+        (codes "synoptic: model file: " ++ file_fault error ++ codes "\n")
+        result (E.state err.new) }
 {
     let mut digits = Buffer::new();
     match error {
@@ -185,8 +190,9 @@ fn write_read_fault<E: Sink>(
     err: &mut E,
 ) -> Result<(), Failed>
     ensures { WholeGives (E.state err.old)
-        (codes "synoptic: cannot read " ++ shown_source (option_map (λ t. task_held t.now) task.entry) source
-        ++ codes "\n") result (E.state err.new) }
+        (codes "synoptic: cannot read "
+        ++ shown_source (option_map (λ t. task_held t.now) task.entry) source ++ codes "\n")
+        result (E.state err.new) }
 {
     write_texts(
         &["synoptic: cannot read ", shown_source(task, source), "\n"],
@@ -201,7 +207,8 @@ fn write_message<E: Sink>(
     err: &mut E,
 ) -> Result<(), Failed>
     ensures { WholeGives (E.state err.old)
-        (task_message (option_map (λ t. task_held t.now) task.entry) status) result (E.state err.new) }
+        (task_message (option_map (λ t. task_held t.now) task.entry) status)
+        result (E.state err.new) }
 {
     match status {
         Status::Done => Ok(()),

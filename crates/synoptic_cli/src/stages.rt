@@ -87,10 +87,12 @@ fn read_rules_stage<I: Inputs, P: Patterns>(
 ) -> Result<SoFar, Status>
     ensures stays { Stays (I.state inputs.old) (I.state inputs.new) }
     ensures kept { PatternsStay (P.state patterns.old) (P.state patterns.new) }
-    ensures memory { result ≡ Err Status.Memory → (I.state inputs.new).faults ≡ (I.state inputs.old).faults }
+    ensures memory { result ≡ Err Status.Memory
+        → (I.state inputs.new).faults ≡ (I.state inputs.old).faults }
     ensures count { KeepsCounts result (P.state patterns.old) (P.state patterns.new) }
     ensures ok { IfOk result
-        (Reads (rules_stages (task_held task.now)) so_far (I.state inputs.old) (I.state inputs.new)) }
+        (Reads (rules_stages (task_held task.now)) so_far
+        (I.state inputs.old) (I.state inputs.new)) }
     ensures err { IfErr result (λ status.
         Ends status (task_held task.now) (I.state inputs.old) (I.state inputs.new)
         (P.state patterns.old) (P.state patterns.new)) }
@@ -116,7 +118,8 @@ fn read_model_stage<I: Inputs>(
 ) -> Result<SoFar, ModelHalt>
     ensures stays { Stays (I.state inputs.old) (I.state inputs.new) }
     ensures ok { IfOk result
-        (Reads (model_stages (task_held task.now)) so_far (I.state inputs.old) (I.state inputs.new)) }
+        (Reads (model_stages (task_held task.now)) so_far
+        (I.state inputs.old) (I.state inputs.new)) }
     ensures err { IfErr result (λ halt. IsSomeAnd (task_held task.now).model
         (λ name. ModelHalts (I.state inputs.old) (I.state inputs.new) name halt)) }
     ensures memory { result ≡ Err ModelHalt.Memory
@@ -188,9 +191,11 @@ fn read_log_stage<I: Inputs>(
 ) -> Result<SoFar, ReadError>
     ensures stays { Stays (I.state inputs.old) (I.state inputs.new) }
     ensures ok { IfOk result
-        (Reads (log_stages (task_held task.now)) so_far (I.state inputs.old) (I.state inputs.new)) }
+        (Reads (log_stages (task_held task.now)) so_far
+        (I.state inputs.old) (I.state inputs.new)) }
     ensures err { IfErr result
-        (LogHalts (task_held task.now) (held_form so_far) (I.state inputs.old) (I.state inputs.new)) }
+        (LogHalts (task_held task.now) (held_form so_far)
+        (I.state inputs.old) (I.state inputs.new)) }
     ensures memory { result ≡ Err ReadError.Memory
         → (I.state inputs.new).faults ≡ (I.state inputs.old).faults }
 {
@@ -219,9 +224,11 @@ pub fn read_material<I: Inputs, P: Patterns>(
 ) -> Result<Material, Status>
     ensures stays { Stays (I.state inputs.old) (I.state inputs.new) }
     ensures kept { PatternsStay (P.state patterns.old) (P.state patterns.new) }
-    ensures memory { result ≡ Err Status.Memory → (I.state inputs.new).faults ≡ (I.state inputs.old).faults }
+    ensures memory { result ≡ Err Status.Memory
+        → (I.state inputs.new).faults ≡ (I.state inputs.old).faults }
     ensures count { KeepsCounts result (P.state patterns.old) (P.state patterns.new) }
-    ensures ok { IfOk result (ReadsTask (task_held task.now) (I.state inputs.old) (I.state inputs.new)) }
+    ensures ok { IfOk result
+        (ReadsTask (task_held task.now) (I.state inputs.old) (I.state inputs.new)) }
     ensures err { IfErr result (λ status.
         Ends status (task_held task.now) (I.state inputs.old) (I.state inputs.new)
         (P.state patterns.old) (P.state patterns.new)) }

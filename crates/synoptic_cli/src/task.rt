@@ -25,7 +25,8 @@ pub fn rules_name<'a>(form: Option<LineForm<'a>>) -> Option<&'a str>
 
 /// The name of the log's input with this number: without any file, the empty name is that of input 0.
 fn input_name<'a>(files: &[&'a str], number: u32) -> Option<&'a str>
-    ensures { option_map (λ s. s.now) result ≡ slice_get (inputs_of (map (λ s. s.now) files.now)) number }
+    ensures { option_map (λ s. s.now) result
+        ≡ slice_get (inputs_of (map (λ s. s.now) files.now)) number }
 {
     if files.is_empty() && number == 0 {
         return Some("");
@@ -57,7 +58,8 @@ fn owned(alloc: Global, files: &[&str]) -> Result<Vec<String>, AllocError>
 
 /// The names of the log's files, as its reader takes them: fewer than 2^32.
 pub fn names_of(alloc: Global, task: &Task<'_>) -> Result<Vec<String>, AllocError>
-    ensures names { IfOk result (λ names. map string_bytes names.items ≡ (task_held task.now).files) }
+    ensures names { IfOk result (λ names.
+        map string_bytes names.items ≡ (task_held task.now).files) }
     ensures few { IfOk result (λ names. length names.items < 2 ^ 32) }
 {
     if task.files.len() >= TOO_MANY_FILES {

@@ -29,7 +29,8 @@ fn answer<I: Inputs, P: Patterns, O: Sink>(
         → HasCause result words
         (world (I.state inputs.old) (P.state patterns.old) (O.state out.old))
         (world (I.state inputs.new) (P.state patterns.new) (O.state out.new)) }
-    ensures memory { result ≡ Status.Memory → (I.state inputs.new).faults ≡ (I.state inputs.old).faults }
+    ensures memory { result ≡ Status.Memory
+        → (I.state inputs.new).faults ≡ (I.state inputs.old).faults }
     ensures count { KeepsCount result (P.state patterns.old) (P.state patterns.new) }
     ensures stays { Stays
         (world (I.state inputs.old) (P.state patterns.old) (O.state out.old))
@@ -82,7 +83,7 @@ fn status_without_task(error: ParseError) -> Status
 ///
 /// - `cause`: what each status says of the words, the inputs, the patterns and what was written.
 ///   - `Done`: each input was read to its end, and nothing in it is refused. The whole answer stands in
-///     `out`. The invariants that `invariants` lists are exactly the candidates that hold, by places, of
+///     `out`, which counted no fault. The invariants that `invariants` lists are exactly the candidates that hold, by places, of
 ///     every trace, in the candidates' order, none twice, and each type that they name has a text. The
 ///     partitions and edges that `graph` shows are exactly those of the traces where each event has the id
 ///     that is its type's number, and each trace is the word of a path of that graph. What `graph -m` shows
@@ -102,7 +103,8 @@ fn status_without_task(error: ParseError) -> Status
 ///     is valid for that log; that it was written and read back is told by no clause.
 ///   - `NoCheck`: each input was read to its end, and nothing in it is refused. The model in the file is not
 ///     valid for the log, and this part fails first: those before it, in the order of `Part`, stand, and it
-///     fails first at the number or the pair that it names. The whole answer, which names it, stands in `out`.
+///     fails first at the number or the pair that it names. The whole answer, which names it, stands in `out`,
+///     which counted no fault.
 ///   - `Usage`: the words ask for nothing that is known, and nothing was opened, built or written.
 ///   - `Expressions`: the file of rules has this refusal; it was read to its end, or to one byte past its
 ///     limit. A pattern is too deep or too large only at the line that is named, where no line before it is
@@ -117,7 +119,8 @@ fn status_without_task(error: ParseError) -> Status
 ///     limit, and no input after it was opened. It is never want of memory.
 ///   - `ReadFault`: the inputs counted a fault and may fail the input that is named, or it is the first
 ///     that is not there, nothing before it is refused, and no fault was counted. The inputs before it were
-///     opened, and no others but it, where its opening did not fail.
+///     opened, and no others but it, where its opening did not fail. Where a read of it failed, it is still
+///     open, with what stands behind some front of it, and else nothing is open.
 ///   - `WriteFault`: `out` counted a fault, and has a front of the answer that `Done` or `NoCheck` would have
 ///     written.
 ///   - `Memory`: memory was wanted, for the words, the inputs or the answer, or there are 2^32 files or
@@ -148,7 +151,8 @@ pub fn run<I: Inputs, P: Patterns, O: Sink, E: Sink>(
     ensures expected { IsExpected result (map string_bytes words.now)
         (world (I.state inputs.old) (P.state patterns.old) (O.state out.old))
         (world (I.state inputs.new) (P.state patterns.new) (O.state out.new)) }
-    ensures memory { result ≡ Status.Memory → (I.state inputs.new).faults ≡ (I.state inputs.old).faults }
+    ensures memory { result ≡ Status.Memory
+        → (I.state inputs.new).faults ≡ (I.state inputs.old).faults }
     ensures count { KeepsCount result (P.state patterns.old) (P.state patterns.new) }
     ensures stays { Stays
         (world (I.state inputs.old) (P.state patterns.old) (O.state out.old))

@@ -10,7 +10,8 @@ use Rattle.model_check.specs.declared.verdict.Verdict.TheVariants.{Yes, No}
 use Rattle.synoptic_cli.specs.declared.answer.Answer.{Answer}
 use Rattle.synoptic_cli.specs.declared.material.Material.{Material}
 use Rattle.synoptic_cli.specs.declared.status.LimitKind.{LimitKind}
-use Rattle.synoptic_cli.specs.declared.status.Status.TheVariants.{Done, NoCheck}
+use Rattle.synoptic_cli.specs.declared.status.Status.TheVariants.{NoCheck}
+use Rattle.synoptic_cli.specs.Commands.Answered.{done}
 
 -- the text that names the part that fails, with its numbers in decimal digits
 abbrev pub no_text : Part → List ℕ
@@ -22,7 +23,7 @@ no_text (parts.Block p q) = codes "no: block " ++ decimal p ++ codes " " ++ deci
 
 -- how a verdict is told
 abbrev pub answer_of : Verdict → Answer
-answer_of Yes = record { status = Done; text = codes "yes\n" }
+answer_of Yes = done (codes "yes\n")
 answer_of (No part) = record { status = NoCheck part; text = no_text part }
 
 -- what it says: that the model is valid for the log, and so keeps all that a valid model promises; or that it is

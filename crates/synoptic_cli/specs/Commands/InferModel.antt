@@ -10,7 +10,7 @@ use Rattle.model_file.specs.Reading.{reads}
 use Rattle.synoptic_cli.specs.declared.answer.Answer.{Answer}
 use Rattle.synoptic_cli.specs.declared.material.Material.{Material}
 use Rattle.synoptic_cli.specs.declared.status.LimitKind.{LimitKind}
-use Rattle.synoptic_cli.specs.declared.status.Status.TheVariants.{Done}
+use Rattle.synoptic_cli.specs.Commands.Answered.{done}
 use Rattle.synoptic_cli.specs.Commands.Inference.{AnswersInferred}
 
 -- the text is the file of the log's model, within the limits. It is read back as that very model, which promises
@@ -19,7 +19,7 @@ pub record WritesModel (log : TypedWords) (a : Answer) : Type 0 where
   pub model : Model
   pub inferred : IsModelOf model log
   pub within : KeepsLimits model
-  pub value : a ≡ record { status = Done; text = file_text model }
+  pub value : a ≡ done (file_text model)
   pub reads_back : reads a.text ≡ Ok model
   pub promises : Promises model log
   pub valid : IsValid model log

@@ -11,7 +11,7 @@ use Rattle.reports.specs.Reports.{graph_report, partition_with}
 use Rattle.synoptic_cli.specs.declared.answer.Answer.{Answer}
 use Rattle.synoptic_cli.specs.declared.material.Material.{Material}
 use Rattle.synoptic_cli.specs.declared.status.LimitKind.{LimitKind}
-use Rattle.synoptic_cli.specs.declared.status.Status.TheVariants.{Done}
+use Rattle.synoptic_cli.specs.Commands.Answered.{done}
 use Rattle.synoptic_cli.specs.Commands.TypeNames.{HasText}
 
 -- the text of a graph: its partitions and its edges, by their ids
@@ -42,5 +42,5 @@ pub record ShowsExactly (log : Log) : Type 0 where
 
 -- the answer: the graph of the log's first assignment is printed, an edge a line, and shows exactly what there is
 pub record Answers (m : Material) (r : Result Answer LimitKind) : Type 0 where
-  pub value : r ≡ Ok (record { status = Done; text = parts_report m.log.types (start_of m.log) })
+  pub value : r ≡ Ok (done (parts_report m.log.types (start_of m.log)))
   pub exact : ShowsExactly m.log

@@ -10,7 +10,7 @@ use Rattle.reports.specs.Reports.{invariant_report}
 use Rattle.synoptic_cli.specs.declared.answer.Answer.{Answer}
 use Rattle.synoptic_cli.specs.declared.material.Material.{Material}
 use Rattle.synoptic_cli.specs.declared.status.LimitKind.{LimitKind}
-use Rattle.synoptic_cli.specs.declared.status.Status.TheVariants.{Done}
+use Rattle.synoptic_cli.specs.Commands.Answered.{done}
 use Rattle.synoptic_cli.specs.Commands.TypeNames.{HasText}
 
 -- the invariants that are listed
@@ -37,9 +37,10 @@ pub record ListsExactly (log : Log) : Type 0 where
   pub members : (inv : Invariant) → Contains (listed log) inv ↔ IsListed (length log.types) (words_of log) inv
   pub order : AreInOrder log
   pub once : AreOnce log
-  pub named : AllByRecursion (λ inv. ((inv.a ≡ INITIAL) ⊎ HasText log.types inv.a) × HasText log.types inv.b) (listed log)
+  pub named : AllByRecursion (λ inv. ((inv.a ≡ INITIAL) ⊎ HasText log.types inv.a) × HasText log.types inv.b)
+      (listed log)
 
 -- the answer: they are printed, one a line, and are exactly those that hold
 pub record Answers (m : Material) (r : Result Answer LimitKind) : Type 0 where
-  pub value : r ≡ Ok (record { status = Done; text = invariant_report m.log.types (listed m.log) })
+  pub value : r ≡ Ok (done (invariant_report m.log.types (listed m.log)))
   pub exact : ListsExactly m.log

@@ -3,14 +3,14 @@ use Rattle.std.specs.Prelude.{ℕ, ◌≡◌, true, List, length, count_by, Cont
 use Rattle.std.specs.List.{AllByRecursion}
 use Rattle.traces.specs.Words.{Log}
 use Rattle.partition_model.specs.Graphs.{Graph, IsPath, word}
-use Rattle.partition_model.specs.Assignments.{Assignment, G, with_ends}
+use Rattle.partition_model.specs.Assignments.{G, with_ends}
 use Rattle.models.specs.Models.{typed_words}
 use Rattle.infer_core.specs.Runs.{AreFinal}
 use Rattle.reports.specs.Paths.{TracePath, Taken, paths_of, path_report, same_ids, taken, total}
 use Rattle.synoptic_cli.specs.declared.answer.Answer.{Answer}
 use Rattle.synoptic_cli.specs.declared.material.Material.{Material}
 use Rattle.synoptic_cli.specs.declared.status.LimitKind.{LimitKind}
-use Rattle.synoptic_cli.specs.declared.status.Status.TheVariants.{Done}
+use Rattle.synoptic_cli.specs.Commands.Answered.{done}
 use Rattle.synoptic_cli.specs.Commands.Inference.{AnswersInferred}
 
 -- the path of each trace, where its events have these ids
@@ -43,7 +43,7 @@ pub record ShowsPaths (log : Log) (ids : List ℕ) (g : Graph) : Type 0 where
 pub record TellsPaths (log : Log) (a : Answer) : Type 0 where
   pub ids : List ℕ
   pub final : AreFinal (typed_words log) ids
-  pub value : a ≡ record { status = Done; text = path_report log ids }
+  pub value : a ≡ done (path_report log ids)
   pub exact : ShowsPaths log ids (G final.end)
 
 -- the answer: the paths of the traces, or the limit that inference of the log passes

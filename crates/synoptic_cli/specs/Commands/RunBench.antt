@@ -13,7 +13,7 @@ use Rattle.model_file.specs.Reading.{reads}
 use Rattle.made_logs.specs.MadeLogs.{made_log}
 use Rattle.synoptic_cli.specs.declared.answer.Answer.{Answer}
 use Rattle.synoptic_cli.specs.declared.status.LimitKind.{LimitKind}
-use Rattle.synoptic_cli.specs.declared.status.Status.TheVariants.{Done}
+use Rattle.synoptic_cli.specs.Commands.Answered.{done}
 use Rattle.synoptic_cli.specs.Commands.Inference.{AnswersInferred}
 
 -- the line that says how many there are of something
@@ -54,7 +54,7 @@ pub record TellsRun (log : Log) (a : Answer) : Type 0 where
   pub reads_back : reads (file_text model) ≡ Ok model
   pub valid : IsValid model (typed_words log)
   pub promises : Promises model (typed_words log)
-  pub value : a ≡ record { status = Done; text = summary log model }
+  pub value : a ≡ done (summary log model)
 
 -- the answer of a log: what it and its model are, or the limit that its inference passes
 abbrev pub AnswersOf : Log → Result Answer LimitKind → Type 0

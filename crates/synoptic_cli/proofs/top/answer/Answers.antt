@@ -14,7 +14,7 @@ returns-in-Ok-write_whole-clause-cause g c = λ words asks.
     let old = world (g.I.Inputs.state c.args.inputs.now) (g.P.Patterns.state c.args.patterns.now) before in
     let new = world (g.I.Inputs.state c.read_material.new.inputs) (g.P.Patterns.state c.read_material.new.patterns) after in
     written-whole (task_held c.args.task.now) words old new c.in-Ok.material c.in-Ok-answer.answer c.in-Ok.ensures.ok c.in-Ok-answer.ensures.0 c.in-Ok-answer.ensures.1
-    (subst (Appends before.written after.written) c.as_slice.ensures c.in-Ok-write_whole.ensures.gives.0) asks
+    (subst (Appends before.written after.written) c.as_slice.ensures c.in-Ok-write_whole.ensures.gives.0) c.in-Ok-write_whole.ensures.gives.1 asks
 
 pub returns-clause-cause : goal.returns-clause-cause
 returns-clause-cause g c = λ words asks.

@@ -3,8 +3,7 @@ use Rattle.traces.specs.Words.{Log, event_count_of}
 use Rattle.models.specs.Laws.{IsTypedLog}
 use Rattle.models.specs.Models.{typed_words}
 use Rattle.reports.specs.Paths.{path_report}
-use Rattle.synoptic_cli.specs.declared.answer.Answer.{Answer}
-use Rattle.synoptic_cli.specs.declared.status.Status.TheVariants.{Done}
+use Rattle.synoptic_cli.specs.Commands.Answered.{done}
 use Rattle.synoptic_cli.proofs.Walked.{final-count, paths-shown}
 use Rattle.synoptic_cli.proofs.commands.print_paths.print.Goals as goal
 
@@ -23,6 +22,6 @@ returns c =
     record {
       ids = c.in_ok-ids.ids;
       final = c.in_ok-ids.ensures;
-      value = ap (λ (t : List ℕ). let a : Answer = record { status = Done; text = t } in a) text;
+      value = ap done text;
       exact = paths-shown log c.in_ok-ids.ids c.refinement_keeps.ensures c.coarsening_keeps.ensures c.accepts_traces.ensures c.paths_tell.ensures typed c.in_ok-ids.ensures;
     }
