@@ -1,16 +1,16 @@
 -- Traces of a graph that are copied, each of them as often as it is asked for.
-use Rattle.std.proofs.Common.{◌≡◌, ℕ, zero, suc, ◌+◌, ◌-◌, ◌<◌, ◌≤◌, Bool, true, false, cond, List, [], ◌∷◌, ◌++◌, length, map, take, drop, get_or, All, arith, ap, sym, ◌∙◌, refl, subst, inl, inr, length-append, take-append-drop, append_assoc}
+use Rattle.std.proofs.Common.{◌≡◌, ℕ, suc, ◌+◌, ◌-◌, ◌<◌, ◌≤◌, Bool, true, false, cond, List, [], ◌∷◌, ◌++◌, length, map, take, drop, get_or, All, arith, ap, sym, ◌∙◌, refl, subst, inl, inr, length-append, take-append-drop}
 use Rattle.std.proofs.Math.Seq.{drop-cons, take_at, drop_at}
 use Rattle.std.proofs.lemmas.Bool.{cases_Bool, cases_lt}
 use Rattle.std.proofs.lemmas.List.{length-map, map-append, take-map, take_more, take_all, length_push, get_or_push, get_or_append_left, append-nil, get_or-map}
 use Rattle.std.proofs.lemmas.List.Concat.{flat_map-append}
 use Rattle.std.proofs.lemmas.List.Elements.{All-get_or, All-tail, All-head, All-from_recursion, recursion_from_All}
 use Rattle.std.proofs.lemmas.List.Folds.{length-flat_map-take}
-use Rattle.std.specs.List.{flat_map, AllByRecursion}
-use Rattle.limits.specs.declared.TheConstants.{FIRST_TYPE, MAX_EVENTS, MAX_PARTITIONS}
-use Rattle.partition_model.specs.Assignments.{Event, Assignment, events, type_of, IsTyped}
-use Rattle.partition_model.specs.Listings.{first_event, AreBelow}
-use Rattle.partition_model.proofs.Naming.{TypedBy, typed_from}
+use Rattle.std.specs.List.{AllByRecursion}
+use Rattle.limits.specs.declared.TheConstants.{MAX_EVENTS}
+use Rattle.partition_model.specs.Assignments.{Event, Assignment, events, type_of}
+use Rattle.partition_model.specs.Listings.{first_event}
+use Rattle.partition_model.proofs.Naming.{typed_from}
 use Rattle.partition_graph.specs.declared.cells.Cell.{Cell}
 use Rattle.partition_graph.specs.declared.tables.Tables.{Tables}
 use Rattle.partition_graph.specs.Cells.{event_of, put_before, traces_of, IsClosed}
@@ -19,10 +19,10 @@ use Rattle.partition_graph.specs.Kept.{IsKept}
 use Rattle.partition_graph.specs.Shared.{put_cell, trace_cells, joined_traces, picked, Begin}
 use Rattle.partition_graph.specs.Spread.{spread}
 use Rattle.partition_graph.specs.Tables.{IsCountOf}
-use Rattle.partition_graph.proofs.CellTraces.{events_are, length-events, types_are, members_are}
+use Rattle.partition_graph.proofs.CellTraces.{length-events, types_are, members_are}
 use Rattle.partition_graph.proofs.Edges.{edges_are}
 use Rattle.partition_graph.proofs.Moving.{all_cells}
-use Rattle.partition_graph.proofs.WordCells.{all_weaker, all_append, all_events, traces-le}
+use Rattle.partition_graph.proofs.WordCells.{all_weaker, all_append, all_events}
 
 -- the events of a trace's cells
 abbrev pub events_in : List Cell → List Event

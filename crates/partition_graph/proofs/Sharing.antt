@@ -1,10 +1,10 @@
 -- Words that are noted once each.
-use Rattle.std.proofs.Common.{◌≡◌, ℕ, zero, suc, ◌+◌, ◌<◌, ◌≤◌, ◌||◌, Bool, true, false, not, cond, List, [], ◌∷◌, ◌++◌, length, map, take, get_or, slice_get, Some, All, Contains, bytes_eq, arith, ap, sym, ◌∙◌, refl, subst, inl, inr, length-append, true≢false}
+use Rattle.std.proofs.Common.{◌≡◌, ℕ, suc, ◌+◌, ◌<◌, ◌≤◌, ◌||◌, Bool, true, false, not, cond, List, [], ◌∷◌, ◌++◌, length, map, take, get_or, slice_get, Some, All, Contains, bytes_eq, arith, ap, sym, ◌∙◌, refl, subst, inl, inr, length-append, true≢false}
 use Rattle.std.proofs.Math.Seq.{take-append-le}
-use Rattle.std.proofs.lemmas.Bool.{cases_Bool, cases_lt, cond-false, cond-true}
+use Rattle.std.proofs.lemmas.Bool.{cases_lt}
 use Rattle.std.proofs.lemmas.List.{length-map, map-append, take_more, take_all, length_push, get_or_push, get_or_append_left, append-nil, get_or-map}
 use Rattle.std.proofs.lemmas.List.Concat.{flat_map-append}
-use Rattle.std.proofs.lemmas.List.Elements.{All-get_or, All-push, All-tail, All-head, Contains-push, Contains-append_left}
+use Rattle.std.proofs.lemmas.List.Elements.{All-push, All-tail, All-head, Contains-push, Contains-append_left}
 use Rattle.std.proofs.lemmas.Option.{slice_get_within, get_or_from_slice_get}
 use Rattle.std.proofs.lemmas.Slice.Eq.{bytes_eq-Decides}
 use Rattle.std.specs.Borrow.{Bor}
@@ -14,10 +14,10 @@ use Rattle.traces.specs.Words.{Log}
 use Rattle.partition_model.specs.Assignments.{Event, Assignment, by_type, inner_words}
 use Rattle.partition_model.proofs.Runs.{words-typed}
 use Rattle.partition_graph.specs.declared.cells.Cell.{Cell}
-use Rattle.partition_graph.specs.Cells.{traces_of, cells_of, IsGathered}
+use Rattle.partition_graph.specs.Cells.{cells_of, IsGathered}
 use Rattle.partition_graph.specs.Parts.{Parts, inner_words_of}
 use Rattle.partition_graph.specs.Shared.{words_in, IsNoted, AreShared}
-use Rattle.partition_graph.specs.Spread.{spread, AreAllOf, SharesWords}
+use Rattle.partition_graph.specs.Spread.{spread, SharesWords}
 use Rattle.partition_graph.proofs.WordCells.{more_gathered, named}
 
 -- what a test says where its opposite is known

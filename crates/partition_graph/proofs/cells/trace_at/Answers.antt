@@ -1,4 +1,4 @@
-use Rattle.std.proofs.Common.{◌≡◌, ◌<◌, ◌≤◌, ◌+◌, get_or, length, [], arith, ◌∙◌}
+use Rattle.std.proofs.Common.{◌≡◌, ◌+◌, get_or, length, [], arith, ◌∙◌}
 use Rattle.partition_graph.specs.Shared.{trace_cells}
 use Rattle.partition_graph.proofs.Copied.{trace_stands, last_ends, next_ends}
 use Rattle.partition_graph.proofs.cells.trace_at.Goals as goal
