@@ -35,10 +35,7 @@ fn print(alloc: Global, bench: &Workbench) -> Result<Answer, AllocError>
 pub fn answer(alloc: Global, material: Material) -> Result<Answer, NoAnswer>
     ensures { Gives (Answers material) result }
 {
-    let bench = match inferred(alloc, material.log) {
-        Ok(bench) => bench,
-        Err(why) => return Err(why),
-    };
+    let bench = inferred(alloc, material.log)?;
     match print(alloc, &bench) {
         Ok(answer) => Ok(answer),
         Err(_) => Err(NoAnswer::Memory),

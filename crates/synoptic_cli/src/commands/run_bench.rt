@@ -110,10 +110,7 @@ fn tell(alloc: Global, bench: &Workbench) -> Result<Answer, AllocError>
 fn tell_of(alloc: Global, traces: TraceSet) -> Result<Answer, NoAnswer>
     ensures { Gives (AnswersOf traces) result }
 {
-    let bench = match inferred(alloc, traces) {
-        Ok(bench) => bench,
-        Err(why) => return Err(why),
-    };
+    let bench = inferred(alloc, traces)?;
     match tell(alloc, &bench) {
         Ok(answer) => Ok(answer),
         Err(_) => Err(NoAnswer::Memory),
