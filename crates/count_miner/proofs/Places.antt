@@ -12,11 +12,11 @@ use Rattle.count_miner.specs.Seen.{IsSeen}
 abbrev pub times : ℕ → List ℕ → ℕ
 times k places = count_by (λ p. eqb p k) places
 
--- one place further on
+-- one place more of a front is listed once more
 pub times-more : (k : ℕ) (places : List ℕ) (i : ℕ) → i < length places → times k (take (i + 1) places) ≡ times k (take i places) + cond (eqb (get_or places i 0) k) 1 0
 times-more k places i inside = sum_by_more (λ p. cond (eqb p k) 1 0) places i 0 inside
 
--- no more times in a front
+-- a front lists a place no more often than the whole
 pub times-le : (k : ℕ) (places : List ℕ) (i : ℕ) → times k (take i places) ≤ times k places
 times-le k places i = sum_by-take-le (λ p. cond (eqb p k) 1 0) places i
 
@@ -36,6 +36,7 @@ more-at xs p k inside = set-at xs p (get_or xs p 0 + 1) k inside ∙ ⊎_elim
     ∙ (omega arith ∙ ap (λ t. get_or xs k 0 + cond t 1 0) (sym (ne_eqb p k other))))
     (cases_eq p k)
 
+-- a flag that was cleared stays cleared, and one that was not is cleared where its place comes next
 keeps : (t : Bool) (n old : ℕ) → cond t 0 (cond (eqb n 0) old 0) ≡ cond (eqb (n + cond t 1 0) 0) old 0
 keeps true n old = ap (λ s. cond s old 0) (sym (ne_eqb (n + 1) 0 (λ e. absurd (omega arith))))
 keeps false n old = ap (λ m. cond (eqb m 0) old 0) (omega arith)

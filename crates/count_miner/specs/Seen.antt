@@ -6,7 +6,8 @@ use Rattle.count_miner.specs.declared.seen.Seen.{Seen}
 
 -- each flag is added to the count at its place
 abbrev pub AddsFlags : List ℕ → List ℕ → List ℕ → Type 0
-AddsFlags old flags new = (k : ℕ) → k < length old → slice_index new k ≡ slice_index old k + slice_index flags k
+AddsFlags old flags new =
+    (k : ℕ) → k < length old → slice_index new k ≡ slice_index old k + slice_index flags k
 
 -- flags are 0 or 1; unless as many places are listed as may be, a flag is the number of times that its place is listed
 pub record IsSeen (seen : Seen) (types : ℕ) : Type 0 where

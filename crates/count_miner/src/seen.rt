@@ -60,7 +60,8 @@ fn add_flags(counts: &mut [u32], flags: &[u32])
 
 /// Adds 1 to the count at each of the places.
 fn add_places(counts: &mut [u32], places: &[u16])
-    requires within { (i : ℕ) → i < length places.now → slice_index places.now i < length counts.old }
+    requires within { (i : ℕ) → i < length places.now
+        → slice_index places.now i < length counts.old }
     requires room { (k : ℕ) → k < length counts.old
         → slice_index counts.old k + count_by (λ p. p == k) places.now < 2 ^ 32 }
     ensures { (k : ℕ) → k < length counts.old
