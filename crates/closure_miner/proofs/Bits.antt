@@ -6,40 +6,44 @@ use Rattle.bit_rows.specs.Tables.{row_at, is_set, HasShape, both, without}
 use Rattle.bit_rows.proofs.Done.{is_set-zip2}
 use Rattle.closure_miner.specs.Standing.{on, AreSettled}
 
--- ---- truth values
-
+-- a truth value and true is this truth value
 pub and-true : (x : Bool) → (x && true) ≡ x
 and-true true = refl
 and-true false = refl
 
+-- of three truth values that all have to hold, the last two may be joined first
 pub and-assoc : (o f c : Bool) → ((o && f) && c) ≡ (o && (f && c))
 and-assoc true f c = refl
 and-assoc false f c = refl
 
+-- of three truth values that all have to hold, the last two may change places
 pub and-swap : (o f c : Bool) → ((o && f) && c) ≡ (o && (c && f))
 and-swap true true c = sym (and-true c)
 and-swap true false true = refl
 and-swap true false false = refl
 and-swap false f c = refl
 
+-- a bit of another row stays where a row keeps what a second one has
 keep-both : (x t y : Bool) → t ≡ false → (x && (not t || y)) ≡ x
 keep-both x t y off = ap (λ s. x && (not s || y)) off ∙ and-true x
 
+-- a bit of another row stays where a row loses what a second one has
 keep-without : (x t y : Bool) → t ≡ false → (x && not (t && y)) ≡ x
 keep-without x t y off = ap (λ s. x && not (s && y)) off ∙ and-true x
 
+-- a bit of another row stays where a bit is turned on
 keep-put : (x t y : Bool) → t ≡ false → (t && y || x) ≡ x
 keep-put x t y off = ap (λ s. s && y || x) off
 
--- ---- one write
-
+-- a write of one row leaves all others as they are
 pub row-other : (old new : List (List Bool)) (r q : ℕ) (row : List Bool) → new ≡ set old r row → q ≢ r → row_at new q ≡ row_at old q
 row-other old new r q row is other = ap (λ t. row_at t q) is ∙ get_or-set_other old r q row [] other
 
+-- the row that is written is what was written
 pub row-same : (old new : List (List Bool)) (r : ℕ) (row : List Bool) → new ≡ set old r row → r < length old → row_at new r ≡ row
 row-same old new r row is within = ap (λ t. row_at t r) is ∙ get_or-set_same old r row [] within
 
--- a row keeps what another has
+-- where a row keeps only what another has too, no other row changes
 pub on-both : (old new : List (List Bool)) (r s q i : ℕ) → new ≡ set old r (both (row_at old r) (row_at old s)) → r < length old → length (row_at old r) ≡ length (row_at old s)
     → on new q i ≡ (on old q i && (not (eqb q r) || on old s i))
 on-both old new r s q i is within long = elim (cases_eq q r) [
@@ -49,7 +53,7 @@ on-both old new r s q i is within long = elim (cases_eq q r) [
   | inr other ↦ ap (λ row. is_set row i) (row-other old new r q _ is other) ∙ sym (keep-both (on old q i) (eqb q r) (on old s i) (ne_eqb q r other))
 ]
 
--- a row loses what another has
+-- where a row loses what another has, no other row changes
 pub on-without : (old new : List (List Bool)) (r s q i : ℕ) → new ≡ set old r (without (row_at old r) (row_at old s)) → r < length old → length (row_at old r) ≡ length (row_at old s)
     → on new q i ≡ (on old q i && not (eqb q r && on old s i))
 on-without old new r s q i is within long = elim (cases_eq q r) [
@@ -59,7 +63,7 @@ on-without old new r s q i is within long = elim (cases_eq q r) [
   | inr other ↦ ap (λ row. is_set row i) (row-other old new r q _ is other) ∙ sym (keep-without (on old q i) (eqb q r) (on old s i) (ne_eqb q r other))
 ]
 
--- a bit is turned on
+-- where a bit is turned on, no other bit changes
 pub on-put : (old new : List (List Bool)) (r p q i : ℕ) → new ≡ set old r (set (row_at old r) p true) → r < length old → p < length (row_at old r)
     → on new q i ≡ (eqb q r && eqb i p || on old q i)
 on-put old new r p q i is within inside = elim (cases_eq q r) [
@@ -77,8 +81,6 @@ on-put old new r p q i is within inside = elim (cases_eq q r) [
   | inr other ↦ ap (λ row. is_set row i) (row-other old new r q _ is other) ∙ sym (keep-put (on old q i) (eqb q r) (eqb i p) (ne_eqb q r other))
 ]
 
--- ---- the writes of an event before those that were seen
-
 -- the test of a place is the test of its type
 pub place-test : (x p b : ℕ) → x ≡ p + 2 → eqb b p ≡ eqb x (b + 2)
 place-test x p b is = elim (cases_eq b p) [
@@ -86,7 +88,7 @@ place-test x p b is = elim (cases_eq b p) [
   | inr other ↦ ne_eqb b p other ∙ sym (ne_eqb x (b + 2) (λ e. other (omega arith)))
 ]
 
--- the same in a block of rows
+-- the test of a row in a block of rows is the test of its type
 pub block-test : (x p b t : ℕ) → x ≡ p + 2 → eqb (t + b) (t + p) ≡ eqb x (b + 2)
 block-test x p b t is = elim (cases_eq b p) [
   | inl same ↦ eq-eqb (t + b) (t + p) (omega arith) ∙ sym (eq-eqb x (b + 2) (omega arith))
@@ -119,20 +121,20 @@ module _ (t0 t1 t2 t3 : List (List Bool)) (types p x : ℕ) (is : x ≡ p + 2) (
   kept3 : (q i : ℕ) → q ≢ 3 * types + 1 → on t3 q i ≡ on t2 q i
   kept3 q i other = at3 q i ∙ keep-put (on t2 q i) (eqb q (3 * types + 1)) (eqb i p) (ne_eqb q (3 * types + 1) other)
 
+  -- AF(a, b) stands after the event where it stood, and the event is of another type than a or b was seen
   pub earlier-followed : (a b : ℕ) → a < types → on t3 a b ≡ (on t0 a b && (not (eqb x (a + 2)) || on t0 (3 * types + 1) b))
   earlier-followed a b in_a =
       kept3 a b (λ e. (let no : ⊥ = omega arith in no)) ∙ kept2 a b (λ e. (let no : ⊥ = omega arith in no)) ∙ at1 a b
       ∙ ap (λ t. on t0 a b && (not t || on t0 (3 * types + 1) b)) (place-test x p a is)
 
+  -- NF(a, b) stands after the event where it stood, and the event is of another type than a or b was not seen
   pub earlier-never : (a b : ℕ) → a < types → on t3 (types + a) b ≡ (on t0 (types + a) b && not (eqb x (a + 2) && on t0 (3 * types + 1) b))
   earlier-never a b in_a =
       kept3 (types + a) b (λ e. (let no : ⊥ = omega arith in no)) ∙ at2 (types + a) b
       ∙ ap₂ (λ o t. o && not (t && on t1 (3 * types + 1) b)) (kept1 (types + a) b (λ e. (let no : ⊥ = omega arith in no))) (block-test x p a types is)
       ∙ ap (λ s. on t0 (types + a) b && not (eqb x (a + 2) && s)) (kept1 (3 * types + 1) b (λ e. (let no : ⊥ = omega arith in no)))
 
--- ---- types that are settled
-
--- where none is
+-- where no type is settled, nothing is asked of the table
 pub none-settled : (types n : ℕ) (table : List (List Bool)) → AreSettled types table (replicate n false)
 none-settled types n table a in_a set_a = absurd (true≢false (sym set_a ∙ nothing))
   where

@@ -15,6 +15,7 @@ use Rattle.closure_miner.proofs.Bits.{row-other, on-both}
 use Rattle.closure_miner.proofs.Events.{followed-word, never-word, preceded-word, first-word, one-more}
 use Rattle.closure_miner.proofs.Turns.{take-snoc}
 
+-- the word at the place of a trace has the events of this trace between the two ends
 word-at : (traces : List Trace) (t : ℕ) (events : List ℕ) → t < length traces → IfSome (slice_get traces t) (λ trace. events ≡ trace.events) → slice_get (map word_of traces) t ≡ Some (word_with events)
 word-at [] t events inside at = absurd (omega arith)
 word-at (trace ∷ traces) zero events inside at = ap (λ (es : List ℕ). Some (word_with es)) (sym at)

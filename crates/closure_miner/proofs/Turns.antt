@@ -11,26 +11,26 @@ take-snoc [] i x at = absurd (none-some x at)
 take-snoc (y ∷ xs) zero x at = ap (λ z. z ∷ []) (same_Some y x at)
 take-snoc (y ∷ xs) (suc i) x at = rw add-one (ap (λ zs. y ∷ zs) (sym (ap (λ n. take n xs) (add-one i)) ∙ take-snoc xs i x at))
 
--- what passes of them
+-- what passes of a front with one item more is what passed before, and the item where it passes
 pub filter-more : {X : Type 0} (p : X → Bool) (xs : List X) (i : ℕ) (x : X) → slice_get xs i ≡ Some x → filter p (take (i + 1) xs) ≡ filter p (take i xs) ++ cond (p x) (x ∷ []) []
 filter-more p xs i x at = ap (filter p) (take-snoc xs i x at) ∙ filter-append p (take i xs) (x ∷ [])
 
--- the next one passes
+-- an item that passes comes behind those that passed before it
 pub kept : {X : Type 0} (p : X → Bool) (xs : List X) (i : ℕ) (x : X) (old new : List X) → slice_get xs i ≡ Some x → p x ≡ true → old ≡ filter p (take i xs) → new ≡ old ++ x ∷ [] → new ≡ filter p (take (i + 1) xs)
 kept p xs i x old new at holds so_far grown =
     grown ∙ (ap (λ ys. ys ++ x ∷ []) so_far ∙ sym (filter-more p xs i x at ∙ ap (λ ys. filter p (take i xs) ++ ys) (cond-true _ _ _ holds)))
 
--- the next one fails
+-- an item that does not pass changes nothing of what passed
 pub dropped : {X : Type 0} (p : X → Bool) (xs : List X) (i : ℕ) (x : X) (old new : List X) → slice_get xs i ≡ Some x → p x ≡ false → old ≡ filter p (take i xs) → new ≡ old → new ≡ filter p (take (i + 1) xs)
 dropped p xs i x old new at fails so_far same =
     same ∙ (so_far ∙ sym (filter-more p xs i x at ∙ (ap (λ ys. filter p (take i xs) ++ ys) (cond-false _ _ _ fails) ∙ append-nil (filter p (take i xs)))))
 
--- there is no next one
+-- past the end of a list nothing more passes
 pub past : {X : Type 0} (p : X → Bool) (xs : List X) (i : ℕ) (old new : List X) → length xs ≤ i → old ≡ filter p (take i xs) → new ≡ old → new ≡ filter p (take (i + 1) xs)
 past p xs i old new end so_far same =
     same ∙ (so_far ∙ ap (filter p) (take_all i xs end ∙ sym (take_all (i + 1) xs (omega arith))))
 
--- where nothing stands is past the end
+-- a place where no item stands is past the end
 pub none-past : {X : Type 0} (xs : List X) (i : ℕ) → slice_get xs i ≡ None → length xs ≤ i
 none-past [] i none = omega arith
 none-past (x ∷ xs) zero none = absurd (none-some x (sym none))

@@ -91,13 +91,15 @@ impl Standing {
     fn strike_earlier(&mut self, x: u16)
         requires number { IsTypeNumber (self.old).types x }
         ensures types { (self.new).types ≡ (self.old).types }
-        ensures seen { (b : ℕ) → b < (self.old).types → on (self.new).rows (3 * (self.old).types + 1) b
+        ensures seen { (b : ℕ) → b < (self.old).types
+            → on (self.new).rows (3 * (self.old).types + 1) b
             ≡ (x == b + FIRST_TYPE || on (self.old).rows (3 * (self.old).types + 1) b) }
         ensures followed { (a b : ℕ) → a < (self.old).types → b < (self.old).types
             → on (self.new).rows a b ≡ (on (self.old).rows a b
             && (not (x == a + FIRST_TYPE) || on (self.old).rows (3 * (self.old).types + 1) b)) }
         ensures never { (a b : ℕ) → a < (self.old).types → b < (self.old).types
-            → on (self.new).rows ((self.old).types + a) b ≡ (on (self.old).rows ((self.old).types + a) b
+            → on (self.new).rows ((self.old).types + a) b
+            ≡ (on (self.old).rows ((self.old).types + a) b
             && not (x == a + FIRST_TYPE && on (self.old).rows (3 * (self.old).types + 1) b)) }
         ensures others { (r : ℕ) → 2 * (self.old).types ≤ r → r < 3 * (self.old).types + 1
             → row_at (self.new).rows r ≡ row_at (self.old).rows r }
@@ -114,17 +116,23 @@ impl Standing {
     fn read_earlier(&mut self, settled: &mut [bool; TYPES], x: u16)
         requires number { IsTypeNumber (self.old).types x }
         requires settled { AreSettled (self.old).types (self.old).rows settled.old }
+
+        // What `strike_earlier` leaves, whether it is called or not.
         ensures types { (self.new).types ≡ (self.old).types }
-        ensures seen { (b : ℕ) → b < (self.old).types → on (self.new).rows (3 * (self.old).types + 1) b
+        ensures seen { (b : ℕ) → b < (self.old).types
+            → on (self.new).rows (3 * (self.old).types + 1) b
             ≡ (x == b + FIRST_TYPE || on (self.old).rows (3 * (self.old).types + 1) b) }
         ensures followed { (a b : ℕ) → a < (self.old).types → b < (self.old).types
             → on (self.new).rows a b ≡ (on (self.old).rows a b
             && (not (x == a + FIRST_TYPE) || on (self.old).rows (3 * (self.old).types + 1) b)) }
         ensures never { (a b : ℕ) → a < (self.old).types → b < (self.old).types
-            → on (self.new).rows ((self.old).types + a) b ≡ (on (self.old).rows ((self.old).types + a) b
+            → on (self.new).rows ((self.old).types + a) b
+            ≡ (on (self.old).rows ((self.old).types + a) b
             && not (x == a + FIRST_TYPE && on (self.old).rows (3 * (self.old).types + 1) b)) }
         ensures others { (r : ℕ) → 2 * (self.old).types ≤ r → r < 3 * (self.old).types + 1
             → row_at (self.new).rows r ≡ row_at (self.old).rows r }
+
+        // The types that are settled when the next event is read.
         ensures settled { AreSettled (self.new).types (self.new).rows settled.new }
     {
         let place = place_of(x);
@@ -145,10 +153,12 @@ impl Standing {
     fn strike_later(&mut self, x: u16)
         requires number { IsTypeNumber (self.old).types x }
         ensures types { (self.new).types ≡ (self.old).types }
-        ensures seen { (a : ℕ) → a < (self.old).types → on (self.new).rows (3 * (self.old).types + 1) a
+        ensures seen { (a : ℕ) → a < (self.old).types
+            → on (self.new).rows (3 * (self.old).types + 1) a
             ≡ (x == a + FIRST_TYPE || on (self.old).rows (3 * (self.old).types + 1) a) }
         ensures preceded { (a b : ℕ) → a < (self.old).types → b < (self.old).types
-            → on (self.new).rows (2 * (self.old).types + b) a ≡ (on (self.old).rows (2 * (self.old).types + b) a
+            → on (self.new).rows (2 * (self.old).types + b) a
+            ≡ (on (self.old).rows (2 * (self.old).types + b) a
             && (not (x == b + FIRST_TYPE) || on (self.old).rows (3 * (self.old).types + 1) a)) }
         ensures before { (r : ℕ) → r < 2 * (self.old).types
             → row_at (self.new).rows r ≡ row_at (self.old).rows r }
@@ -165,16 +175,22 @@ impl Standing {
     fn read_later(&mut self, x: u16)
         requires number { IsTypeNumber (self.old).types x }
         requires settled { ArePreceded (self.old).types (self.old).rows }
+
+        // What `strike_later` leaves, whether it is called or not.
         ensures types { (self.new).types ≡ (self.old).types }
-        ensures seen { (a : ℕ) → a < (self.old).types → on (self.new).rows (3 * (self.old).types + 1) a
+        ensures seen { (a : ℕ) → a < (self.old).types
+            → on (self.new).rows (3 * (self.old).types + 1) a
             ≡ (x == a + FIRST_TYPE || on (self.old).rows (3 * (self.old).types + 1) a) }
         ensures preceded { (a b : ℕ) → a < (self.old).types → b < (self.old).types
-            → on (self.new).rows (2 * (self.old).types + b) a ≡ (on (self.old).rows (2 * (self.old).types + b) a
+            → on (self.new).rows (2 * (self.old).types + b) a
+            ≡ (on (self.old).rows (2 * (self.old).types + b) a
             && (not (x == b + FIRST_TYPE) || on (self.old).rows (3 * (self.old).types + 1) a)) }
         ensures before { (r : ℕ) → r < 2 * (self.old).types
             → row_at (self.new).rows r ≡ row_at (self.old).rows r }
         ensures behind { row_at (self.new).rows (3 * (self.old).types)
             ≡ row_at (self.old).rows (3 * (self.old).types) }
+
+        // What has to precede the types that were seen, when the next event is read.
         ensures settled { ArePreceded (self.new).types (self.new).rows }
     {
         if !self.rows.get(3 * self.types + 1, place_of(x)) {
@@ -192,7 +208,8 @@ impl Standing {
             → on (self.new).rows a b ≡ (on (self.old).rows a b
             && always_followed (a + FIRST_TYPE) (b + FIRST_TYPE) events.now) }
         ensures never { (a b : ℕ) → a < (self.old).types → b < (self.old).types
-            → on (self.new).rows ((self.old).types + a) b ≡ (on (self.old).rows ((self.old).types + a) b
+            → on (self.new).rows ((self.old).types + a) b
+            ≡ (on (self.old).rows ((self.old).types + a) b
             && never_followed (a + FIRST_TYPE) (b + FIRST_TYPE) events.now) }
         ensures others { (r : ℕ) → 2 * (self.old).types ≤ r → r < 3 * (self.old).types + 1
             → row_at (self.new).rows r ≡ row_at (self.old).rows r }
@@ -211,7 +228,8 @@ impl Standing {
         requires numbers { All (IsTypeNumber (self.old).types) events.now }
         ensures types { (self.new).types ≡ (self.old).types }
         ensures preceded { (a b : ℕ) → a < (self.old).types → b < (self.old).types
-            → on (self.new).rows (2 * (self.old).types + b) a ≡ (on (self.old).rows (2 * (self.old).types + b) a
+            → on (self.new).rows (2 * (self.old).types + b) a
+            ≡ (on (self.old).rows (2 * (self.old).types + b) a
             && always_preceded (a + FIRST_TYPE) (b + FIRST_TYPE) events.now) }
         ensures before { (r : ℕ) → r < 2 * (self.old).types
             → row_at (self.new).rows r ≡ row_at (self.old).rows r }
