@@ -18,31 +18,35 @@ use Rattle.partition_model.proofs.Merging.{onto_is, onto_other, merged_parts}
 use Rattle.models.specs.Models.{has_edge, graph_of}
 use Rattle.model_shape.specs.Shapes.{listed_type, is_listed}
 
--- what each partition and each edge of the lists is
+-- the partition is live in the assignment, and has the type and the size that its id has there
 abbrev pub IsPartitionOf : Assignment → Partition → Type 0
 IsPartitionOf h x = (is_live h x.id ≡ true) × (x.typ ≡ type_of h x.id) × (x.count ≡ size h x.id)
 
+-- the edge has the count that it has in the assignment, and this is not 0
 abbrev pub IsEdgeOf : Assignment → Edge → Type 0
 IsEdgeOf h x = (0 < x.count) × (x.count ≡ edge_count h x.from x.to)
 
+-- where the list is that of the assignment, so is each partition in it
 pub each-partition : (xs : List Partition) (h : Assignment) → ArePartitions xs h → AllByRecursion (IsPartitionOf h) xs
 each-partition xs h a =
     all_from (IsPartitionOf h) xs (λ x i.
     let m : (is_live h x.id ≡ true) × (x ≡ partition_of h x.id) = (a.members x).0 (Contains-In x xs i) in
     (m.0, ap (λ (z : Partition). z.typ) m.1, ap (λ (z : Partition). z.count) m.1))
 
+-- where the list is that of the assignment, so is each edge in it
 pub each-edge : (xs : List Edge) (h : Assignment) → AreEdges xs h → AllByRecursion (IsEdgeOf h) xs
 each-edge xs h a =
     all_from (IsEdgeOf h) xs (λ x i.
     let m : (0 < x.count) × (x ≡ edge_between h x.from x.to) = (a.members x).0 (Contains-In x xs i) in
     (m.0, ap (λ (z : Edge). z.count) m.1))
 
--- members are listed
+-- the id of a partition in the list is listed
 pub In-listed : (x : Partition) (xs : List Partition) → In x xs → is_listed x.id xs ≡ true
 In-listed x [] i = absurd i
 In-listed x (y ∷ xs) (inl e) = or_left (y.id == x.id) (is_listed x.id xs) (eq-eqb y.id x.id (ap (λ (z : Partition). z.id) e))
 In-listed x (y ∷ xs) (inr r) = or_right (y.id == x.id) (is_listed x.id xs) (In-listed x xs r)
 
+-- an edge in the list leads from its start to its end
 pub In-edges : (x : Edge) (xs : List Edge) → In x xs → has_edge x.from x.to xs ≡ true
 In-edges x [] i = absurd i
 In-edges x (y ∷ xs) (inl e) =
@@ -51,7 +55,7 @@ In-edges x (y ∷ xs) (inl e) =
     or_left (y.from == x.from && y.to == x.to) (has_edge x.from x.to xs) (rw (a, b) refl)
 In-edges x (y ∷ xs) (inr r) = or_right (y.from == x.from && y.to == x.to) (has_edge x.from x.to xs) (In-edges x xs r)
 
--- and what is listed is a member
+-- where an edge leads from p to q, one such edge is in the list
 pub edge-in : (p q : ℕ) (xs : List Edge) → has_edge p q xs ≡ true → (x : Edge) × In x xs × (x.from ≡ p) × (x.to ≡ q)
 edge-in p q [] e = absurd (cc e)
 edge-in p q (x ∷ xs) e = elim (or_cases (x.from == p && x.to == q) (has_edge p q xs) e) [
@@ -59,14 +63,15 @@ edge-in p q (x ∷ xs) e = elim (or_cases (x.from == p && x.to == q) (has_edge p
   | inr f ↦ (let r : (x : Edge) × In x xs × (x.from ≡ p) × (x.to ≡ q) = edge-in p q xs f in (r.0, inr r.1, r.2, r.3))
 ]
 
--- what the assignment has is listed
+-- each live id is listed
 pub live-is-listed : (xs : List Partition) (h : Assignment) → ArePartitions xs h → (p : ℕ) → is_live h p ≡ true → is_listed p xs ≡ true
 live-is-listed xs h a p l = In-listed (partition_of h p) xs (In-Contains xs (partition_of h p) ((a.members (partition_of h p)).1 (l, refl)))
 
+-- ids that are neighbours in the assignment have an edge in the list
 edge-is-listed : (xs : List Edge) (h : Assignment) → AreEdges xs h → (p q : ℕ) → 0 < edge_count h p q → has_edge p q xs ≡ true
 edge-is-listed xs h a p q l = In-edges (edge_between h p q) xs (In-Contains xs (edge_between h p q) ((a.members (edge_between h p q)).1 (l, refl)))
 
--- and what is listed is there
+-- a listed id has the type that it has in the assignment
 type-listed : (h : Assignment) (p : ℕ) (xs : List Partition) → AllByRecursion (IsPartitionOf h) xs → is_listed p xs ≡ true → listed_type p xs ≡ type_of h p
 type-listed h p [] a l = absurd (cc l)
 type-listed h p (x ∷ xs) a l =
@@ -75,6 +80,7 @@ type-listed h p (x ∷ xs) a l =
       | inr n ↦ (let f : (x.id == p) ≡ false = ne_eqb x.id p n in rw f (type-listed h p xs a.1 (rw f at l)))
     ]
 
+-- each listed id is live
 live-listed : (h : Assignment) (p : ℕ) (xs : List Partition) → AllByRecursion (IsPartitionOf h) xs → is_listed p xs ≡ true → is_live h p ≡ true
 live-listed h p [] a l = absurd (cc l)
 live-listed h p (x ∷ xs) a l =
@@ -83,6 +89,7 @@ live-listed h p (x ∷ xs) a l =
       | inr n ↦ (let f : (x.id == p) ≡ false = ne_eqb x.id p n in live-listed h p xs a.1 (rw f at l))
     ]
 
+-- where an edge is in the list, its ends are neighbours in the assignment
 edge-listed : (h : Assignment) (p q : ℕ) (xs : List Edge) → AllByRecursion (IsEdgeOf h) xs → has_edge p q xs ≡ true → 0 < edge_count h p q
 edge-listed h p q [] a l = absurd (cc l)
 edge-listed h p q (x ∷ xs) a l =
@@ -104,11 +111,13 @@ pub record Agrees (g k : Graph) : Type 0 where
   pub listed : (p : ℕ) → g.listed p ≡ k.listed p
   pub ends : (p q : ℕ) → k.edge p q ≡ true → (k.listed p ≡ true) × (k.listed q ≡ true)
 
+-- two truth values are the same where each holds with the other
 same-bool : (a b : Bool) → (a ≡ true → b ≡ true) → (b ≡ true → a ≡ true) → a ≡ b
 same-bool true b f g = sym (f refl)
 same-bool false true f g = g refl
 same-bool false false f g = refl
 
+-- the graph of a model and that of an assignment agree, where the lists of the model are those of the assignment
 pub agrees : (m : Model) (h : Assignment) → IsTyped h → ArePartitions m.partitions h → AreEdges m.edges h → Agrees (graph_of m) (G h)
 agrees m h t ps es =
     let pe : AllByRecursion (IsPartitionOf h) m.partitions = each-partition m.partitions h ps in
@@ -124,11 +133,12 @@ agrees m h t ps es =
       ends = λ p q k. f.between p q k;
     }
 
+-- of two graphs that agree, each edge of the second is one of the first, to an id of the same type
 pub from-maps : (g k : Graph) → Agrees g k → Maps (λ x. x) k g
 from-maps g k a =
     record { zero_is = refl; one_is = refl; start = a.zero_is; edges = λ p q e. a.edges p q ∙ e; types = λ p q e. a.types q (a.ends p q e).1 }
 
--- and so do their merged graphs
+-- the same is so of their merged graphs
 pub merged-agrees : (g k : Graph) (p q : ℕ) → Agrees g k → k.listed p ≡ true → Maps (λ x. x) (Merged k p q) (Merged g p q)
 merged-agrees g k p q a l =
     record {

@@ -11,15 +11,17 @@ use Rattle.partition_model.proofs.Lists.{In}
 use Rattle.partition_bounds.specs.Pairs.{is_pair}
 use Rattle.partition_bounds.proofs.Pairing.{pair-passes, passed-pair}
 
+-- a fact holds, or it does not
 abbrev pub OrNot : Type 0 → Type 0
 OrNot P = P ⊎ (P → ⊥)
 
+-- two facts hold together or not, where each holds or not
 pub both : {P Q : Type 0} → OrNot P → OrNot Q → OrNot (P × Q)
 both (inl p) (inl q) = inl (p, q)
 both (inl p) (inr n) = inr (λ x. n x.1)
 both (inr n) q = inr (λ x. n x.0)
 
--- equal lists
+-- two lists are the same or not, where that is so of their members
 pub same-or-not : {X : Type 0} → ((x y : X) → OrNot (x ≡ y)) → (xs ys : List X) → OrNot (xs ≡ ys)
 same-or-not d [] [] = inl refl
 same-or-not d [] (y ∷ ys) = inr (λ e. cc e)
@@ -33,16 +35,19 @@ same-or-not {X} d (x ∷ xs) (y ∷ ys) =
       | inr n ↦ inr (λ e. n (let f : x ≡ y = cc in f))
     ]
 
--- tests
+-- two numbers are the same or not
 pub number-or-not : (m n : ℕ) → OrNot (m ≡ n)
 number-or-not m n = cases_eq m n
 
+-- a number is below another or not
 pub less-or-not : (m n : ℕ) → OrNot (m < n)
 less-or-not m n = elim (cases_lt m n) [ inl l ↦ inl l | inr k ↦ inr (λ l. omega (arith, l, k)) ]
 
+-- a truth value is true or not
 pub true-or-not : (b : Bool) → OrNot (b ≡ true)
 true-or-not b = elim (cases_Bool b) [ inl t ↦ inl t | inr f ↦ inr (λ t. cc) ]
 
+-- an invariant holds of a word or not
 pub holds-or-not : (inv : Invariant) (w : List ℕ) → OrNot (Holds inv w)
 holds-or-not inv w =
     elim (cases_Bool (holds inv w)) [
@@ -50,27 +55,31 @@ holds-or-not inv w =
       | inr f ↦ inr (λ h. (let t : holds inv w ≡ true = (holds-Holds inv w).1 h in cc))
     ]
 
+-- a list of ids is a walk between two ids or not
 pub walk-or-not : (g : Graph) (p : ℕ) (xs : List ℕ) (q : ℕ) → OrNot (Walk g p xs q)
 walk-or-not g p [] q = cases_eq p q
 walk-or-not g p (r ∷ rs) q = both (true-or-not (g.edge p r)) (walk-or-not g r rs q)
 
+-- a list of ids is a path or not
 pub path-or-not : (g : Graph) (path : List ℕ) → OrNot (IsPath g path)
 path-or-not g [] = inr (λ h. h)
 path-or-not g (x ∷ xs) = both (cases_eq x 0) (walk-or-not g x xs 1)
 
+-- the opposite of a fact holds or not, where the fact does
 pub not-or-not : {P : Type 0} → OrNot P → OrNot (P → ⊥)
 not-or-not (inl p) = inr (λ n. n p)
 not-or-not (inr n) = inl n
 
+-- a list of ids is a path that breaks an invariant or not
 pub breaks-or-not : (g : Graph) (inv : Invariant) (path : List ℕ) → OrNot (Breaks g inv path)
 breaks-or-not g inv path = both (path-or-not g path) (not-or-not (holds-or-not inv (word g path)))
 
--- a value or none
+-- there is a value, or none
 pub option-cases : {X : Type 0} (o : Option X) → ((x : X) × (o ≡ Some x)) ⊎ (o ≡ None)
 option-cases None = inr refl
 option-cases (Some x) = inl (x, refl)
 
--- a pair
+-- two ids are a pair of one type or not
 pub pair-or-not : (g : Graph) (p q : ℕ) → OrNot (IsPair g p q)
 pair-or-not g p q =
     elim (true-or-not (is_pair g p q)) [
@@ -78,20 +87,22 @@ pair-or-not g p q =
       | inr f ↦ inr (λ i. f (pair-passes g p q i))
     ]
 
+-- two options that are the same have the same value
 pub some-same : {X : Type 0} (a b : X) → Some a ≡ Some b → a ≡ b
 some-same a b e = cc
 
--- one fact where another holds
+-- that a fact holds where another does is so or not, where each holds or not
 pub from-or-not : {P Q : Type 0} → OrNot P → OrNot Q → OrNot (P → Q)
 from-or-not p (inl q) = inl (λ x. q)
 from-or-not (inl p) (inr n) = inr (λ f. n (f p))
 from-or-not (inr m) (inr n) = inl (λ x. absurd (m x))
 
--- of each member of a list, and of some member
+-- a property holds of each member of a list or not, where it holds of each one or not
 pub all-or-not : {X : Type 0} (P : X → Type 0) → ((x : X) → OrNot (P x)) → (xs : List X) → OrNot (AllByRecursion P xs)
 all-or-not P d [] = inl tt
 all-or-not P d (x ∷ xs) = both (d x) (all-or-not P d xs)
 
+-- a property holds of some member of a list or of none, where it holds of each one or not
 pub any-or-not : {X : Type 0} (P : X → Type 0) → ((x : X) → OrNot (P x)) → (xs : List X) → OrNot ((x : X) × In x xs × P x)
 any-or-not P d [] = inr (λ o. o.1)
 any-or-not {X} P d (x ∷ xs) =

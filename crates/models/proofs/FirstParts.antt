@@ -39,6 +39,7 @@ one-failure P (x ∷ xs) zero (suc k) a b = absurd (a b.0)
 one-failure P (x ∷ xs) (suc j) zero a b = absurd (b a.0)
 one-failure P (x ∷ xs) (suc j) (suc k) a b = ap suc (one-failure P xs j k a.1 b.1)
 
+-- where some part fails first, the model is not valid
 pub first_part_fails : FirstPartFails
 first_part_fails m log part.Types f valid = f valid.types
 first_part_fails m log (part.Listing i) f valid = differs-not (listing_of m) (mined_of log) i f.1 valid.listing
@@ -56,6 +57,7 @@ one-blocked m log p q r s a b =
       | inr o ↦ elim o [ inl l ↦ absurd (a.5 (b.6 p q a.4 (inl l))) | inr l ↦ absurd (b.5 (a.6 r s b.4 (inl l))) ]
     ]
 
+-- no two parts fail first
 pub one_first_part : OneFirstPart
 one_first_part m log part.Types part.Types a b = refl
 one_first_part m log part.Types (part.Listing j) a b = absurd (a b.0)

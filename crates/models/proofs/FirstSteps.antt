@@ -23,7 +23,7 @@ use Rattle.models.specs.Laws.{FirstStepExists, FirstStepFails, OneFirstStep}
 use Rattle.models.proofs.Unique.{one-partitions, one-edges}
 use Rattle.models.proofs.Deciding.{OrNot, both, same-or-not, number-or-not, less-or-not, breaks-or-not, option-cases, some-same, pair-or-not}
 
--- a split
+-- a split is right or not
 split-or-not : (m : Model) (h : Assignment) (n : ℕ) (s : Split) → OrNot (IsJustifiedSplit m h n s)
 split-or-not m h n s =
     elim (option-cases (slice_get m.invariants s.inv)) [
@@ -41,6 +41,7 @@ split-or-not m h n s =
     same : (l : Listed) → slice_get m.invariants s.inv ≡ Some l → IsJustifiedSplit m h n s → Breaks (G h) l.inv s.path
     same l e j = let q : j.listed ≡ l = some-same j.listed l (sym j.names ∙ e) in subst (λ (x : Listed). Breaks (G h) x.inv s.path) q j.breaks
 
+-- each split is right in its turn, or one is the first that is not
 splits-or-first : (m : Model) (ss : List Split) (h : Assignment) (n : ℕ) → SplitInTurn m h n ss ⊎ ((k : ℕ) × IsFirstWrongSplit m h n ss k)
 splits-or-first m [] h n = inl tt
 splits-or-first m (s ∷ ss) h n =
@@ -52,7 +53,7 @@ splits-or-first m (s ∷ ss) h n =
       | inr f ↦ inr (0, f)
     ]
 
--- a merge
+-- each merge is right in its turn, or one is the first that is not
 merges-or-first : (ms : List Merge) (h : Assignment) → MergeInTurn h ms ⊎ ((k : ℕ) × IsFirstWrongMerge h ms k)
 merges-or-first [] h = inl tt
 merges-or-first (m ∷ ms) h =
@@ -64,7 +65,7 @@ merges-or-first (m ∷ ms) h =
       | inr f ↦ inr (0, f)
     ]
 
--- the graph: its lists are those that an assignment gives, or not
+-- some number, 2 or more, is above the ids of all events
 pub bound-of : (es : List Event) → (n : ℕ) × (2 ≤ n) × AllByRecursion (λ e. e.id < n) es
 bound-of [] = (2, omega arith, tt)
 bound-of (e ∷ es) =
@@ -77,9 +78,11 @@ bound-of (e ∷ es) =
       ),
     )
 
+-- partitions with the same id, type and count are the same
 same-partition : (x y : Partition) → x.id ≡ y.id → x.typ ≡ y.typ → x.count ≡ y.count → x ≡ y
 same-partition x y e f g = λ d. record { id = e d; typ = f d; count = g d }
 
+-- two partitions are the same or not
 partition-or-not : (x y : Partition) → OrNot (x ≡ y)
 partition-or-not x y =
     elim (both (cases_eq x.id y.id) (both (cases_eq x.typ y.typ) (cases_eq x.count y.count))) [
@@ -87,9 +90,11 @@ partition-or-not x y =
       | inr f ↦ inr (λ e. f (ap (λ (z : Partition). z.id) e, (ap (λ (z : Partition). z.typ) e, ap (λ (z : Partition). z.count) e)))
     ]
 
+-- edges with the same ends and the same count are the same
 same-edge : (x y : Edge) → x.from ≡ y.from → x.to ≡ y.to → x.count ≡ y.count → x ≡ y
 same-edge x y e f g = λ d. record { from = e d; to = f d; count = g d }
 
+-- two edges are the same or not
 edge-or-not : (x y : Edge) → OrNot (x ≡ y)
 edge-or-not x y =
     elim (both (cases_eq x.from y.from) (both (cases_eq x.to y.to) (cases_eq x.count y.count))) [
@@ -97,6 +102,7 @@ edge-or-not x y =
       | inr f ↦ inr (λ e. f (ap (λ (z : Edge). z.from) e, (ap (λ (z : Edge). z.to) e, ap (λ (z : Edge). z.count) e)))
     ]
 
+-- the lists of the model are those of an assignment or not
 graph-or-not : (m : Model) (h : Assignment) → OrNot (IsGraphOf m h)
 graph-or-not m h =
     let b : (n : ℕ) × (2 ≤ n) × AllByRecursion (λ e. e.id < n) (events h) = bound-of (events h) in
@@ -110,6 +116,7 @@ graph-or-not m h =
       | inr f ↦ inr (λ g. f (one-partitions h m.partitions (partitions_below b.0 h) g.partitions ps, one-edges h m.edges (edges_below b.0 h) g.edges es))
     ]
 
+-- a history is justified, or some step of it fails first
 pub first_step_exists : FirstStepExists
 first_step_exists m log =
     elim (same-or-not (same-or-not number-or-not) m.types log.types) [
@@ -126,23 +133,26 @@ first_step_exists m log =
       ]
     ]
 
--- a wrong step is not right in its turn
+-- where a split is the first that is not right, not all are right
 wrong-split : (m : Model) (ss : List Split) (h : Assignment) (n k : ℕ) → IsFirstWrongSplit m h n ss k → SplitInTurn m h n ss → ⊥
 wrong-split m [] h n k w r = w
 wrong-split m (s ∷ ss) h n zero w r = w r.0
 wrong-split m (s ∷ ss) h n (suc k) w r = wrong-split m ss (after_split n s h) (suc n) k w.1 r.1
 
+-- where a merge is the first that is not right, not all are right
 wrong-merge : (ms : List Merge) (h : Assignment) (k : ℕ) → IsFirstWrongMerge h ms k → MergeInTurn h ms → ⊥
 wrong-merge [] h k w r = w
 wrong-merge (m ∷ ms) h zero w r = w r.0
 wrong-merge (m ∷ ms) h (suc k) w r = wrong-merge ms (merge m.p m.q h) k w.1 r.1
 
+-- where some step fails first, the history is not justified
 pub first_step_fails : FirstStepFails
 first_step_fails m log step.Types f j = f j.types
 first_step_fails m log (step.Split k) f j = wrong-split m m.splits (by_type log.words) (first_new log) k f.1 j.splits
 first_step_fails m log (step.Merge k) f j = wrong-merge m.merges (refined_by m log) k f.2 j.merges
 first_step_fails m log step.Graph f j = f.3 j.graph
 
+-- no two splits are the first that is not right
 one-split : (m : Model) (ss : List Split) (h : Assignment) (n j k : ℕ) → IsFirstWrongSplit m h n ss j → IsFirstWrongSplit m h n ss k → j ≡ k
 one-split m [] h n j k a b = absurd a
 one-split m (s ∷ ss) h n zero zero a b = refl
@@ -150,6 +160,7 @@ one-split m (s ∷ ss) h n zero (suc k) a b = absurd (a b.0)
 one-split m (s ∷ ss) h n (suc j) zero a b = absurd (b a.0)
 one-split m (s ∷ ss) h n (suc j) (suc k) a b = ap suc (one-split m ss (after_split n s h) (suc n) j k a.1 b.1)
 
+-- no two merges are the first that is not right
 one-merge : (ms : List Merge) (h : Assignment) (j k : ℕ) → IsFirstWrongMerge h ms j → IsFirstWrongMerge h ms k → j ≡ k
 one-merge [] h j k a b = absurd a
 one-merge (m ∷ ms) h zero zero a b = refl
@@ -157,6 +168,7 @@ one-merge (m ∷ ms) h zero (suc k) a b = absurd (a b.0)
 one-merge (m ∷ ms) h (suc j) zero a b = absurd (b a.0)
 one-merge (m ∷ ms) h (suc j) (suc k) a b = ap suc (one-merge ms (merge m.p m.q h) j k a.1 b.1)
 
+-- no two steps fail first
 pub one_first_step : OneFirstStep
 one_first_step m log step.Types step.Types a b = refl
 one_first_step m log step.Types (step.Split k) a b = absurd (a b.0)

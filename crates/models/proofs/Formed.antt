@@ -1,5 +1,5 @@
 -- The graph of a well-shaped model is formed.
-use Rattle.std.proofs.Common.{◌≡◌, ℕ, ◌<◌, ◌≤◌, ◌==◌, true, List, [], ◌∷◌, sym, ◌∙◌, ap, subst, inl, inr, arith, eqb-true}
+use Rattle.std.proofs.Common.{◌≡◌, ℕ, ◌<◌, ◌==◌, true, List, [], ◌∷◌, sym, ◌∙◌, ap, subst, inl, inr, arith, eqb-true}
 use Rattle.std.proofs.lemmas.Bool.{or_cases}
 use Rattle.std.specs.List.{AllByRecursion}
 use Rattle.invariants.specs.declared.records.Partition.{Partition}
@@ -28,6 +28,7 @@ below types traces xs p a e =
       ]
     ]
 
+-- the graph of a well-shaped model is formed, and its ids keep the limit
 pub shaped_are_formed : ShapedAreFormed
 shaped_are_formed m w =
     let e : m.partitions ≡ end_of 0 w.partitions.traces ∷ end_of 1 w.partitions.traces ∷ w.partitions.inner = w.partitions.ends in (

@@ -13,6 +13,7 @@ use Rattle.models.proofs.Agreeing.{live-is-listed}
 use Rattle.models.proofs.Unique.{one-partitions, one-edges}
 use Rattle.model_shape.specs.Shapes.{is_listed}
 
+-- a model has the graph of an assignment exactly where its lists are those of the assignment
 pub graph_is_listed : GraphIsListed
 graph_is_listed m h n l b =
     let ps : ArePartitions (partitions_below n h) h = are_partitions h n l b in
@@ -48,6 +49,7 @@ beside (x ∷ xs) (n ∷ numbers) p l e =
           (suc o.0, o.1, o.2, record { at_x = o.3.at_x; at_number = o.3.at_number; id = o.3.id; label = rw a o.3.label })
     ]
 
+-- numbers of the states that are reached, partition by partition, are the labels
 pub numbers_give_labels : NumbersGiveLabels
 numbers_give_labels inv h xs numbers a r =
     record {

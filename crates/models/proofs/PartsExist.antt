@@ -30,7 +30,7 @@ use Rattle.models.proofs.Valid.{three-states}
 use Rattle.models.proofs.Deciding.{OrNot, both, same-or-not, number-or-not, true-or-not, breaks-or-not, option-cases, some-same, from-or-not, all-or-not, any-or-not}
 use Rattle.model_shape.specs.Shapes.{listing_of, listed_type, is_listed}
 
--- the list of invariants
+-- two kinds are the same or not
 kind-or-not : (a b : Kind) → OrNot (a ≡ b)
 kind-or-not AF AF = inl refl
 kind-or-not AF NF = inr (λ e. cc e)
@@ -42,9 +42,11 @@ kind-or-not AP AF = inr (λ e. cc e)
 kind-or-not AP NF = inr (λ e. cc e)
 kind-or-not AP AP = inl refl
 
+-- invariants of the same kind and types are the same
 same-invariant : (x y : Invariant) → x.kind ≡ y.kind → x.a ≡ y.a → x.b ≡ y.b → x ≡ y
 same-invariant x y e f g = λ d. record { kind = e d; a = f d; b = g d }
 
+-- two invariants are the same or not
 invariant-or-not : (x y : Invariant) → OrNot (x ≡ y)
 invariant-or-not x y =
     elim (both (kind-or-not x.kind y.kind) (both (cases_eq x.a y.a) (cases_eq x.b y.b))) [
@@ -52,6 +54,7 @@ invariant-or-not x y =
       | inr f ↦ inr (λ e. f (ap (λ (z : Invariant). z.kind) e, (ap (λ (z : Invariant). z.a) e, ap (λ (z : Invariant). z.b) e)))
     ]
 
+-- two lists of invariants are the same, or there is a first place at which they differ
 same-or-differ : (xs ys : List Invariant) → (xs ≡ ys) ⊎ ((k : ℕ) × DiffersAt xs ys k)
 same-or-differ [] [] = inl refl
 same-or-differ [] (y ∷ ys) = inr (0, refl)
@@ -65,7 +68,7 @@ same-or-differ (x ∷ xs) (y ∷ ys) =
       ]
     ]
 
--- the first member of a list that fails
+-- a property holds of each member of a list, or there is a first of which it does not
 all-or-first : {X : Type 0} (P : X → Type 0) → ((x : X) → OrNot (P x)) → (xs : List X) → AllByRecursion P xs ⊎ ((k : ℕ) × IsFirstFailure P xs k)
 all-or-first P d [] = inl tt
 all-or-first P d (x ∷ xs) =
@@ -77,19 +80,21 @@ all-or-first P d (x ∷ xs) =
       ]
     ]
 
--- words: a walk from p that has these types and ends at TERMINAL
+-- some walk from p to TERMINAL goes through these types
 abbrev Goes : Model → ℕ → List ℕ → Type 0
 Goes m p ts = (xs : List ℕ) × Walk (graph_of m) p xs 1 × (word (graph_of m) xs ≡ ts)
 
--- a first edge of such a walk
+-- the edge leads from p to an id of the first type, from which such a walk goes through the others
 abbrev Starts : Model → ℕ → ℕ → List ℕ → Edge → Type 0
 Starts m p t ts e = (e.from ≡ p) × ((listed_type e.to m.partitions ≡ t) × Goes m e.to ts)
 
+-- where there is such an edge, there is such a walk
 starts-goes : (m : Model) (p t : ℕ) (ts : List ℕ) (e : Edge) → In e m.edges → Starts m p t ts e → Goes m p (t ∷ ts)
 starts-goes m p t ts e i s =
     let k : has_edge p e.to m.edges ≡ true = subst (λ (z : ℕ). has_edge z e.to m.edges ≡ true) s.0 (In-edges e m.edges i) in
     (e.to ∷ s.1.1.0, (k, s.1.1.1), ap₂ (λ (u : ℕ) (us : List ℕ). u ∷ us) s.1.0 s.1.1.2)
 
+-- such a walk begins with such an edge
 goes-starts : (m : Model) (p t : ℕ) (ts xs : List ℕ) → Walk (graph_of m) p xs 1 → word (graph_of m) xs ≡ t ∷ ts → (e : Edge) × In e m.edges × Starts m p t ts e
 goes-starts m p t ts [] w f = absurd (cc f)
 goes-starts m p t ts (r ∷ rs) w f =
@@ -99,10 +104,12 @@ goes-starts m p t ts (r ∷ rs) w f =
     let g : Goes m o.0.to ts = subst (λ (z : ℕ). Goes m z ts) (sym o.3) (rs, w.1, l) in
     (o.0, o.1, (o.2, (ap (λ (z : ℕ). listed_type z m.partitions) o.3 ∙ h, g)))
 
+-- a walk to TERMINAL through no types is at TERMINAL
 goes-end : (m : Model) (p : ℕ) (xs : List ℕ) → Walk (graph_of m) p xs 1 → word (graph_of m) xs ≡ [] → p ≡ 1
 goes-end m p [] w f = w
 goes-end m p (r ∷ rs) w f = absurd (cc f)
 
+-- such a walk is there or not
 goes-or-not : (m : Model) (ts : List ℕ) (p : ℕ) → OrNot (Goes m p ts)
 goes-or-not m [] p =
     elim (cases_eq p 1) [
@@ -115,6 +122,7 @@ goes-or-not m (t ∷ ts) p =
       | inr f ↦ inr (λ o. f (goes-starts m p t ts o.0 o.1 o.2))
     ]
 
+-- a word is that of a path or not
 accepts-or-not : (m : Model) (t : ℕ) (ts : List ℕ) → OrNot (Accepts (graph_of m) (t ∷ ts))
 accepts-or-not m t ts =
     elim (both (cases_eq (listed_type 0 m.partitions) t) (goes-or-not m ts 0)) [
@@ -129,45 +137,54 @@ accepts-or-not m t ts =
         let l : word (graph_of m) xs ≡ ts = cc in
         (sym (ap (λ (z : ℕ). listed_type z m.partitions) i.0) ∙ h, (xs, subst (λ (z : ℕ). Walk (graph_of m) z xs 1) i.0 i.1, l))
 
+-- the word of a trace is that of a path or not
 accepted-or-not : (m : Model) (w : List ℕ) → OrNot (IsAccepted m w)
 accepted-or-not m w = accepts-or-not m 0 (w ++ 1 ∷ [])
 
--- labels: along each edge, for each of the three states
+-- along the edge a state in the label of its start leads to one in the label of its end
 abbrev Passes : Model → Listed → Edge → ℕ → Type 0
 Passes m l e s = IsInLabel m.partitions l.labels e.from s → IsInLabel m.partitions l.labels e.to (step l.inv s (listed_type e.to m.partitions))
 
+-- along the edge each of the three states does so
 abbrev PassesAll : Model → Listed → Edge → Type 0
 PassesAll m l e = Passes m l e 0 × (Passes m l e 1 × Passes m l e 2)
 
+-- a state is in the label of an id or not
 in-label-or-not : (m : Model) (l : Listed) (p s : ℕ) → OrNot (IsInLabel m.partitions l.labels p s)
 in-label-or-not m l p s = true-or-not (has_state (label_at p m.partitions l.labels) s)
 
+-- along an edge a state leads from label to label or not
 passes-or-not : (m : Model) (l : Listed) (e : Edge) (s : ℕ) → OrNot (Passes m l e s)
 passes-or-not m l e s = from-or-not (in-label-or-not m l e.from s) (in-label-or-not m l e.to (step l.inv s (listed_type e.to m.partitions)))
 
--- TERMINAL
+-- the state is not both in the label of TERMINAL and bad
 abbrev Ends : Model → Listed → ℕ → Type 0
 Ends m l s = IsInLabel m.partitions l.labels 1 s → is_bad l.inv s ≡ false
 
+-- a truth value is false or not
 false-or-not : (b : Bool) → OrNot (b ≡ false)
 false-or-not true = inr (λ e. cc e)
 false-or-not false = inl refl
 
+-- a state is right at TERMINAL or not
 ends-or-not : (m : Model) (l : Listed) (s : ℕ) → OrNot (Ends m l s)
 ends-or-not m l s = from-or-not (in-label-or-not m l 1 s) (false-or-not (is_bad l.inv s))
 
+-- what holds of each of the three states holds of a state below 3, along an edge
 pass-at : (m : Model) (l : Listed) (e : Edge) (s : ℕ) → PassesAll m l e → s < 3 → Passes m l e s
 pass-at m l e zero a k = a.0
 pass-at m l e (suc zero) a k = a.1.0
 pass-at m l e (suc (suc zero)) a k = a.1.1
 pass-at m l e (suc (suc (suc s))) a k = absurd (omega arith)
 
+-- what holds of each of the three states holds of a state below 3, at TERMINAL
 ends-at : (m : Model) (l : Listed) (s : ℕ) → Ends m l 0 → Ends m l 1 → Ends m l 2 → s < 3 → Ends m l s
 ends-at m l zero a b c k = a
 ends-at m l (suc zero) a b c k = b
 ends-at m l (suc (suc zero)) a b c k = c
 ends-at m l (suc (suc (suc s))) a b c k = absurd (omega arith)
 
+-- the labels of an invariant are inductive or not
 labelled-or-not : (m : Model) (l : Listed) → OrNot (IsLabelled m l)
 labelled-or-not m l =
     elim (both (in-label-or-not m l 0 (step l.inv 0 (listed_type 0 m.partitions)))
@@ -192,10 +209,11 @@ labelled-or-not m l =
         let e : has_edge x.from x.to m.edges ≡ true = In-edges x m.edges (f x (inl refl)) in
         ((i.along x.from x.to 0 e, (i.along x.from x.to 1 e, i.along x.from x.to 2 e)), every i xs (λ y j. f y (inr j)))
 
--- blocks
+-- the block is one of the pair, and its path breaks the invariant that it names once the pair is merged
 abbrev Names : Model → ℕ → ℕ → Block → Type 0
 Names m p q b = (b.p ≡ p) × ((b.q ≡ q) × ((l : Listed) × (slice_get m.invariants b.inv ≡ Some l) × Breaks (Merged (graph_of m) p q) l.inv b.path))
 
+-- the path of a block breaks its invariant once the pair is merged, or not
 broken-or-not : (m : Model) (p q : ℕ) (b : Block) → OrNot ((l : Listed) × (slice_get m.invariants b.inv ≡ Some l) × Breaks (Merged (graph_of m) p q) l.inv b.path)
 broken-or-not m p q b =
     elim (option-cases (slice_get m.invariants b.inv)) [
@@ -206,6 +224,7 @@ broken-or-not m p q b =
       ]
     ]
 
+-- a pair has a block that keeps it apart or not
 blocked-or-not : (m : Model) (p q : ℕ) → OrNot (IsBlocked m p q)
 blocked-or-not m p q =
     elim (any-or-not (Names m p q) (λ b. both (cases_eq b.p p) (both (cases_eq b.q q) (broken-or-not m p q b))) m.blocks) [
@@ -230,6 +249,7 @@ record IsFirstOpen (m : Model) (ms : List Merge) (p q : ℕ) : Type 0 where
   open_is : IsBlocked m p q → ⊥
   before : (r s : ℕ) → IsAmong r s ms → PairBefore r s p q → IsBlocked m r s
 
+-- each pair of an ascending list has a block, or some pair is the first that has none
 blocked-or-first : (m : Model) (ms : List Merge) (p q : ℕ) → PairsAscend p q ms → ((r s : ℕ) → IsAmong r s ms → IsBlocked m r s) ⊎ ((u v : ℕ) × IsFirstOpen m ms u v)
 blocked-or-first m [] p q a = inl (λ r s i. absurd i)
 blocked-or-first m (x ∷ ms) p q a =
@@ -266,6 +286,7 @@ blocked-or-first m (x ∷ ms) p q a =
       ]
     ]
 
+-- some number is above all listed ids
 listed-bound : (xs : List Partition) → (n : ℕ) × ((p : ℕ) → is_listed p xs ≡ true → p < n)
 listed-bound [] = (0, λ p e. absurd (cc e))
 listed-bound (x ∷ xs) =
@@ -277,6 +298,7 @@ listed-bound (x ∷ xs) =
       ],
     )
 
+-- a model is valid for a log, or some part of it fails first
 pub first_part_exists : FirstPartExists
 first_part_exists m log =
     elim (same-or-not (same-or-not number-or-not) m.types log.types) [

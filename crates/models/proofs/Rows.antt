@@ -96,16 +96,19 @@ model = model_with (record { inv = 3; place = 2; path = c_then_e })
 listing_is : listing_of model ≡ mined_of log
 listing_is = refl
 
--- the steps lead to the partitions and edges of the model
+-- the steps give each event the id that it has in the model
 ids_are : map ids_of (replayed model log) ≡ (2 ∷ 3 ∷ 4 ∷ []) ∷ (5 ∷ 7 ∷ 6 ∷ []) ∷ []
 ids_are = refl
 
+-- the steps lead to the partitions of the model
 partitions_are : partitions_below 8 (replayed model log) ≡ model.partitions
 partitions_are = refl
 
+-- the steps lead to the edges of the model
 edges_are : edges_below 8 (replayed model log) ≡ model.edges
 edges_are = refl
 
+-- the steps lead to the graph of the model
 graph_is : IsGraphOf model (replayed model log)
 graph_is =
     let b : AreBelow 8 (replayed model log) = (omega arith, (omega arith, (omega arith, (omega arith, (omega arith, (omega arith, tt)))))) in
@@ -150,35 +153,41 @@ listing_ascends = (1, omega arith, refl, (6, omega arith, refl, (8, omega arith,
 pairs_are : pairs_below 8 (graph_of model) ≡ pair_of 3 7 ∷ []
 pairs_are = refl
 
--- a test of labels: along each edge, for each of the three states
+-- whether a state leads along the edge from the label of its start into that of its end
 abbrev passes_at : Model → Listed → Edge → ℕ → Bool
 passes_at m l e s = not (has_state (label_at e.from m.partitions l.labels) s) || has_state (label_at e.to m.partitions l.labels) (step l.inv s (listed_type e.to m.partitions))
 
+-- whether each of the three states does so along the edge
 abbrev passes : Model → Listed → Edge → Bool
 passes m l e = passes_at m l e 0 && passes_at m l e 1 && passes_at m l e 2
 
+-- whether each of the three states does so along all edges
 abbrev all_pass : Model → Listed → List Edge → Bool
 all_pass m l [] = true
 all_pass m l (e ∷ es) = passes m l e && all_pass m l es
 
+-- whether the state is not both in the label of TERMINAL and bad
 abbrev ends_at : Model → Listed → ℕ → Bool
 ends_at m l s = not (has_state (label_at 1 m.partitions l.labels) s) || not (is_bad l.inv s)
 
+-- whether the labels pass at INITIAL, along all edges and at TERMINAL
 abbrev labels_pass : Model → Listed → Bool
 labels_pass m l =
     has_state (label_at 0 m.partitions l.labels) (step l.inv 0 (listed_type 0 m.partitions)) && all_pass m l m.edges
     && (ends_at m l 0 && ends_at m l 1 && ends_at m l 2)
 
--- what passes is inductive
+-- where the second of two truth values holds with the first, and the first holds, so does the second
 follows : (a b : Bool) → (not a || b) ≡ true → a ≡ true → b ≡ true
 follows true b e f = e
 follows false b e f = absurd (cc f)
 
+-- where not both of two truth values hold, and the first does, the second does not
 kept_out : (a b : Bool) → (not a || not b) ≡ true → a ≡ true → b ≡ false
 kept_out true false e f = refl
 kept_out true true e f = absurd (cc e)
 kept_out false b e f = absurd (cc f)
 
+-- what passes along an edge passes for each state below 3
 pass-at : (m : Model) (l : Listed) (e : Edge) (s : ℕ) → passes m l e ≡ true → s < 3 → passes_at m l e s ≡ true
 pass-at m l e s t k =
     let a : ((passes_at m l e 0 && passes_at m l e 1) ≡ true) × (passes_at m l e 2 ≡ true) = and_parts (passes_at m l e 0 && passes_at m l e 1) (passes_at m l e 2) t in
@@ -191,11 +200,13 @@ pass-at m l e s t k =
     at (suc (suc zero)) x y z k = z
     at (suc (suc (suc s))) x y z k = absurd (omega arith)
 
+-- what passes along all edges passes along each
 all-pass : (m : Model) (l : Listed) (es : List Edge) (e : Edge) → all_pass m l es ≡ true → In e es → passes m l e ≡ true
 all-pass m l [] e t i = absurd i
 all-pass m l (x ∷ es) e t (inl q) = subst (λ (z : Edge). passes m l z ≡ true) q (and_parts (passes m l x) (all_pass m l es) t).0
 all-pass m l (x ∷ es) e t (inr r) = all-pass m l es e (and_parts (passes m l x) (all_pass m l es) t).1 r
 
+-- what passes at TERMINAL passes for each state below 3
 end-at : (m : Model) (l : Listed) (s : ℕ) → (ends_at m l 0 && ends_at m l 1 && ends_at m l 2) ≡ true → s < 3 → ends_at m l s ≡ true
 end-at m l s t k =
     let a : ((ends_at m l 0 && ends_at m l 1) ≡ true) × (ends_at m l 2 ≡ true) = and_parts (ends_at m l 0 && ends_at m l 1) (ends_at m l 2) t in
@@ -208,6 +219,7 @@ end-at m l s t k =
     at (suc (suc zero)) x y z k = z
     at (suc (suc (suc s))) x y z k = absurd (omega arith)
 
+-- labels that pass are inductive
 passed-labels : (m : Model) (l : Listed) → labels_pass m l ≡ true → IsLabelled m l
 passed-labels m l t =
     let first : Bool = has_state (label_at 0 m.partitions l.labels) (step l.inv 0 (listed_type 0 m.partitions)) in

@@ -17,7 +17,7 @@ use Rattle.invariants.specs.Candidates.{candidates}
 use Rattle.invariants.specs.Mined.{holds_of_all}
 use Rattle.partition_model.specs.Graphs.{Graph, Walk, IsPath, Satisfies, IsLeastViolation, IsFormed, Merged}
 use Rattle.partition_model.specs.Assignments.{Event, Assignment, events, G, IsTyped, type_of, types_of, ids_of, id_list, pairs, edge_count, size, members, is_live, by_type, inner_words, with_ends}
-use Rattle.partition_model.specs.Listings.{AscendIds, AreBelow, ArePartitions, partition_of, partitions_below}
+use Rattle.partition_model.specs.Listings.{AreBelow, ArePartitions, partition_of, partitions_below}
 use Rattle.partition_model.specs.Refinement.{Splits, Refines, after_split, stitch}
 use Rattle.partition_model.specs.Coarsening.{merge, Coarsens, IsBlock, AreBlocks}
 use Rattle.partition_model.specs.Laws.{IsRun, HoldAll, Divides, Keeps}
@@ -40,16 +40,17 @@ use Rattle.model_shape.specs.Shapes.{listing_of, end_of, AreTypes, IsEventPartit
 use Rattle.model_shape.specs.Ascending.{Ascends, CandidateBefore}
 use Rattle.models.proofs.Among.{AscendAmong, ids-ascend, edges-ascend, blocks-ascend, candidates-ascend}
 
--- paths of graphs whose ids are below the bound
+-- a walk goes through ids below the limit, where all that are listed are below it
 walk-ids : (g : Graph) (p : ℕ) (xs : List ℕ) (q : ℕ) → IsFormed g → ((u : ℕ) → g.listed u ≡ true → u < 1024) → Walk g p xs q → AreIds xs
 walk-ids g p [] q f b w = tt
 walk-ids g p (x ∷ xs) q f b w = (b x (f.between p x w.0).1, walk-ids g x xs q f b w.1)
 
+-- a path goes through ids below the limit, where all that are listed are below it
 path-ids : (g : Graph) (path : List ℕ) → IsFormed g → ((u : ℕ) → g.listed u ≡ true → u < 1024) → IsPath g path → AreIds path
 path-ids g [] f b i = tt
 path-ids g (x ∷ xs) f b i = ((let e : x ≡ 0 = i.0 in omega arith), walk-ids g x xs 1 f b i.1)
 
--- events by their words
+-- an assignment has as many events as its words
 events-count : (h : Assignment) → length (events h) ≡ sum_by (λ w. length w) (inner_words h)
 events-count [] = refl
 events-count (t ∷ h) =
@@ -59,14 +60,17 @@ events-count (t ∷ h) =
     let s : sum_by (λ w. length w) (types_of t ∷ inner_words h) ≡ length (types_of t) + sum_by (λ w. length w) (inner_words h) = sum_by-cons (λ (w : List ℕ). length w) (types_of t) (inner_words h) in
     omega arith
 
+-- an event of a word is one of the assignment by types, with the number of its type as its id
 typed-In : (words : List (List ℕ)) (w : List ℕ) (x : ℕ) → In w words → In x w → In (record { typ = x; id = x }) (events (by_type words))
 typed-In words w x i j =
     In-events (record { typ = x; id = x }) (map (λ (t : ℕ). record { typ = t; id = t }) w) (by_type words)
     (map-In (λ (v : List ℕ). map (λ (t : ℕ). record { typ = t; id = t }) v) w words i) (map-In (λ (t : ℕ). record { typ = t; id = t }) x w j)
 
+-- the number is that of a type, and below the bound
 abbrev IsTypeBelow : ℕ → ℕ → Type 0
 IsTypeBelow n t = (2 ≤ t) × (t < n)
 
+-- each event has the number of a type of the log
 type-range : (log : TypedWords) (h : Assignment) (e : Event) → IsTypedLog log → inner_words h ≡ log.words → In e (events h) → IsTypeBelow (length log.types + 2) e.typ
 type-range log h e t ws i =
     let o : (trace : List Event) × In trace h × In e trace = events-In e h i in
@@ -74,13 +78,15 @@ type-range log h e t ws i =
     let x : In e.typ (types_of o.0) = map-In (λ (d : Event). d.typ) e o.0 o.2 in
     all_in (λ d. (2 ≤ d.typ) × (d.typ < length log.types + 2)) (record { typ = e.typ; id = e.typ }) (events (by_type log.words)) t.range (typed-In log.words (types_of o.0) e.typ w x)
 
--- the partitions
+-- the partitions of events, those of the ids from 2 on
 abbrev inner-of : Assignment → ℕ → List Partition
 inner-of h j = map (partition_of h) (filter (is_live h) (range_with_len 2 j))
 
+-- the first two partitions of an assignment are the ends
 first-two : (h : Assignment) (j : ℕ) → partitions_below (suc (suc j)) h ≡ end_of 0 (length h) ∷ end_of 1 (length h) ∷ inner-of h j
 first-two h j = refl
 
+-- there are no more partitions of events than ids below the bound
 inner-short : (h : Assignment) (j : ℕ) → length (inner-of h j) ≤ j
 inner-short h j =
     let a : length (map (partition_of h) (filter (is_live h) (range_with_len 2 j))) ≡ length (filter (is_live h) (range_with_len 2 j)) = length-map (filter (is_live h) (range_with_len 2 j)) (partition_of h) in
@@ -89,9 +95,11 @@ inner-short h j =
     let d : length (range_with_len 2 j) ≡ j = range-count 2 j in
     omega arith
 
+-- the size of a partition of events is the number of its events
 high-size : (h : Assignment) (p : ℕ) → 2 ≤ p → size h p ≡ members h p
 high-size h p l = rw (le-ltb p 2 l) refl
 
+-- a live id of events has a partition with the type and the size that are asked for
 event-partition : (log : TypedWords) (h : Assignment) (j p : ℕ) → IsTypedLog log → inner_words h ≡ log.words → IsTyped h → sum_by (λ w. length w) log.words ≤ 1000000 → j ≤ 1022
     → 2 ≤ p → p < 2 + j → is_live h p ≡ true → IsEventPartition (length log.types) (partition_of h p)
 event-partition log h j p t ws ty few jl l u k =
@@ -108,6 +116,7 @@ event-partition log h j p t ws ty few jl l u k =
     let f : sum_by (λ w. length w) (inner_words h) ≡ sum_by (λ w. length w) log.words = ap (λ (vs : List (List ℕ)). sum_by (λ w. length w) vs) ws in
     record { id = omega arith; type_low = omega arith; type_high = omega arith; some = omega arith; few = omega arith }
 
+-- the partitions of the model of a log are well shaped
 shaped-partitions : (m : Model) (log : TypedWords) (h : Assignment) (j : ℕ) → IsTypedLog log → inner_words h ≡ log.words → IsTyped h → length log.words ≤ 1000000 → sum_by (λ w. length w) log.words ≤ 1000000 → j ≤ 1022
     → AreBelow (suc (suc j)) h → ArePartitions m.partitions h → AreShapedPartitions (length log.types) m.partitions
 shaped-partitions m log h j t ws ty traces few jl b a =
@@ -131,7 +140,7 @@ shaped-partitions m log h j t ws ty traces few jl b a =
           subst (λ (y : Partition). IsEventPartition (length log.types) y) v.2 (event-partition log h j v.0 t ws ty few jl r.0 r.1 w.1));
     }
 
--- the edges
+-- a word has no more neighbours of two ids than places between events
 pairs-short : (p q x : ℕ) (xs : List ℕ) → pairs p q (x ∷ xs) ≤ length xs
 pairs-short p q x [] =
     elim (cases_Bool (x == p && false)) [
@@ -145,6 +154,7 @@ pairs-short p q x (y ∷ ys) =
       | inr f ↦ rw f (omega (arith, i))
     ]
 
+-- the count of an edge is at most the number of events and of words
 edge-short : (h : Assignment) (p q : ℕ) → edge_count h p q ≤ length (events h) + length h
 edge-short [] p q = omega arith
 edge-short (t ∷ h) p q =
@@ -156,6 +166,7 @@ edge-short (t ∷ h) p q =
     let d : length (t ++ events h) ≡ length t + length (events h) = length-append t (events h) in
     omega arith
 
+-- the edges of the model of a log are well shaped
 shaped-edges : (m : Model) (log : TypedWords) (k : IsModelOf m log) → inner_words k.end ≡ log.words → IsTyped k.end → Agrees (graph_of m) (G k.end)
     → length log.words ≤ 1000000 → sum_by (λ w. length w) log.words ≤ 1000000 → AreShapedEdges m.partitions m.edges
 shaped-edges m log k ws ty ag traces few =
@@ -183,11 +194,12 @@ shaped-edges m log k ws ty ag traces few =
           });
     }
 
--- the invariants
+-- what ascends from a candidate on ascends from a lower one on
 ascend-lower : (all : List Invariant) (a b : ℕ) (xs : List Invariant) → a ≤ b → AscendAmong all b xs → AscendAmong all a xs
 ascend-lower all a b [] l s = tt
 ascend-lower all a b (x ∷ xs) l s = (s.0, (let k : b ≤ s.0 = s.1 in omega arith), s.2, s.3)
 
+-- what passes of the candidates ascends among them
 ascend-filter : (p : Invariant → Bool) (all xs : List Invariant) (low : ℕ) → ((j : ℕ) → slice_get all (low + j) ≡ slice_get xs j) → AscendAmong all low (filter p xs)
 ascend-filter p all [] low f = tt
 ascend-filter p all (x ∷ xs) low f =
@@ -199,13 +211,16 @@ ascend-filter p all (x ∷ xs) low f =
       | inr n ↦ subst (λ (b : Bool). AscendAmong all low (cond b (x ∷ filter p xs) (filter p xs))) (sym n) (ascend-lower all low (suc low) (filter p xs) (omega arith) i)
     ]
 
+-- the mined invariants ascend among the candidates
 mined-ascends : (log : TypedWords) → AscendAmong (candidates (length log.types)) 0 (mined_of log)
 mined-ascends log = ascend-filter (holds_of_all (map with_ends log.words)) (candidates (length log.types)) (candidates (length log.types)) 0 (λ j. ap (slice_get (candidates (length log.types))) (omega arith))
 
+-- each mined invariant is a candidate
 mined-candidate : (log : TypedWords) (inv : Invariant) → In inv (mined_of log) → Contains (candidates (length log.types)) inv
 mined-candidate log inv i =
     Contains-In inv (candidates (length log.types)) (In-filter (holds_of_all (map with_ends log.words)) inv (candidates (length log.types)) i).0
 
+-- each listed invariant of the model of a log is well shaped
 shaped-listed : (m : Model) (log : TypedWords) (k : IsModelOf m log) (l : Listed) → In l m.invariants → IsShapedListed (length m.types) (length m.partitions) l
 shaped-listed m log k l i =
     let r : AreReached l.inv k.end m.partitions l.labels = all_in (λ l. AreReached l.inv k.end m.partitions l.labels) l m.invariants k.labels i in
@@ -216,6 +231,7 @@ shaped-listed m log k l i =
       labels = r.each;
     }
 
+-- the listed invariants of the model of a log are well shaped
 shaped-invariants : (m : Model) (log : TypedWords) → IsModelOf m log → AreShapedInvariants (length m.types) (length m.partitions) m.invariants
 shaped-invariants m log k =
     let a : AscendAmong (candidates (length log.types)) 0 (listing_of m) = subst (λ (xs : List Invariant). AscendAmong (candidates (length log.types)) 0 xs) (sym k.listing) (mined-ascends log) in
@@ -225,19 +241,20 @@ shaped-invariants m log k =
       each = all_from (IsShapedListed (length m.types) (length m.partitions)) m.invariants (shaped-listed m log k);
     }
 
--- the merges
+-- each merge of coarsening is well shaped
 each-merge : (invs : List Invariant) (ms : List Merge) (h end : Assignment) (n : ℕ) → 2 ≤ n → n ≤ 1024 → AreBelow n h → Coarsens invs h ms end → AllByRecursion IsShapedMerge ms
 each-merge invs [] h end n l k b c = tt
 each-merge invs (m ∷ ms) h end n l k b c =
     let u : m.q < n = live-below h n m.q l b c.0.pair.has_q in
     (record { order = c.0.pair.order; high = omega arith }, each-merge invs ms (merge m.p m.q h) end n l k (merge-below h n m.p m.q l b c.0.pair) c.1)
 
+-- the merges of coarsening are well shaped
 shaped-merges : (invs : List Invariant) (ms : List Merge) (h end : Assignment) (n : ℕ) → 2 ≤ n → n ≤ 1024 → AreBelow n h → Coarsens invs h ms end → AreShapedMerges ms
 shaped-merges invs ms h end n l k b c =
     let f : length ms + 2 ≤ n = merges_are_few invs h ms end n l b c in
     record { few = omega arith; each = each-merge invs ms h end n l k b c }
 
--- the splits
+-- each split of refinement is well shaped
 each-split : (words : List (List ℕ)) (invs : List Invariant) (ss : List Split) (h : Assignment) (n : ℕ) (end : Assignment) → IsRun words h n → 2 ≤ n → HoldAll words invs → n + length ss ≤ 1024
     → Refines invs h n ss end → AllByRecursion (IsShapedSplit (length invs)) ss
 each-split words invs [] h n end r l a lim w = tt
@@ -255,11 +272,12 @@ each-split words invs (s ∷ ss) h n end r l a lim w =
       each-split words invs ss (after_split n s h) (suc n) end (subst (λ (k : ℕ). IsRun words (after_split n s h) k) x r') (omega arith) a (omega arith) w.1,
     )
 
+-- the splits of refinement are splits one after another
 refines-splits : (invs : List Invariant) (ss : List Split) (h : Assignment) (n : ℕ) (end : Assignment) → Refines invs h n ss end → Splits invs h n ss end
 refines-splits invs [] h n end w = w.1
 refines-splits invs (s ∷ ss) h n end w = (w.0, refines-splits invs ss (after_split n s h) (suc n) end w.1)
 
--- the blocks
+-- each block of an assignment is well shaped
 each-block : (m : Model) (h : Assignment) (invs : List Invariant) (n : ℕ) (b : Block) → 2 ≤ n → n ≤ 1024 → IsTyped h → AreBelow n h → Agrees (graph_of m) (G h) → IsBlock invs (G h) b
     → IsShapedBlock (length invs) m.partitions b
 each-block m h invs n b l k ty below ag i =
@@ -279,10 +297,11 @@ each-block m h invs n b l k ty below ag i =
       path = path-ids (Merged (G h) b.p b.q) b.path mf ids v.breaks.0;
     }
 
+-- each block of the list is one of the graph
 block-of : (invs : List Invariant) (g : Graph) (xs : List Block) → AreBlocks invs g xs → (z : Block) → In z xs → IsBlock invs g z
 block-of invs g xs a z i = let r : (k : ℕ) × (slice_get xs k ≡ Some z) = In-get z xs i in a.each r.0 z r.1
 
--- all rules
+-- the model of a log within the limits is well shaped
 pub models_are_shaped : ModelsAreShaped
 models_are_shaped m log t w lim k =
     let lt : length m.types ≡ length log.types = ap length k.types in

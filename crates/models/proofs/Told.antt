@@ -28,9 +28,11 @@ labels-satisfy m (l ∷ ls) a = (
   labels-satisfy m ls a.1,
 )
 
+-- whatever is valid for a log satisfies each invariant that it lists
 pub valid_satisfies : ValidSatisfies
 valid_satisfies m log v = labels-satisfy m m.invariants v.labels
 
+-- no pair of a valid model can be merged without loss
 no-merge : (m : Model) (log : TypedWords) → IsValid m log → (p q : ℕ) → IsPair (graph_of m) p q → SatisfiesAll (Merged (graph_of m) p q) (listing_of m) → ⊥
 no-merge m log v p q i s =
     let b : IsBlocked m p q = v.blocks p q i in
@@ -38,6 +40,7 @@ no-merge m log v p q i s =
     let j : In b.1.inv (listing_of m) = map-In (λ (l : Listed). l.inv) b.1 m.invariants (get-In m.invariants b.0.inv b.1 k.names) in
     k.breaks.1 (all_in (λ inv. Satisfies (Merged (graph_of m) p q) inv) b.1.inv (listing_of m) s j b.0.path k.breaks.0)
 
+-- a valid model promises all that is said of one
 pub valid_tells : ValidTells
 valid_tells m log v =
     record {
@@ -54,5 +57,6 @@ valid_tells m log v =
       no_merge = no-merge m log v;
     }
 
+-- so does the model of a log
 pub models_tell : ModelsTell
 models_tell m log t k = valid_tells m log (models-valid m log t k)

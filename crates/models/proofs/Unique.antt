@@ -18,10 +18,11 @@ use Rattle.models.specs.Models.{mined_of, has_state, label_at, AreReached}
 use Rattle.models.specs.Laws.{OneModel}
 use Rattle.model_shape.specs.Shapes.{IsLabel}
 
--- partitions
+-- the id of the one partition is below that of the other
 abbrev IdBefore : Partition → Partition → Type 0
 IdBefore x y = x.id < y.id
 
+-- where ids ascend from a number on, none is below it
 ids-above : (low : ℕ) (xs : List Partition) (y : Partition) → AscendIds low xs → In y xs → low ≤ y.id
 ids-above low [] y a i = absurd i
 ids-above low (x ∷ xs) y a i = elim i [
@@ -29,19 +30,22 @@ ids-above low (x ∷ xs) y a i = elim i [
   | inr j ↦ (let l : suc x.id ≤ y.id = ids-above (suc x.id) xs y a.1 j in let k : low ≤ x.id = a.0 in omega arith)
 ]
 
+-- partitions whose ids ascend are sorted by them
 ids-sorted : (low : ℕ) (xs : List Partition) → AscendIds low xs → Sorted IdBefore xs
 ids-sorted low [] a = tt
 ids-sorted low (x ∷ xs) a = (λ y i. (let l : suc x.id ≤ y.id = ids-above (suc x.id) xs y a.1 i in omega arith), ids-sorted (suc x.id) xs a.1)
 
+-- a partition of one list of the assignment is in each other
 partition-there : (h : Assignment) (xs ys : List Partition) → ArePartitions xs h → ArePartitions ys h → (z : Partition) → In z xs → In z ys
 partition-there h xs ys a b z i = In-Contains ys z ((b.members z).1 ((a.members z).0 (Contains-In z xs i)))
 
+-- an assignment has one list of partitions
 pub one-partitions : (h : Assignment) (xs ys : List Partition) → ArePartitions xs h → ArePartitions ys h → xs ≡ ys
 one-partitions h xs ys a b =
     same-lists IdBefore (λ x y l k. omega (arith, l, k)) xs ys (ids-sorted 0 xs a.order) (ids-sorted 0 ys b.order)
     (partition-there h xs ys a b) (partition-there h ys xs b a)
 
--- edges
+-- the ends of the one edge are before those of the other
 abbrev EdgeBefore : Edge → Edge → Type 0
 EdgeBefore x y = PairBefore x.from x.to y.from y.to
 
@@ -50,6 +54,7 @@ edge-first : (p q r s : ℕ) → (p < r) ⊎ ((p ≡ r) × (suc q ≤ s)) → Pa
 edge-first p q r s (inl l) = inl l
 edge-first p q r s (inr b) = inr (b.0, omega (arith, b.1))
 
+-- where edges ascend from behind a pair, each comes after it
 edges-above : (p q : ℕ) (xs : List Edge) (y : Edge) → AscendEdges p (suc q) xs → In y xs → PairBefore p q y.from y.to
 edges-above p q [] y a i = absurd i
 edges-above p q (x ∷ xs) y a i =
@@ -59,24 +64,28 @@ edges-above p q (x ∷ xs) y a i =
       | inr j ↦ pair-next p q x.from x.to y.from y.to f (edges-above x.from x.to xs y a.1 j)
     ]
 
+-- edges that ascend are sorted by their ends
 edges-sorted : (p q : ℕ) (xs : List Edge) → AscendEdges p q xs → Sorted EdgeBefore xs
 edges-sorted p q [] a = tt
 edges-sorted p q (x ∷ xs) a = (λ y i. edges-above x.from x.to xs y a.1 i, edges-sorted x.from (suc x.to) xs a.1)
 
+-- an edge of one list of the assignment is in each other
 edge-there : (h : Assignment) (xs ys : List Edge) → AreEdges xs h → AreEdges ys h → (z : Edge) → In z xs → In z ys
 edge-there h xs ys a b z i = In-Contains ys z ((b.members z).1 ((a.members z).0 (Contains-In z xs i)))
 
+-- an assignment has one list of edges
 pub one-edges : (h : Assignment) (xs ys : List Edge) → AreEdges xs h → AreEdges ys h → xs ≡ ys
 one-edges h xs ys a b =
     same-lists EdgeBefore (λ x y l k. pair-asym x.from x.to y.from y.to l k) xs ys (edges-sorted 0 0 xs a.order) (edges-sorted 0 0 ys b.order)
     (edge-there h xs ys a b) (edge-there h ys xs b a)
 
--- labels
+-- truth values that both hold exactly where a fact does are the same
 same-bit : {P : Type 0} (x y : Bool) → (x ≡ true) ↔ P → (y ≡ true) ↔ P → x ≡ y
 same-bit true y f g = sym (g.1 (f.0 refl))
 same-bit false true f g = f.1 (g.0 refl)
 same-bit false false f g = refl
 
+-- numbers below 2 are the same where they are 1 alike
 bit-number : (m n : ℕ) → m < 2 → n < 2 → (m == 1) ≡ (n == 1) → m ≡ n
 bit-number zero zero k l e = refl
 bit-number zero (suc zero) k l e = cc
@@ -86,6 +95,7 @@ bit-number (suc zero) (suc zero) k l e = refl
 bit-number (suc zero) (suc (suc n)) k l e = absurd (omega arith)
 bit-number (suc (suc m)) n k l e = absurd (omega arith)
 
+-- labels with the same states are the same
 same-number : (d e : ℕ) → d ≤ 7 → e ≤ 7 → ((s : ℕ) → s < 3 → has_state d s ≡ has_state e s) → d ≡ e
 same-number d e k l f =
     let a : d % 2 ≡ e % 2 = bit-number (d % 2) (e % 2) (omega arith) (omega arith) (f 0 (omega arith)) in
@@ -93,6 +103,7 @@ same-number d e k l f =
     let c : (d / 4) % 2 ≡ (e / 4) % 2 = bit-number ((d / 4) % 2) ((e / 4) % 2) (omega arith) (omega arith) (f 2 (omega arith)) in
     omega arith
 
+-- labels that say the same states of each partition are the same
 same-labels : (low : ℕ) (xs : List Partition) (ds es : List ℕ) → AscendIds low xs → length ds ≡ length xs → length es ≡ length xs
     → AllByRecursion IsLabel ds → AllByRecursion IsLabel es
     → ((x : Partition) → In x xs → (s : ℕ) → s < 3 → has_state (label_at x.id xs ds) s ≡ has_state (label_at x.id xs es) s) → ds ≡ es
@@ -121,6 +132,7 @@ same-labels low (x ∷ xs) (d ∷ ds) (e ∷ es) a m n k l f =
     rest : (y : Partition) → In y xs → (s : ℕ) → s < 3 → has_state (label_at y.id xs ds) s ≡ has_state (label_at y.id xs es) s
     rest y i s u = ap (λ (z : ℕ). has_state z s) (sym (past y i d ds)) ∙ (f y (inr i) s u ∙ ap (λ (z : ℕ). has_state z s) (past y i e es))
 
+-- the labels that say the states that are reached are these alone
 one-label : (inv : Invariant) (h : Assignment) (xs : List Partition) (ds es : List ℕ) → ArePartitions xs h
     → AreReached inv h xs ds → AreReached inv h xs es → ds ≡ es
 one-label inv h xs ds es a r s =
@@ -129,9 +141,11 @@ one-label inv h xs ds es a r s =
     (let p : is_live h x.id ≡ true = ((a.members x).0 (Contains-In x xs i)).0 in
     same-bit (has_state (label_at x.id xs ds) t) (has_state (label_at x.id xs es) t) (r.states x.id t p u) (s.states x.id t p u)))
 
+-- listed invariants with the same invariant and the same labels are the same
 same-listed : (x y : Listed) → x.inv ≡ y.inv → x.labels ≡ y.labels → x ≡ y
 same-listed x y e f = λ d. record { inv = e d; labels = f d }
 
+-- a listing has one list of labels that say the states that are reached
 one-listing : (h : Assignment) (xs : List Partition) → ArePartitions xs h → (ls ks : List Listed) → map (λ l. l.inv) ls ≡ map (λ l. l.inv) ks
     → AllByRecursion (λ l. AreReached l.inv h xs l.labels) ls → AllByRecursion (λ l. AreReached l.inv h xs l.labels) ks → ls ≡ ks
 one-listing h xs a [] [] e r s = refl
@@ -144,11 +158,12 @@ one-listing h xs a (l ∷ ls) (k ∷ ks) e r s =
     let d : l.labels ≡ k.labels = one-label l.inv h xs l.labels k.labels a r.0 s' in
     ap₂ (λ (x : Listed) (z : List Listed). x ∷ z) (same-listed l k i d) (one-listing h xs a ls ks j r.1 s.1)
 
--- all parts
+-- models whose parts are the same are the same
 same-model : (a b : Model) → a.types ≡ b.types → a.partitions ≡ b.partitions → a.edges ≡ b.edges → a.invariants ≡ b.invariants
     → a.splits ≡ b.splits → a.merges ≡ b.merges → a.blocks ≡ b.blocks → a ≡ b
 same-model a b t p e i s m k = λ d. record { types = t d; partitions = p d; edges = e d; invariants = i d; splits = s d; merges = m d; blocks = k d }
 
+-- a log has at most one model
 pub one_model : OneModel
 one_model a b log x y =
     let invs : List Invariant = mined_of log in

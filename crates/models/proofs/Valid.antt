@@ -35,13 +35,14 @@ use Rattle.models.specs.Laws.{IsTypedLog, ModelsPass}
 use Rattle.models.proofs.Agreeing.{Agrees, agrees, from-maps, merged-agrees}
 use Rattle.model_shape.specs.Shapes.{listing_of}
 
--- what is mined holds of every word
+-- where the test of an invariant says yes of all words, it holds of each, by places
 holds-all : (words : List (List ℕ)) (inv : Invariant) → holds_of_all (map with_ends words) inv ≡ true → AllByRecursion (λ w. Holds inv (with_ends w)) words
 holds-all [] inv h = tt
 holds-all (w ∷ words) inv h =
     let p : (holds inv (with_ends w) ≡ true) × (holds_of_all (map with_ends words) inv ≡ true) = and_parts (holds inv (with_ends w)) (holds_of_all (map with_ends words) inv) h in
     ((holds-Holds inv (with_ends w)).0 p.0, holds-all words inv p.1)
 
+-- what is mined of some invariants holds of each word
 filter-holds : (words : List (List ℕ)) (invs : List Invariant) → HoldAll words (filter (holds_of_all (map with_ends words)) invs)
 filter-holds words [] = tt
 filter-holds words (inv ∷ invs) =
@@ -50,28 +51,32 @@ filter-holds words (inv ∷ invs) =
       | inr f ↦ rw f (filter-holds words invs)
     ]
 
+-- each mined invariant holds of each word
 pub mined-hold : (log : TypedWords) → HoldAll log.words (mined_of log)
 mined-hold log = filter-holds log.words (candidates (length log.types))
 
--- the invariant of a place in the list
+-- where an invariant stands in the listing, it stands at that place of the list with its labels
 get-map : (xs : List Listed) (k : ℕ) (inv : Invariant) → slice_get (map (λ l. l.inv) xs) k ≡ Some inv → (l : Listed) × (slice_get xs k ≡ Some l) × (l.inv ≡ inv)
 get-map [] k inv e = absurd (cc e)
 get-map (x ∷ xs) zero inv e = (x, refl, cc)
 get-map (x ∷ xs) (suc k) inv e = get-map xs k inv e
 
+-- an invariant of the mined list stands at its place in the model
 pub listed-at : (m : Model) (invs : List Invariant) (k : ℕ) (inv : Invariant) → listing_of m ≡ invs → slice_get invs k ≡ Some inv → (l : Listed) × (slice_get m.invariants k ≡ Some l) × (l.inv ≡ inv)
 listed-at m invs k inv e f = get-map m.invariants k inv (ap (λ (z : List Invariant). slice_get z k) e ∙ f)
 
--- labels
+-- a state that is in a set is below 3
 pub three-states : (d s : ℕ) → has_state d s ≡ true → s < 3
 three-states d zero e = omega arith
 three-states d (suc zero) e = omega arith
 three-states d (suc (suc zero)) e = omega arith
 three-states d (suc (suc (suc s))) e = absurd (cc e)
 
+-- a monitor goes from a state below 3 to one below 3
 step-small : (inv : Invariant) (s x : ℕ) → s < 3 → step inv s x < 3
 step-small inv s x l = let k : step inv s x ≤ 2 = step-le inv.kind inv.a inv.b s x (omega arith) in omega arith
 
+-- labels of the reached states are inductive where the graph satisfies the invariant
 labelled : (m : Model) (h : Assignment) (l : Listed) → Agrees (graph_of m) (G h) → Satisfies (G h) l.inv → AreReached l.inv h m.partitions l.labels → IsLabelled m l
 labelled m h l a sat r =
     let i : IsInductive l.inv (G h) (Reached l.inv (G h)) = reached_inductive l.inv (G h) sat in
@@ -90,6 +95,7 @@ labelled m h l a sat r =
       end = λ s k. i.end s ((r.states 1 s refl (three-states (label_at 1 m.partitions l.labels) s k)).0 k);
     }
 
+-- so are those of all listed invariants
 all-labelled : (m : Model) (h : Assignment) (xs : List Listed) (invs : List Invariant) → Agrees (graph_of m) (G h) → map (λ l. l.inv) xs ≡ invs → SatisfiesAll (G h) invs
     → AllByRecursion (λ l. AreReached l.inv h m.partitions l.labels) xs → AllByRecursion (IsLabelled m) xs
 all-labelled m h [] invs a e s r = tt
@@ -97,18 +103,19 @@ all-labelled m h (x ∷ xs) invs a e s r =
     let s' : SatisfiesAll (G h) (x.inv ∷ map (λ l. l.inv) xs) = subst (λ (z : List Invariant). SatisfiesAll (G h) z) (sym e) s in
     (labelled m h x a s'.0 r.0, all-labelled m h xs (map (λ l. l.inv) xs) a refl s'.1 r.1)
 
--- words
+-- words that the graph of the assignment accepts are accepted by the model
 all-accepted : (m : Model) (h : Assignment) (words : List (List ℕ)) → Agrees (graph_of m) (G h) → AllByRecursion (λ w. Accepts (G h) (with_ends w)) words → AllByRecursion (IsAccepted m) words
 all-accepted m h [] a f = tt
 all-accepted m h (w ∷ words) a f = (accepts_maps (λ x. x) (G h) (graph_of m) (from-maps (graph_of m) (G h) a) (with_ends w) f.0, all-accepted m h words a f.1)
 
--- pairs and blocks
+-- a pair of the graph of the model is one of that of the assignment
 pub pair-there : (m : Model) (h : Assignment) (p q : ℕ) → Agrees (graph_of m) (G h) → IsPair (graph_of m) p q → IsPair (G h) p q
 pair-there m h p q a i =
     let lp : (G h).listed p ≡ true = sym (a.listed p) ∙ i.has_p in
     let lq : (G h).listed q ≡ true = sym (a.listed q) ∙ i.has_q in
     record { low = i.low; order = i.order; has_p = lp; has_q = lq; types = sym (a.types p lp) ∙ i.types ∙ a.types q lq }
 
+-- a pair of the model has a block that keeps it apart where the blocks are those of the assignment
 blocked : (m : Model) (h : Assignment) (invs : List Invariant) (p q : ℕ) → Agrees (graph_of m) (G h) → listing_of m ≡ invs → AreBlocks invs (G h) m.blocks → IsPair (graph_of m) p q → IsBlocked m p q
 blocked m h invs p q a e bs i =
     let j : IsPair (G h) p q = pair-there m h p q a i in
@@ -124,7 +131,7 @@ blocked m h invs p q a e bs i =
     let br3 : Breaks (Merged (graph_of m) p q) l.0.inv w.1.path = subst (λ (x : Invariant). Breaks (Merged (graph_of m) p q) x w.1.path) (sym l.2) br2 in
     (w.1, l.0, record { there = Contains-In w.1 m.blocks (get-In m.blocks w.0 w.1 w.2); lower = w.3; higher = w.4; names = l.1; breaks = br3 })
 
--- the history
+-- each split of refinement is right in its turn, and the splits lead to where refinement ends
 splits-right : (m : Model) (words : List (List ℕ)) (invs : List Invariant) (ss : List Split) (h : Assignment) (n : ℕ) (end : Assignment) → listing_of m ≡ invs
     → IsRun words h n → 2 ≤ n → HoldAll words invs → n + length ss ≤ 1024 → Refines invs h n ss end → SplitInTurn m h n ss × (split_by n ss h ≡ end)
 splits-right m words invs [] h n end e r l a lim w = (tt, sym w.1)
@@ -149,19 +156,22 @@ splits-right m words invs (s ∷ ss) h n end e r l a lim w =
     splits-right m words invs ss (after_split n s h) (suc n) end e (subst (λ (k : ℕ). IsRun words (after_split n s h) k) x r') (omega arith) a (omega arith) w.1 in
     ((right, rest.0), rest.1)
 
+-- each merge of coarsening is right in its turn, and the merges lead to where coarsening ends
 merges-right : (invs : List Invariant) (ms : List Merge) (h end : Assignment) → Coarsens invs h ms end → MergeInTurn h ms × (merged_by ms h ≡ end)
 merges-right invs [] h end c = (tt, sym c.1)
 merges-right invs (m ∷ ms) h end c =
     let r : MergeInTurn (merge m.p m.q h) ms × (merged_by ms (merge m.p m.q h) ≡ end) = merges-right invs ms (merge m.p m.q h) end c.1 in
     ((c.0.pair, r.0), r.1)
 
--- what stands at the end of both runs
+-- where refinement ends, the words and the mined invariants are kept
 pub refined-Keeps : (m : Model) (log : TypedWords) → IsTypedLog log → (k : IsModelOf m log) → Keeps (mined_of log) log.words k.refined
 refined-Keeps m log t k = refinement_keeps (mined_of log) log.words (length log.types + 2) m.splits k.refined t (mined-hold log) k.splits
 
+-- where coarsening ends, the words and the mined invariants are kept
 pub end-Keeps : (m : Model) (log : TypedWords) → IsTypedLog log → (k : IsModelOf m log) → Keeps (mined_of log) log.words k.end
 end-Keeps m log t k = (coarsening_keeps (mined_of log) log.words k.refined m.merges k.end (refined-Keeps m log t k) k.merges).0
 
+-- the model of a log is valid for it
 pub models-valid : (m : Model) (log : TypedWords) → IsTypedLog log → IsModelOf m log → IsValid m log
 models-valid m log t k =
     let ke : Keeps (mined_of log) log.words k.end = end-Keeps m log t k in
@@ -174,6 +184,7 @@ models-valid m log t k =
       blocks = λ p q i. blocked m k.end (mined_of log) p q ag k.listing k.blocks i;
     }
 
+-- the model of a log passes both checks
 pub models_pass : ModelsPass
 models_pass m log t k lim =
     let run0 : IsRun log.words (by_type log.words) (length log.types + 2) = start-run log.words (length log.types + 2) t in

@@ -1,5 +1,5 @@
 -- When the steps that a model names lead from a log to its graph, and the first step that does not.
-use Rattle.std.specs.Prelude.{◌≡◌, ◌≢◌, ℕ, zero, suc, ◌+◌, ◌<◌, ◌≤◌, List, [], ◌∷◌, length, slice_get, Some}
+use Rattle.std.specs.Prelude.{◌≡◌, ◌≢◌, ℕ, zero, suc, ◌+◌, ◌<◌, List, [], ◌∷◌, length, slice_get, Some}
 use Rattle.limits.specs.declared.TheConstants.{FIRST_TYPE, MAX_PARTITIONS}
 use Rattle.invariants.specs.declared.records.Listed.{Listed}
 use Rattle.invariants.specs.declared.records.Model.{Model}

@@ -46,7 +46,8 @@ GraphIsListed =
     → IsGraphOf m h ↔ ((m.partitions ≡ partitions_below n h) × (m.edges ≡ edges_below n h))
 
 -- numbers of the states that are reached at the partitions, in their order
-pub record AreReachedNumbers (inv : Invariant) (h : Assignment) (partitions : List Partition) (numbers : List ℕ) : Type 0 where
+pub record AreReachedNumbers (inv : Invariant) (h : Assignment) (partitions : List Partition)
+    (numbers : List ℕ) : Type 0 where
   pub count : length numbers ≡ length partitions
   pub each : AllByRecursion IsLabel numbers
   pub states : (k : ℕ) (x : Partition) (number s : ℕ) → slice_get partitions k ≡ Some x

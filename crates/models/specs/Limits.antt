@@ -1,5 +1,5 @@
 -- The limits of a log and of a run.
-use Rattle.std.specs.Prelude.{ℕ, ◌+◌, ◌≤◌, List, length, sum_by}
+use Rattle.std.specs.Prelude.{◌+◌, ◌≤◌, length, sum_by}
 use Rattle.limits.specs.declared.TheConstants.{FIRST_TYPE, MAX_EVENTS, MAX_PARTITIONS, MAX_PATH_NUMBERS}
 use Rattle.invariants.specs.declared.records.Model.{Model}
 use Rattle.model_shape.specs.Numbers.{split_numbers, block_numbers}

@@ -1,5 +1,5 @@
 -- What a model says of a graph and of labels, and the model of a log.
-use Rattle.std.specs.Prelude.{◌≡◌, ◌↔◌, ◌==◌, ◌&&◌, ◌||◌, ℕ, zero, suc, ◌/◌, ◌%◌, ◌<◌, ◌≤◌, Bool, true, false, if◌then◌else◌, List, [], ◌∷◌, map, length}
+use Rattle.std.specs.Prelude.{◌≡◌, ◌↔◌, ◌==◌, ◌&&◌, ◌||◌, ℕ, zero, suc, ◌/◌, ◌%◌, ◌<◌, Bool, true, false, if◌then◌else◌, List, [], ◌∷◌, map, length}
 use Rattle.std.specs.List.{AllByRecursion}
 use Rattle.traces.specs.Words.{Log}
 use Rattle.invariants.specs.declared.Invariant.{Invariant}
@@ -65,7 +65,8 @@ abbrev pub IsLabelled : Model → Listed → Type 0
 IsLabelled m l = IsInductive l.inv (graph_of m) (IsInLabel m.partitions l.labels)
 
 -- a label for each partition, which says the states that are reached there
-pub record AreReached (inv : Invariant) (h : Assignment) (partitions : List Partition) (labels : List ℕ) : Type 0 where
+pub record AreReached (inv : Invariant) (h : Assignment) (partitions : List Partition)
+    (labels : List ℕ) : Type 0 where
   pub count : length labels ≡ length partitions
   pub each : AllByRecursion IsLabel labels
   pub states : (p s : ℕ) → is_live h p ≡ true → s < 3
