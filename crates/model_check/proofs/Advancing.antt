@@ -4,19 +4,21 @@ use Rattle.std.proofs.lemmas.Bool.{and_parts, cases_eq, cases_lt, or_cases, or_l
 use Rattle.limits.specs.declared.TheConstants.{MAX_PARTITIONS}
 use Rattle.bit_rows.specs.Tables.{HasShape}
 use Rattle.model_check.specs.declared.sets.TheConstants.{MEMBERS, NOW, NEXT, ROWS, TYPES}
-use Rattle.model_check.specs.Rows.{bit, IsEntered}
+use Rattle.model_check.specs.Rows.{bit}
 
 -- an id below the bound leads to q
 abbrev pub IsEnteredBelow : List (List Bool) → ℕ → ℕ → ℕ → Type 0
 IsEnteredBelow rows typ bound q =
     (p : ℕ) × (p < bound) × (bit rows NOW p ≡ true) × (bit rows p q ≡ true) × (bit rows (MEMBERS + typ) q ≡ true)
 
+-- the rows below the next set are as they were, and the next set has what the ids below the bound lead to
 pub record IsAdvancing (old rows : List (List Bool)) (typ from : ℕ) : Type 0 where
   pub shape : HasShape rows ROWS MAX_PARTITIONS
   pub bound : from ≤ MAX_PARTITIONS
   pub others : (r k : ℕ) → r < NEXT → bit rows r k ≡ bit old r k
   pub next : (q : ℕ) → (bit rows NEXT q ≡ true) ↔ IsEnteredBelow old typ from q
 
+-- so it is before any id, where the next set is empty
 pub advance_none : (old rows : List (List Bool)) (typ : ℕ) → HasShape rows ROWS MAX_PARTITIONS → ((r k : ℕ) → r < NEXT → bit rows r k ≡ bit old r k)
     → ((k : ℕ) → bit rows NEXT k ≡ false) → IsAdvancing old rows typ 0
 advance_none old rows typ shape others blank =
@@ -27,6 +29,7 @@ advance_none old rows typ shape others blank =
       next = λ q. (λ e. absurd (true≢false (sym e ∙ blank q)), λ o. absurd (let l : o.0 < 0 = o.1 in omega arith));
     }
 
+-- and so it is past the next id in hand, once its row is joined to the next set
 pub advance_more : (old rows new : List (List Bool)) (typ from p : ℕ) → HasShape new ROWS MAX_PARTITIONS → p < MAX_PARTITIONS → from ≤ p → typ < TYPES
     → ((r k : ℕ) → r < NEXT → bit new r k ≡ bit rows r k)
     → ((k : ℕ) → bit new NEXT k ≡ (bit rows NEXT k || (bit rows p k && bit rows (MEMBERS + typ) k)))
@@ -60,19 +63,3 @@ advance_more old rows new typ from p shape within behind small others joined set
         ],
       );
     }
-
-pub advance_all : (old rows new : List (List Bool)) (typ from : ℕ) → ((k : ℕ) → from ≤ k → bit rows NOW k ≡ false) → ((k : ℕ) → bit new NOW k ≡ bit rows NEXT k)
-    → IsAdvancing old rows typ from → (q : ℕ) → (bit new NOW q ≡ true) ↔ IsEntered old typ q
-advance_all old rows new typ from rest copied a q = (
-  λ e. (let o : IsEnteredBelow old typ from q = (a.next q).0 (sym (copied q) ∙ e) in (o.0, o.2, o.3, o.4)),
-  λ o. copied q ∙ (a.next q).1 (
-    o.0,
-    elim (cases_lt o.0 from) [
-      | inl l ↦ l
-      | inr g ↦ absurd (true≢false (sym o.1 ∙ sym (a.others NOW o.0 (omega arith)) ∙ rest o.0 g))
-    ],
-    o.1,
-    o.2,
-    o.3,
-  ),
-)

@@ -8,7 +8,7 @@ use Rattle.bit_rows.specs.Tables.{row_at, is_set, HasShape, either, both}
 use Rattle.bit_rows.proofs.Done.{is_set-zip2}
 use Rattle.model_check.specs.Rows.{bit}
 
--- a row of nothing
+-- no bit of an empty row is on
 blank : (n k : ℕ) → is_set (replicate n false) k ≡ false
 blank n k = elim (cases_lt k n) [
   | inl l ↦ get_or-replicate n k false false l
@@ -16,15 +16,19 @@ blank n k = elim (cases_lt k n) [
 ]
 
 module _ (rows : List (List Bool)) (n m r : ℕ) (shape : HasShape rows n m) (within : r < n) where
+  -- the row is one of the table
   inside : r < length rows
   inside = omega (arith, shape.count)
 
+  -- the row that is written has the bits that were written
   pub this-row : (row : List Bool) (k : ℕ) → bit (set rows r row) r k ≡ is_set row k
   this-row row k = ap (λ x. is_set x k) (get_or-set_same rows r row [] inside)
 
+  -- a write of one row leaves all others as they are
   pub other-row : (row : List Bool) (s k : ℕ) → s ≢ r → bit (set rows r row) s k ≡ bit rows s k
   other-row row s k ne = ap (λ x. is_set x k) (get_or-set_other rows r s row [] ne)
 
+  -- where a bit is turned on, no other bit changes
   pub put-bit : (i : ℕ) → i < m → (s k : ℕ) → bit (set rows r (set (row_at rows r) i true)) s k ≡ (bit rows s k || (r == s && i == k))
   put-bit i h s k =
       let long : length (row_at rows r) ≡ m = shape.long r within in
@@ -43,10 +47,12 @@ module _ (rows : List (List Bool)) (n m r : ℕ) (shape : HasShape rows n m) (wi
         ]
       ]
 
+  -- a row that is cleared has no bit on
   pub clear-bit : (k : ℕ) → bit (set rows r (replicate (length (row_at rows r)) false)) r k ≡ false
   clear-bit k =
       this-row (replicate (length (row_at rows r)) false) k ∙ blank (length (row_at rows r)) k
 
+  -- where a row is joined with another under a third, it has its own bits and those that both others have
   pub join-bit : (a mask k : ℕ) → a < n → mask < n → bit (set rows r (either (row_at rows r) (both (row_at rows a) (row_at rows mask)))) r k ≡ (bit rows r k || (bit rows a k && bit rows mask k))
   join-bit a mask k ha hm =
       let u : length (row_at rows r) ≡ m = shape.long r within in
@@ -56,7 +62,7 @@ module _ (rows : List (List Bool)) (n m r : ℕ) (shape : HasShape rows n m) (wi
       ∙ is_set-zip2 (λ x y. x || y) refl (row_at rows r) (both (row_at rows a) (row_at rows mask)) k (u ∙ sym (length-zip2 (λ x y. x && y) (row_at rows a) (row_at rows mask) (v ∙ sym w) ∙ v))
       ∙ ap (λ x. bit rows r k || x) (is_set-zip2 (λ x y. x && y) refl (row_at rows a) (row_at rows mask) k (v ∙ sym w))
 
--- where no row has anything
+-- in a new table no bit is on
 pub no-bit : (n m r k : ℕ) → bit (replicate n (replicate m false)) r k ≡ false
 no-bit n m r k =
     elim (cases_lt r n) [

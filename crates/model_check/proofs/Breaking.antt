@@ -12,6 +12,7 @@ use Rattle.partition_model.specs.Graphs.{Graph, Walk, word, Breaks}
 abbrev pub Fails : Graph → Invariant → ℕ → ℕ → List ℕ → Type 0
 Fails g inv p state rest = Walk g p rest TERMINAL × (is_bad inv (run inv state (word g rest)) ≡ true)
 
+-- the whole path breaks the invariant exactly where what is left of it does, from this id and this state
 pub record IsFollowing (g : Graph) (inv : Invariant) (whole rest : List ℕ) (p state : ℕ) : Type 0 where
   pub forth : Breaks g inv whole → Fails g inv p state rest
   pub back : Fails g inv p state rest → Breaks g inv whole
@@ -26,7 +27,7 @@ bad-breaks inv w n =
 breaks-bad : (inv : Invariant) (w : List ℕ) → is_bad inv (run inv 0 w) ≡ true → Holds inv w → ⊥
 breaks-bad inv w t h = true≢false (sym t ∙ (monitor_agrees inv w).1 h)
 
--- where it begins with INITIAL
+-- so it is at INITIAL, where the path begins with it
 pub following_start : (g : Graph) (inv : Invariant) (rest : List ℕ) → IsFollowing g inv (INITIAL ∷ rest) rest INITIAL (step inv 0 (g.typ INITIAL))
 following_start g inv rest =
     record {
@@ -34,17 +35,13 @@ following_start g inv rest =
       back = λ f. ((refl, f.0), breaks-bad inv (word g (INITIAL ∷ rest)) f.1);
     }
 
--- along an edge
+-- and so it is at the next id, where an edge leads to it
 pub following_more : (g : Graph) (inv : Invariant) (whole rest : List ℕ) (p q state : ℕ) → g.edge p q ≡ true → IsFollowing g inv whole (q ∷ rest) p state → IsFollowing g inv whole rest q (step inv state (g.typ q))
 following_more g inv whole rest p q state e i =
     record {
       forth = λ b. (let f = i.forth b in (f.0.1, f.1));
       back = λ f. i.back ((e, f.0), f.1);
     }
-
--- where there is none
-pub following_stops : (g : Graph) (inv : Invariant) (whole rest : List ℕ) (p q state : ℕ) → g.edge p q ≡ false → IsFollowing g inv whole (q ∷ rest) p state → Breaks g inv whole → ⊥
-following_stops g inv whole rest p q state e i b = true≢false (sym (i.forth b).0.0 ∙ e)
 
 -- a path that is not empty and begins with INITIAL
 pub begins : (path : List ℕ) → (length path == 0) ≡ false → get_or path 0 0 ≡ INITIAL → path ≡ INITIAL ∷ take (length path - 1) (drop 1 path)

@@ -17,7 +17,7 @@ use Rattle.model_check.specs.declared.sets.TheConstants.{MEMBERS, LISTED, ROWS, 
 use Rattle.model_check.specs.Rows.{bit, shown, marked, IsMarkable, IsEdgeWithin, AreApart, IsLaid}
 use Rattle.model_check.proofs.Tabling.{unlisted-type}
 
--- no two partitions that ascend have one id
+-- where partitions ascend, no id up to that of the first is among the others
 not-below : (x : Partition) (xs : List Partition) (p : ℕ) → Ascends PartitionBefore (x ∷ xs) → p ≤ x.id → is_listed p xs ≡ false
 not-below x [] p a l = refl
 not-below x (y ∷ ys) p a l =
@@ -25,14 +25,16 @@ not-below x (y ∷ ys) p a l =
     let f : (y.id == p) ≡ false = ne_eqb y.id p (omega arith) in
     rw f (not-below y ys p a.1 (omega arith))
 
+-- no two partitions that ascend have one id
 pub ascends-apart : (xs : List Partition) → Ascends PartitionBefore xs → AreApart xs
 ascends-apart [] a = tt
 ascends-apart (x ∷ xs) a = (not-below x xs x.id a (omega arith), ascends-apart xs a.1)
 
--- each has its place
+-- a partition of events has its place in the rows
 event-markable : (types : ℕ) (x : Partition) → types ≤ MAX_TYPES → IsEventPartition types x → IsMarkable x
 event-markable types x few e = (e.id, (let h : x.typ < types + FIRST_TYPE = e.type_high in omega arith))
 
+-- each partition of a well-shaped model has its place in the rows
 pub markable : (m : Model) → IsWellShaped m → AllByRecursion IsMarkable m.partitions
 markable m w =
     let few : length m.types ≤ MAX_TYPES = w.types.few in
@@ -41,12 +43,13 @@ markable m w =
       ((omega arith, omega arith), all_from IsMarkable w.partitions.inner (λ x i. event-markable (length m.types) x few (all_in (IsEventPartition (length m.types)) x w.partitions.inner w.partitions.each i))),
     )
 
+-- each edge of a well-shaped model has its place in the rows
 pub edges-within : (m : Model) → IsWellShaped m → AllByRecursion IsEdgeWithin m.edges
 edges-within m w =
     let below : (p : ℕ) → is_listed p m.partitions ≡ true → p < MAX_PARTITIONS = (shaped_are_formed m w).1 in
     all_from IsEdgeWithin m.edges (λ x i. let e : IsShapedEdge m.partitions x = all_in (IsShapedEdge m.partitions) x m.edges w.edges.each i in (below x.from e.has_from, below x.to e.has_to))
 
--- what the rows have of the partitions
+-- no partition is marked in the rows of edges
 marked-low : (r k : ℕ) (xs : List Partition) → r < MEMBERS → marked r k xs ≡ false
 marked-low r k [] l = refl
 marked-low r k (x ∷ xs) l =
@@ -54,6 +57,7 @@ marked-low r k (x ∷ xs) l =
     let b : (MEMBERS + x.typ == r) ≡ false = ne_eqb (MEMBERS + x.typ) r (omega arith) in
     rw (a, b) (marked-low r k xs l)
 
+-- the row of all ids has those that are listed
 marked-all : (k : ℕ) (xs : List Partition) → AllByRecursion IsMarkable xs → marked LISTED k xs ≡ is_listed k xs
 marked-all k [] m = refl
 marked-all k (x ∷ xs) m =
@@ -61,6 +65,7 @@ marked-all k (x ∷ xs) m =
     let b : (MEMBERS + x.typ == LISTED) ≡ false = ne_eqb (MEMBERS + x.typ) LISTED (omega arith) in
     rw (b, marked-all k xs m.1, or-false (x.id == k)) refl
 
+-- two types have the same row exactly where they are the same
 same-member : (a b : ℕ) → (MEMBERS + a == MEMBERS + b) ≡ (a == b)
 same-member a b =
     elim (cases_eq a b) [
@@ -68,6 +73,7 @@ same-member a b =
       | inr n ↦ (let f : MEMBERS + a ≢ MEMBERS + b = λ e. n (omega (arith, e)) in rw (ne_eqb a b n, ne_eqb (MEMBERS + a) (MEMBERS + b) f) refl)
     ]
 
+-- the row of a type has the listed ids of this type
 marked-type : (t k : ℕ) (xs : List Partition) → 0 < t → t < TYPES → AreApart xs → marked (MEMBERS + t) k xs ≡ (listed_type k xs == t)
 marked-type t k [] low high a = sym (ne_eqb 0 t (omega arith))
 marked-type t k (x ∷ xs) low high a =
@@ -89,7 +95,7 @@ marked-type t k (x ∷ xs) low high a =
     there true c = refl
     there false c = refl
 
--- and of the edges
+-- no edge is in the rows of types and sets
 no-edge : (r k : ℕ) (xs : List Edge) → AllByRecursion IsEdgeWithin xs → MAX_PARTITIONS ≤ r → has_edge r k xs ≡ false
 no-edge r k [] w l = refl
 no-edge r k (x ∷ xs) w l =
@@ -97,12 +103,14 @@ no-edge r k (x ∷ xs) w l =
     let f : (x.from == r) ≡ false = ne_eqb x.from r (omega arith) in
     rw f (no-edge r k xs w.1 l)
 
+-- the tables have the types of the partitions, and in the rows what was marked for partitions and edges
 pub record IsBuilt (m : Model) (types : List ℕ) (rows : List (List Bool)) : Type 0 where
   pub size : length types ≡ MAX_PARTITIONS
   pub shape : HasShape rows ROWS MAX_PARTITIONS
   pub types_are : (p : ℕ) → get_or types p 0 ≡ listed_type p m.partitions
   pub rows_are : (r k : ℕ) → bit rows r k ≡ (marked r k m.partitions || has_edge r k m.edges)
 
+-- in tables that are built so, the row of each type has the ids of this type
 pub built-laid : (m : Model) (types : List ℕ) (rows : List (List Bool)) → IsWellShaped m → IsBuilt m types rows → IsLaid types rows
 built-laid m types rows w b =
     record {
@@ -115,6 +123,7 @@ built-laid m types rows w b =
           ∙ ap (λ z. z == x) (sym (b.types_are q));
     }
 
+-- tables that are built so show the graph of the model
 pub built-shown : (m : Model) (types : List ℕ) (rows : List (List Bool)) → IsWellShaped m → IsBuilt m types rows → shown (record { types = types; rows = rows }) ≡ graph_of m
 built-shown m types rows w b =
     λ i. record { typ = λ p. b.types_are p i; edge = λ p q. edges p q i; listed = λ p. all p i }

@@ -19,6 +19,7 @@ Continues g set ts = (p : ℕ) × (xs : List ℕ) × (set p ≡ true) × Walk g 
 abbrev pub IsNextSet : Graph → (ℕ → Bool) → ℕ → (ℕ → Bool) → Type 0
 IsNextSet g set t next = (q : ℕ) → (next q ≡ true) ↔ ((p : ℕ) × (set p ≡ true) × (g.edge p q ≡ true) × (g.typ q ≡ t))
 
+-- a walk from the set goes on from the next set
 goes-on : (g : Graph) (set next : ℕ → Bool) (t : ℕ) (ts : List ℕ) → IsNextSet g set t next → Continues g set (t ∷ ts) → Continues g next ts
 goes-on g set next t ts n (p, [], s, w, e) = absurd (cc e)
 goes-on g set next t ts n (p, r ∷ rs, s, w, e) =
@@ -26,12 +27,13 @@ goes-on g set next t ts n (p, r ∷ rs, s, w, e) =
     let us : word g rs ≡ ts = cc e in
     (r, rs, (n r).1 (p, s, w.0, ty), w.1, us)
 
+-- a walk from the next set is the rest of one from the set
 goes-back : (g : Graph) (set next : ℕ → Bool) (t : ℕ) (ts : List ℕ) → IsNextSet g set t next → Continues g next ts → Continues g set (t ∷ ts)
 goes-back g set next t ts n (q, xs, s, w, e) =
     let o : (p : ℕ) × (set p ≡ true) × (g.edge p q ≡ true) × (g.typ q ≡ t) = (n q).0 s in
     (o.0, q ∷ xs, o.1, (o.2, w), ap₂ (λ (u : ℕ) (us : List ℕ). u ∷ us) o.3 e)
 
--- at the start the set has INITIAL alone
+-- a word that begins with INITIAL is accepted exactly where the rest goes on from the set of INITIAL alone
 pub follow_start : (g : Graph) (set : ℕ → Bool) (ts : List ℕ) → g.typ INITIAL ≡ INITIAL → ((q : ℕ) → (set q ≡ true) ↔ (q ≡ INITIAL)) → Accepts g (INITIAL ∷ ts) ↔ Continues g set ts
 follow_start g set ts ty only = (λ o. begin o.0 o.1 o.2, λ o. back o)
   where
@@ -46,7 +48,7 @@ follow_start g set ts ty only = (λ o. begin o.0 o.1 o.2, λ o. back o)
         let z : p ≡ INITIAL = (only p).0 s in
         (p ∷ xs, (z, w), ap₂ (λ (u : ℕ) (us : List ℕ). u ∷ us) (ap g.typ z ∙ ty) e)
 
--- at the end it has TERMINAL
+-- where no type is left, a walk has to be at TERMINAL
 pub follow_end : (g : Graph) (set : ℕ → Bool) → Continues g set [] ↔ (set TERMINAL ≡ true)
 follow_end g set = (λ o. there o, λ e. (TERMINAL, [], e, refl, refl))
   where
@@ -93,7 +95,7 @@ entered-is g types rows hand x q laid s within low high = (
     edges : (p : ℕ) → (nat_lt p MAX_PARTITIONS && bit rows p q) ≡ g.edge p q
     edges p = ap (λ (h : Graph). h.edge p q) s
 
--- rows that agree below the sets show one graph
+-- rows that agree below the sets show the same graph
 pub still-shown : (types : List ℕ) (old new : List (List Bool)) → ((r k : ℕ) → r < NOW → bit new r k ≡ bit old r k) → shown (record { types = types; rows = new }) ≡ shown (record { types = types; rows = old })
 still-shown types old new same =
     λ i. record {
@@ -109,6 +111,7 @@ still-shown types old new same =
           | inr n ↦ rw (le-ltb p MAX_PARTITIONS n) refl
         ]
 
+-- rows that agree below the sets have the same ids in the row of each type
 pub still-laid : (types : List ℕ) (old new : List (List Bool)) → IsLaid types old → HasShape new ROWS MAX_PARTITIONS → ((r k : ℕ) → r < NOW → bit new r k ≡ bit old r k) → IsLaid types new
 still-laid types old new laid shape same =
     record {
@@ -117,7 +120,7 @@ still-laid types old new laid shape same =
       members = λ x q low high. same (MEMBERS + x) q (omega arith) ∙ laid.members x q low high;
     }
 
--- one step
+-- one type further the set in hand is the next one, and the word goes on from it
 pub follow_more : (g : Graph) (whole types : List ℕ) (old new : List (List Bool)) (from to : Option ℕ) (x : ℕ) (rest : List ℕ) → 0 < x → x < TYPES
     → HasShape new ROWS MAX_PARTITIONS → ((r k : ℕ) → r < NOW → bit new r k ≡ bit old r k) → IfSome to (λ p. p < MAX_PARTITIONS)
     → ((q : ℕ) → (in_hand new to q ≡ true) ↔ IsEnteredFrom (in_hand old from) old x q)
@@ -136,7 +139,7 @@ follow_more g whole types old new from to x rest low high shape same within set 
       );
     }
 
--- at the start
+-- before the first type the set in hand is INITIAL alone
 pub follow_first : (g : Graph) (whole types : List ℕ) (rows : List (List Bool)) → IsLaid types rows → shown (record { types = types; rows = rows }) ≡ g → g.typ INITIAL ≡ INITIAL
     → IsFollowed g whole types rows (Some INITIAL) (whole ++ TERMINAL ∷ [])
 follow_first g whole types rows laid shows ty =

@@ -18,6 +18,7 @@ abbrev pub AreLabelsOf : Model → Listed → List ℕ → Type 0
 AreLabelsOf m l labels = (p : ℕ) → get_or labels p 0 ≡ label_at p m.partitions l.labels
 
 module _ (m : Model) (l : Listed) (labels : List ℕ) (g : Graph) (same : g ≡ graph_of m) (laid : AreLabelsOf m l labels) where
+  -- where labels are inductive, those of the two ends are right
   pub labelled-ends : IsLabelled m l → AreRightEnds l.inv g labels
   labelled-ends i =
       record {
@@ -25,15 +26,18 @@ module _ (m : Model) (l : Listed) (labels : List ℕ) (g : Graph) (same : g ≡ 
         end = λ s h. i.end s (subst (λ (n : ℕ). has_state n s ≡ true) (laid TERMINAL) h);
       }
 
+  -- where labels are inductive, each edge leads from label to label
   leads : IsLabelled m l → (e : Edge) → In e m.edges → LeadsWithin l.inv g labels e
   leads i e member s h =
       let here : has_state (label_at e.from m.partitions l.labels) s ≡ true = subst (λ (n : ℕ). has_state n s ≡ true) (laid e.from) h in
       let there : has_state (label_at e.to m.partitions l.labels) (step l.inv s ((graph_of m).typ e.to)) ≡ true = i.along e.from e.to s (In-edges e m.edges member) here in
       subst₂ (λ (n : ℕ) (k : Graph). has_state n (step l.inv s (k.typ e.to)) ≡ true) (sym (laid e.to)) (sym same) there
 
+  -- where labels are inductive, all edges lead from label to label
   pub labelled-leads : IsLabelled m l → All (LeadsWithin l.inv g labels) m.edges
   labelled-leads i = All-from_recursion (LeadsWithin l.inv g labels) m.edges (all_from (LeadsWithin l.inv g labels) m.edges (leads i))
 
+  -- where the two ends and all edges are right, the labels are inductive
   pub labelled-from : AreRightEnds l.inv g labels → All (LeadsWithin l.inv g labels) m.edges → IsLabelled m l
   labelled-from ends along =
       record {

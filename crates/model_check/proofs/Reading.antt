@@ -11,17 +11,18 @@ use Rattle.partition_model.specs.Assignments.{with_ends}
 use Rattle.traces.specs.Words.{Log, Trace, words_of, word_of}
 use Rattle.models.specs.Models.{mined_of, typed_words}
 
--- the events of a trace are its word
+-- the word at the place of a trace has the events of this trace
 pub word-at : (traces : List Trace) (t : ℕ) (numbers : List ℕ) → t < length traces → IfSome (slice_get traces t) (λ trace. numbers ≡ trace.events) → slice_get (map (λ (trace : Trace). trace.events) traces) t ≡ Some numbers
 word-at [] t numbers l e = absurd (omega arith)
 word-at (x ∷ xs) zero numbers l e = ap (λ (w : List ℕ). Some w) (sym e)
 word-at (x ∷ xs) (suc t) numbers l e = word-at xs t numbers (omega arith) e
 
--- the words of a log, put between their ends
+-- the words of traces are their events, put between the two ends
 words-again : (traces : List Trace) → map word_of traces ≡ map with_ends (map (λ (trace : Trace). trace.events) traces)
 words-again [] = refl
 words-again (x ∷ xs) = ap (λ (ws : List (List ℕ)). word_of x ∷ ws) (words-again xs)
 
+-- what is mined of the traces of a log is what is mined of its words
 pub mined-again : (log : Log) → mined (length log.types) (words_of log) ≡ mined_of (typed_words log)
 mined-again log = ap (λ (ws : List (List ℕ)). mined (length log.types) ws) (words-again log.traces)
 

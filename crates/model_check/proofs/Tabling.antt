@@ -17,6 +17,7 @@ zeros n p = elim (cases_lt p n) [
 abbrev pub with_table : (listed : ℕ → Bool) (rest : ℕ → ℕ) → List ℕ → ℕ → ℕ
 with_table listed rest table p = cond (listed p) (rest p) (get_or table p 0)
 
+-- one value laid down is one less to come
 pub table_more : (id value : ℕ) (listed : ℕ → Bool) (rest : ℕ → ℕ) (table : List ℕ) (p : ℕ) → listed id ≡ false → id < length table
     → with_table listed rest (set table id value) p ≡ with_table (λ q. (id == q) || listed q) (λ q. cond (id == q) value (rest q)) table p
 table_more id value listed rest table p apart within =
@@ -27,6 +28,7 @@ table_more id value listed rest table p apart within =
           rw (ne_eqb id p (λ e. n (sym e))) (ap (cond (listed p) (rest p)) (get_or-set_other table id p value 0 n))
     ]
 
+-- an id that is not listed has the type 0
 pub unlisted-type : (p : ℕ) (xs : List Partition) → is_listed p xs ≡ false → listed_type p xs ≡ 0
 unlisted-type p [] e = refl
 unlisted-type p (x ∷ xs) e =
@@ -35,6 +37,7 @@ unlisted-type p (x ∷ xs) e =
       | inr f ↦ rw f (unlisted-type p xs (rw f at e))
     ]
 
+-- an id that is not listed has the empty label
 pub unlisted-label : (p : ℕ) (xs : List Partition) (labels : List ℕ) → is_listed p xs ≡ false → label_at p xs labels ≡ 0
 unlisted-label p [] labels e = refl
 unlisted-label p (x ∷ xs) [] e = refl
@@ -44,7 +47,7 @@ unlisted-label p (x ∷ xs) (l ∷ labels) e =
       | inr f ↦ rw f (unlisted-label p xs labels (rw f at e))
     ]
 
--- where nothing stands in the table yet
+-- where nothing stands in the table yet, all is still to come
 pub table_none : (listed : ℕ → Bool) (rest : ℕ → ℕ) (table : List ℕ) (p : ℕ) → get_or table p 0 ≡ 0 → (listed p ≡ false → rest p ≡ 0) → with_table listed rest table p ≡ rest p
 table_none listed rest table p z u =
     elim (cases_Bool (listed p)) [
@@ -52,12 +55,7 @@ table_none listed rest table p z u =
       | inr f ↦ rw f (z ∙ sym (u f))
     ]
 
--- truth values that are still to come
-pub or_more : (b t rest : Bool) → ((b || t) || rest) ≡ (b || (t || rest))
-or_more true t rest = refl
-or_more false t rest = refl
-
--- a partition is marked
+-- a partition that is marked is one less to come
 pub mark_more : (l m : Bool) (old mid new rest : Bool) (W : Bool) → mid ≡ (old || l) → new ≡ (mid || m) → (old || (l || m || rest)) ≡ W → (new || rest) ≡ W
 mark_more l m old mid new rest W e f h = rw (f, e) (again l m old rest ∙ h)
   where

@@ -1,7 +1,7 @@
 -- Columns: what is put into them, and what edges between them tell of labels.
-use Rattle.std.proofs.Common.{◌≡◌, ◌≢◌, ◌↔◌, ℕ, ◌+◌, ◌-◌, ◌<◌, ◌≤◌, ◌==◌, ◌&&◌, if◌then◌else◌, Bool, true, List, length, get_or, replicate, slice_get, Some, refl, sym, ◌∙◌, ap, subst, subst₂, inl, inr, arith, eq-eqb, ne_eqb}
+use Rattle.std.proofs.Common.{◌≡◌, ◌≢◌, ℕ, ◌+◌, ◌-◌, ◌<◌, ◌≤◌, ◌==◌, ◌&&◌, if◌then◌else◌, true, List, length, get_or, replicate, slice_get, Some, refl, sym, ◌∙◌, ap, subst, subst₂, inl, inr, arith, eq-eqb, ne_eqb}
 use Rattle.std.specs.List.{All}
-use Rattle.std.proofs.lemmas.Bool.{and_parts, cases_eq, cases_lt}
+use Rattle.std.proofs.lemmas.Bool.{cases_eq, cases_lt}
 use Rattle.std.proofs.lemmas.Option.{slice_get_within, get_or_from_slice_get}
 use Rattle.std.proofs.lemmas.List.{get_or-replicate, length-replicate}
 use Rattle.std.proofs.lemmas.List.Elements.{recursion_from_All}
@@ -30,23 +30,6 @@ empty-sets n sets e k d l =
     let zero : get_or sets k d ≡ 0 = ap (λ xs. get_or xs k d) e ∙ get_or-replicate n k 0 d within in
     omega arith
 
--- one column more is tested
-pub within-more : (labels sources : List ℕ) (k from to : ℕ) (all here new : Bool) → new ≡ (all && here)
-    → (all ≡ true) ↔ AreWithin labels sources k from to
-    → (here ≡ true) ↔ ((s : ℕ) → has_state (at labels k from) s ≡ true → has_state (at sources k to) s ≡ true)
-    → (new ≡ true) ↔ AreWithin labels sources (k + 1) from to
-within-more labels sources k from to all here new e before now = (
-  λ t. let both = and_parts all here (sym e ∙ t) in
-      λ c s l h. elim (cases_eq c k) [
-        | inl f ↦ ap (λ x. has_state (at sources x to) s) f ∙ now.0 both.1 s (sym (ap (λ x. has_state (at labels x from) s) f) ∙ h)
-        | inr n ↦ before.0 both.0 c s (omega arith) h
-      ],
-  λ w.
-      let x : all ≡ true = before.1 (λ c s l h. w c s (omega arith) h) in
-      let y : here ≡ true = now.1 (λ s h. w k s (omega arith) h) in
-      e ∙ rw (x, y) refl,
-)
-
 -- a partition that is in a column stays there while another is put with what belongs to its id
 pub filled-more : (inv : Invariant) (g : Graph) (given old-labels old-sources labels sources : List ℕ) (k id source : ℕ) (x : Partition) → k < TOGETHER
     → ((c q : ℕ) → c < TOGETHER → at labels c q ≡ (if c == k && q == id then get_or given id 0 else at old-labels c q))
@@ -69,14 +52,15 @@ filled-more inv g given old-labels old-sources labels sources k id source x l pu
           )
     ]
 
--- other columns stay
+-- the other columns stay through two writes
 pub others-more : (a b c : List ℕ) (k : ℕ) → SameOthers a b k → SameOthers b c k → SameOthers a c k
 others-more a b c k x y d p l n = y d p l n ∙ x d p l n
 
+-- a write into one column leaves the others as they are
 pub put-others : (old new : List ℕ) (k id value : ℕ) → ((c q : ℕ) → c < TOGETHER → at new c q ≡ (if c == k && q == id then value else at old c q)) → SameOthers old new k
 put-others old new k id value put c p l n = put c p l ∙ rw (ne_eqb c k n) refl
 
--- a column in the words of the model
+-- a column that has what belongs to each partition, with the right ends, is that of the invariant
 pub column-of : (m : Model) (l : Listed) (g : Graph) (given labels sources : List ℕ) (k : ℕ) → g ≡ graph_of m
     → ((p : ℕ) → get_or given p 0 ≡ label_at p m.partitions l.labels)
     → All (IsInColumn l.inv g given labels sources k) m.partitions → AreRightEnds l.inv g given → IsColumnOf m l labels sources k
@@ -97,7 +81,7 @@ column-of m l g given labels sources k same laid all ends =
         let e : get_or m.partitions o.0 o.1 ≡ o.1 = get_or_from_slice_get m.partitions o.0 o.1 o.1 o.2 in
         (o.1, o.3, subst (λ (x : Partition). IsInColumn l.inv g given labels sources k x) e (all o.0 o.1 (slice_get_within m.partitions o.0 o.1 o.2)))
 
--- columns stay while one is laid
+-- a column stays that of its invariant while another is laid
 pub column-stays : (m : Model) (l : Listed) (old new old-sources sources : List ℕ) (k c : ℕ) → SameOthers old new k → SameOthers old-sources sources k → c < TOGETHER → c ≢ k
     → IsColumnOf m l old old-sources c → IsColumnOf m l new sources c
 column-stays m l old new old-sources sources k c same same-sources w n i =
@@ -108,6 +92,7 @@ column-stays m l old new old-sources sources k c same same-sources w n i =
       has_sources = λ p h. subst (λ (x : ℕ). IsSource l.inv ((graph_of m).typ p) (label_at p m.partitions l.labels) x) (sym (same-sources c p w n)) (i.has_sources p h);
     }
 
+-- one column more is laid
 pub columns-more : (m : Model) (old labels old-sources sources : List ℕ) (from k : ℕ) (x : Listed) → k < TOGETHER → slice_get m.invariants (from + k) ≡ Some x
     → SameOthers old labels k → SameOthers old-sources sources k → IsColumnOf m x labels sources k → AreColumnsOf m old old-sources from k → AreColumnsOf m labels sources from (k + 1)
 columns-more m old labels old-sources sources from k x w there same same-sources here before c l h e =
@@ -119,12 +104,12 @@ columns-more m old labels old-sources sources from k x w there same same-sources
       | inr n ↦ column-stays m l old labels old-sources sources k c same same-sources (omega (arith, h, w)) n (before c l (omega (arith, h, n)) e)
     ]
 
--- where no more invariants are listed
+-- where no more invariants are listed, the other columns may have anything
 pub columns-end : (m : Model) (labels sources : List ℕ) (from count : ℕ) → length m.invariants - from ≤ count → AreColumnsOf m labels sources from count → AreColumnsOf m labels sources from TOGETHER
 columns-end m labels sources from count few before k l h e =
     before k l (let w : from + k < length m.invariants = slice_get_within m.invariants (from + k) l e in omega (arith, few, w)) e
 
--- where edges lead from labels into sources, the labels are inductive
+-- where all edges lead from labels into sources, the labels of a column are inductive
 pub column-labelled : (m : Model) (l : Listed) (labels sources : List ℕ) (k : ℕ) → IsWellShaped m → k < TOGETHER → IsColumnOf m l labels sources k
     → All (λ (e : Edge). AreWithin labels sources TOGETHER e.from e.to) m.edges → IsLabelled m l
 column-labelled m l labels sources k w h i along =
@@ -142,7 +127,7 @@ column-labelled m l labels sources k w h i along =
       end = i.end;
     }
 
--- all of a group
+-- where all edges lead from labels into sources, so are those of all invariants up to the end of the columns
 pub group-labelled : (m : Model) (labels sources : List ℕ) (from to : ℕ) → IsWellShaped m → to ≤ from + TOGETHER → AreColumnsOf m labels sources from TOGETHER
     → All (λ (e : Edge). AreWithin labels sources TOGETHER e.from e.to) m.edges → AreLabelledBefore m from → AreLabelledBefore m to
 group-labelled m labels sources from to w h columns along before i l there below =

@@ -29,16 +29,19 @@ IsInColumn inv g given labels sources k x =
 
 -- the column has the labels of a listed invariant, and those of the two ends are right
 pub record IsColumnOf (m : Model) (l : Listed) (labels sources : List ℕ) (k : ℕ) : Type 0 where
-  pub start : has_state (label_at INITIAL m.partitions l.labels) (step l.inv 0 ((graph_of m).typ INITIAL)) ≡ true
+  pub start : has_state (label_at INITIAL m.partitions l.labels) (step l.inv 0 ((graph_of m).typ INITIAL))
+      ≡ true
   pub end : (s : ℕ) → has_state (label_at TERMINAL m.partitions l.labels) s ≡ true → is_bad l.inv s ≡ false
-  pub has_labels : (p : ℕ) → is_listed p m.partitions ≡ true → at labels k p ≡ label_at p m.partitions l.labels
+  pub has_labels : (p : ℕ) → is_listed p m.partitions ≡ true
+      → at labels k p ≡ label_at p m.partitions l.labels
   pub has_sources : (p : ℕ) → is_listed p m.partitions ≡ true
       → IsSource l.inv ((graph_of m).typ p) (label_at p m.partitions l.labels) (at sources k p)
 
 -- each of so many columns is that of a listed invariant from a place on, where there is one
 abbrev pub AreColumnsOf : Model → List ℕ → List ℕ → ℕ → ℕ → Type 0
 AreColumnsOf m labels sources from count =
-    (k : ℕ) (l : Listed) → k < count → slice_get m.invariants (from + k) ≡ Some l → IsColumnOf m l labels sources k
+    (k : ℕ) (l : Listed) → k < count → slice_get m.invariants (from + k) ≡ Some l
+    → IsColumnOf m l labels sources k
 
 -- all columns but one stay as they are
 abbrev pub SameOthers : List ℕ → List ℕ → ℕ → Type 0

@@ -9,7 +9,8 @@ use Rattle.models.specs.Models.{graph_of}
 
 -- each block before the place is that of a pair before this one
 abbrev pub AreBefore : List Block → ℕ → ℕ → ℕ → Type 0
-AreBefore blocks next p q = (k : ℕ) (b : Block) → slice_get blocks k ≡ Some b → k < next → PairBefore b.p b.q p q
+AreBefore blocks next p q =
+    (k : ℕ) (b : Block) → slice_get blocks k ≡ Some b → k < next → PairBefore b.p b.q p q
 
 -- each block before the place next is that of a pair before those of the partitions from the place i on
 abbrev pub IsReached : Model → ℕ → ℕ → Type 0

@@ -36,7 +36,8 @@ fn breaks(graph: &ModelGraph, p: u32, q: u32, inv: Invariant, path: &[u32]) -> b
 fn skip_before(blocks: &[Block], from: usize, p: u32, q: u32) -> usize
     requires { AreBefore blocks.now from p q }
     ensures before { AreBefore blocks.now result p q }
-    ensures first { (b : Block) → slice_get blocks.now result ≡ Some b → PairBefore b.p b.q p q → ⊥ }
+    ensures first { (b : Block) → slice_get blocks.now result ≡ Some b
+        → PairBefore b.p b.q p q → ⊥ }
 {
     let mut next = from;
     while next < blocks.len() {

@@ -56,7 +56,8 @@ impl Columns {
     pub fn lead_within(&self, from: usize, to: usize) -> bool
         requires from { from < MAX_PARTITIONS }
         requires to { to < MAX_PARTITIONS }
-        ensures { IsTrue result ↔ AreWithin (self.now).labels.items (self.now).sources.items TOGETHER from to }
+        ensures { IsTrue result
+            ↔ AreWithin (self.now).labels.items (self.now).sources.items TOGETHER from to }
     {
         let mut all = true;
         for k in 0..TOGETHER {
@@ -83,6 +84,8 @@ fn fill_column(
     requires markable { All IsMarkable partitions.now }
     requires size { length labels.now ≡ MAX_PARTITIONS }
     requires labels { All IsLabel labels.now }
+
+    // The column has what belongs to the partitions, and all others stay.
     ensures column { All (IsInColumn inv (shown graph.now) labels.now (columns.new).labels.items
         (columns.new).sources.items k) partitions.now }
     ensures other_labels { SameOthers (columns.old).labels.items (columns.new).labels.items k }
@@ -109,8 +112,11 @@ fn lay_column(
     requires column { k < TOGETHER }
     requires shaped { IsWellShaped model.now }
     requires graph { shown graph.now ≡ graph_of model.now }
-    requires listed { IsShapedListed (length (model.now).types) (length (model.now).partitions) listed.now }
+    requires listed { IsShapedListed (length (model.now).types) (length (model.now).partitions)
+        listed.now }
     requires size { length labels.old ≡ MAX_PARTITIONS }
+
+    // Where both ends are right, the column is that of the invariant, and all others stay.
     ensures column { IsTrue result → IsColumnOf model.now listed.now (columns.new).labels.items
         (columns.new).sources.items k }
     ensures other_labels { SameOthers (columns.old).labels.items (columns.new).labels.items k }
@@ -146,7 +152,8 @@ fn lay_columns(
     requires from { from ≤ length (model.now).invariants }
     requires size { length labels.old ≡ MAX_PARTITIONS }
     ensures { IsTrue result
-        → AreColumnsOf model.now (columns.new).labels.items (columns.new).sources.items from TOGETHER }
+        → AreColumnsOf model.now (columns.new).labels.items (columns.new).sources.items
+        from TOGETHER }
 {
     let invariants = model.invariants.as_slice();
     for k in 0..TOGETHER {
@@ -163,8 +170,9 @@ fn lay_columns(
 /// Whether in each column each edge leads from the label of its start into that of its end.
 fn keep_all_along(columns: &Columns, edges: &[Edge]) -> bool
     requires within { All IsEdgeWithin edges.now }
-    ensures { IsTrue result ↔ All (λ e. AreWithin (columns.now).labels.items (columns.now).sources.items
-        TOGETHER e.from e.to) edges.now }
+    ensures { IsTrue result ↔ All (λ e.
+        AreWithin (columns.now).labels.items (columns.now).sources.items TOGETHER e.from e.to)
+        edges.now }
 {
     for edge in edges {
         if !columns.lead_within(edge.from as usize, edge.to as usize) {

@@ -21,7 +21,8 @@ fn types_of(alloc: Global, partitions: &[Partition]) -> Result<Vec<u16>, AllocEr
     requires markable { All IsMarkable partitions.now }
     requires apart { AreApart partitions.now }
     ensures size { IfOk result (λ types. length types.items ≡ MAX_PARTITIONS) }
-    ensures types { IfOk result (λ types. (p : ℕ) → slice_index types.items p ≡ listed_type p partitions.now) }
+    ensures types { IfOk result (λ types.
+        (p : ℕ) → slice_index types.items p ≡ listed_type p partitions.now) }
 {
     let mut types = vec![in alloc; 0; IDS]?;
     for partition in partitions {

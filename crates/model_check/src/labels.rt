@@ -25,6 +25,8 @@ pub fn lay_labels(labels: &mut [u8], partitions: &[Partition], given: &[u8])
     requires apart { AreApart partitions.now }
     requires count { length given.now ≡ length partitions.now }
     requires given { All IsLabel given.now }
+
+    // What stood there before does not matter.
     ensures labels { (p : ℕ) → slice_index labels.new p ≡ label_at p partitions.now given.now }
     ensures all { All IsLabel labels.new }
 {
@@ -40,7 +42,8 @@ fn keep_along(sources: &Sources, graph: &ModelGraph, labels: &[u8], edges: &[Edg
     requires size { length labels.now ≡ MAX_PARTITIONS }
     requires labels { All IsLabel labels.now }
     requires within { All IsEdgeWithin edges.now }
-    ensures { IsTrue result ↔ All (LeadsWithin (sources.now).inv (shown graph.now) labels.now) edges.now }
+    ensures { IsTrue result
+        ↔ All (LeadsWithin (sources.now).inv (shown graph.now) labels.now) edges.now }
 {
     for edge in edges {
         let from = labels[edge.from as usize];
@@ -82,7 +85,8 @@ pub fn has_right_ends(inv: Invariant, graph: &ModelGraph, labels: &[u8]) -> bool
 fn is_labelled(model: &Model, graph: &ModelGraph, listed: &Listed, labels: &mut [u8]) -> bool
     requires shaped { IsWellShaped model.now }
     requires graph { shown graph.now ≡ graph_of model.now }
-    requires listed { IsShapedListed (length (model.now).types) (length (model.now).partitions) listed.now }
+    requires listed { IsShapedListed (length (model.now).types) (length (model.now).partitions)
+        listed.now }
     requires size { length labels.old ≡ MAX_PARTITIONS }
     ensures { IsTrue result ↔ IsLabelled model.now listed.now }
 {

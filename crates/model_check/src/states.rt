@@ -1,6 +1,6 @@
 //! Sets of the three states of a monitor, as numbers from 0 to 7, and what becomes of them along edges.
-ghost use Rattle.std.specs.Prelude.{◌≡◌, ◌↔◌, ◌<◌, ◌≤◌, ◌==◌, ◌||◌, ℕ, true, IsTrue};
-ghost use Rattle.invariants.specs.Monitors.{step, is_bad};
+ghost use Rattle.std.specs.Prelude.{◌≡◌, ◌↔◌, ◌<◌, ◌==◌, ◌||◌, ℕ, true, IsTrue};
+ghost use Rattle.invariants.specs.Monitors.{step};
 ghost use Rattle.models.specs.Models.{has_state};
 ghost use Rattle.model_shape.specs.Shapes.{IsLabel};
 ghost use Rattle.model_check.specs.States.{IsSource, AreSources};

@@ -62,9 +62,13 @@ fn step_anew(rows: &mut Rows, targets: &mut Targets, p: usize, typ: usize) -> Op
     requires id { p < IDS }
     requires typ { typ < TYPES }
     requires targets { AreTargets rows.old (targets.old).ids.items }
+
+    // The graph in the rows stays, and what is kept of it is right.
     ensures shape { HasShape rows.new ROWS IDS }
     ensures others { (r k : ℕ) → r < NOW → bit rows.new r k ≡ bit rows.old r k }
     ensures targets { AreTargets rows.new (targets.new).ids.items }
+
+    // The next set, named by its one id or else in its row.
     ensures within { IfSome result (λ q. q < IDS) }
     ensures set { (q : ℕ) → (in_hand rows.new result q ≡ true)
         ↔ IsEnteredFrom (λ x. x == p) rows.old typ q }
@@ -89,9 +93,13 @@ pub fn step(
     requires within { IfSome hand (λ p. p < IDS) }
     requires typ { typ < TYPES }
     requires targets { AreTargets rows.old (targets.old).ids.items }
+
+    // The graph in the rows stays, and what is kept of it is right.
     ensures shape { HasShape rows.new ROWS IDS }
     ensures others { (r k : ℕ) → r < NOW → bit rows.new r k ≡ bit rows.old r k }
     ensures targets { AreTargets rows.new (targets.new).ids.items }
+
+    // The next set, named by its one id or else in its row.
     ensures within { IfSome result (λ q. q < IDS) }
     ensures set { (q : ℕ) → (in_hand rows.new result q ≡ true)
         ↔ IsEnteredFrom (in_hand rows.old hand) rows.old typ q }

@@ -13,7 +13,7 @@ use Rattle.models.proofs.Formed.{shaped_are_formed}
 use Rattle.model_check.specs.Verdicts.{inv_of, HasPathFor}
 use Rattle.model_check.proofs.Reading.{mined-again, mined-few}
 use Rattle.model_check.proofs.check.Goals as goal
-use Rattle.model_check.proofs.check.Goals.{After-as_slice-4, In_default, In_ok-graph, In_default-first_refused, In_ok-i, In_default-2}
+use Rattle.model_check.proofs.check.Goals.{After-as_slice-4, In_default, In_default-first_refused, In_default-2}
 
 -- the mined list
 mined-is : (c : After-as_slice-4) → c.as_slice-4.result.now ≡ mined_of (typed_words c.args.traces.now)

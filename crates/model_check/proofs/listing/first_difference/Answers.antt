@@ -1,4 +1,4 @@
-use Rattle.std.proofs.Common.{◌≡◌, ◌≢◌, ◌<◌, ◌==◌, ◌&&◌, not, Bool, true, false, true≢false, eq-eqb, ℕ, List, get_or, length, sym, ◌∙◌, ap, subst, inl, inr, arith}
+use Rattle.std.proofs.Common.{◌≡◌, ◌≢◌, ◌==◌, ◌&&◌, not, Bool, true, false, true≢false, eq-eqb, get_or, length, sym, ◌∙◌, ap, subst, inl, inr, arith}
 use Rattle.std.proofs.lemmas.Bool.{cases_Bool}
 use denote.Enum.Bare.{sameb, same_false}
 use Rattle.invariants.specs.contracts.Kind.{the_type}
