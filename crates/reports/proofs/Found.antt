@@ -10,12 +10,12 @@ use Rattle.invariants.specs.declared.records.Partition.{Partition}
 use Rattle.invariants.specs.declared.records.Edge.{Edge}
 use Rattle.reports.specs.Reports.{partition_with, edge_text, edge_line, graph_report}
 
--- what is found in a list with one more
+-- in a list with one partition more, this one is found where none before it has the id
 pub partition_with-next : (ps : List Partition) (p : Partition) (id : ℕ)
     → partition_with (ps ++ p ∷ []) id ≡ option_or (partition_with ps id) (if p.id == id then Some p else None)
 partition_with-next ps p id = find-append (λ q. q.id == id) ps (p ∷ [])
 
--- the line of an edge whose partitions are found in a map
+-- the line of an edge is the same where its partitions are found in the map as in the list
 pub line-found : (types : List (List ℕ)) (ps : List Partition) (places : BTreeMap ℕ Partition) (e : Edge)
     → ((id : ℕ) → get_by (nat_cmp id) places ≡ partition_with ps id)
     → edge_text types e (get_by (nat_cmp e.from) places) (get_by (nat_cmp e.to) places) ≡ edge_line types ps e
@@ -31,7 +31,7 @@ take-more xs i d inside = ap (λ n. take n xs) (add-one i) ∙ take-suc xs i d i
 report-next : (types : List (List ℕ)) (ps : List Partition) (es : List Edge) (e : Edge) → graph_report types ps (es ++ e ∷ []) ≡ graph_report types ps es ++ edge_line types ps e
 report-next types ps es e = flat_map-append (edge_line types ps) es (e ∷ []) ∙ ap (λ text. graph_report types ps es ++ text) (append-nil (edge_line types ps e))
 
--- the partitions found after one more is noted
+-- with one partition more noted, what is found is what the list up to it has
 pub found-more : (ps : List Partition) (i : ℕ) (d : Partition) (id : ℕ) (old new : Option Partition) → i < length ps
     → old ≡ partition_with (take i ps) id
     → new ≡ option_or old (if (get_or ps i d).id == id then Some (get_or ps i d) else None)
@@ -41,7 +41,7 @@ found-more ps i d id old new inside before noted =
     ∙ (ap (λ (o : Option Partition). option_or o (if (get_or ps i d).id == id then Some (get_or ps i d) else None)) before
     ∙ (sym (partition_with-next (take i ps) (get_or ps i d) id) ∙ ap (λ xs. partition_with xs id) (sym (take-more ps i d inside))))
 
--- the lines after one more
+-- with one line more, the text has the lines of the edges up to it
 pub lines-more : (types : List (List ℕ)) (ps : List Partition) (places : BTreeMap ℕ Partition) (es : List Edge) (i : ℕ) (d : Edge) (old new : List ℕ) → i < length es
     → ((id : ℕ) → get_by (nat_cmp id) places ≡ partition_with ps id)
     → old ≡ graph_report types ps (take i es)

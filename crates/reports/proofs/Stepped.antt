@@ -6,7 +6,7 @@ use Rattle.std.proofs.lemmas.Slice.Zip.{get_or-zip, length-zip}
 use Rattle.reports.specs.declared.taken.TakenPath.{TakenPath}
 use Rattle.reports.specs.Paths.{Taken, path_line, shown, step_text}
 
--- one event more
+-- with one event more, the text has the events up to it
 pub steps-more : (types : List (List ℕ)) (ns is base old new : List ℕ) (k n i : ℕ) → k < length ns → k < length is → n ≡ get_or ns k n → i ≡ get_or is k i
     → old ≡ base ++ flat_map (step_text types) (take k (zip ns is)) → new ≡ old ++ step_text types (n, i)
     → new ≡ base ++ flat_map (step_text types) (take (k + 1) (zip ns is))
@@ -18,18 +18,18 @@ steps-more types ns is base old new k n i in-ns in-is n-is i-is before put =
     ∙ (flat_map_more (step_text types) base (take k (zip ns is)) (n, i)
     ∙ ap (λ (steps : List (ℕ × ℕ)). base ++ flat_map (step_text types) steps) (sym (take_more (zip ns is) k (n, i) within ∙ ap (λ (s : ℕ × ℕ). take k (zip ns is) ++ s ∷ []) here))))
 
--- all events
+-- at the end of the shorter list the text has all events
 pub steps-all : (types : List (List ℕ)) (ns is base old : List ℕ) (k : ℕ) → k ≡ min (length ns) (length is)
     → old ≡ base ++ flat_map (step_text types) (take k (zip ns is)) → old ≡ base ++ flat_map (step_text types) (zip ns is)
 steps-all types ns is base old k all before =
     before ∙ ap (λ (steps : List (ℕ × ℕ)). base ++ flat_map (step_text types) steps) (take_all k (zip ns is) (omega (arith, length-zip ns is)))
 
--- the text of what is shown of each
+-- the text of the paths as they are shown is the text of what is shown of each
 flat_map-shown : (f : Taken → List ℕ) (gs : List TakenPath) → flat_map f (map shown gs) ≡ flat_map (λ (g : TakenPath). f (shown g)) gs
 flat_map-shown f [] = refl
 flat_map-shown f (g ∷ gs) = ap (λ (t : List ℕ). f (shown g) ++ t) (flat_map-shown f gs)
 
--- all lines
+-- at the end of the list the text has the lines of all paths
 pub lines-all : (types of-log : List (List ℕ)) (items gs : List TakenPath) (i : ℕ) (text : List ℕ) (ts : List Taken) → items ≡ gs → length items ≤ i → types ≡ of-log
     → map shown gs ≡ ts → text ≡ flat_map (λ (g : TakenPath). path_line types (shown g)) (take i items) → text ≡ flat_map (path_line of-log) ts
 lines-all types of-log items gs i text ts same all is-types is-taken before =

@@ -25,7 +25,8 @@ pub record Taken : Type 0 where
 abbrev pub paths_of : List Trace → List ℕ → List TracePath
 paths_of [] parts = []
 paths_of (trace ∷ traces) parts =
-    trace_path trace.events (take (length trace.events) parts) ∷ paths_of traces (drop (length trace.events) parts)
+    trace_path trace.events (take (length trace.events) parts)
+    ∷ paths_of traces (drop (length trace.events) parts)
 
 -- two paths have the same ids, one by one
 abbrev pub same_ids : TracePath → TracePath → Bool

@@ -52,7 +52,8 @@ fn push_line(
     types: &Seq<Text>,
     taken: &TakenPath<'_>,
 ) -> Result<(), AllocError>
-    ensures { OnOk result (text.new.items ≡ text.old.items ++ path_line types.now (shown taken.now)) }
+    ensures { OnOk result (text.new.items
+        ≡ text.old.items ++ path_line types.now (shown taken.now)) }
 {
     push_number(text, taken.count)?;
     text.extend_from_slice(b": INITIAL")?;
