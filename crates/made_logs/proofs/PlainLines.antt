@@ -38,7 +38,7 @@ high-none : (t : ℕ) → t < 48 → (ds : List ℕ) → AreHigh ds → list_any
 high-none t low [] high = refl
 high-none t low (b ∷ ds) high = or_from _ _ (differs b t high.0 low) (high-none t low ds high.1)
 
--- a word has neither a line feed nor a carriage return
+-- a word has no line feed
 word-feed : (call : Call) → list_any is_feed (32 ∷ word_of call) ≡ false
 word-feed Open = refl
 word-feed Read = refl
@@ -47,6 +47,7 @@ word-feed Seek = refl
 word-feed Sync = refl
 word-feed Close = refl
 
+-- a word has no carriage return
 word-return : (call : Call) → list_any (λ b. b == 13) (32 ∷ word_of call) ≡ false
 word-return Open = refl
 word-return Read = refl
@@ -55,7 +56,7 @@ word-return Seek = refl
 word-return Sync = refl
 word-return Close = refl
 
--- it has at most five bytes, and one or more
+-- a word has one byte or more, and at most five
 pub word-length : (call : Call) → (0 < length (word_of call)) × (length (word_of call) ≤ 5)
 word-length Open = (omega arith, omega arith)
 word-length Read = (omega arith, omega arith)
@@ -101,14 +102,14 @@ none-at t [] i other none = other
 none-at t (x ∷ xs) zero other none = (or_parts (x == t) (list_any (λ b. b == t) xs) none).0
 none-at t (x ∷ xs) (suc i) other none = none-at t xs i other (or_parts (x == t) (list_any (λ b. b == t) xs) none).1
 
--- it has no carriage return at its end
+-- the piece of a line has no carriage return at its end
 line-is : (session : ℕ) (call : Call) → 0 < session → session < 2 ^ 64 → line_of (piece_of session call) ≡ piece_of session call
 line-is session call some small =
     cond-false _ _ _
     (none-at 13 (piece_of session call) (length (piece_of session call) - 1) refl
     (none-of 13 (decimal session) (32 ∷ word_of call) (high-none 13 (omega arith) (decimal session) (high-decimal session some small)) (word-return call)))
 
--- and is text
+-- the piece of a line is text
 text-is : (session : ℕ) (call : Call) → 0 < session → session < 2 ^ 64 → text_of (piece_of session call) ≡ piece_of session call
 text-is session call some small =
     ap utf8_lossy (line-is session call some small)

@@ -20,11 +20,12 @@ AreNumbered cs = AllByRecursion (λ c. (0 < c.0) × (c.0 ≤ MAX_SESSIONS)) cs
 abbrev pub lines_of : List (ℕ × Call) → List ℕ
 lines_of cs = flat_map (λ c. line c.0 c.1) cs
 
--- one after another
+-- calls behind others are numbered where both are
 numbered-append : (cs ds : List (ℕ × Call)) → AreNumbered cs → AreNumbered ds → AreNumbered (cs ++ ds)
 numbered-append [] ds first later = later
 numbered-append (c ∷ cs) ds first later = (first.0, numbered-append cs ds first.1 later)
 
+-- the calls of a session have its number
 numbered-session : (number : ℕ) (calls : List Call) → 0 < number → number ≤ MAX_SESSIONS → AreNumbered (map (λ (call : Call). (number, call)) calls)
 numbered-session number [] some few = tt
 numbered-session number (call ∷ calls) some few = ((some, few), numbered-session number calls some few)
@@ -33,6 +34,7 @@ numbered-session number (call ∷ calls) some few = ((some, few), numbered-sessi
 abbrev pub calls_from : ℕ → ℕ → List (ℕ × Call)
 calls_from a n = flat_map (λ k. map (λ (call : Call). (k + 1, call)) (session_calls (state_after k))) (range_with_len a n)
 
+-- the calls of the sessions from a on are numbered
 numbered-from : (a n : ℕ) → a + n ≤ MAX_SESSIONS → AreNumbered (calls_from a n)
 numbered-from a zero few = tt
 numbered-from a (suc n) few =
@@ -40,18 +42,21 @@ numbered-from a (suc n) few =
     (numbered-session (a + 1) (session_calls (state_after a)) (omega arith) (omega arith))
     (numbered-from (a + 1) n (omega arith))
 
+-- all calls are numbered
 pub numbered : (n : ℕ) → n ≤ MAX_SESSIONS → AreNumbered (calls_of n)
 numbered n few = numbered-from 0 n (omega (arith, few))
 
--- the text of a session is that of its calls
+-- the lines of the calls of a session are those of its calls with its number
 session-lines : (number : ℕ) (calls : List Call) → lines_of (map (λ (call : Call). (number, call)) calls) ≡ flat_map (line number) calls
 session-lines number [] = refl
 session-lines number (call ∷ calls) = ap (λ (t : List ℕ). line number call ++ t) (session-lines number calls)
 
+-- the text of a session is the lines of its calls
 text-of-session : (number x : ℕ) → session_text number x ≡ flat_map (line number) (session_calls x)
 unfolding session_text
 text-of-session number x = refl
 
+-- the text of the sessions from a on is the lines of their calls
 text-from : (a n : ℕ) → flat_map (λ k. session_text (k + 1) (state_after k)) (range_with_len a n) ≡ lines_of (calls_from a n)
 text-from a zero = refl
 text-from a (suc n) =
@@ -60,15 +65,17 @@ text-from a (suc n) =
     ∙ (ap (λ (t : List ℕ). lines_of calls ++ t) (text-from (a + 1) n)
     ∙ sym (flat_map-append (λ c. line c.0 c.1) calls (calls_from (a + 1) n)))
 
+-- the text of n sessions is the lines of their calls
 pub text-lines : (n : ℕ) → log_text n ≡ lines_of (calls_of n)
 unfolding log_text
 text-lines n = text-from 0 n
 
--- a session has at most seven calls
+-- n draws are n
 draws-length : (n x : ℕ) → length (draws n x) ≡ n
 draws-length zero x = refl
 draws-length (suc n) x = ap suc (draws-length n _)
 
+-- of n draws at most n are calls
 drawn-length : (n x : ℕ) → length (calls_within n x) ≤ n
 unfolding calls_within
 drawn-length n x =
@@ -76,10 +83,12 @@ drawn-length n x =
     let kept = prefix_len (λ draw. not (draw == no_call)) ds in
     omega (arith, length-map (take kept ds) call_of, length-take kept ds, draws-length n x)
 
+-- a session has at most one sync
 sync-length : (wrote : Bool) → length (sync_where wrote) ≤ 1
 sync-length true = omega arith
 sync-length false = omega arith
 
+-- a session has at most seven calls
 session-length : (x : ℕ) → length (session_calls x) ≤ 7
 session-length x =
     let drawn = calls_within most_draws x in
@@ -99,22 +108,26 @@ from-length a zero = omega arith
 from-length a (suc n) =
     omega (arith, length-append (calls_in (a + 1) (state_after a)) (calls_from (a + 1) n), in-length (a + 1) (state_after a), session-length (state_after a), from-length (a + 1) n)
 
+-- n sessions have at most 7 calls each
 pub calls-few : (n : ℕ) → length (calls_of n) ≤ 7 * n
 calls-few n = from-length 0 n
 
--- a line has at most twelve bytes
+-- the number of a session has at most five digits
 pub digits-few : (n : ℕ) → n ≤ MAX_SESSIONS → length (decimal n) ≤ 5
 digits-few n few = length-decimal-le 5 n (omega arith) (omega arith) (omega arith)
 
+-- a line has at most twelve bytes
 line-length : (number : ℕ) (call : Call) → number ≤ MAX_SESSIONS → length (line number call) ≤ 12
 line-length number call few =
     let digits = decimal number in
     let word = word_of call in
     omega (arith, digits-few number few, (word-length call).1, length-append (digits ++ 32 ∷ word) (10 ∷ []), length-append digits (32 ∷ word))
 
+-- lines have at most twelve bytes each
 lines-length : (cs : List (ℕ × Call)) → AreNumbered cs → length (lines_of cs) ≤ 12 * length cs
 lines-length [] are = omega arith
 lines-length (c ∷ cs) are = omega (arith, length-append (line c.0 c.1) (lines_of cs), line-length c.0 c.1 are.0.1, lines-length cs are.1)
 
+-- n sessions have at most 84 bytes each
 pub text-short : (n : ℕ) → n ≤ MAX_SESSIONS → length (log_text n) ≤ 84 * n
 text-short n few = omega (arith, ap length (text-lines n), lines-length (calls_of n) (numbered n few), calls-few n)

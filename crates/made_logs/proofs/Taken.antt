@@ -12,7 +12,7 @@ use Rattle.limits.specs.declared.TheConstants.{MAX_EVENTS, MAX_INPUT_BYTES, MAX_
 use Rattle.lines.specs.Lines.{pieces}
 use Rattle.traces.specs.Words.{Event as KeyedEvent, AreApart, types_of}
 use Rattle.traces.proofs.FirstMet.{types-first_met}
-use Rattle.log_reader.specs.Reading.{Plain, Decided, Setting, at_line, bytes_refusal, decided_piece, event_refusal, first_of, first_refusal, events_of, key_file, line_events, line_refusal, piece_events, piece_refusal, pieces_refusal, section_after}
+use Rattle.log_reader.specs.Reading.{Plain, Decided, Setting, at_line, bytes_refusal, decided_piece, event_refusal, first_of, first_refusal, events_of, line_events, line_refusal, piece_events, piece_refusal, pieces_refusal, section_after}
 use Rattle.log_reader.specs.Reading as spec
 use Rattle.log_reader.specs.declared.refusal.At.{At}
 use Rattle.log_reader.specs.declared.refusal.ReadError.{ReadError}
@@ -73,6 +73,7 @@ member-word (c ∷ cs) q there = ⊎_elim
     (λ other. member-word cs q (sym (ap (λ (b : Bool). b || list_any (bytes_eq q) (map (λ e. e.typ) (map call_event cs))) other) ∙ there))
     (cases_Bool (bytes_eq q (word_of c.1)))
 
+-- calls have at most six types
 pub types-few : (cs : List (ℕ × Call)) → length (types_of (map call_event cs)) ≤ 6
 types-few cs =
     let texts = map (λ (e : KeyedEvent). e.typ) (map call_event cs) in
@@ -80,17 +81,20 @@ types-few cs =
     length-le_from_is_member nat_list_eq_equiv (types_of (map call_event cs)) call_words (distinct-apart (types_of (map call_event cs)) met.apart)
     (λ q there. member-word cs q (sym (met.members q) ∙ there))
 
--- what is within the limits is not refused
+-- a number is not below one that is no higher
 not-below : (a b : ℕ) → b ≤ a → nat_lt a b ≡ false
 not-below a b high = grind (arith, nat_tests)
 
+-- a number is not at most one that is lower
 not-most : (a b : ℕ) → b < a → nat_le a b ≡ false
 not-most a b low = grind (arith, nat_tests)
 
+-- of two truth values of which the second does not hold, not both hold
 and-false : (a b : Bool) → b ≡ false → (a && b) ≡ false
 and-false true b h = h
 and-false false b h = refl
 
+-- an event within the limits is not refused
 event-taken : (at : At) (types : List (List ℕ)) (count : ℕ) (typ trace : List ℕ) → length typ ≤ MAX_TYPE_BYTES → length trace ≤ MAX_TRACE_BYTES → length types < MAX_TYPES → count < MAX_EVENTS
     → event_refusal at types count typ trace ≡ None
 event-taken at types count typ trace t k few room =
@@ -132,6 +136,7 @@ whole s room bytes short =
 first-of-none : (r : Option ReadError) → r ≡ None → first_of r None ≡ None
 first-of-none r none = ap (λ (x : Option ReadError). first_of x None) none
 
+-- nothing in a made log is refused
 pub taken : (n : ℕ) → n ≤ MAX_SESSIONS → first_refusal plainly (log_text n ∷ []) ≡ None
 taken n few =
     let cs = calls_of n in
@@ -141,11 +146,13 @@ taken n few =
     ∙ (ap (λ (ps : List (List ℕ)). pieces_refusal plainly 0 false 0 [] 1 ps) (ap pieces (text-lines n) ∙ pieces-lines cs (numbered n few))
     ∙ pieces-taken [] cs 1 (numbered n few) (omega (arith, calls-few n))))
 
+-- the events of a made log are its calls
 pub events-are : (n : ℕ) → n ≤ MAX_SESSIONS → events_of plainly (log_text n ∷ []) ≡ session_events n
 events-are n few =
     append-nil (piece_events Plain 0 0 (pieces (log_text n)))
     ∙ (ap (piece_events Plain 0 0) (ap pieces (text-lines n) ∙ pieces-lines (calls_of n) (numbered n few))
     ∙ events-calls (calls_of n) (numbered n few))
 
+-- n sessions have at most 7 events each
 pub events-few : (n : ℕ) → length (session_events n) ≤ 7 * n
 events-few n = omega (arith, length-map (calls_of n) call_event, calls-few n)
