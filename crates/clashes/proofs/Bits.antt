@@ -7,10 +7,11 @@ use Rattle.bit_rows.specs.Tables.{row_at, is_set, HasShape, either, both}
 use Rattle.bit_rows.proofs.Done.{is_set-zip2}
 use Rattle.clashes.specs.Marks.{on}
 
--- one row is another
+-- the row that is written is the new one
 pub set_here : (T new : List (List Bool)) (to : ℕ) (row : List Bool) → to < length T → new ≡ set T to row → row_at new to ≡ row
 set_here T new to row h e = ap (λ t. row_at t to) e ∙ get_or-set_same T to row [] h
 
+-- a row that is not written stays
 pub set_other : (T new : List (List Bool)) (to s : ℕ) (row : List Bool) → s ≢ to → new ≡ set T to row → row_at new s ≡ row_at T s
 set_other T new to s row n e = ap (λ t. row_at t s) e ∙ get_or-set_other T to s row [] n
 
@@ -20,6 +21,7 @@ pub record IsPut (old new : List (List Bool)) (r i : ℕ) (v : Bool) : Type 0 wh
   pub rows : (s j : ℕ) → s ≢ r → on new s j ≡ on old s j
   pub places : (s j : ℕ) → j ≢ i → on new s j ≡ on old s j
 
+-- a bit that is written has its new value, and each other bit stays
 pub put_done : (T new : List (List Bool)) (n bits r i : ℕ) (v : Bool) → HasShape T n bits → r < n → i < bits → new ≡ set T r (set (row_at T r) i v) → IsPut T new r i v
 put_done T new n bits r i v h lr li e =
     let lt : r < length T = omega (arith, h.count) in
@@ -40,6 +42,7 @@ pub record IsSpread (old new : List (List Bool)) (to : ℕ) (given : ℕ → Boo
   pub here : (k : ℕ) → on new to k ≡ (on old to k || given k)
   pub others : (s k : ℕ) → s ≢ to → on new s k ≡ on old s k
 
+-- a row that takes up another has the bits of that one too
 pub or_spread : (T new : List (List Bool)) (n bits to from : ℕ) → HasShape T n bits → to < n → from < n
     → new ≡ set T to (either (row_at T to) (row_at T from)) → IsSpread T new to (on T from)
 or_spread T new n bits to from h lt lf e =
@@ -49,6 +52,7 @@ or_spread T new n bits to from h lt lf e =
       others = λ s k ns. ap (λ row. is_set row k) (set_other T new to s (either (row_at T to) (row_at T from)) ns e);
     }
 
+-- a row that takes up what two others have in common has these bits too
 pub or_and_spread : (T new : List (List Bool)) (n bits to a mask : ℕ) → HasShape T n bits → to < n → a < n → mask < n
     → new ≡ set T to (either (row_at T to) (both (row_at T a) (row_at T mask))) → IsSpread T new to (λ k. on T a k && on T mask k)
 or_and_spread T new n bits to a mask h lt la lm e =
@@ -66,6 +70,7 @@ pub record IsCleared (old new : List (List Bool)) (r : ℕ) : Type 0 where
   pub here : (k : ℕ) → on new r k ≡ false
   pub others : (s k : ℕ) → s ≢ r → on new s k ≡ on old s k
 
+-- a row of nothing but false has no bit set
 pub none_set : (n k : ℕ) → is_set (replicate n false) k ≡ false
 none_set n k =
     elim (cases_lt k n) [
@@ -73,6 +78,7 @@ none_set n k =
       | inr past ↦ get_or_past (replicate n false) k false (omega (arith, length-replicate n false))
     ]
 
+-- a row that is written as nothing but false is cleared
 pub clear_done : (T new : List (List Bool)) (r n : ℕ) → r < length T → new ≡ set T r (replicate n false) → IsCleared T new r
 clear_done T new r n l e =
     record {
@@ -80,13 +86,14 @@ clear_done T new r n l e =
       others = λ s k ns. ap (λ row. is_set row k) (set_other T new r s (replicate n false) ns e);
     }
 
--- the same where the rows' numbers are given by other terms
+-- a row takes up another, where the numbers of both are given by other terms
 pub or_spread_at : (T new : List (List Bool)) (n bits to from to' from' : ℕ) → to ≡ to' → from ≡ from' → HasShape T n bits → to' < n → from' < n
     → new ≡ set T to (either (row_at T to) (row_at T from)) → IsSpread T new to' (on T from')
 or_spread_at T new n bits to from to' from' a b h lt lf e =
     subst (λ (x : ℕ). IsSpread T new x (on T from')) a (subst (λ (y : ℕ). IsSpread T new to (on T y)) b
     (or_spread T new n bits to from h (omega arith) (omega arith) e))
 
+-- a row takes up what two others have in common, where the numbers of all three are given by other terms
 pub or_and_spread_at : (T new : List (List Bool)) (n bits to a mask to' a' mask' : ℕ) → to ≡ to' → a ≡ a' → mask ≡ mask' → HasShape T n bits → to' < n → a' < n → mask' < n
     → new ≡ set T to (either (row_at T to) (both (row_at T a) (row_at T mask))) → IsSpread T new to' (λ k. on T a' k && on T mask' k)
 or_and_spread_at T new n bits to a mask to' a' mask' et ea em h lt la lm e =

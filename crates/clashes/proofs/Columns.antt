@@ -7,7 +7,7 @@ use Rattle.clashes.specs.Marks.{on}
 use Rattle.clashes.specs.Rules.{enters, stays, falls}
 use Rattle.clashes.specs.Layout.{enters_row, stays_row, falls_row, IsColumn, IsMasked, AreColumns}
 
--- one more type
+-- a column for the types below n, with the masks of n, is one for the types up to n
 pub column_more : (T new : List (List Bool)) (n k : ℕ) (inv : Invariant) → IsColumn T n k inv → IsMasked T new n k inv → IsColumn new (n + 1) k inv
 column_more T new n k inv c m =
     record {
@@ -27,7 +27,7 @@ column_more T new n k inv c m =
       bad = m.rows BAD k (λ z. absurd (omega arith)) (λ z. absurd (omega arith)) (λ z. absurd (omega arith)) ∙ c.bad;
     }
 
--- a write at another place
+-- a column stays where something is written at another place
 column_stays : (T new : List (List Bool)) (n j k : ℕ) (inv : Invariant) → j ≢ k → ((r i : ℕ) → i ≢ k → on new r i ≡ on T r i) → IsColumn T n j inv → IsColumn new n j inv
 column_stays T new n j k inv ne h c =
     record {
@@ -38,7 +38,7 @@ column_stays T new n j k inv ne h c =
       bad = h BAD j ne ∙ c.bad;
     }
 
--- one more invariant
+-- with the column of one more invariant, those of one more are there
 pub columns_more : (T new : List (List Bool)) (others : ℕ) (invs : List Invariant) (k : ℕ) (inv : Invariant) → slice_get invs k ≡ Some inv → AreColumns T others invs k
     → ((r i : ℕ) → i ≢ k → on new r i ≡ on T r i) → IsColumn new (others + 1) k inv → AreColumns new others invs (k + 1)
 columns_more T new others invs k inv get have h c j other l get' =

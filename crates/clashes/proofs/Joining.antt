@@ -21,20 +21,17 @@ use Rattle.clashes.specs.Changes.{IsBlankBelow, IsJoined}
 use Rattle.clashes.specs.Growing.{AreSound, HasBegun, AreEntered, IsClosedBeside}
 use Rattle.clashes.proofs.Sound.{get_back, ends_on_paths, enters_is, stays_is, falls_is}
 
--- ---- none
-
 walk_below : (g : Graph) (n u : ℕ) (xs : List ℕ) (p : ℕ) → HasEdgesBelow g n → u < n → Walk g u xs p → p < n
 walk_below g n u [] p h l w = subst (λ (x : ℕ). x < n) w l
 walk_below g n u (x ∷ xs) p h l w = walk_below g n x xs p h (h u x w.0).1 w.1
 
+-- where no mark is on, all that marks tell is so
 pub blank_sound : (marks : Marks) (g : Graph) (n : ℕ) → HasEdgesBelow g n → FIRST_TYPE ≤ n → IsBlankBelow marks n → AreSound marks g
 blank_sound marks g n h two b =
     record {
       fore = λ k p inv get sat l path hit. absurd (both_ways (on marks.fores p k) (b.fores k p (walk_below g n INITIAL path.0 p h (omega arith) path.2)) hit);
       back = λ k p inv get sat l path hit. absurd (both_ways (on marks.backs p k) (b.backs k p (walk_below g n INITIAL path.0 p h (omega arith) path.2)) hit);
     }
-
--- ---- what a merge carries over
 
 maps_word : (f : ℕ → ℕ) (g k : Graph) → Maps f g k → (u : ℕ) (xs : List ℕ) (v : ℕ) → Walk g u xs v → word k (map f xs) ≡ word g xs
 maps_word f g k m u [] v w = refl
@@ -54,15 +51,15 @@ back_carried f g k inv u m o = (
   ap (λ (ts : List ℕ). is_bad inv (run inv (critical inv) ts)) (maps_word f g k m u o.0 1 o.1) ∙ o.2,
 )
 
--- ---- paths before a merge
-
 walk_listed : (g : Graph) (u : ℕ) (xs : List ℕ) (p : ℕ) → IsFormed g → g.listed u ≡ true → Walk g u xs p → g.listed p ≡ true
 walk_listed g u [] p f l w = subst (λ (x : ℕ). g.listed x ≡ true) w l
 walk_listed g u (x ∷ xs) p f l w = walk_listed g x xs p f (f.between u x w.0).1 w.1
 
+-- after a merge of a pair each id has one type still
 pub merged_typed : (h : Assignment) (p q : ℕ) → IsTyped h → IsPair (G h) p q → IsTyped (merge p q h)
 merged_typed h p q t i = typed_from (λ x. type_of h x) (merge p q h) (merge_typed h p q t i)
 
+-- an id on a path after a merge was on one before it
 path_before : (h : Assignment) (p q r : ℕ) → IsTyped h → IsPair (G h) p q → IsOnPath (G (merge p q h)) r → IsOnPath (G h) r
 path_before h p q r t i path =
     let f : IsFormed (G (merge p q h)) = graphs_are_formed (merge p q h) (merged_typed h p q t i) in
@@ -76,8 +73,7 @@ path_before h p q r t i path =
       | inr high ↦ all_on_paths h r t high (live-back h p q r i high (walk_listed (G (merge p q h)) 0 path.0 r f f.start_listed path.2))
     ]
 
--- ---- marks that go from one id to another
-
+-- after a merge the marks that went from q to p tell what is so
 pub joined_sound : (h : Assignment) (p q : ℕ) (old new : Marks) → IsTyped h → IsPair (G h) p q → q < MAX_PARTITIONS → AreMarksOf old (G h) → IsJoined old new p q → AreSound new (G (merge p q h))
 joined_sound h p q old new t i lq had j =
     let m : Maps (onto p q) (G h) (G (merge p q h)) = merge_maps h p q t i in
@@ -123,8 +119,6 @@ joined_sound h p q old new t i lq had j =
             ]
           ];
     }
-
--- ---- what these already have
 
 lift_fore : (old new : Marks) (p q k y : ℕ) → p ≢ q → IsJoined old new p q → on old.fores y k ≡ true → on new.fores (onto p q y) k ≡ true
 lift_fore old new p q k y ne j hit =
@@ -207,6 +201,7 @@ module _ (h : Assignment) (p q : ℕ) (old new : Marks) (t : IsTyped h) (i : IsP
   get_old : (k : ℕ) (inv : Invariant) → slice_get new.invs k ≡ Some inv → slice_get old.invs k ≡ Some inv
   get_old k inv get = get_back old new k inv j.invs get
 
+  -- after a merge the two ends have the marks from which all others come
   pub joined_begun : HasBegun new (G (merge p q h))
   joined_begun =
       let low : 2 ≤ p = i.low in
@@ -222,6 +217,7 @@ module _ (h : Assignment) (p q : ℕ) (old new : Marks) (t : IsTyped h) (i : IsP
             j.backs k TERMINAL (λ e. absurd (omega arith)) (λ e. absurd (omega arith)) ∙ (had.back k TERMINAL inv (get_old k inv get) (before inv sat) (omega arith) (o.0 ++ o.1, [], whole, refl)).1 ahead;
       }
 
+  -- after a merge the marks are there that the edges give at once
   pub joined_entered : ((u v : ℕ) → (G (merge p q h)).edge u v ≡ true → (u < MAX_PARTITIONS) × (v < MAX_PARTITIONS)) → AreEntered new (G (merge p q h))
   joined_entered below u v edge =
       let b : EdgeBefore h p q u v = edge_before h p q u v t i edge in
@@ -238,6 +234,7 @@ module _ (h : Assignment) (p q : ℕ) (old new : Marks) (t : IsTyped h) (i : IsP
             ap (λ (x : ℕ). on new.backs x k) (sym b.from) ∙ lift_back old new p q k b.x apart j marked;
       }
 
+  -- after a merge nothing more spreads along any edge but those of p
   pub joined_closed : ((u v : ℕ) → (G (merge p q h)).edge u v ≡ true → (u < MAX_PARTITIONS) × (v < MAX_PARTITIONS)) → IsClosedBeside new (G (merge p q h)) p
   joined_closed below u v edge nu nv =
       let b : EdgeBefore h p q u v = edge_before h p q u v t i edge in

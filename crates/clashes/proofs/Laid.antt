@@ -11,14 +11,12 @@ use Rattle.invariants.specs.Monitors.{step_of, step, is_bad}
 use Rattle.merge_law.specs.Critical.{critical, calm_of}
 use Rattle.bit_rows.specs.Tables.{is_set, KeepsShape}
 use Rattle.clashes.specs.declared.places.TheConstants.{START, BAD, SCRATCH}
-use Rattle.clashes.specs.Marks.{Marks, on}
+use Rattle.clashes.specs.Marks.{on}
 use Rattle.clashes.specs.Rules.{enters, stays, falls, AreNamedBelow}
 use Rattle.clashes.specs.Layout.{back_row, enters_row, stays_row, falls_row, row_count, fores_in, backs_in, marks_in, IsColumn, IsLaid}
 use Rattle.clashes.specs.Changes.{IsUnmarked, IsTakenUp, IsBegun, IsEntered, IsFollowed, TellsGrowth}
 use Rattle.clashes.proofs.Bits.{IsSpread, IsCleared}
 use Rattle.clashes.proofs.Offs.{IsTold}
-
--- ---- parts of the table
 
 on_front : (n : ℕ) (T : List (List Bool)) (p k : ℕ) → p < n → on (take n T) p k ≡ on T p k
 on_front n T p k l = ap (λ row. is_set row k) (get_or-take n T p [] l)
@@ -29,13 +27,15 @@ on_front_past n T p k l = ap (λ row. is_set row k) (get_or_past (take n T) p []
 on_behind : (n : ℕ) (T : List (List Bool)) (p k : ℕ) → p < n → on (take n (drop n T)) p k ≡ on T (n + p) k
 on_behind n T p k l = on_front n (drop n T) p k l ∙ ap (λ row. is_set row k) (get_or-drop n T p [])
 
+-- the marks of an id for what is met are its row of the table
 pub fore_is : (T : List (List Bool)) (p k : ℕ) → p < MAX_PARTITIONS → on (fores_in T) p k ≡ on T p k
 fore_is T p k l = on_front MAX_PARTITIONS T p k l
 
+-- the marks of an id for what is ahead are its row of the table behind those for what is met
 pub back_is : (T : List (List Bool)) (p k : ℕ) → p < MAX_PARTITIONS → on (backs_in T) p k ≡ on T (back_row p) k
 back_is T p k l = on_behind MAX_PARTITIONS T p k l
 
--- where a row stays, so does what is seen of it
+-- where the row of an id for what is met stays, so do its marks
 pub same_fore : (T new : List (List Bool)) (p k : ℕ) → (p < MAX_PARTITIONS → on new p k ≡ on T p k) → on (fores_in new) p k ≡ on (fores_in T) p k
 same_fore T new p k h =
     elim (cases_lt p MAX_PARTITIONS) [
@@ -43,6 +43,7 @@ same_fore T new p k h =
       | inr m ↦ on_front_past MAX_PARTITIONS new p k m ∙ sym (on_front_past MAX_PARTITIONS T p k m)
     ]
 
+-- where the row of an id for what is ahead stays, so do its marks
 pub same_back : (T new : List (List Bool)) (p k : ℕ) → (p < MAX_PARTITIONS → on new (back_row p) k ≡ on T (back_row p) k) → on (backs_in new) p k ≡ on (backs_in T) p k
 same_back T new p k h =
     elim (cases_lt p MAX_PARTITIONS) [
@@ -50,13 +51,12 @@ same_back T new p k h =
       | inr m ↦ on_front_past MAX_PARTITIONS (drop MAX_PARTITIONS new) p k m ∙ sym (on_front_past MAX_PARTITIONS (drop MAX_PARTITIONS T) p k m)
     ]
 
--- ---- rows that stay
-
 -- the form stays, and each row behind those of ids but the one to write into
 pub record KeepsMasks (T new : List (List Bool)) : Type 0 where
   pub shape : KeepsShape T new
   pub rows : (r k : ℕ) → START ≤ r → r ≢ SCRATCH → on new r k ≡ on T r k
 
+-- two changes that each keep the masks keep them
 pub keeps_then : (a b c : List (List Bool)) → KeepsMasks a b → KeepsMasks b c → KeepsMasks a c
 keeps_then a b c h m =
     record {
@@ -64,15 +64,19 @@ keeps_then a b c h m =
       rows = λ r k l ne. m.rows r k l ne ∙ h.rows r k l ne;
     }
 
+-- bits that are added to the row of an id keep the masks
 pub spread_keeps : (T new : List (List Bool)) (to : ℕ) (given : ℕ → Bool) → KeepsShape T new → IsSpread T new to given → to < START → KeepsMasks T new
 spread_keeps T new to given s h l = record { shape = s; rows = λ r k m ne. h.others r k (λ e. absurd (omega arith)) }
 
+-- bits that are added to the row to write into keep the masks
 pub scratch_keeps : (T new : List (List Bool)) (given : ℕ → Bool) → KeepsShape T new → IsSpread T new SCRATCH given → KeepsMasks T new
 scratch_keeps T new given s h = record { shape = s; rows = λ r k m ne. h.others r k ne }
 
+-- the masks stay where the row of an id is cleared
 pub cleared_keeps : (T new : List (List Bool)) (r : ℕ) → KeepsShape T new → IsCleared T new r → r < START → KeepsMasks T new
 cleared_keeps T new r s h l = record { shape = s; rows = λ q k m ne. h.others q k (λ e. absurd (omega arith)) }
 
+-- the masks stay where the row to write into is cleared
 pub scratch_cleared_keeps : (T new : List (List Bool)) → KeepsShape T new → IsCleared T new SCRATCH → KeepsMasks T new
 scratch_cleared_keeps T new s h = record { shape = s; rows = λ q k m ne. h.others q k ne }
 
@@ -86,6 +90,7 @@ column_kept T new n k inv h c =
       bad = h.rows BAD k (omega arith) (λ e. absurd (omega arith)) ∙ c.bad;
     }
 
+-- where the masks stay, the table is still laid out for the invariants
 pub laid_kept : (invs : List Invariant) (others : ℕ) (T new : List (List Bool)) → KeepsMasks T new → IsLaid invs others T → IsLaid invs others new
 laid_kept invs others T new h l =
     record {
@@ -96,13 +101,12 @@ laid_kept invs others T new h l =
       columns = λ k inv below get. column_kept T new (others + 1) k inv h (l.columns k inv below get);
     }
 
--- ---- what is told by callers' marks
-
+-- what is told of the bits of the table is told of the marks
 pub told_marks : (invs : List Invariant) (T new : List (List Bool)) (changed : Bool) → IsTold MAX_PARTITIONS T new changed → TellsGrowth (marks_in invs T) (marks_in invs new) changed
 told_marks invs T new changed t =
     record { same = λ miss. ap (marks_in invs) (t.same miss); fewer = λ hit. t.fewer hit }
 
--- the marks of an id are off
+-- where the two rows of an id are cleared, its marks are off, and the others stay
 pub unmarked : (invs : List Invariant) (T mid new : List (List Bool)) (p : ℕ) → p < MAX_PARTITIONS → IsCleared T mid p → IsCleared mid new (back_row p) → IsUnmarked (marks_in invs T) (marks_in invs new) p
 unmarked invs T mid new p l a b =
     record {
@@ -113,7 +117,7 @@ unmarked invs T mid new p l a b =
       backs = λ k r ne. same_back T new r k (λ m. b.others (back_row r) k (λ e. absurd (omega arith)) ∙ a.others (back_row r) k (λ e. absurd (omega arith)));
     }
 
--- an id takes up the marks of another
+-- where the two rows of an id take up those of another, the id takes up its marks
 pub taken_up : (invs : List Invariant) (T mid new : List (List Bool)) (p q : ℕ) → p < MAX_PARTITIONS → q < MAX_PARTITIONS → p ≢ q → IsSpread T mid p (on T q) → IsSpread mid new (back_row p) (on mid (back_row q))
     → IsTakenUp (marks_in invs T) (marks_in invs new) p q
 taken_up invs T mid new p q lp lq ne a b =
@@ -127,7 +131,7 @@ taken_up invs T mid new p q lp lq ne a b =
       backs = λ k r m. same_back T new r k (λ l. b.others (back_row r) k (λ e. absurd (omega arith)) ∙ a.others (back_row r) k (λ e. absurd (omega arith)));
     }
 
--- the two ends have their marks
+-- where rows of the two ends take up START and BAD, the marks are there from which all others come
 pub begun : (invs : List Invariant) (others : ℕ) (T mid new : List (List Bool)) → IsLaid invs others T → IsSpread T mid INITIAL (on T START) → IsSpread mid new (back_row TERMINAL) (on mid BAD)
     → IsBegun (marks_in invs T) (marks_in invs new)
 begun invs others T mid new laid a b =
@@ -145,8 +149,7 @@ begun invs others T mid new laid a b =
       backs = λ k r m. same_back T new r k (λ l. b.others (back_row r) k (λ e. absurd (omega arith)) ∙ a.others (back_row r) k (λ e. absurd (omega arith)));
     }
 
--- ---- types that no invariant names
-
+-- a type that an invariant does not name leaves its monitor as it is
 unnamed_step : (kind : Kind) (a b s x : ℕ) → x ≢ a → x ≢ b → step_of kind a b s x ≡ s
 unnamed_step AF a b s x n m = rw (ne_eqb x a n, ne_eqb x b m) refl
 unnamed_step NF a b s x n m = rw (ne_eqb x b m, ne_eqb x a n) refl
@@ -172,6 +175,7 @@ named_at : (invs : List Invariant) (n k : ℕ) (inv : Invariant) → AreNamedBel
 named_at invs n k inv h get =
     subst (λ (i : Invariant). (i.a < n) × (i.b < n)) (get_or_from_slice_get invs k inv inv get) (h k inv (slice_get_within invs k inv get))
 
+-- the masks at the lesser of a type and the first number that none names are those of the type
 pub masks_of : (invs : List Invariant) (others : ℕ) (T : List (List Bool)) (x typ k : ℕ) (inv : Invariant) → IsLaid invs others T → x ≡ min typ others → slice_get invs k ≡ Some inv → AreMasksOf T x k inv typ
 masks_of invs others T x typ k inv laid e get =
     let c : IsColumn T (others + 1) k inv = laid.columns k inv (slice_get_within invs k inv get) get in
@@ -183,9 +187,7 @@ masks_of invs others T x typ k inv laid e get =
       falls = c.falls x l ∙ ap (λ (s : ℕ). is_bad inv s && not (is_bad inv (critical inv))) (class_step inv others x typ (critical inv) e n);
     }
 
--- ---- an edge is followed
-
--- what it brings at once
+-- where its ends take up what a type enters and what it falls from, an edge gives the marks that it brings at once
 pub entered : (invs : List Invariant) (others : ℕ) (T mid new : List (List Bool)) (u v typ x : ℕ) → IsLaid invs others T → x ≡ min typ others → u < MAX_PARTITIONS → v < MAX_PARTITIONS
     → IsSpread T mid v (on T (enters_row x)) → IsSpread mid new (back_row u) (on mid (falls_row x)) → IsEntered (marks_in invs T) (marks_in invs new) u v typ
 entered invs others T mid new u v typ x laid e lu lv a b =
@@ -203,11 +205,6 @@ entered invs others T mid new u v typ x laid e lu lv a b =
       backs = λ k r ne. same_back T new r k (λ l. b.others (back_row r) k (λ z. absurd (ne (omega arith))) ∙ a.others (back_row r) k (λ z. absurd (omega arith)));
     }
 
-absorb : (f s : Bool) → f ≡ (f || (s && f))
-absorb true s = refl
-absorb false true = refl
-absorb false false = refl
-
 swap : (f s g : Bool) → (f || (g && s)) ≡ (f || (s && g))
 swap true s g = refl
 swap false true true = refl
@@ -215,18 +212,7 @@ swap false true false = refl
 swap false false true = refl
 swap false false false = refl
 
--- an edge from an id to itself carries nothing
-pub followed_self : (old : Marks) (u v typ : ℕ) → u ≡ v → IsFollowed old old u v typ
-followed_self old u v typ e =
-    record {
-      invs = refl;
-      fore = λ k inv get. absorb (on old.fores v k) (stays inv typ) ∙ ap (λ (x : ℕ). on old.fores v k || (stays inv typ && on old.fores x k)) (sym e);
-      back = λ k inv get. absorb (on old.backs u k) (stays inv typ) ∙ ap (λ (x : ℕ). on old.backs u k || (stays inv typ && on old.backs x k)) e;
-      fores = λ k r ne. refl;
-      backs = λ k r ne. refl;
-    }
-
--- and one to another what stays
+-- an edge from an id to another takes marks along where they stay in their critical state
 pub followed : (invs : List Invariant) (others : ℕ) (T mid new : List (List Bool)) (u v typ x : ℕ) → IsLaid invs others T → x ≡ min typ others → u < MAX_PARTITIONS → v < MAX_PARTITIONS → u ≢ v
     → IsSpread T mid v (λ k. on T u k && on T (stays_row x) k) → IsSpread mid new (back_row u) (λ k. on mid (back_row v) k && on mid (stays_row x) k)
     → IsFollowed (marks_in invs T) (marks_in invs new) u v typ

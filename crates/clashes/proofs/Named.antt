@@ -5,6 +5,7 @@ use Rattle.std.proofs.lemmas.List.Elements.{All-more}
 use Rattle.invariants.specs.declared.Invariant.{Invariant}
 use Rattle.clashes.specs.Rules.{AreNamedBelow}
 
+-- the names of one more invariant are below a number that is above its own and no less than the bound of the others
 pub named_more : (invs : List Invariant) (i : ℕ) (d : Invariant) (low high greatest : ℕ) → i < length invs → AreNamedBelow low (take i invs) → low ≤ high
     → greatest ≡ max (get_or invs i d).a (get_or invs i d).b → greatest < high → AreNamedBelow high (take (i + 1) invs)
 named_more invs i d low high greatest l have more is above =

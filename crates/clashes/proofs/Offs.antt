@@ -26,7 +26,7 @@ either_cases (false ∷ xs) (true ∷ ys) e =
       | inr less ↦ inr (omega arith)
     ]
 
--- the number where one row is another
+-- how many bits are off where one row is another
 pub off_set : (T : List (List Bool)) (to : ℕ) (row : List Bool) → to < length T → off (set T to row) + off_in_row (row_at T to) ≡ off T + off_in_row row
 off_set [] to row l = absurd (omega arith)
 off_set (r ∷ T) zero row l = omega arith
@@ -34,13 +34,14 @@ off_set (r ∷ T) (suc to) row l =
     let k : off (set T to row) + off_in_row (row_at T to) ≡ off T + off_in_row row = off_set T to row (omega arith) in
     omega arith
 
+-- the front of a table in which one of its rows is another
 pub take_set_within : (n : ℕ) (T : List (List Bool)) (i : ℕ) (row : List Bool) → i < n → take n (set T i row) ≡ set (take n T) i row
 take_set_within zero T i row l = absurd (omega arith)
 take_set_within (suc n) [] i row l = refl
 take_set_within (suc n) (r ∷ T) zero row l = refl
 take_set_within (suc n) (r ∷ T) (suc i) row l = ap (λ (t : List (List Bool)). r ∷ t) (take_set_within n T i row (omega arith))
 
--- a row among the first n is another
+-- how many bits of the front are off where one of its rows is another
 pub off_front : (n : ℕ) (T : List (List Bool)) (i : ℕ) (row : List Bool) → i < n → n ≤ length T
     → off (take n (set T i row)) + off_in_row (row_at T i) ≡ off (take n T) + off_in_row row
 off_front n T i row l m =
@@ -50,7 +51,7 @@ off_front n T i row l m =
     let c : off_in_row (row_at (take n T) i) ≡ off_in_row (row_at T i) = ap off_in_row (get_or-take n T i [] l) in
     omega arith
 
--- and a row among the n behind these
+-- how many bits of the n rows behind the front are off where one of these is another
 pub off_behind : (n : ℕ) (T : List (List Bool)) (i : ℕ) (row : List Bool) → i < n → n + n ≤ length T
     → off (take n (drop n (set T (n + i) row))) + off_in_row (row_at T (n + i)) ≡ off (take n (drop n T)) + off_in_row row
 off_behind n T i row l m =
@@ -60,14 +61,15 @@ off_behind n T i row l m =
     let c : off_in_row (row_at (drop n T) i) ≡ off_in_row (row_at T (n + i)) = ap off_in_row (get_or-drop n T i []) in
     omega arith
 
--- a row behind the first n leaves these as they are
+-- a row behind the front leaves the front as it is
 pub front_kept : (n : ℕ) (T : List (List Bool)) (i : ℕ) (row : List Bool) → n ≤ i → take n (set T i row) ≡ take n T
 front_kept n T i row l = take-set-le n T i row l
 
--- a row before or behind the n behind these leaves them as they are
+-- a row of the front leaves the n rows behind it as they are
 pub behind_kept_low : (n : ℕ) (T : List (List Bool)) (i : ℕ) (row : List Bool) → i < n → take n (drop n (set T i row)) ≡ take n (drop n T)
 behind_kept_low n T i row l = ap (take n) (drop-set-lt n T i row l)
 
+-- a row behind the front and the n rows behind it leaves these n as they are
 pub behind_kept_high : (n : ℕ) (T : List (List Bool)) (i : ℕ) (row : List Bool) → n + n ≤ i → take n (drop n (set T i row)) ≡ take n (drop n T)
 behind_kept_high n T i row l =
     let j : ℕ = i - n in
@@ -79,6 +81,7 @@ pub record IsTold (n : ℕ) (old new : List (List Bool)) (changed : Bool) : Type
   pub same : changed ≡ false → new ≡ old
   pub fewer : changed ≡ true → off (take n new) + off (take n (drop n new)) < off (take n old) + off (take n (drop n old))
 
+-- where bits are added, no more of them are off than before
 pub told_most : (n : ℕ) (old new : List (List Bool)) (changed : Bool) → IsTold n old new changed
     → off (take n new) + off (take n (drop n new)) ≤ off (take n old) + off (take n (drop n old))
 told_most n old new changed t =
@@ -87,7 +90,7 @@ told_most n old new changed t =
       | inr miss ↦ let e : off (take n new) + off (take n (drop n new)) ≡ off (take n old) + off (take n (drop n old)) = ap (λ (x : List (List Bool)). off (take n x) + off (take n (drop n x))) (t.same miss) in omega arith
     ]
 
--- two additions, one after the other
+-- two additions of bits tell, one after the other, whether either changed any
 pub told_join : (n : ℕ) (a b c : List (List Bool)) (x y : Bool) → IsTold n a b x → IsTold n b c y → IsTold n a c (x || y)
 told_join n a b c true y t u =
     record {
@@ -110,7 +113,7 @@ added T new to xs changed e long t hit =
       | inr less ↦ less
     ]
 
--- bits that are added to a row of the front
+-- an addition to a row of the front tells whether fewer bits are off
 pub told_front : (n : ℕ) (T new : List (List Bool)) (to : ℕ) (xs : List Bool) (changed : Bool) → to < n → n + n ≤ length T
     → new ≡ set T to (either (row_at T to) xs) → length (row_at T to) ≡ length xs → OnFalse changed (new ≡ T) → OnTrue changed (new ≢ T) → IsTold n T new changed
 told_front n T new to xs changed l m e long f t =
@@ -125,7 +128,7 @@ told_front n T new to xs changed l m e long f t =
           omega arith;
     }
 
--- and to one behind it
+-- an addition to one of the n rows behind the front tells whether fewer bits are off
 pub told_behind : (n : ℕ) (T new : List (List Bool)) (to : ℕ) (xs : List Bool) (changed : Bool) → to < n → n + n ≤ length T
     → new ≡ set T (n + to) (either (row_at T (n + to)) xs) → length (row_at T (n + to)) ≡ length xs → OnFalse changed (new ≡ T) → OnTrue changed (new ≢ T) → IsTold n T new changed
 told_behind n T new to xs changed l m e long f t =
@@ -140,7 +143,7 @@ told_behind n T new to xs changed l m e long f t =
           omega arith;
     }
 
--- the same where the row's number is given by another term
+-- an addition to such a row tells so too where the row's number is given by another term
 pub told_behind_at : (n : ℕ) (T new : List (List Bool)) (r to : ℕ) (xs : List Bool) (changed : Bool) → r ≡ n + to → to < n → n + n ≤ length T
     → new ≡ set T r (either (row_at T r) xs) → length (row_at T r) ≡ length xs → OnFalse changed (new ≡ T) → OnTrue changed (new ≢ T) → IsTold n T new changed
 told_behind_at n T new r to xs changed er l m e long f t =

@@ -14,11 +14,11 @@ use Rattle.clashes.specs.Changes.{IsEntered, IsFollowed, TellsGrowth, off_in}
 use Rattle.clashes.specs.Growing.{HasEntered, IsClosedAt, IsGrown, IsStill, IsClosedBut, IsFollowedIfNew, IsNoted}
 use Rattle.clashes.proofs.Sound.{get_back, grown_then, grown_none, entered_grown, entered_has, has_stays, followed_grown, followed_closed}
 
--- ---- links are edges
-
+-- a link of the graph is an edge of it
 pub link_edge : (links : List Link) (g : Graph) (k : ℕ) (d : Link) → AreLinksOf links g → k < length links → g.edge (get_or links k d).from (get_or links k d).to ≡ true
 link_edge links g k d h l = (h.edges (get_or links k d)).0 (k, l, get_or_default links k (get_or links k d) d l)
 
+-- both ends of an edge are ids that can be used
 pub edges_below : (links : List Link) (g : Graph) → AreLinksOf links g → (u v : ℕ) → g.edge u v ≡ true → (u < MAX_PARTITIONS) × (v < MAX_PARTITIONS)
 edges_below links g h u v edge =
     let link : Link = record { from = u; to = v } in
@@ -34,11 +34,11 @@ along_edges links g n P h l all u v edge =
     let whole : All (λ (x : Link). P x.from x.to) links = subst (λ (xs : List Link). All (λ (x : Link). P x.from x.to) xs) (take_all n links l) all in
     subst (λ (x : Link). P x.from x.to) there.2 (whole there.0 link there.1)
 
--- ---- the marks that edges bring at once
-
+-- of these links the marks are there that they give at once
 abbrev pub AreEnteredSoFar : Graph → Marks → List Link → Type 0
 AreEnteredSoFar g marks links = All (λ link. HasEntered marks g link.from link.to) links
 
+-- with one more link, the marks are there that it gives at once, and what marks tell stays so
 pub seed_step : (g : Graph) (links : List Link) (i : ℕ) (d : Link) (old now new : Marks) (typ : ℕ) → AreLinksOf links g → i < length links
     → IsEntered now new (get_or links i d).from (get_or links i d).to typ → typ ≡ g.typ (get_or links i d).to
     → IsGrown old now g × AreEnteredSoFar g now (take i links) → IsGrown old new g × AreEnteredSoFar g new (take (i + 1) links)
@@ -53,8 +53,7 @@ seed_step g links i d old now new typ h l f e s =
           (entered_has now new g x.from x.to f'),
     )
 
--- ---- a pass
-
+-- where growth is told, no more marks are off than before
 pub told_most : (old new : Marks) (changed : Bool) → TellsGrowth old new changed → off_in new ≤ off_in old
 told_most old new changed t =
     elim (cases_Bool changed) [
@@ -62,6 +61,7 @@ told_most old new changed t =
       | inr miss ↦ let e : off_in new ≡ off_in old = ap off_in (t.same miss) in omega arith
     ]
 
+-- two steps of which each tells growth tell whether either changed any
 pub told_then : (a b c : Marks) (x y : Bool) → TellsGrowth a b x → TellsGrowth b c y → TellsGrowth a c (x || y)
 told_then a b c true y t u =
     record {
@@ -81,12 +81,14 @@ IsClosedFrom g marks links recent now i =
     → (j < i) ⊎ (IsStill recent (get_or links j d).from × IsStill recent (get_or links j d).to)
     → IsClosedAt marks g (get_or links j d).from (get_or links j d).to
 
+-- a pass that has come to this link: what it told so far, and where marks may still spread
 pub record IsPassing (g : Graph) (old marks : Marks) (changed : Bool) (links : List Link) (recent now : List Bool) (i : ℕ) : Type 0 where
   pub grown : IsGrown old marks g
   pub tells : TellsGrowth old marks changed
   pub closed : IsClosedBut old g recent → IsClosedFrom g marks links recent now i
   pub still : changed ≡ false → (p : ℕ) → IsStill now p
 
+-- before a pass nothing was changed
 pub pass_begins : (g : Graph) (marks : Marks) (links : List Link) (recent now : List Bool) → AreLinksOf links g → ((p : ℕ) → IsStill now p)
     → IsPassing g marks marks false links recent now 0
 pass_begins g marks links recent now h none =
@@ -171,6 +173,7 @@ noted g old new links recent now now' i e li f n have j d l from to way =
       ]
     ]
 
+-- a pass goes on by one link
 pub pass_step : (g : Graph) (links : List Link) (i : ℕ) (d : Link) (old marks new : Marks) (typ : ℕ) (changed more : Bool) (recent now now' : List Bool) → AreLinksOf links g → i < length links
     → IsFollowedIfNew marks new (get_or links i d).from (get_or links i d).to typ recent now → TellsGrowth marks new more → typ ≡ g.typ (get_or links i d).to
     → (more ≡ true → IsNoted now now' (get_or links i d).from (get_or links i d).to) → (more ≡ false → now' ≡ now)
@@ -208,6 +211,7 @@ pass_step g links i d old marks new typ changed more recent now now' h l f t e n
           }
     ]
 
+-- behind a pass nothing more spreads but where marks are new
 pub pass_closes : (g : Graph) (links : List Link) (n : ℕ) (marks : Marks) (recent now : List Bool) → AreLinksOf links g → length links ≤ n → IsClosedFrom g marks links recent now n → IsClosedBut marks g now
 pass_closes g links n marks recent now h l c u v edge from to =
     let link : Link = record { from = u; to = v } in

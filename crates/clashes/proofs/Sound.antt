@@ -16,7 +16,7 @@ use Rattle.clashes.specs.Rules.{enters, stays, falls, starts, is_bad_itself}
 use Rattle.clashes.specs.Changes.{IsBegun, IsEntered, IsFollowed}
 use Rattle.clashes.specs.Growing.{HasEndsOnPaths, AreSound, HasEntered, IsClosedAt, AreEntered, IsClosed, IsGrown, HasBegun}
 
--- each end of an edge is in the ids of a trace
+-- each end of an edge is on a path
 pub ends_on_paths : (h : Assignment) → IsTyped h → (u v : ℕ) → (G h).edge u v ≡ true → IsOnPath (G h) u × IsOnPath (G h) v
 ends_on_paths h t u v k =
     let o : (trace : List Event) × In trace h × (0 < pairs u v (id_list trace)) = edge-In u v h k in
@@ -25,24 +25,28 @@ ends_on_paths h t u v k =
       through (G h) 0 (ids_of o.0 ++ 1 ∷ []) 1 v f.0.1 (inr (pairs-In u v 0 (ids_of o.0 ++ 1 ∷ []) o.2)),
     )
 
+-- each end of an edge is on a path, and its id can be used
 pub has_ends : (h : Assignment) → IsTyped h → ((u v : ℕ) → (G h).edge u v ≡ true → (u < MAX_PARTITIONS) × (v < MAX_PARTITIONS)) → HasEndsOnPaths (G h)
 has_ends h t below u v k =
     let o : IsOnPath (G h) u × IsOnPath (G h) v = ends_on_paths h t u v k in (o.0, o.1, (below u v k).0, (below u v k).1)
 
--- ---- tests and facts
-
+-- where the test says that a type enters the critical state, it does
 pub enters_is : (inv : Invariant) (x : ℕ) → enters inv x ≡ true → Enters inv x
 enters_is inv x e = eqb-true (step inv (calm_of inv.kind) x) (critical inv) e
 
+-- where a type enters the critical state, the test says so
 pub is_enters : (inv : Invariant) (x : ℕ) → Enters inv x → enters inv x ≡ true
 is_enters inv x e = eq-eqb (step inv (calm_of inv.kind) x) (critical inv) e
 
+-- where the test says that a type stays in the critical state, it does
 pub stays_is : (inv : Invariant) (x : ℕ) → stays inv x ≡ true → Stays inv x
 stays_is inv x e = eqb-true (step inv (critical inv) x) (critical inv) e
 
+-- where a type stays in the critical state, the test says so
 pub is_stays : (inv : Invariant) (x : ℕ) → Stays inv x → stays inv x ≡ true
 is_stays inv x e = eq-eqb (step inv (critical inv) x) (critical inv) e
 
+-- where the test says that a type falls into the bad state, it does
 pub falls_is : (inv : Invariant) (x : ℕ) → falls inv x ≡ true → Falls inv x
 falls_is inv x e =
     let p : (is_bad inv (step inv (critical inv) x) ≡ true) × (not (is_bad inv (critical inv)) ≡ true) =
@@ -51,17 +55,17 @@ falls_is inv x e =
       λ z. eqb-false (critical inv) (bad_of inv.kind) (not-true (is_bad inv (critical inv)) p.1) (sym z),
     )
 
+-- where a type falls into the bad state, the test says so
 pub is_falls : (inv : Invariant) (x : ℕ) → Falls inv x → falls inv x ≡ true
 is_falls inv x f =
     and_from (is_bad inv (step inv (critical inv) x)) (not (is_bad inv (critical inv))) (eq-eqb (step inv (critical inv) x) (bad_of inv.kind) f.0)
     (not_from_false (is_bad inv (critical inv)) (ne_eqb (critical inv) (bad_of inv.kind) (λ z. f.1 (sym z))))
 
--- ---- one step
-
+-- an invariant of the list has its number in the same list before
 pub get_back : (old new : Marks) (k : ℕ) (inv : Invariant) → new.invs ≡ old.invs → slice_get new.invs k ≡ Some inv → slice_get old.invs k ≡ Some inv
 get_back old new k inv e get = subst (λ (invs : List Invariant). slice_get invs k ≡ Some inv) e get
 
--- an edge brings marks at once
+-- the marks that an edge brings at once tell what is so
 pub entered_sound : (g : Graph) (old new : Marks) (u v : ℕ) → g.edge u v ≡ true → IsEntered old new u v (g.typ v) → HasEndsOnPaths g → AreSound old g → AreSound new g
 entered_sound g old new u v edge f paths s =
     let ends : IsOnPath g u × IsOnPath g v × (u < MAX_PARTITIONS) × (v < MAX_PARTITIONS) = paths u v edge in
@@ -90,6 +94,7 @@ entered_sound g old new u v edge f paths s =
           ];
     }
 
+-- an edge that was entered has the marks that it gives at once
 pub entered_has : (old new : Marks) (g : Graph) (u v : ℕ) → IsEntered old new u v (g.typ v) → HasEntered new g u v
 entered_has old new g u v f =
     record {
@@ -97,7 +102,7 @@ entered_has old new g u v f =
       back = λ k inv get sat hit. f.back k inv (get_back old new k inv f.invs get) ∙ or_right (on old.backs u k) (falls inv (g.typ v)) hit;
     }
 
--- an edge carries marks
+-- the marks that an edge takes along tell what is so
 pub followed_sound : (g : Graph) (old new : Marks) (u v : ℕ) → g.edge u v ≡ true → IsFollowed old new u v (g.typ v) → HasEndsOnPaths g → AreSound old g → AreSound new g
 followed_sound g old new u v edge f paths s =
     let ends : IsOnPath g u × IsOnPath g v × (u < MAX_PARTITIONS) × (v < MAX_PARTITIONS) = paths u v edge in
@@ -130,7 +135,7 @@ followed_sound g old new u v edge f paths s =
           ];
     }
 
--- where that changes nothing, nothing more spreads along it
+-- where marks that an edge takes along change nothing, nothing more spreads along it
 pub followed_closed : (old new : Marks) (g : Graph) (u v : ℕ) → IsFollowed old new u v (g.typ v) → new ≡ old → IsClosedAt new g u v
 followed_closed old new g u v f same =
     record {
@@ -142,11 +147,11 @@ followed_closed old new g u v f same =
           ∙ or_right (on old.backs u k) (stays inv (g.typ v) && on old.backs v k) (and_from (stays inv (g.typ v)) (on old.backs v k) stay (ap (λ (m : Marks). on m.backs v k) (sym same) ∙ hit));
     }
 
--- ---- growth
-
+-- marks that stay as they are lose nothing
 pub grown_none : (marks : Marks) (g : Graph) → IsGrown marks marks g
 grown_none marks g = record { invs = refl; sound = λ p s. s; fores = λ k p inv get h. h; backs = λ k p inv get h. h }
 
+-- marks that grow twice have grown
 pub grown_then : (a b c : Marks) (g : Graph) → IsGrown a b g → IsGrown b c g → IsGrown a c g
 grown_then a b c g h m =
     record {
@@ -156,6 +161,7 @@ grown_then a b c g h m =
       backs = λ k p inv get hit. m.backs k p inv (get_back b a k inv (sym h.invs) get) (h.backs k p inv get hit);
     }
 
+-- marks grow by what an edge brings at once
 pub entered_grown : (g : Graph) (old new : Marks) (u v : ℕ) → g.edge u v ≡ true → IsEntered old new u v (g.typ v) → IsGrown old new g
 entered_grown g old new u v edge f =
     record {
@@ -171,6 +177,7 @@ entered_grown g old new u v edge f =
       ];
     }
 
+-- marks grow by what an edge takes along
 pub followed_grown : (g : Graph) (old new : Marks) (u v : ℕ) → g.edge u v ≡ true → IsFollowed old new u v (g.typ v) → IsGrown old new g
 followed_grown g old new u v edge f =
     record {
@@ -186,6 +193,7 @@ followed_grown g old new u v edge f =
       ];
     }
 
+-- marks grow by those from which all others come
 pub begun_grown : (g : Graph) (old new : Marks) → g.typ INITIAL ≡ INITIAL → IsBegun old new → IsGrown old new g
 begun_grown g old new typ f =
     record {
@@ -226,6 +234,7 @@ begun_grown g old new typ f =
       ];
     }
 
+-- where the two ends were given the marks from which all others come, they have these
 pub begun_has : (old new : Marks) (g : Graph) → IsBegun old new → HasBegun new g
 begun_has old new g f =
     record {
@@ -233,7 +242,7 @@ begun_has old new g f =
       back = λ k inv get sat hit. f.back k inv (get_back old new k inv f.invs get) ∙ or_right (on old.backs TERMINAL k) (is_bad_itself inv) hit;
     }
 
--- what is there stays there
+-- the marks from which all others come stay where marks grow
 pub begun_stays : (old new : Marks) (g : Graph) → IsGrown old new g → HasBegun old g → HasBegun new g
 begun_stays old new g h b =
     record {
@@ -241,6 +250,7 @@ begun_stays old new g h b =
       back = λ k inv get sat hit. let get' : slice_get old.invs k ≡ Some inv = get_back old new k inv h.invs get in h.backs k TERMINAL inv get' (b.back k inv get' sat hit);
     }
 
+-- the marks that an edge gives at once stay where marks grow
 pub has_stays : (old new : Marks) (g : Graph) (u v : ℕ) → IsGrown old new g → HasEntered old g u v → HasEntered new g u v
 has_stays old new g u v h b =
     record {
@@ -248,11 +258,11 @@ has_stays old new g u v h b =
       back = λ k inv get sat hit. let get' : slice_get old.invs k ≡ Some inv = get_back old new k inv h.invs get in h.backs k u inv get' (b.back k inv get' sat hit);
     }
 
+-- the marks that all edges give at once stay where marks grow
 pub entered_stays : (old new : Marks) (g : Graph) → IsGrown old new g → AreEntered old g → AreEntered new g
 entered_stays old new g h b u v edge = has_stays old new g u v h (b u v edge)
 
--- ---- where nothing more spreads
-
+-- where nothing more spreads, marks that tell what is so tell all that is so
 pub all_told : (marks : Marks) (g : Graph) → g.typ INITIAL ≡ INITIAL → AreSound marks g → HasBegun marks g → AreEntered marks g → IsClosed marks g → AreMarksOf marks g
 all_told marks g typ s b n c =
     record {

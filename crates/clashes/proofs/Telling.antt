@@ -10,6 +10,7 @@ use Rattle.merge_law.proofs.Loses.{merge_keeps}
 use Rattle.clashes.specs.Marks.{is_met, is_ahead, has_clash}
 use Rattle.clashes.specs.Laws.{ClashesTell}
 
+-- a merge of partitions keeps an invariant exactly where the two have no clash for it
 pub clashes_tell : ClashesTell
 clashes_tell marks h p q k inv m t i lq get sat =
     let order : p < q = i.order in

@@ -17,15 +17,15 @@ HasEndsOnPaths g =
 
 -- each mark of an invariant that the graph satisfies, at an id on a path, tells what is so
 pub record AreSound (marks : Marks) (g : Graph) : Type 0 where
-  pub fore : (k p : ℕ) (inv : Invariant) → slice_get marks.invs k ≡ Some inv → Satisfies g inv → p < MAX_PARTITIONS
-      → IsOnPath g p → on marks.fores p k ≡ true → Fore inv g p
-  pub back : (k p : ℕ) (inv : Invariant) → slice_get marks.invs k ≡ Some inv → Satisfies g inv → p < MAX_PARTITIONS
-      → IsOnPath g p → on marks.backs p k ≡ true → Back inv g p
+  pub fore : (k p : ℕ) (inv : Invariant) → slice_get marks.invs k ≡ Some inv → Satisfies g inv
+      → p < MAX_PARTITIONS → IsOnPath g p → on marks.fores p k ≡ true → Fore inv g p
+  pub back : (k p : ℕ) (inv : Invariant) → slice_get marks.invs k ≡ Some inv → Satisfies g inv
+      → p < MAX_PARTITIONS → IsOnPath g p → on marks.backs p k ≡ true → Back inv g p
 
 -- of the invariants that the graph satisfies, the two ends have the marks from which all others come
 pub record HasBegun (marks : Marks) (g : Graph) : Type 0 where
-  pub fore : (k : ℕ) (inv : Invariant) → slice_get marks.invs k ≡ Some inv → Satisfies g inv → starts inv ≡ true
-      → on marks.fores INITIAL k ≡ true
+  pub fore : (k : ℕ) (inv : Invariant) → slice_get marks.invs k ≡ Some inv → Satisfies g inv
+      → starts inv ≡ true → on marks.fores INITIAL k ≡ true
   pub back : (k : ℕ) (inv : Invariant) → slice_get marks.invs k ≡ Some inv → Satisfies g inv
       → is_bad_itself inv ≡ true → on marks.backs TERMINAL k ≡ true
 

@@ -15,11 +15,11 @@ back_row p = MAX_PARTITIONS + p
 abbrev pub enters_row : ℕ → ℕ
 enters_row x = FIRST_MASK + x * MASKS
 
--- which it leaves there
+-- the mask of a type: which invariants it leaves in the critical state
 abbrev pub stays_row : ℕ → ℕ
 stays_row x = FIRST_MASK + x * MASKS + 1
 
--- and which fall from there into the bad state
+-- the mask of a type: which invariants fall from the critical state into the bad one
 abbrev pub falls_row : ℕ → ℕ
 falls_row x = FIRST_MASK + x * MASKS + 2
 

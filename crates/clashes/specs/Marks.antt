@@ -26,10 +26,10 @@ is_ahead marks k p = on marks.backs p k
 
 -- the marks tell what is so in the graph, for each invariant that it satisfies and each id on a path
 pub record AreMarksOf (marks : Marks) (g : Graph) : Type 0 where
-  pub fore : (k p : ℕ) (inv : Invariant) → slice_get marks.invs k ≡ Some inv → Satisfies g inv → p < MAX_PARTITIONS
-      → IsOnPath g p → (is_met marks k p ≡ true) ↔ Fore inv g p
-  pub back : (k p : ℕ) (inv : Invariant) → slice_get marks.invs k ≡ Some inv → Satisfies g inv → p < MAX_PARTITIONS
-      → IsOnPath g p → (is_ahead marks k p ≡ true) ↔ Back inv g p
+  pub fore : (k p : ℕ) (inv : Invariant) → slice_get marks.invs k ≡ Some inv → Satisfies g inv
+      → p < MAX_PARTITIONS → IsOnPath g p → (is_met marks k p ≡ true) ↔ Fore inv g p
+  pub back : (k p : ℕ) (inv : Invariant) → slice_get marks.invs k ≡ Some inv → Satisfies g inv
+      → p < MAX_PARTITIONS → IsOnPath g p → (is_ahead marks k p ≡ true) ↔ Back inv g p
 
 -- whether the critical state meets one of the two ids, and the bad end is ahead of the other
 abbrev pub has_clash : Marks → ℕ → ℕ → ℕ → Bool

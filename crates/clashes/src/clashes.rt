@@ -67,7 +67,8 @@ impl Clashes {
         requires gone { q < MAX_PARTITIONS }
         requires apart { p ≢ q }
         ensures invs { (self.new).invs ≡ (self.old).invs }
-        ensures marks { (h : Assignment) → IsTyped h → IsPair (G h) p q → (graph.now).traces ≡ merge p q h
+        ensures marks { (h : Assignment) → IsTyped h → IsPair (G h) p q
+            → (graph.now).traces ≡ merge p q h
             → AreMarksOf self.old (G h) → AreMarksOf self.new (G (graph.now).traces) }
     {
         self.links.gather(&View::Plain(graph));

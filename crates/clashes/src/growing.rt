@@ -32,7 +32,8 @@ pub(crate) fn grow_from(board: &mut Board, links: &[Link], graph: &PartGraph, p:
     ensures invs { (board.new).invs ≡ (board.old).invs }
     ensures marks { IsTyped (graph.now).traces → AreSound board.old (G (graph.now).traces)
         → HasBegun board.old (G (graph.now).traces) → AreEntered board.old (G (graph.now).traces)
-        → IsClosedBeside board.old (G (graph.now).traces) p → AreMarksOf board.new (G (graph.now).traces) }
+        → IsClosedBeside board.old (G (graph.now).traces) p
+        → AreMarksOf board.new (G (graph.now).traces) }
 {
     let mut recent = nowhere();
     recent[p as usize] = true;
@@ -94,8 +95,12 @@ fn pass(
     requires recent_room { length recent.now ≡ MAX_PARTITIONS }
     requires now_room { length now.old ≡ MAX_PARTITIONS }
     requires none { (p : ℕ) → IsStill now.old p }
+
+    // Marks are only added, and it is told whether any were.
     ensures grown { IsGrown board.old board.new (G (graph.now).traces) }
     ensures tells { TellsGrowth board.old board.new result }
+
+    // Where marks may still spread.
     ensures after { IsClosedBut board.old (G (graph.now).traces) recent.now
         → IsClosedBut board.new (G (graph.now).traces) now.new }
     ensures still { result ≡ false → (p : ℕ) → IsStill now.new p }
@@ -113,8 +118,13 @@ fn follow(board: &mut Board, link: Link, typ: u16, recent: &[bool], now: &mut [b
     requires ids { HasIds link }
     requires recent_room { length recent.now ≡ MAX_PARTITIONS }
     requires now_room { length now.old ≡ MAX_PARTITIONS }
-    ensures followed { IsFollowedIfNew board.old board.new link.from link.to typ recent.now now.old }
+
+    // What goes along the link.
+    ensures followed { IsFollowedIfNew
+        board.old board.new link.from link.to typ recent.now now.old }
     ensures tells { TellsGrowth board.old board.new result }
+
+    // At which ids marks are new.
     ensures noted { result ≡ true → IsNoted now.old now.new link.from link.to }
     ensures still { result ≡ false → now.new ≡ now.old }
 {

@@ -1,5 +1,5 @@
 //! What a type does to the monitor of an invariant.
-ghost use Rattle.std.specs.Prelude.{◌≡◌, ◌≤◌};
+ghost use Rattle.std.specs.Prelude.{◌≡◌};
 ghost use Rattle.merge_law.specs.Critical.{calm_of, critical_of};
 ghost use Rattle.clashes.specs.Rules.{enters, stays, falls, starts, is_bad_itself};
 
