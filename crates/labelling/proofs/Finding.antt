@@ -18,9 +18,7 @@ use Rattle.labelling.specs.Layout.{is_on, label_row, bad_row, move_row, AreMarke
 use Rattle.labelling.proofs.Marking.{move_tells, marked_same}
 use Rattle.labelling.proofs.Passing.{IsBadBelow}
 
--- ---- rows of labels
-
--- different places have different rows
+-- different ids or states have different rows
 pub same_label : (p s q t : ℕ) → s < STATES → t < STATES → label_row p s ≡ label_row q t → (p ≡ q) × (s ≡ t)
 same_label p s q t low next e = (omega (arith, low, next, e), omega (arith, low, next, e))
 
@@ -34,6 +32,7 @@ kept_marked bound invs old new shape same h = record {
   marked = λ k inv at. marked_same bound old new k inv (λ r above other. ap (λ (x : List Bool). is_set x k) (same r above other)) (h.marked k inv at);
 }
 
+-- the marks stay where a row of labels gets what another row passes
 pub passed_marked : (bound : ℕ) (invs : List Invariant) (old new : List (List Bool)) (from to mask : ℕ) (back changed : Bool) → to < LABEL_ROWS
     → IsPassed old new from to mask back changed → AreMarked bound invs old → AreMarked bound invs new
 passed_marked bound invs old new from to mask back changed low h =
@@ -49,6 +48,7 @@ module _ (invs : List Invariant) (old new : List (List Bool)) (from to mask : �
     | inr ne ↦ ap (λ (x : List Bool). is_set x k) (h.others r ne) ∙ on
   ]
 
+  -- what is found grows where a row gets what another row passes
   pub passed_grows : Grows (found_in invs old) (found_in invs new) changed
   passed_grows = record {
     same = refl;
@@ -58,14 +58,13 @@ module _ (invs : List Invariant) (old new : List (List Bool)) (from to mask : �
     falls = h.falls;
   }
 
--- only one id has more
+-- where a row of an id gets what another row passes, only that id has more
 pub passed_but : (invs : List Invariant) (old new : List (List Bool)) (from q t mask : ℕ) (back changed : Bool) → t < STATES
     → IsPassed old new from (label_row q t) mask back changed → IsSameBut q (found_in invs old) (found_in invs new)
 passed_but invs old new from q t mask back changed next h k p s ne low on =
     ap (λ (x : List Bool). is_set x k) (sym (h.others (label_row p s) (λ e. ne (same_label p s q t low next e).0))) ∙ on
 
--- ---- what goes along an edge
-
+-- the step of a state that is reached is reached along an edge
 pub reached_more : (inv : Invariant) (g : Graph) (p s q : ℕ) → Reached inv g p s → g.edge p q ≡ true → Reached inv g q (step inv s (g.typ q))
 reached_more inv g p s q r e =
     (r.0 ++ q ∷ [], walk_more g INITIAL r.0 p q r.1 e, run_more inv g 0 (INITIAL ∷ r.0) q ∙ ap (λ (x : ℕ). step inv x (g.typ q)) r.2)
@@ -82,6 +81,7 @@ module _ (bound : ℕ) (invs : List Invariant) (old new : List (List Bool)) (p q
     (marked : AreMarked bound invs old) (le : x ≤ bound) (acts : (k : ℕ) (inv : Invariant) (z : ℕ) → slice_get invs k ≡ Some inv → step inv z x ≡ step inv z typ)
     (in_p : p < MAX_PARTITIONS) (in_q : q < MAX_PARTITIONS) (low : s < STATES) (next : t < STATES)
     (h : IsPassed old new (label_row p s) (label_row q t) (move_row x s t) (s == t) changed) where
+  -- what a move finds at the end of an edge is reached
   pub carried_follows : FollowsAlong p q typ (found_in invs old) (found_in invs new)
   carried_follows g edge is_typ before k inv r z at in_r in_z on = elim (cases_eq (label_row r z) (label_row q t)) [
     | inr ne ↦ before k inv r z at in_r in_z (ap (λ (y : List Bool). is_set y k) (sym (h.others (label_row r z) ne)) ∙ on)
@@ -97,6 +97,7 @@ module _ (bound : ℕ) (invs : List Invariant) (old new : List (List Bool)) (p q
         ]
   ]
 
+  -- a move finds at the end of an edge the steps of what was found at its beginning
   pub carried_over : IsCarried p s typ q t (found_in invs old) (found_in invs new)
   carried_over k inv at on made =
       h.here k
@@ -104,11 +105,10 @@ module _ (bound : ℕ) (invs : List Invariant) (old new : List (List Bool)) (p q
       (and_from (is_on old (label_row p s) k) (cond (s == t) (not (is_on old (move_row x s t) k)) (is_on old (move_row x s t) k)) on
       (mask_step bound invs old k x typ s t inv marked at le (acts k inv s at) low next ∙ eq-eqb (step inv s typ) t made))
 
--- ---- what INITIAL begins with
-
 module _ (bound : ℕ) (invs : List Invariant) (old new : List (List Bool)) (x typ t : ℕ) (changed : Bool)
     (marked : AreMarked bound invs old) (le : x ≤ bound) (acts : (k : ℕ) (inv : Invariant) (z : ℕ) → slice_get invs k ≡ Some inv → step inv z x ≡ step inv z typ)
     (next : t < STATES) (h : IsPassed old new ALL_ROW (label_row INITIAL t) (move_row x 0 t) (0 == t) changed) where
+  -- what INITIAL begins with is reached there
   pub started_at : StartsAt typ (found_in invs old) (found_in invs new)
   started_at g is_typ before k inv r z at in_r in_z on = elim (cases_eq (label_row r z) (label_row INITIAL t)) [
     | inr ne ↦ before k inv r z at in_r in_z (ap (λ (y : List Bool). is_set y k) (sym (h.others (label_row r z) ne)) ∙ on)
@@ -124,6 +124,7 @@ module _ (bound : ℕ) (invs : List Invariant) (old new : List (List Bool)) (x t
         ]
   ]
 
+  -- the state that INITIAL begins with is found there
   pub started : HasStart typ t (found_in invs new)
   started k inv at made =
       h.here k
@@ -131,24 +132,24 @@ module _ (bound : ℕ) (invs : List Invariant) (old new : List (List Bool)) (x t
       (and_from (is_on old ALL_ROW k) (cond (0 == t) (not (is_on old (move_row x 0 t) k)) (is_on old (move_row x 0 t) k)) (marked.marked k inv at).all
       (mask_step bound invs old k x typ 0 t inv marked at le (acts k inv 0 at) (omega arith) next ∙ eq-eqb (step inv 0 typ) t made))
 
--- rows by their places
+-- a row got what another passes, where the numbers of the rows are given by other terms
 pub passed_at : (old new : List (List Bool)) (a b to at mask by : ℕ) (back changed : Bool) → a ≡ b → to ≡ at → mask ≡ by
     → IsPassed old new a to mask back changed → IsPassed old new b at by back changed
 passed_at old new a b to at mask by back changed e f d h =
     subst (λ (x : ℕ). IsPassed old new b at x back changed) d (subst₂ (λ (x y : ℕ). IsPassed old new x y mask back changed) e f h)
-
--- ---- what is noted
 
 same_truth : (a b : Bool) → (a ≡ true → b ≡ true) → (b ≡ true → a ≡ true) → a ≡ b
 same_truth true b f g = sym (f refl)
 same_truth false true f g = g refl
 same_truth false false f g = refl
 
+-- the bad state is one of the three
 pub bad_low : (kind : Kind) → bad_of kind < STATES
 bad_low AF = omega arith
 bad_low NF = omega arith
 bad_low AP = omega arith
 
+-- those are noted for which the bad state is found at TERMINAL
 pub noted : (bound : ℕ) (invs : List Invariant) (old new : List (List Bool)) → AreMarked bound invs old
     → ((k : ℕ) → (is_on new BROKEN_ROW k ≡ true) ↔ IsBadBelow old k STATES)
     → ((r : ℕ) → r ≢ BROKEN_ROW → row_at new r ≡ row_at old r) → AreNoted (found_in invs new)

@@ -10,8 +10,7 @@ use Rattle.bit_rows.specs.Tables.{row_at, is_set, HasShape}
 use Rattle.labelling.specs.declared.layout.TheConstants.{STATES, LABEL_ROWS, BROKEN_ROW, ALL_ROW, MOVE_ROWS, MOVES}
 use Rattle.labelling.specs.Layout.{is_on, bad_row, move_row, is_move, IsApart, IsMarked}
 
--- ---- one truth value is put
-
+-- the truth value that is put stands in its place
 pub put_here : (old new : List (List Bool)) (n m r k : ℕ) (on : Bool) → HasShape old n m → r < n → k < m
     → new ≡ set old r (set (row_at old r) k on) → is_on new r k ≡ on
 put_here old new n m r k on shape below inside is =
@@ -19,10 +18,12 @@ put_here old new n m r k on shape below inside is =
     ∙ ap (λ (x : List Bool). is_set x k) (get_or-set_same old r (set (row_at old r) k on) [] (omega (arith, below, shape.count)))
     ∙ get_or-set_same (row_at old r) k on false (omega (arith, inside, shape.long r below))
 
+-- what is put in a row leaves the other rows
 pub put_row : (old new : List (List Bool)) (r s j k : ℕ) (on : Bool) → new ≡ set old r (set (row_at old r) k on) → s ≢ r → is_on new s j ≡ is_on old s j
 put_row old new r s j k on is ne =
     ap (λ (t : List (List Bool)). is_on t s j) is ∙ ap (λ (x : List Bool). is_set x j) (get_or-set_other old r s (set (row_at old r) k on) [] ne)
 
+-- what is put for an invariant leaves what the rows say of the others
 pub put_other : (old new : List (List Bool)) (n m r s j k : ℕ) (on : Bool) → HasShape old n m → r < n → k < m
     → new ≡ set old r (set (row_at old r) k on) → j ≢ k → is_on new s j ≡ is_on old s j
 put_other old new n m r s j k on shape below inside is ne = elim (cases_eq s r) [
@@ -32,8 +33,6 @@ put_other old new n m r s j k on shape below inside is ne = elim (cases_eq s r) 
       ∙ get_or-set_other (row_at old r) k j on false ne ∙ sym (ap (λ (x : ℕ). is_on old x j) same)
   | inr other ↦ put_row old new r s j k on is other
 ]
-
--- ---- what a type does to a state
 
 step_other_of : (kind : Kind) (a b s x : ℕ) → x ≢ a → x ≢ b → step_of kind a b s x ≡ s
 step_other_of AF a b s x na nb = let e : eqb x a ≡ false = ne_eqb x a na in let f : eqb x b ≡ false = ne_eqb x b nb in rw (e, f) refl
@@ -48,18 +47,17 @@ differs : (b : Bool) → cond b (not b) b ≡ false
 differs true = refl
 differs false = refl
 
--- and makes no move
+-- a type that an invariant does not name makes no move
 pub no_move : (inv : Invariant) (x s t : ℕ) → x ≢ inv.a → x ≢ inv.b → is_move inv x s t ≡ false
 no_move inv x s t na nb = ap (λ (z : ℕ). cond (s == t) (not (z == t)) (z == t)) (step_other inv s x na nb) ∙ differs (s == t)
 
--- and what a mask lets through is the step
+-- what the mask of a move lets through is the step
 pub move_tells : (b made m : Bool) → m ≡ cond b (not made) made → cond b (not m) m ≡ made
 move_tells true true m e = ap not e
 move_tells true false m e = ap not e
 move_tells false made m e = e
 
--- ---- the marks of one invariant
-
+-- the rows of the moves at a type are apart from those at another
 pub apart_moves : (x y s t k : ℕ) → y ≢ x → s < STATES → t < STATES → IsApart x k (move_row y s t) k
 apart_moves x y s t k ne low next = elim (cases_lt y x) [
   | inl less ↦ inr (inl (omega (arith, less)))
@@ -75,6 +73,7 @@ marked_same bound old new k inv same h = record {
   moves = λ x s t le low next. same (move_row x s t) (omega arith) (λ e. absurd (omega (arith, e))) ∙ h.moves x s t le low next;
 }
 
+-- an invariant is marked once its bad states and the moves at both its types are
 pub marked_more : (bound : ℕ) (first one other : List (List Bool)) (k : ℕ) (inv : Invariant)
     → is_on first ALL_ROW k ≡ true → ((s : ℕ) → s < STATES → is_on first (bad_row s) k ≡ is_bad inv s)
     → ((r : ℕ) → MOVE_ROWS ≤ r → is_on first r k ≡ false)
@@ -98,13 +97,12 @@ marked_more bound first one other k inv all bad blank a apart_a b apart_b = reco
   ];
 }
 
--- ---- one move after another
-
 -- what rows say of the first moves at a type
 abbrev pub HasMoves : List (List Bool) → ℕ → Invariant → ℕ → ℕ → Type 0
 HasMoves table k inv x bound =
     (m : ℕ) → m < bound → is_on table (MOVE_ROWS + x * MOVES + m) k ≡ is_move inv x (m / STATES) (m % STATES)
 
+-- the rows say of one more move at a type
 pub moves_more : (old new : List (List Bool)) (n count x k place row : ℕ) (inv : Invariant) (on : Bool) → HasShape old n count
     → MOVE_ROWS + (x + 1) * MOVES ≤ n → k < count → place < MOVES → row ≡ move_row x (place / STATES) (place % STATES) → on ≡ is_move inv x (place / STATES) (place % STATES)
     → new ≡ set old row (set (row_at old row) k on) → HasMoves old k inv x place → HasMoves new k inv x (place + 1)
@@ -120,6 +118,7 @@ moves_more old new n count x k place row inv on shape room number low at is_on_i
           ∙ before m (omega (arith, below, ne))
     ]
 
+-- where rows say of all moves at a type, each row says what it should
 pub moves_all : (table : List (List Bool)) (k x : ℕ) (inv : Invariant) → HasMoves table k inv x MOVES
     → (s t : ℕ) → s < STATES → t < STATES → is_on table (move_row x s t) k ≡ is_move inv x s t
 moves_all table k x inv h s t low next =
@@ -128,6 +127,7 @@ moves_all table k x inv h s t low next =
     let second : (s * STATES + t) % STATES ≡ t = omega arith in
     ap (λ (z : ℕ). is_on table z k) (sym place) ∙ h (s * STATES + t) (omega arith) ∙ ap₂ (λ (y z : ℕ). is_move inv x y z) first second
 
+-- what is put for a move leaves all that is apart from its type
 pub moves_apart : (old new : List (List Bool)) (n count x k place row : ℕ) (on : Bool) → HasShape old n count
     → MOVE_ROWS + (x + 1) * MOVES ≤ n → k < count → place < MOVES → row ≡ move_row x (place / STATES) (place % STATES)
     → new ≡ set old row (set (row_at old row) k on) → (r j : ℕ) → IsApart x k r j → is_on new r j ≡ is_on old r j

@@ -21,6 +21,7 @@ abbrev pub through : Bool → List Bool → List Bool → List Bool
 through true = without
 through false = both
 
+-- a truth value gets nothing new from itself
 pub absorbed : (b x : Bool) → b ≡ (b || (b && x))
 absorbed true x = refl
 absorbed false x = refl
@@ -73,6 +74,7 @@ passed_none table from to mask back same = record {
   falls = λ e. absurd (false≢true e);
 }
 
+-- a row that takes up what another passes has got it, and the flag says whether that is more
 pub passed : (old new : List (List Bool)) (from to mask : ℕ) (back changed : Bool)
     → HasShape old (length old) (length (row_at old to)) → from < length old → to < length old → mask < length old
     → new ≡ set old to (either (row_at old to) (through back (row_at old from) (row_at old mask)))
@@ -102,22 +104,24 @@ passed old new from to mask back changed shape in_from in_to in_mask is keeps st
       ];
     }
 
--- ---- a row that is cleared
-
+-- a row of nothing but false has nothing on
 pub blank : (n k : ℕ) → is_set (replicate n false) k ≡ false
 blank n k = elim (cases_lt k n) [
   | inl below ↦ get_or-replicate n k false false below
   | inr past ↦ get_or_past (replicate n false) k false (omega (arith, length-replicate n false))
 ]
 
+-- nothing is on in the row that is cleared
 pub cleared_here : (old new : List (List Bool)) (r k : ℕ) → r < length old → new ≡ set old r (replicate (length (row_at old r)) false) → is_on new r k ≡ false
 cleared_here old new r k within is =
     ap (λ (t : List (List Bool)). is_on t r k) is ∙ ap (λ (x : List Bool). is_set x k) (get_or-set_same old r (replicate (length (row_at old r)) false) [] within)
     ∙ blank (length (row_at old r)) k
 
+-- a row that is not cleared stays
 pub cleared_other : (old new : List (List Bool)) (row r : ℕ) → new ≡ set old row (replicate (length (row_at old row)) false) → r ≢ row → row_at new r ≡ row_at old r
 cleared_other old new row r is ne = ap (λ (t : List (List Bool)). row_at t r) is ∙ get_or-set_other old row r (replicate (length (row_at old row)) false) [] ne
 
+-- with one more row cleared, the first rows are blank
 pub cleared_blank : (old new : List (List Bool)) (row : ℕ) → row < length old → new ≡ set old row (replicate (length (row_at old row)) false)
     → ((r k : ℕ) → r < row → is_on old r k ≡ false) → (r k : ℕ) → r < row + 1 → is_on new r k ≡ false
 cleared_blank old new row within is before r k below = elim (cases_eq r row) [
@@ -125,8 +129,7 @@ cleared_blank old new row within is before r k below = elim (cases_eq r row) [
   | inr ne ↦ ap (λ (x : List Bool). is_set x k) (cleared_other old new row r is ne) ∙ before r k (omega (arith, ne))
 ]
 
--- ---- what is noted
-
+-- a table has the shape that its own numbers of rows and places give
 pub own_shape : (table : List (List Bool)) (n m r : ℕ) → HasShape table n m → r < n → HasShape table (length table) (length (row_at table r))
 own_shape table n m r h below = subst₂ (λ (x y : ℕ). HasShape table x y) (sym h.count) (sym (h.long r below)) h
 
@@ -135,9 +138,11 @@ abbrev pub IsBadBelow : List (List Bool) → ℕ → ℕ → Type 0
 IsBadBelow table k bound =
     (s : ℕ) × (s < bound) × (is_on table (label_row TERMINAL s) k ≡ true) × (is_on table (bad_row s) k ≡ true)
 
+-- before any state is looked at, nothing is noted
 pub bad_none : (old new : List (List Bool)) (k : ℕ) → is_on new BROKEN_ROW k ≡ false → (is_on new BROKEN_ROW k ≡ true) ↔ IsBadBelow old k 0
 bad_none old new k off = (λ on. absurd (false≢true (sym off ∙ on)), λ h. absurd (omega (arith, h.1)))
 
+-- with one more state looked at, those are noted for which one so far is found at TERMINAL, and bad
 pub bad_more : (first old new : List (List Bool)) (s k : ℕ) (changed : Bool) → s < STATES
     → ((r : ℕ) → r ≢ BROKEN_ROW → row_at old r ≡ row_at first r) → IsPassed old new (label_row TERMINAL s) BROKEN_ROW (bad_row s) false changed
     → ((is_on old BROKEN_ROW k ≡ true) ↔ IsBadBelow first k s) → (is_on new BROKEN_ROW k ≡ true) ↔ IsBadBelow first k (s + 1)

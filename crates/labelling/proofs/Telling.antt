@@ -23,8 +23,7 @@ use Rattle.labelling.specs.Labelled.{Labelling, AreLabelsOf, digit, is_found, nu
 use Rattle.labelling.specs.Layout.{is_on, label_row}
 use Rattle.labelling.proofs.Finding.{reached_more, bad_low}
 
--- ---- numbers of sets
-
+-- the number of a set of states is at most 7
 pub number_small : (a b c : Bool) → number_of a b c ≤ 7
 number_small true true true = omega arith
 number_small true true false = omega arith
@@ -72,12 +71,12 @@ states_found labels k p (suc zero) low = state_one (is_found labels k p 0) (is_f
 states_found labels k p (suc (suc zero)) low = state_two (is_found labels k p 0) (is_found labels k p 1) (is_found labels k p 2)
 states_found labels k p (suc (suc (suc s))) low = absurd (omega (arith, low))
 
--- ---- rows of a table
-
+-- what labels say to be found is what the row of the state says
 pub found_same : (invs : List Invariant) (table : List (List Bool)) (marks : Marks) (k p s : ℕ) → p < MAX_PARTITIONS → s < STATES
     → is_found (labelling_in invs table marks) k p s ≡ is_on table (label_row p s) k
 found_same invs table marks k p s in_p low = ap (λ (x : List Bool). is_set x k) (get_or-take LABEL_ROWS table (label_row p s) [] (omega (arith, in_p, low)))
 
+-- the number of the states whose rows are on is the label
 pub digit_same : (invs : List Invariant) (table : List (List Bool)) (marks : Marks) (k p : ℕ) → p < MAX_PARTITIONS
     → number_of (is_on table (label_row p 0) k) (is_on table (label_row p 1) k) (is_on table (label_row p 2) k) ≡ digit (labelling_in invs table marks) k p
 digit_same invs table marks k p in_p =
@@ -87,6 +86,7 @@ digit_same invs table marks k p in_p =
     sym (ap₂ (λ (x y : Bool). number_of x y (is_found (labelling_in invs table marks) k p 2)) zeroth first
     ∙ ap (λ (x : Bool). number_of (is_on table (label_row p 0) k) (is_on table (label_row p 1) k) x) second)
 
+-- where what is found is what is reached, labels say the states that are reached
 pub exact_labels : (g : Graph) (invs : List Invariant) (table : List (List Bool)) (marks : Marks) → IsExact g (found_in invs table) → AreLabelsOf (labelling_in invs table marks) g
 exact_labels g invs table marks h = record {
   states = λ k inv p s at in_p low.
@@ -95,8 +95,6 @@ exact_labels g invs table marks h = record {
       (λ on. w.0 (sym e ∙ on), λ r. e ∙ w.1 r);
   small = λ k p. number_small (is_found (labelling_in invs table marks) k p 0) (is_found (labelling_in invs table marks) k p 1) (is_found (labelling_in invs table marks) k p 2);
 }
-
--- ---- what is broken
 
 all_at : (P : Invariant → Type 0) (invs : List Invariant) → ((k : ℕ) (inv : Invariant) → slice_get invs k ≡ Some inv → P inv) → AllByRecursion P invs
 all_at P [] h = tt
@@ -128,9 +126,11 @@ module _ (g : Graph) (invs : List Invariant) (table : List (List Bool)) (marks :
       let good : is_bad inv (bad_of inv.kind) ≡ false = (reached_inductive inv g sat).end (bad_of inv.kind) ((broken_tells k inv at).0 on) in
       true≢false (sym (eq-eqb (bad_of inv.kind) (bad_of inv.kind) refl) ∙ good)
 
+  -- where nothing is noted, the graph satisfies all invariants
   pub none_broken : ((k : ℕ) → is_on table BROKEN_ROW k ≡ false) → SatisfiesAll g invs
   none_broken off = all_at (λ inv. Satisfies g inv) invs (λ k inv at. satisfied k inv at (off k))
 
+  -- the first that is noted is the first that the graph does not satisfy
   pub first_broken : (k : ℕ) → k < length invs → is_on table BROKEN_ROW k ≡ true → ((j : ℕ) → j < k → is_on table BROKEN_ROW j ≡ false) → IsFirstBroken g invs k
   first_broken k inside on before =
       let inv : Invariant = get_or invs k (record { kind = AF; a = 0; b = 0 }) in

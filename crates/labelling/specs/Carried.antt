@@ -9,7 +9,8 @@ off_count table = sum_by (λ row. count_by (λ b. not b) row) table
 
 -- whether the truth value at k goes from a row through a mask; where the mask tells what stays back, through all else
 abbrev pub passes : List (List Bool) → ℕ → ℕ → Bool → ℕ → Bool
-passes table from mask back k = is_on table from k && (if back then not (is_on table mask k) else is_on table mask k)
+passes table from mask back k =
+    is_on table from k && (if back then not (is_on table mask k) else is_on table mask k)
 
 -- row `to` has got what goes from row `from` through the mask, and the answer says whether that is more
 pub record IsPassed (old new : List (List Bool)) (from to mask : ℕ) (back changed : Bool) : Type 0 where

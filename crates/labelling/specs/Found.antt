@@ -7,8 +7,8 @@ use Rattle.partition_model.specs.Graphs.{Graph}
 use Rattle.partition_model.specs.Labels.{Reached}
 use Rattle.labelling.specs.declared.layout.TheConstants.{STATES, LAST_STATE}
 
--- The invariants; whether a state of the monitor of the one with this number is found at an id; which of them are noted
--- as broken; and how many truth values are false.
+-- the invariants; whether a state of the monitor of the one with this number is found at an id; which of them are noted
+-- as broken; and how many truth values are false
 pub record Found : Type 0 where
   pub invs : List Invariant
   pub has : ℕ → ℕ → ℕ → Bool
@@ -45,12 +45,14 @@ StartsAt x old new = (g : Graph) → g.typ INITIAL ≡ x → IsReachedIn g old �
 
 -- what is new at q is reached by an edge from p, where the type of q is x
 abbrev pub FollowsAlong : ℕ → ℕ → ℕ → Found → Found → Type 0
-FollowsAlong p q x old new = (g : Graph) → g.edge p q ≡ true → g.typ q ≡ x → IsReachedIn g old → IsReachedIn g new
+FollowsAlong p q x old new =
+    (g : Graph) → g.edge p q ≡ true → g.typ q ≡ x → IsReachedIn g old → IsReachedIn g new
 
 -- the state t is found at INITIAL for each invariant whose first step, on x, is t
 abbrev pub HasStart : ℕ → ℕ → Found → Type 0
 HasStart x t found =
-    (k : ℕ) (inv : Invariant) → slice_get found.invs k ≡ Some inv → step inv 0 x ≡ t → found.has k INITIAL t ≡ true
+    (k : ℕ) (inv : Invariant) → slice_get found.invs k ≡ Some inv → step inv 0 x ≡ t
+    → found.has k INITIAL t ≡ true
 
 -- where the state s was found at p, and its step on x is t, the state t is found at q
 abbrev pub IsCarried : ℕ → ℕ → ℕ → ℕ → ℕ → Found → Found → Type 0

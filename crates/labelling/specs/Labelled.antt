@@ -22,7 +22,8 @@ is_found labels k p s = is_on labels.rows (label_row p s) k
 
 -- the number of a set of states: 1 for the state 0, plus 2 for the state 1, plus 4 for the state 2
 abbrev pub number_of : Bool → Bool → Bool → ℕ
-number_of zeroth first second = (if zeroth then 1 else 0) + (if first then 2 else 0) + (if second then 4 else 0)
+number_of zeroth first second =
+    (if zeroth then 1 else 0) + (if first then 2 else 0) + (if second then 4 else 0)
 
 -- the label of the invariant with number k at p: the set of the states that are found there
 abbrev pub digit : Labelling → ℕ → ℕ → ℕ
@@ -30,8 +31,8 @@ digit labels k p = number_of (is_found labels k p 0) (is_found labels k p 1) (is
 
 -- the labels say the states that are reached in the graph, and no more
 pub record AreLabelsOf (labels : Labelling) (g : Graph) : Type 0 where
-  pub states : (k : ℕ) (inv : Invariant) (p s : ℕ) → slice_get labels.invs k ≡ Some inv → p < MAX_PARTITIONS → s < 3
-      → (has_state (digit labels k p) s ≡ true) ↔ Reached inv g p s
+  pub states : (k : ℕ) (inv : Invariant) (p s : ℕ) → slice_get labels.invs k ≡ Some inv
+      → p < MAX_PARTITIONS → s < 3 → (has_state (digit labels k p) s ≡ true) ↔ Reached inv g p s
   pub small : (k p : ℕ) → digit labels k p ≤ 7
 
 -- the labels among the rows of a table, with marks

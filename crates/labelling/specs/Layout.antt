@@ -29,14 +29,16 @@ is_move inv x s t = if s == t then not (step inv s x == t) else (step inv s x ==
 
 -- the types that these invariants name are below the bound
 abbrev pub AreNamedBelow : ℕ → List Invariant → Type 0
-AreNamedBelow bound invs = (k : ℕ) (inv : Invariant) → slice_get invs k ≡ Some inv → (inv.a < bound) × (inv.b < bound)
+AreNamedBelow bound invs =
+    (k : ℕ) (inv : Invariant) → slice_get invs k ≡ Some inv → (inv.a < bound) × (inv.b < bound)
 
--- The truth values of the invariant with number k in the rows that are the same for each graph. All types from the bound
--- on have the rows of the bound.
+-- the truth values of the invariant with number k in the rows that are the same for each graph; all types from the bound
+-- on have the rows of the bound
 pub record IsMarked (bound : ℕ) (table : List (List Bool)) (k : ℕ) (inv : Invariant) : Type 0 where
   pub all : is_on table ALL_ROW k ≡ true
   pub bad : (s : ℕ) → s < STATES → is_on table (bad_row s) k ≡ is_bad inv s
-  pub moves : (x s t : ℕ) → x ≤ bound → s < STATES → t < STATES → is_on table (move_row x s t) k ≡ is_move inv x s t
+  pub moves : (x s t : ℕ) → x ≤ bound → s < STATES → t < STATES
+      → is_on table (move_row x s t) k ≡ is_move inv x s t
 
 -- the row tells what is found or noted, and so is blank at first
 abbrev pub IsFree : ℕ → Type 0

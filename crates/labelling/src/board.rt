@@ -71,7 +71,8 @@ impl Board {
     pub fn start(&mut self, typ: u16, state: u8)
         requires { state < STATES }
         ensures same { (found self.new).invs ≡ (found self.old).invs }
-        ensures keeps { (k p s : ℕ) → (found self.old).has k p s ≡ true → (found self.new).has k p s ≡ true }
+        ensures keeps { (k p s : ℕ) → (found self.old).has k p s ≡ true
+            → (found self.new).has k p s ≡ true }
         ensures sound { StartsAt typ (found self.old) (found self.new) }
         ensures start { HasStart typ state (found self.new) }
         ensures others { IsSameBut INITIAL (found self.old) (found self.new) }
@@ -94,6 +95,8 @@ impl Board {
         requires state { state < STATES }
         requires to { q < MAX_PARTITIONS }
         requires next { next < STATES }
+
+        // What is found, and where.
         ensures grows { Grows (found self.old) (found self.new) result }
         ensures sound { FollowsAlong p q typ (found self.old) (found self.new) }
         ensures carried { IsCarried p state typ q next (found self.old) (found self.new) }
@@ -112,7 +115,8 @@ impl Board {
     /// The type whose rows tell what this one does.
     fn row_type(&self, typ: u16) -> usize
         ensures within { result ≤ self.now.bound }
-        ensures acts { (k : ℕ) (inv : Invariant) (s : ℕ) → slice_get self.now.invs.items k ≡ Some inv
+        ensures acts { (k : ℕ) (inv : Invariant) (s : ℕ)
+            → slice_get self.now.invs.items k ≡ Some inv
             → step inv s result ≡ step inv s typ }
     {
         usize::from(typ).min(self.bound)

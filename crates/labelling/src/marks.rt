@@ -45,6 +45,8 @@ fn mark(rows: &mut Rows, bound: usize, count: usize, k: usize, inv: Invariant)
     requires shape { HasShape rows.old (MOVE_ROWS + (bound + 1) * MOVES) count }
     requires number { k < count }
     requires blank { (r : ℕ) → is_on rows.old r k ≡ false }
+
+    // What the rows say: of the invariant what it does, and of the others what they said.
     ensures shape { KeepsShape rows.old rows.new }
     ensures marked { IsMarked bound rows.new k inv }
     ensures free { (r : ℕ) → IsFree r → is_on rows.new r k ≡ false }

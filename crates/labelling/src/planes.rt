@@ -136,8 +136,9 @@ impl Planes {
         requires apart { p ≢ q }
         ensures keeps { KeepsLabels self.old self.new }
         ensures labels { (g : Graph) → AreLabelsOf self.old g → AreLabelsOf self.new g }
-        ensures marks { (h : Assignment) → IsTyped h → IsPair (G h) p q → (graph.now).traces ≡ merge p q h
-            → AreMarksOf (self.old).clashes (G h) → AreMarksOf (self.new).clashes (G (graph.now).traces) }
+        ensures marks { (h : Assignment) → IsTyped h → IsPair (G h) p q
+            → (graph.now).traces ≡ merge p q h → AreMarksOf (self.old).clashes (G h)
+            → AreMarksOf (self.new).clashes (G (graph.now).traces) }
     {
         self.clashes.join(graph, p, q);
     }

@@ -1,5 +1,5 @@
 //! States that are carried along edges until nothing more is found.
-ghost use Rattle.std.specs.Prelude.{◌≡◌, ◌<◌, ℕ, true, false, length, Contains};
+ghost use Rattle.std.specs.Prelude.{◌≡◌, ◌<◌, ℕ, true, false, length};
 ghost use Rattle.limits.specs.declared.TheConstants.{INITIAL, MAX_PARTITIONS};
 ghost use Rattle.partition_model.specs.Graphs.{Graph};
 ghost use Rattle.partition_graph.specs.Seen.{seen};
@@ -62,9 +62,14 @@ fn follow(board: &mut Board, link: Link, typ: u16, recent: &[bool], now: &mut [b
     requires ids { HasIds link }
     requires recent_room { length recent.now ≡ MAX_PARTITIONS }
     requires now_room { length now.old ≡ MAX_PARTITIONS }
+
+    // What is found at the end of the link.
     ensures grows { Grows (found board.old) (found board.new) result }
     ensures sound { FollowsAlong link.from link.to typ (found board.old) (found board.new) }
-    ensures followed { IsFollowed link.from typ link.to recent.now now.old now.new (found board.old) (found board.new) }
+    ensures followed { IsFollowed
+        link.from typ link.to recent.now now.old now.new (found board.old) (found board.new) }
+
+    // Elsewhere nothing is lost, and a mark comes only with something new.
     ensures others { KeepsSpread now.old now.new (found board.old) (found board.new) }
     ensures quiet { result ≡ false → now.new ≡ now.old }
 {
@@ -92,8 +97,13 @@ fn follow_all(
     requires now_room { length now.old ≡ MAX_PARTITIONS }
     requires none { (p : ℕ) → IsStill now.old p }
     requires before { AreSpread links.now (seen view.now) recent.now (found board.old) }
+
+    // What is found grows, and is reached.
     ensures grows { Grows (found board.old) (found board.new) result }
-    ensures sound { IsReachedIn (seen view.now) (found board.old) → IsReachedIn (seen view.now) (found board.new) }
+    ensures sound { IsReachedIn (seen view.now) (found board.old)
+        → IsReachedIn (seen view.now) (found board.new) }
+
+    // Where something new may still be followed.
     ensures after { AreSpread links.now (seen view.now) now.new (found board.new) }
     ensures quiet { result ≡ false → (p : ℕ) → IsStill now.new p }
 {
