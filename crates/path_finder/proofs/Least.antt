@@ -21,7 +21,7 @@ same_after a p r l = ap (λ (s : ℕ). let x : Pair = record { id = r.id; state 
 pub ends_after : (a : Asked) (p : Pair) (q : ℕ) (xs : List ℕ) → EndsBadly a p (q ∷ xs) → (a.graph.edge p.id q ≡ true) × EndsBadly a (pair_after a p q) xs
 ends_after a p q xs b = (b.walk.0, record { walk = b.walk.1; bad = b.bad })
 
--- of a table in which the walks shorter than a bound are known
+-- where the walks shorter than a bound are known, so are those shorter than a lower one
 pub known_below : (a : Asked) (high low : ℕ) (e : Entries) → low ≤ high → IsKnown a high e → IsKnown a low e
 known_below a high low e l k = record { size = k.size; sound = k.sound; whole = λ r n p m f. k.whole r n p (omega arith) f }
 
@@ -42,7 +42,7 @@ one_less a e p q d k pp qp l v m =
       | inr ge ↦ ge
     ]
 
--- what follows a pair on a walk as short as its distance
+-- what follows a pair on a walk as short as its distance is one nearer
 pub next_value : (a : Asked) (e : Entries) (p : Pair) (d q : ℕ) (xs : List ℕ) → HasEdgesBelow a.graph a.ids → IsKnown a (suc d) e → IsPairOf a p → at e p ≡ suc d → length xs ≡ d → EndsBadly a p (q ∷ xs)
     → at e (pair_after a p q) ≡ d
 next_value a e p d q xs w k pp v l b =

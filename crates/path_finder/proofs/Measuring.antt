@@ -51,7 +51,7 @@ reaches a e (q ∷ xs) r few w ends short closed p b =
     let c : at e r ≤ at e (pair_after a r q) + 1 = closed (pair_after a r q) sp i.1 (omega arith) r p (leads_after a r q edge) in
     (omega arith, omega arith)
 
--- where all entered pairs are closed
+-- where all pairs that were entered are closed and the start is open, all distances are known
 pub all_measured : (a : Asked) (next : ℕ) (e : Entries) (start : Pair) → a.ids ≤ MAX_PARTITIONS → HasEdgesBelow a.graph a.ids → IsSearched a next e → HasEnds a e → at e start ≡ OPEN
     → slice_get e.entered next ≡ None → IsMeasured a start e
 all_measured a next e start few w s ends o n =
@@ -75,7 +75,7 @@ all_measured a next e start few w s ends o n =
         let g : at e r ≤ length f.0 = h.0 in
         (omega arith, h.1)
 
--- where the start is entered
+-- where the start is entered, the distances up to its own are known
 pub start_measured : (a : Asked) (next : ℕ) (e : Entries) (start : Pair) → a.ids ≤ MAX_PARTITIONS → HasEdgesBelow a.graph a.ids → IsSearched a next e → HasEnds a e → IsPairOf a start → at e start < OPEN
     → IsMeasured a start e
 start_measured a next e start few w s ends sp st =
@@ -111,7 +111,7 @@ start_measured a next e start few w s ends sp st =
         let g : at e r ≤ length f.0 = h.0 in
         (omega arith, h.1)
 
--- the pair whose turn it is
+-- the pair whose turn it is has an id in use, and is no farther away than its place
 pub turn_pair : (a : Asked) (next : ℕ) (e : Entries) (r : Pair) → IsSearched a next e → slice_get e.entered next ≡ Some r → IsPairOf a r × (at e r ≤ next) × (next < a.ids * STATES)
 turn_pair a next e r s q =
     let w : next < length e.entered = slice_get_within e.entered next r q in

@@ -1,12 +1,12 @@
 -- A graph in which edges of some ids alone are looked at: which paths it has.
-use Rattle.std.proofs.Common.{◌≡◌, ◌≢◌, ◌⊎◌, ◌==◌, ◌&&◌, ◌||◌, not, ℕ, zero, suc, ◌+◌, ◌<◌, ◌≤◌, true, false, Bool, List, [], ◌∷◌, length, sym, ◌∙◌, refl, ap, ap₂, subst, subst₂, inl, inr, arith, ne_eqb, nat_lt}
-use Rattle.std.proofs.lemmas.Bool.{cases_eq, cases_Bool, cases_lt, le-ltb, lt-ltb, eq-eqb}
-use Rattle.limits.specs.declared.TheConstants.{INITIAL, TERMINAL}
+use Rattle.std.proofs.Common.{◌≡◌, ◌≢◌, ◌⊎◌, ◌==◌, ◌&&◌, ◌||◌, not, ℕ, zero, suc, ◌<◌, ◌≤◌, true, false, Bool, List, [], ◌∷◌, sym, ◌∙◌, refl, ap, ap₂, subst₂, inl, inr, arith, ne_eqb, nat_lt}
+use Rattle.std.proofs.lemmas.Bool.{cases_Bool, cases_lt, le-ltb, lt-ltb, eq-eqb}
+use Rattle.limits.specs.declared.TheConstants.{TERMINAL}
 use Rattle.invariants.specs.declared.Invariant.{Invariant}
 use Rattle.invariants.specs.declared.Kind.{Kind}
 use Rattle.invariants.specs.declared.Kind.TheVariants.{AF, NF, AP}
 use Rattle.invariants.specs.Holds.{At, Holds, HoldsAs}
-use Rattle.partition_model.specs.Graphs.{Graph, Walk, IsPath, word, Breaks, Satisfies, IsBefore, IsLeastViolation, Merged, merged_edge}
+use Rattle.partition_model.specs.Graphs.{Graph, Walk, IsPath, word, Breaks, Satisfies, IsLeastViolation, Merged}
 use Rattle.invariants.specs.Monitors.{run, is_bad}
 use Rattle.invariants.proofs.Agree.{monitor_agrees}
 use Rattle.path_finder.specs.declared.reach.Way.TheVariants.{Ahead, Behind}
@@ -32,7 +32,7 @@ narrowed_edge kept g p q e = from (kept p) (kept q) (g.edge p q) e
     from true false c e = absurd (let x : true ≡ false = sym e in cc)
     from false b c e = absurd (let x : true ≡ false = sym e in cc)
 
--- and such an edge is looked at
+-- an edge of the graph between ids that are kept is looked at
 pub kept_edge : (kept : ℕ → Bool) (g : Graph) (p q : ℕ) → kept p ≡ true → kept q ≡ true → g.edge p q ≡ true → (narrowed kept g).edge p q ≡ true
 kept_edge kept g p q a b e = ap (λ (x : Bool). (x && kept q) && g.edge p q) a ∙ (ap (λ (x : Bool). x && g.edge p q) b ∙ e)
 
@@ -41,7 +41,7 @@ pub narrowed_walk : (kept : ℕ → Bool) (g : Graph) (xs : List ℕ) (x y : ℕ
 narrowed_walk kept g [] x y w = w
 narrowed_walk kept g (r ∷ rs) x y w = ((narrowed_edge kept g x r w.0).2, narrowed_walk kept g rs r y w.1)
 
--- so is a path
+-- a path along edges that are looked at is one of the graph
 pub narrowed_path : (kept : ℕ → Bool) (g : Graph) (path : List ℕ) → IsPath (narrowed kept g) path → IsPath g path
 narrowed_path kept g [] w = w
 narrowed_path kept g (x ∷ xs) w = (w.0, narrowed_walk kept g xs x TERMINAL w.1)
@@ -50,7 +50,7 @@ narrowed_path kept g (x ∷ xs) w = (w.0, narrowed_walk kept g xs x TERMINAL w.1
 abbrev pub KeepsViolations : (ℕ → Bool) → Graph → Invariant → Type 0
 KeepsViolations kept g inv = (path : List ℕ) → Breaks g inv path → IsPath (narrowed kept g) path
 
--- then the least violation is that of the graph
+-- where each path that breaks the invariant has its edges looked at, the least violation is that of the graph
 pub narrowed_least : (kept : ℕ → Bool) (g : Graph) (inv : Invariant) (path : List ℕ) → KeepsViolations kept g inv → IsLeastViolation (narrowed kept g) inv path → IsLeastViolation g inv path
 narrowed_least kept g inv path k l =
     record {
@@ -67,7 +67,7 @@ holds_or_not inv w =
       | inr f ↦ inr ((monitor_agrees inv w).0 f)
     ]
 
--- and where there is none, the graph satisfies the invariant
+-- then where no path along edges that are looked at breaks the invariant, the graph satisfies it
 pub narrowed_satisfies : (kept : ℕ → Bool) (g : Graph) (inv : Invariant) → KeepsViolations kept g inv → Satisfies (narrowed kept g) inv → Satisfies g inv
 narrowed_satisfies kept g inv k s path w =
     elim (holds_or_not inv (word g path)) [
@@ -97,7 +97,7 @@ pub record KeepsAround (kept : ℕ → Bool) (g : Graph) (starts : ℕ → Bool)
   pub keeps_ahead : (u : ℕ) → ahead u ≡ true → kept u ≡ true
   pub keeps_behind : (u : ℕ) → behind u ≡ true → kept u ≡ true
 
--- the edges of a walk from there on are looked at
+-- the edges of a walk from an id ahead are looked at
 pub ahead_walk : (kept : ℕ → Bool) (g : Graph) (starts : ℕ → Bool) (k : KeepsAround kept g starts) (xs : List ℕ) (x y : ℕ) → k.ahead x ≡ true → Walk g x xs y → Walk (narrowed kept g) x xs y
 ahead_walk kept g starts k [] x y a w = w
 ahead_walk kept g starts k (r ∷ rs) x y a w =

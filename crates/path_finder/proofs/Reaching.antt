@@ -1,13 +1,13 @@
 -- What is kept when an id is met.
-use Rattle.std.proofs.Common.{◌≡◌, ◌≢◌, ◌⊎◌, ◌==◌, nat_lt, ℕ, zero, suc, ◌+◌, ◌<◌, ◌≤◌, true, false, not, Bool, List, [], ◌∷◌, ◌++◌, length, replicate, slice_get, set, get_or, count_by, Some, sym, ◌∙◌, refl, ap, subst, inl, inr, arith, get_or-set_same, get_or-set_other, length-append, if◌then◌else◌, sum_by}
+use Rattle.std.proofs.Common.{◌≡◌, ◌==◌, nat_lt, ℕ, zero, suc, ◌+◌, ◌<◌, ◌≤◌, true, false, not, Bool, List, [], ◌∷◌, ◌++◌, length, replicate, slice_get, set, get_or, count_by, Some, sym, ◌∙◌, ap, subst, inl, inr, arith, get_or-set_same, get_or-set_other, length-append, if◌then◌else◌, sum_by}
 use Rattle.std.proofs.lemmas.Bool.{cases_eq, cases_Bool, and_parts, ltb-true, eqb-true}
 use Rattle.std.proofs.lemmas.List.{length-set, length-replicate}
 use Rattle.std.proofs.lemmas.List.Sums.{sum_by-set, count_by-le-length}
-use Rattle.std.proofs.lemmas.Option.{same_Some, slice_get_within, slice_get_cases}
+use Rattle.std.proofs.lemmas.Option.{slice_get_within}
 use Rattle.limits.specs.declared.TheConstants.{MAX_PARTITIONS}
 use Rattle.path_finder.specs.Nearness.{Met, is_met, is_of_type, IsClosed}
 use Rattle.partition_model.specs.Graphs.{Graph}
-use Rattle.path_finder.specs.Reaching.{meeting, IsCounted, IsSpreading, MeetsMore, HasNoneOn, IsNextOn}
+use Rattle.path_finder.specs.Reaching.{meeting, IsCounted, IsSpreading, MeetsMore}
 use Rattle.path_finder.proofs.Entering.{slice_get_kept, slice_get_last, slice_get_push}
 
 -- the id is put behind those that are met
@@ -18,7 +18,7 @@ with_id m id = record { flags = set m.flags id true; list = m.list ++ id ∷ [] 
 pub met_again : (m : Met) (id : ℕ) → is_met m id ≡ true → meeting m id ≡ m
 met_again m id e = ap (λ (b : Bool). if b then m else with_id m id) e
 
--- one that was not is put behind the others
+-- an id that was not met is put behind the others
 pub met_first : (m : Met) (id : ℕ) → is_met m id ≡ false → meeting m id ≡ with_id m id
 met_first m id e = ap (λ (b : Bool). if b then m else with_id m id) e
 
@@ -30,12 +30,6 @@ unmet_fewer xs i l o =
     let u : f (get_or xs i false) ≡ 1 = ap f o in
     (let w : count_by not (set xs i true) + f (get_or xs i false) ≡ count_by not xs + 0 = s in omega arith)
 
--- a flag that is set is one of those that there are
-pub met_within : (xs : List Bool) (i : ℕ) → get_or xs i false ≡ true → i < length xs
-met_within [] i e = absurd (let x : true ≡ false = sym e in cc)
-met_within (x ∷ xs) zero e = omega arith
-met_within (x ∷ xs) (suc i) e = let l : i < length xs = met_within xs i e in omega arith
-
 -- none of these flags is set
 pub none_met : (n i : ℕ) → get_or (replicate n false) i false ≡ true → ⊥
 none_met zero i e = let x : true ≡ false = sym e in cc
@@ -46,7 +40,7 @@ none_met (suc n) (suc i) e = none_met n i e
 pub with_met : (m : Met) (id : ℕ) → id < length m.flags → is_met (with_id m id) id ≡ true
 with_met m id l = get_or-set_same m.flags id true false l
 
--- those that were set stay so
+-- where an id is put behind those that are met, these stay so, at their places
 pub with_more : (m : Met) (id : ℕ) → id < length m.flags → MeetsMore m (with_id m id)
 with_more m id l =
     record {
@@ -57,7 +51,7 @@ with_more m id l =
       listed = λ i p e. slice_get_kept m.list (id ∷ []) i p e;
     }
 
--- and they are still counted
+-- where a new id is put behind those that are met, there is still room for all others
 pub with_counted : (m : Met) (id : ℕ) → id < MAX_PARTITIONS → is_met m id ≡ false → IsCounted m → IsCounted (with_id m id)
 with_counted m id l o c =
     let z : length m.flags ≡ MAX_PARTITIONS = c.size in
@@ -66,7 +60,7 @@ with_counted m id l o c =
     let n : length (m.list ++ id ∷ []) ≡ length m.list + 1 = length-append m.list (id ∷ []) in
     record { size = length-set m.flags id true ∙ c.size; count = omega arith }
 
--- all edges of the first ones of the list are still followed
+-- where a new id is put behind those that are met, all edges of the first ones of the list are still followed
 pub with_spreading : (edge : ℕ → ℕ → Bool) (next : ℕ) (m : Met) (id : ℕ) → next ≤ length m.list → id < MAX_PARTITIONS → is_met m id ≡ false → IsSpreading edge next m
     → IsSpreading edge next (with_id m id)
 with_spreading edge next m id w l o s =
@@ -86,7 +80,7 @@ with_spreading edge next m id w l o s =
       ];
     }
 
--- so it is whether or not the id was met before
+-- where an id is met, new or not, all edges of the first ones of the list are still followed
 pub meets_spreading : (edge : ℕ → ℕ → Bool) (next : ℕ) (m : Met) (id : ℕ) → next ≤ length m.list → id < MAX_PARTITIONS → IsSpreading edge next m
     → IsSpreading edge next (meeting m id) × MeetsMore m (meeting m id) × (is_met (meeting m id) id ≡ true)
 meets_spreading edge next m id w l s =
@@ -112,22 +106,7 @@ blank_spreading edge m n k f l =
       done = λ i p q lt e d. absurd (omega arith);
     }
 
--- where all edges of one more were followed
-pub followed_one : (edge : ℕ → ℕ → Bool) (next id : ℕ) (m : Met) → IsSpreading edge next m → slice_get m.list next ≡ Some id → ((q : ℕ) → edge id q ≡ true → is_met m q ≡ true)
-    → IsSpreading edge (next + 1) m
-followed_one edge next id m s e f =
-    record {
-      counted = s.counted;
-      listed = s.listed;
-      done = λ i p q lt g d. elim (cases_eq i next) [
-        | inl same ↦
-            let x : Some id ≡ Some p = sym e ∙ (ap (λ (j : ℕ). slice_get m.list j) (sym same) ∙ g) in
-            f q (ap (λ (y : ℕ). edge y q) (same_Some id p x) ∙ d)
-        | inr other ↦ s.done i p q (omega arith) g d
-      ];
-    }
-
--- where those of all were followed, each id to which a walk leads is met
+-- where the edges of all that are met were followed, each id to which a walk leads is met
 pub all_followed : (edge : ℕ → ℕ → Bool) (next : ℕ) (m : Met) → IsSpreading edge next m → length m.list ≤ next → IsClosed (is_met m) edge
 all_followed edge next m s l p q a d =
     let f : (i : ℕ) × (slice_get m.list i ≡ Some p) = s.listed p a in

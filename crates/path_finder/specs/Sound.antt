@@ -4,7 +4,7 @@ use Rattle.partition_graph.specs.Seen.{IsSound}
 use Rattle.partition_graph.specs.declared.view.View.{View}
 use Rattle.partition_graph.specs.declared.view.View.TheVariants.{Plain, Merged}
 
--- by cases of the view
+-- that a view is sound has one proof at most
 pub sound-prop : (v : View) → IsProp (IsSound v)
 sound-prop (Plain g) = Prim.hlevel props
 sound-prop (Merged g p q) = Prim.hlevel props

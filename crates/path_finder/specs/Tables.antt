@@ -32,8 +32,8 @@ with_pair e r d = record { distances = slice_set e.distances (place r) d; entere
 abbrev pub IsClosedAt : Asked → Entries → Pair → Type 0
 IsClosedAt a e q = (p : Pair) → IsPairOf a p → Leads a p q → at e p ≤ at e q + 1
 
--- The search, where the pairs entered before the place next are closed. The distances of pairs never fall in the order
--- in which they were entered, and none is more than one above that of the next pair.
+-- the search, where the pairs entered before the place next are closed: the distances of pairs never fall in the order
+-- in which they were entered, and none is more than one above that of the next pair
 pub record IsSearched (a : Asked) (next : ℕ) (e : Entries) : Type 0 where
   pub size : length e.distances ≡ a.ids * STATES
   pub count : length e.entered + open_count e ≤ a.ids * STATES
@@ -62,7 +62,7 @@ pub record IsBegun (a : Asked) (state : ℕ) (e : Entries) : Type 0 where
   pub ends : (r : Pair) → r.id ≡ TERMINAL → r.state < state → is_bad a.inv r.state ≡ true → at e r ≡ 0
   pub rest : (r : Pair) → r.id ≡ TERMINAL → state ≤ r.state → r.state < 3 → at e r ≡ OPEN
 
--- The distance of each pair is known up to that of the start, and where the start is open all are known.
+-- the distance of each pair is known up to that of the start, and where the start is open all are known
 pub record IsMeasured (a : Asked) (start : Pair) (e : Entries) : Type 0 where
   pub size : length e.distances ≡ a.ids * STATES
   pub short : (r : Pair) → IsPairOf a r → at e r < OPEN → at e r ≤ a.ids * STATES

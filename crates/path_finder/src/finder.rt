@@ -39,7 +39,8 @@ fn search<L: Ledger>(
     steps: &mut Steps<L>,
 ) -> bool
     requires room { MAX_ENTRIES < vec_capacity path.old }
-    ensures satisfied { result ≡ false → Satisfies (asked question.now).graph (asked question.now).inv }
+    ensures satisfied { result ≡ false
+        → Satisfies (asked question.now).graph (asked question.now).inv }
     ensures found { result ≡ true → IsLeastOf (asked question.now) path.new.items }
     ensures short { result ≡ true → length path.new.items ≤ MAX_ENTRIES + 1 }
     ensures room { MAX_ENTRIES < vec_capacity path.new }

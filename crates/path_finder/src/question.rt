@@ -58,7 +58,8 @@ impl<'v, 'a> Question<'v, 'a> {
     /// The least id at or above `from` that has an edge to q.
     pub fn next_source(&self, q: u32, from: u32) -> Option<u32>
         ensures next { MatchOption result
-            (HasNoSource (asked self.now).graph q from) (λ p. IsNextSource (asked self.now).graph q from p) }
+            (HasNoSource (asked self.now).graph q from)
+            (λ p. IsNextSource (asked self.now).graph q from p) }
         ensures within { IfSome result (λ p. p < (asked self.now).ids) }
     {
         if !self.around.has(q) {
@@ -77,7 +78,8 @@ impl<'v, 'a> Question<'v, 'a> {
     /// The least id at or above `from` to which p has an edge.
     pub fn next_target(&self, p: u32, from: u32) -> Option<u32>
         ensures next { MatchOption result
-            (HasNoTarget (asked self.now).graph p from) (λ q. IsNextTarget (asked self.now).graph p from q) }
+            (HasNoTarget (asked self.now).graph p from)
+            (λ q. IsNextTarget (asked self.now).graph p from q) }
         ensures within { IfSome result (λ q. q < (asked self.now).ids) }
     {
         if !self.around.has(p) {

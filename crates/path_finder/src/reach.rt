@@ -48,7 +48,8 @@ impl Model for Reach {
 fn next_on(view: &View<'_>, way: Way, id: u32, from: u32) -> Option<u32>
     requires { IsSound view.now }
     ensures next { MatchOption result
-        (HasNoneOn (edge_by way (seen view.now)) id from) (λ n. IsNextOn (edge_by way (seen view.now)) id from n) }
+        (HasNoneOn (edge_by way (seen view.now)) id from)
+        (λ n. IsNextOn (edge_by way (seen view.now)) id from n) }
     ensures within { IfSome result (λ n. n < MAX_PARTITIONS) }
 {
     match way {
@@ -171,7 +172,8 @@ impl Reach {
     /// Meets the ids of the type and all to which walks lead from them that way.
     fn spread_type(&mut self, view: &View<'_>, way: Way, typ: u16)
         requires sound { IsSound view.now }
-        ensures { IsSpread (is_met self.new) (is_of_type (seen view.now) (parts_seen view.now).used typ)
+        ensures { IsSpread (is_met self.new)
+            (is_of_type (seen view.now) (parts_seen view.now).used typ)
             (edge_by way (seen view.now)) }
     {
         self.begin_with_type(view, typ);
@@ -198,8 +200,10 @@ impl Around {
     pub fn find(&mut self, view: &View<'_>, id: u32)
         requires sound { IsSound view.now }
         requires id { id < MAX_PARTITIONS }
-        ensures ahead { IsSpread (is_met (self.new).ahead) (λ p. p == id) (edge_by Ahead (seen view.now)) }
-        ensures behind { IsSpread (is_met (self.new).behind) (λ p. p == id) (edge_by Behind (seen view.now)) }
+        ensures ahead { IsSpread (is_met (self.new).ahead) (λ p. p == id)
+            (edge_by Ahead (seen view.now)) }
+        ensures behind { IsSpread (is_met (self.new).behind) (λ p. p == id)
+            (edge_by Behind (seen view.now)) }
     {
         self.ahead.spread(view, Way::Ahead, id);
         self.behind.spread(view, Way::Behind, id);
@@ -209,9 +213,11 @@ impl Around {
     pub fn find_type(&mut self, view: &View<'_>, typ: u16)
         requires { IsSound view.now }
         ensures ahead { IsSpread (is_met (self.new).ahead)
-            (is_of_type (seen view.now) (parts_seen view.now).used typ) (edge_by Ahead (seen view.now)) }
+            (is_of_type (seen view.now) (parts_seen view.now).used typ)
+            (edge_by Ahead (seen view.now)) }
         ensures behind { IsSpread (is_met (self.new).behind)
-            (is_of_type (seen view.now) (parts_seen view.now).used typ) (edge_by Behind (seen view.now)) }
+            (is_of_type (seen view.now) (parts_seen view.now).used typ)
+            (edge_by Behind (seen view.now)) }
     {
         self.ahead.spread_type(view, Way::Ahead, typ);
         self.behind.spread_type(view, Way::Behind, typ);

@@ -64,7 +64,7 @@ pub(crate) fn trace(question: &Question<'_, '_>, table: &Table, start: Pair, pat
     requires entered { at table.now start < OPEN }
     requires room { MAX_ENTRIES < vec_capacity path.old }
 
-    // The memory for the next path stays.
+    // What the path is; the memory for the next one stays.
     ensures least { IsLeastOf (asked question.now) path.new.items }
     ensures short { length path.new.items ≤ MAX_ENTRIES + 1 }
     ensures room { MAX_ENTRIES < vec_capacity path.new }

@@ -1,10 +1,8 @@
-use Rattle.std.proofs.Common.{◌≡◌, ◌==◌, ◌<◌, ◌≤◌, ◌∙◌, ℕ, Bool, true, List, sym, subst, subst₂, refl, rules, arith}
-use Rattle.limits.specs.declared.TheConstants.{MAX_PARTITIONS}
+use Rattle.std.proofs.Common.{◌==◌, ◌<◌, ℕ, List, sym, subst, subst₂, refl, rules, arith}
 use Rattle.invariants.specs.declared.Invariant.{Invariant}
 use Rattle.partition_model.specs.Assignments.{G}
 use Rattle.partition_model.specs.Graphs.{Graph, Satisfies, IsLeastViolation, Merged}
 use Rattle.path_finder.specs.Keeping.{is_around}
-use Rattle.path_finder.specs.Nearness.{is_met, narrowed}
 use Rattle.path_finder.proofs.Narrow.{KeepsViolations, around_keeps, loss_keeps, narrowed_least, narrowed_satisfies, live_below}
 use Rattle.path_finder.proofs.finder.Finder.least_loss.Goals as goal
 

@@ -1,4 +1,4 @@
-use Rattle.std.proofs.Common.{◌≡◌, ◌≤◌, ℕ, Bool, true, false, sym, ◌∙◌, refl, subst, arith}
+use Rattle.std.proofs.Common.{◌≡◌, true, false, sym, subst, arith}
 use Rattle.path_finder.specs.Nearness.{Met, is_met}
 use Rattle.path_finder.specs.Reaching.{IsSpreading, MeetsMore}
 use Rattle.path_finder.proofs.Reaching.{meets_spreading}

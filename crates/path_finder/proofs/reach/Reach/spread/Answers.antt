@@ -1,9 +1,9 @@
-use Rattle.std.proofs.Common.{◌≡◌, ◌==◌, ◌<◌, ◌≤◌, ℕ, Bool, true, sym, ◌∙◌, ap, refl, subst, arith}
+use Rattle.std.proofs.Common.{◌≡◌, ℕ, Bool, true, sym, ◌∙◌, ap, refl, subst, arith}
 use Rattle.std.proofs.lemmas.Bool.{eqb-true}
 use Rattle.limits.specs.declared.TheConstants.{MAX_PARTITIONS}
 use Rattle.partition_graph.specs.Seen.{seen}
 use Rattle.path_finder.specs.Nearness.{Met, is_met}
-use Rattle.path_finder.specs.Reaching.{edge_by, IsSpreading, MeetsMore}
+use Rattle.path_finder.specs.Reaching.{edge_by, IsSpreading}
 use Rattle.path_finder.proofs.Reaching.{blank_spreading, meets_spreading}
 use Rattle.path_finder.proofs.reach.Reach.spread.Goals as goal
 
