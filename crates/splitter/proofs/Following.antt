@@ -9,7 +9,7 @@ use Rattle.partition_model.specs.Listings.{first_event, parts_of}
 use Rattle.partition_model.specs.Refinement.{common, followed, stitch}
 use Rattle.partition_model.proofs.Longest.{stitch_is_last}
 
--- one id more in common
+-- where two lists go on with the same id, they have one more in common
 follow-more : (k : ℕ) (xs ys : List ℕ) (x : ℕ) → k ≤ common xs ys → slice_get xs k ≡ Some x → slice_get ys k ≡ Some x → suc k ≤ common xs ys
 follow-more k [] ys x l e f = absurd (cc e)
 follow-more k (a ∷ xs) [] x l e f = absurd (cc f)
@@ -27,7 +27,7 @@ follow-more (suc k) (a ∷ xs) (b ∷ ys) x l e f =
       | inr n ↦ let m : suc k ≤ 0 = rw n at l in absurd (omega arith)
     ]
 
--- and no more
+-- where two lists go on otherwise, they have no more in common
 follow-stop : (k : ℕ) (xs ys : List ℕ) → k ≤ common xs ys → ((x : ℕ) → slice_get xs k ≡ Some x → slice_get ys k ≡ Some x → ⊥) → common xs ys ≡ k
 follow-stop k [] ys l d = let z : k ≤ 0 = l in omega arith
 follow-stop k (a ∷ xs) [] l d = let z : k ≤ 0 = l in omega arith
@@ -49,28 +49,19 @@ follow-stop (suc k) (a ∷ xs) (b ∷ ys) l d =
 abbrev pub trace_at : Assignment → ℕ → List Event
 trace_at h t = get_or h t []
 
--- the trace with a number
+-- a trace whose number is below that of all traces is there
 pub trace-there : (h : Assignment) (t : ℕ) → t < length h → slice_get h t ≡ Some (trace_at h t)
 trace-there [] t l = absurd (omega arith)
 trace-there (x ∷ h) zero l = refl
 trace-there (x ∷ h) (suc t) l = trace-there h t (omega arith)
 
--- numbers of events
+-- the events of the next trace are numbered from behind those of this one
 first-more : (h : Assignment) (t : ℕ) → t < length h → first_event h (suc t) ≡ first_event h t + length (trace_at h t)
 first-more [] t l = absurd (omega arith)
 first-more (x ∷ h) zero l = omega (arith, length-append x [])
 first-more (x ∷ h) (suc t) l =
     let i : first_event h (suc t) ≡ first_event h t + length (trace_at h t) = first-more h t (omega arith) in
     omega (arith, i, length-append x (events (take (suc t) h)), length-append x (events (take t h)))
-
--- behind the last trace stand all events
-pub last-first : (h : Assignment) (t : ℕ) → length h ≤ t → first_event h t ≡ length (events h)
-last-first [] zero l = refl
-last-first [] (suc t) l = refl
-last-first (x ∷ h) zero l = absurd (omega arith)
-last-first (x ∷ h) (suc t) l =
-    let i : first_event h t ≡ length (events h) = last-first h t (omega arith) in
-    omega (arith, i, length-append x (events (take t h)), length-append x (events h))
 
 get-front : (es more : List Event) (i : ℕ) → i < length es → slice_get (ids_of (es ++ more)) i ≡ slice_get (ids_of es) i
 get-front [] more i l = absurd (omega arith)
@@ -213,7 +204,7 @@ events-take (x ∷ h) (suc t) =
 pub event-there : (h : Assignment) (t event end : ℕ) → t < length h → event < end → end ≡ first_event h (t + 1) → event < length (events h)
 event-there h t event end l e q = omega (arith, events-take h (t + 1))
 
--- what the code reads of a path
+-- what is read of a path is the id at the place, and none where the path has ended
 pub read : (o : Option (Bor ℕ)) (path : List ℕ) (place : ℕ) → MatchOption o (length path ≤ place) (λ x. (place < length path) × HoldsAt (λ y. x.now ≡ y) path place)
     → option_copied o ≡ slice_get path place
 read None path place m = sym (slice_get_past path place m)
@@ -274,7 +265,7 @@ no-longer : (h : Assignment) (path : List ℕ) (t longest : ℕ) → t < length 
     → IfSome (slice_get h t) (λ trace. longest ≡ max longest (common path (id_list trace)))
 no-longer h path t longest l k = rw (trace-there h t l) (omega arith)
 
--- an event of the trace has another id than the path has behind its longest front
+-- where a trace has another id than the path behind the longest front, it follows the path for no more
 pub longest-left : (h : Assignment) (path : List ℕ) (t first end event longest x : ℕ) → t < length h → first ≡ first_event h t → end ≡ first_event h (t + 1) → first + longest ≡ event + 1 → first ≤ event → event < end
     → slice_get (parts_of h) event ≡ Some x → longest < length path → (x ≡ get_or path longest 0 → ⊥)
     → IfSome (slice_get h t) (λ trace. longest ≡ max longest (common path (id_list trace)))
@@ -291,7 +282,7 @@ count-is h t first end l f e =
     let n : first_event h (t + 1) ≡ first_event h (suc t) = ap (first_event h) (let z : t + 1 ≡ suc t = omega arith in z) in
     omega arith
 
--- the ids of the trace end before the place behind the longest front
+-- where the ids of a trace end before the place behind the longest front, it follows the path for no more
 pub longest-past : (h : Assignment) (path : List ℕ) (t first end longest : ℕ) → t < length h → first ≡ first_event h t → end ≡ first_event h (t + 1) → end - first + 1 < longest → longest < length path
     → IfSome (slice_get h t) (λ trace. longest ≡ max longest (common path (id_list trace)))
 longest-past h path t first end zero l f e k w = absurd (omega arith)
@@ -301,7 +292,7 @@ longest-past h path t first end (suc i) l f e k w =
     let c : end - first ≡ length (trace_at h t) = count-is h t first end l f e in
     no-longer h path t (suc i) l (common-before (suc i) path (id_list (trace_at h t)) y s (id-past (trace_at h t) i y (omega arith)))
 
--- the ids of the trace end at that place, and the path does not
+-- where the ids of a trace end at that place and the path does not, the trace follows the path for no more
 pub longest-end : (h : Assignment) (path : List ℕ) (t first end longest : ℕ) → t < length h → first ≡ first_event h t → end ≡ first_event h (t + 1) → end - first + 1 ≡ longest → longest < length path
     → (get_or path longest 0 ≡ 1 → ⊥) → IfSome (slice_get h t) (λ trace. longest ≡ max longest (common path (id_list trace)))
 longest-end h path t first end zero l f e k w d = absurd (omega arith)
@@ -317,11 +308,7 @@ pub record IsLookedAt (h : Assignment) (path : List ℕ) (t longest first : ℕ)
   pub longest_is : longest ≡ max 1 (followed (take t h) path)
   pub first_is : first ≡ first_event h t
 
-pub looked-start : (h : Assignment) (path : List ℕ) → IsLookedAt h path 0 1 0
-looked-start h path =
-    let f : followed (take 0 h) path ≡ 0 = refl in
-    record { longest_is = omega (arith, f); first_is = refl }
-
+-- with one trace more looked at, the longest front is that of one trace more
 pub looked-more : (h : Assignment) (path : List ℕ) (t longest first now end : ℕ) → t < length h → IsLookedAt h path t longest first → IfSome (slice_get h t) (λ trace. now ≡ max longest (common path (id_list trace)))
     → end ≡ first_event h (t + 1) → IsLookedAt h path (t + 1) now end
 looked-more h path t longest first now end l k m e =
@@ -348,14 +335,14 @@ front-there h path s b =
     let p : suc (stitch h path) ≡ followed h path = o.1 b in
     omega arith
 
--- no trace follows the path for more
+-- where the longest front so far is as long as any can be, it is that of all traces
 pub looked-enough : (h : Assignment) (path : List ℕ) (t longest first most : ℕ) → 0 < length h → slice_get path 0 ≡ Some 0 → followed h path ≤ most → IsLookedAt h path t longest first → most ≤ longest
     → longest ≡ followed h path
 looked-enough h path t longest first most s b m k e =
     let a : longest ≡ max 1 (followed (take t h) path) = k.longest_is in
     omega (arith, followed-take h path t, front-there h path s b)
 
--- all traces are looked at
+-- where all traces are looked at, the longest front is that of all
 pub looked-whole : (h : Assignment) (path : List ℕ) (t longest first : ℕ) → 0 < length h → slice_get path 0 ≡ Some 0 → IsLookedAt h path t longest first → length h ≤ t
     → longest ≡ followed h path
 looked-whole h path t longest first s b k l =

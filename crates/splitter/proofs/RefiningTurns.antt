@@ -51,7 +51,7 @@ refines_from : (invs : List Invariant) (ss : List Split) (h : Assignment) (n : �
 refines_from invs [] h n end w a = (subst (λ (x : Assignment). SatisfiesAll (G x) invs) w a, w)
 refines_from invs (s ∷ ss) h n end w a = (w.0, refines_from invs ss (after_split n s h) (suc n) end w.1 a)
 
--- the invariants that are satisfied
+-- where all invariants are before a number, those before it are all
 all_before : (g : Graph) (invs : List Invariant) (k : ℕ) → length invs ≤ k → SatisfiesBefore g invs k → SatisfiesAll g invs
 all_before g [] k l b = tt
 all_before g (inv ∷ invs) k l b =
@@ -73,20 +73,20 @@ all_at g [] k inv e a = absurd (cc e)
 all_at g (i ∷ invs) zero inv e a = let q : i ≡ inv = cc in subst (λ (z : Invariant). Satisfies g z) q a.0
 all_at g (i ∷ invs) (suc k) inv e a = all_at g invs k inv e a.1
 
--- the invariant with a number of the list
+-- an invariant of the list stands at its number
 pub get_of : (xs : List Invariant) (k : ℕ) (d : Invariant) → k < length xs → slice_get xs k ≡ Some (get_or xs k d)
 get_of [] k d l = absurd (omega arith)
 get_of (x ∷ xs) zero d l = refl
 get_of (x ∷ xs) (suc k) d l = get_of xs k d (omega arith)
 
--- a graph that was opened
+-- the words of a graph that was opened are typed
 pub opened-typed : (old : Parts) → IsOpened old → AreTyped (inner_words old.traces) old.used
 opened-typed old o = o.typed
 
 opened-start : (old : Parts) → IsOpened old → old.traces ≡ by_type (inner_words old.traces)
 opened-start old o = o.start
 
--- the first graph of a log whose words are typed
+-- the first graph of a log whose words are typed is opened
 pub start-opened : (log : Log) → AreTyped (inner_words (start_of log).traces) (start_of log).used → IsOpened (start_of log)
 start-opened log typed = record {
   start = sym (ap by_type (words-typed (inner_words_of log)));
@@ -102,7 +102,7 @@ pub record IsRefining (invs : List Invariant) (old now : Parts) (k : ℕ) (ss : 
   pub before : SatisfiesBefore (G now.traces) invs k
   pub so_far : Splits invs old.traces old.used ss now.traces
 
--- before the first turn
+-- before the first turn there are no splits
 pub refining-start : (invs : List Invariant) (old : Parts) → IsOpened old → old.used ≤ MAX_PARTITIONS → IsRefining invs old old 0 []
 refining-start invs old o l =
     let words : List (List ℕ) = inner_words old.traces in
@@ -145,7 +145,7 @@ refining-events invs old now k ss r = same_length now.traces old.traces r.run.wo
     same_length : (h k : Assignment) → inner_words h ≡ inner_words k → length (events h) ≡ length (events k)
     same_length h k e = count h ∙ ap (λ ws. length (flat_map (λ (w : List ℕ). w) ws)) e ∙ sym (count k)
 
--- a turn without a split
+-- a turn for an invariant that is satisfied goes on to the next one
 pub refining-none : (invs : List Invariant) (old now : Parts) (k : ℕ) (ss : List Split) (d : Invariant) → IsRefining invs old now k ss → k < length invs
     → Satisfies (G now.traces) (get_or invs k d) → IsRefining invs old now (k + 1) ss
 refining-none invs old now k ss d r l s =
@@ -175,7 +175,7 @@ more-splits invs old now k ss s r n =
     subst (λ (m : ℕ). Splits invs old.traces old.used (ss ++ s ∷ []) (after_split m s now.traces)) (sym r.used)
     (splits_push invs ss s old.traces old.used now.traces r.so_far n)
 
--- a turn with a split
+-- a turn with a split is a step of refinement
 pub refining-some : (invs : List Invariant) (old now new : Parts) (k : ℕ) (ss : List Split) (d : Invariant) (path : List ℕ)
     → IsOpened old → HoldAll (inner_words old.traces) invs → IsRefining invs old now k ss → k < length invs → now.used < MAX_PARTITIONS
     → IsLeastViolation (G now.traces) (get_or invs k d) path → new ≡ after (split_by now path k) now
@@ -195,7 +195,7 @@ refining-some invs old now new k ss d path o a r l few v e =
       so_far = more-splits invs old now k ss s r n.0;
     })
 
--- a turn for an invariant that is known to be satisfied
+-- a turn for an invariant that is known to be satisfied goes on to the next one
 pub refining-known : (invs : List Invariant) (old now : Parts) (k : ℕ) (ss : List Split) (d : Invariant) (known : List Bool) → IsRefining invs old now k ss → k < length invs
     → AreKnown known invs (G now.traces) → is_known known k ≡ true → IsRefining invs old now (k + 1) ss
 refining-known invs old now k ss d known r l a e = refining-none invs old now k ss d r l (a k (get_or invs k d) (get_of invs k d l) e)
@@ -208,16 +208,16 @@ known-some invs old now new k ss path known o r e a j inv at on =
     subst (λ (p : Parts). Satisfies (G p.traces) inv) (sym e)
     (split_keeps now.traces (slice_index path place) (slice_index path (place + 1)) now.used r.run.typed (refining-fresh invs old now k ss o r) inv (a j inv at on))
 
--- where it stops
+-- where refinement stops, the splits so far are its first steps
 pub refining-stopped : (invs : List Invariant) (old now : Parts) (k counted : ℕ) (ss : List Split) → IsRefining invs old now k ss → counted ≤ length invs + length ss → IsStopped invs old now ss counted
 refining-stopped invs old now k counted ss r l = record { run = r.so_far; used = r.used; steps = l }
 
--- the end
+-- where all invariants are satisfied, the splits are the whole run
 pub refining-end : (invs : List Invariant) (old now : Parts) (k : ℕ) (ss : List Split) → IsRefining invs old now k ss → length invs ≤ k → EndsRefined invs old ss now
 refining-end invs old now k ss r l =
     record { run = refines_from invs ss old.traces old.used now.traces r.so_far (all_before (G now.traces) invs k l r.before); used = r.used; within = r.limit }
 
--- all ids are used
+-- where all ids are used and an invariant is broken, a further step is wanted
 pub refining-full : (invs : List Invariant) (old now : Parts) (k : ℕ) (ss : List Split) (d : Invariant) (path : List ℕ) → IsOpened old → HoldAll (inner_words old.traces) invs → IsRefining invs old now k ss
     → k < length invs → now.used ≡ MAX_PARTITIONS → IsLeastViolation (G now.traces) (get_or invs k d) path → IsFull invs now
 refining-full invs old now k ss d path o a r l u v =
@@ -228,7 +228,7 @@ refining-full invs old now k ss d path o a r l u v =
       is_next = (next-step invs old now k ss d path o a r l v).0;
     }
 
--- so no whole run keeps within the ids
+-- where all ids are used and an invariant is broken, no whole run keeps within the ids
 pub refining-excludes : (invs : List Invariant) (old now : Parts) (k : ℕ) (ss : List Split) (d : Invariant) (path : List ℕ) → IsOpened old → HoldAll (inner_words old.traces) invs → IsRefining invs old now k ss
     → k < length invs → now.used ≡ MAX_PARTITIONS → IsLeastViolation (G now.traces) (get_or invs k d) path → WantsMoreIds invs old
 refining-excludes invs old now k ss d path o a r l u v splits end whole =
@@ -236,7 +236,7 @@ refining-excludes invs old now k ss d path o a r l u v splits end whole =
     let m : length ss < length splits = steps_exclude invs old.traces now.traces end old.used ss splits (split_by now path k) r.so_far (next-step invs old now k ss d path o a r l v).0 whole in
     omega arith
 
--- the paths of the splits are short
+-- the paths of the splits are short, and each split takes an id
 pub refining-numbers : (invs : List Invariant) (old now : Parts) (k : ℕ) (ss : List Split) → IsOpened old → HoldAll (inner_words old.traces) invs → IsRefining invs old now k ss
     → (split_numbers ss ≤ 3067 * length ss) × (length ss + FIRST_TYPE ≤ now.used)
 refining-numbers invs old now k ss o a r =
@@ -248,7 +248,7 @@ refining-numbers invs old now k ss o a r =
     let lim : now.used ≤ MAX_PARTITIONS = r.limit in
     (split_paths_within_limit invs words old.used ss now.traces t a (omega arith) w, omega arith)
 
--- rests of words
+-- a list with one more at its front is cut into the same parts, the first with one more
 one-before : (y : Event) (before behind u : List Event) → before ++ behind ≡ u → (y ∷ before) ++ behind ≡ y ∷ u
 one-before y before behind u e = ap (λ (es : List Event). y ∷ es) e
 
@@ -299,7 +299,7 @@ refining-rests invs old now k ss d path names o a r l u v n few =
     let q : now.used ≡ old.used + length ss = r.used in
     omega arith
 
--- splits and events
+-- a list with an element is not empty
 In-some : {X : Type 0} (x : X) (xs : List X) → In x xs → 0 < length xs
 In-some x [] i = absurd i
 In-some x (y ∷ xs) i = omega arith

@@ -13,14 +13,14 @@ use Rattle.run_history.specs.Records.{split_of, splits_of, IsWithin, HoldsPaths}
 use Rattle.run_history.proofs.Adding.{pushes-keep, pushes-within, pushes-hold, splits-stay}
 use Rattle.splitter.specs.Writing.{AreEmpty, AddsSplit, WritesSplits, paths_of}
 
--- how long the paths are together
+-- the paths of splits, one behind the other, have as many numbers as the splits
 pub paths-long : (ss : List Split) → length (paths_of ss) ≡ split_numbers ss
 paths-long [] = refl
 paths-long (s ∷ ss) =
     let c : split_numbers (s ∷ ss) ≡ length s.path + split_numbers ss = sum_by-cons (λ (x : Split). length x.path) s ss in
     omega (arith, c, length-append s.path (paths_of ss), paths-long ss)
 
--- before the first turn
+-- before the first turn nothing is written
 pub writing-start : (log : RunLists) (spans : Numbers) → AreEmpty log spans → WritesSplits log log spans spans
 writing-start log spans e =
     let none : splits_of log spans ≡ [] = ap (map (split_of spans.numbers)) e.splits in
@@ -37,7 +37,7 @@ writing-start log spans e =
 entry-says : (numbers : List ℕ) (e : SplitEntry) (s : Split) → e.inv ≡ s.inv → e.place ≡ s.place → (split_of numbers e).path ≡ s.path → split_of numbers e ≡ s
 entry-says numbers e s i q p = λ d. record { inv = i d; place = q d; path = p d }
 
--- the log has a split more
+-- a log with one entry more tells one split more
 pub adds-told : (log new : RunLists) (spans after : Numbers) (s : Split) → HoldsPaths log spans → AddsSplit log new spans after s → splits_of new after ≡ splits_of log spans ++ s ∷ []
 adds-told log new spans after s h a =
     let of : SplitEntry → Split = split_of after.numbers in
@@ -47,7 +47,7 @@ adds-told log new spans after s h a =
     let more : of a.entry ≡ s = entry-says after.numbers a.entry s a.inv a.place a.path.there in
     ap (map of) es ∙ map-append of log.splits (a.entry ∷ []) ∙ ap₂ (λ (xs : List Split) (x : Split). xs ++ x ∷ []) stay more
 
--- and holds all paths
+-- a log with one entry more still has all its paths in the spans
 adds-holds : (log new : RunLists) (spans after : Numbers) (s : Split) → HoldsPaths log spans → AddsSplit log new spans after s → HoldsPaths new after
 adds-holds log new spans after s h a =
     let es : new.splits ≡ log.splits ++ a.entry ∷ [] = ap (λ (l : RunLists). l.splits) a.log_is in
@@ -63,7 +63,7 @@ adds-holds log new spans after s h a =
       blocks = subst (All C) (sym bs) (All-weaker B C (λ d w. pushes-hold spans after s.path a.entry.path d.path a.path w) log.blocks h.blocks);
     }
 
--- a turn with a split
+-- where one split more is written, the log and the spans tell all splits so far
 pub writing-more : (old log new : RunLists) (first spans after : Numbers) (s : Split) → WritesSplits old log first spans → AddsSplit log new spans after s → WritesSplits old new first after
 writing-more old log new first spans after s w a =
     let es : new.splits ≡ log.splits ++ a.entry ∷ [] = ap (λ (l : RunLists). l.splits) a.log_is in

@@ -13,7 +13,8 @@ use Rattle.partition_model.specs.Refinement.{Splits, Refines, SatisfiesAll, IsNe
 use Rattle.partition_graph.specs.Parts.{Parts, divided, start_of}
 use Rattle.partition_graph.specs.Starts.{AreTypedParts}
 
--- the graph is the first one of its words: each event has the number of its type, and each such number is that of an event
+-- the graph is the first one of its words: each event has the number of its type, and each such number is that of an
+-- event
 pub record IsOpened (parts : Parts) : Type 0 where
   pub start : parts.traces ≡ by_type (inner_words parts.traces)
   pub typed : AreTypedParts parts
@@ -44,14 +45,16 @@ abbrev pub asked_count : List Bool → ℕ → ℕ
 asked_count known n = count_by (λ b. not b) (map (λ k. is_known known k) (range_with_len 0 n))
 
 -- the splits are the whole run of refinement, each with one new id, and the ids suffice
-pub record EndsRefined (invs : List Invariant) (old : Parts) (splits : List Split) (new : Parts) : Type 0 where
+pub record EndsRefined (invs : List Invariant) (old : Parts) (splits : List Split)
+    (new : Parts) : Type 0 where
   pub run : Refines invs old.traces old.used splits new.traces
   pub used : new.used ≡ old.used + length splits
   pub within : new.used ≤ MAX_PARTITIONS
 
 -- the splits are the first steps of refinement, each with one new id, and so many steps were counted: at most one for
 -- each invariant and one for each split
-pub record IsStopped (invs : List Invariant) (old new : Parts) (splits : List Split) (counted : ℕ) : Type 0 where
+pub record IsStopped (invs : List Invariant) (old new : Parts) (splits : List Split)
+    (counted : ℕ) : Type 0 where
   pub run : Splits invs old.traces old.used splits new.traces
   pub used : new.used ≡ old.used + length splits
   pub steps : counted ≤ length invs + length splits

@@ -1,7 +1,5 @@
 //! The run of refinement.
 ghost use Rattle.std.specs.Prelude.{◌≡◌, ◌<◌, ◌≤◌, ◌+◌, ◌-◌, ◌^◌, IsOk, OnErr, OnOk, Some, length, slice_get};
-ghost use Rattle.cell_pool.specs.Numbers.{Numbers};
-ghost use Rattle.cell_pool.specs.RunLists.{RunLists};
 ghost use Rattle.partition_model.specs.Assignments.{G, events, inner_words};
 ghost use Rattle.partition_model.specs.Laws.{Divides, HoldAll};
 ghost use Rattle.partition_model.specs.Refinement.{stitch};
@@ -51,6 +49,7 @@ fn divide(
         → length (log.old).splits < (log.old).split_room }
     requires numbers { length (spans.old).numbers + length path.now ≤ (spans.old).room }
 
+    // The split, and what is written of it.
     ensures split { OnOk result (graph.new ≡ after (split_by graph.old path.now k) graph.old) }
     ensures adds { OnOk result
         (AddsSplit log.old log.new spans.old spans.new (split_by graph.old path.now k)) }

@@ -75,6 +75,8 @@ fn longest_with(
     requires end { end ≡ first_event (graph.now).traces (t + 1) }
     requires some { 0 < longest }
     requires within { longest < length path.now }
+
+    // The greater one of the two.
     ensures { IfSome (slice_get (graph.now).traces t)
         (λ trace. result ≡ max longest (common path.now (id_list trace))) }
 {
