@@ -10,6 +10,7 @@ use Rattle.coarsener.specs.Pairs.{HasNoPartner, IsNextPartner, HasNoPairBehind, 
 abbrev pub NoneBelow : Graph → ℕ → ℕ → ℕ → Type 0
 NoneBelow g p q b = (r s : ℕ) → IsPair g r s → PairBefore p q r s → r < b → ⊥
 
+-- where p has no partner behind q, no pair behind (p, q) has a lower id up to p
 pub rows-start : (g : Graph) (p q : ℕ) → HasNoPartner g p (q + 1) → NoneBelow g p q (p + 1)
 rows-start g p q n r s i (inl l) b = omega (arith, l, b)
 rows-start g p q n r s i (inr e) b = n s (omega (arith, e.1)) (subst (λ (z : ℕ). IsPair g z s) (sym e.0) i)
@@ -20,6 +21,7 @@ at-row g b r s n e i =
     let o : b < s = j.order in
     n s (omega arith) j
 
+-- where b has no partner, no pair has b for its lower id either
 pub rows-next : (g : Graph) (p q b : ℕ) → NoneBelow g p q b → HasNoPartner g b (b + 1) → NoneBelow g p q (b + 1)
 rows-next g p q b n f r s i k l =
     elim (cases_lt r b) [
@@ -34,9 +36,11 @@ before-found g p q b s u v n f i k (inr e) =
     let o : b < v = j.order in
     f.first v (omega arith) e.1 j
 
+-- the first partner of b makes the next pair, where no pair comes before that has a lower id below b
 pub rows-found : (g : Graph) (p q b s : ℕ) → p < b → NoneBelow g p q b → IsNextPartner g b (b + 1) s → IsNextPair g p q b s
 rows-found g p q b s l n f = record { pair = f.pair; behind = inl l; first = λ u v i k m. before-found g p q b s u v n f i k m }
 
+-- behind the last id no pair comes
 pub rows-end : (g : Graph) (p q b n : ℕ) → NoneBelow g p q b → IsBelow n g → n ≤ b → HasNoPairBehind g p q
 rows-end g p q b n f below l r s i k =
     let m : r < n = below r i.has_p in

@@ -30,8 +30,7 @@ use Rattle.cell_pool.specs.Numbers.{Numbers, KeepsLists, Pushes}
 use Rattle.cell_pool.specs.RunLists.{RunLists}
 use Rattle.cell_pool.specs.declared.spans.Span.{Span}
 use Rattle.cell_pool.specs.declared.run_log.BlockEntry.{BlockEntry}
-use Rattle.cell_pool.specs.declared.run_log.SplitEntry.{SplitEntry}
-use Rattle.run_history.specs.Records.{block_of, blocks_of, IsWithin, HoldsPaths}
+use Rattle.run_history.specs.Records.{block_of, blocks_of, IsWithin}
 use Rattle.coarsener.specs.declared.pairs.Pair.{Pair}
 use Rattle.coarsener.specs.Pairs.{HasIds, HasNoPairBehind, IsNextPair}
 use Rattle.coarsener.specs.Blocking.{pair_count, paths_of, EndsWithoutRoom}
@@ -68,7 +67,7 @@ append-none : {X : Type 0} (xs : List X) → xs ++ [] ≡ xs
 append-none [] = refl
 append-none (x ∷ xs) = ap (λ ys. x ∷ ys) (append-none xs)
 
--- before the first pair
+-- before the first pair there are no blocks
 pub blocking-start : (invs : List Invariant) (parts : Parts) (log : RunLists) (spans : Numbers) → HasIds parts → log.blocks ≡ [] → IsBlocking invs parts log log spans spans 2 2
 blocking-start invs parts log spans ids e =
     let g : Graph = G parts.traces in
@@ -84,7 +83,7 @@ blocking-start invs parts log spans ids e =
       others = refl;
     }
 
--- blocks with one more
+-- a block stays where its path does
 block-kept : (numbers numbers' : List ℕ) (e : BlockEntry) → KeepsLists numbers numbers' → IsWithin numbers e.path → block_of numbers' e ≡ block_of numbers e
 block-kept numbers numbers' e k w = ap (λ (path : List ℕ). record { p = e.p; q = e.q; inv = e.inv; path = path }) (k e.path.from e.path.len w)
 
@@ -124,7 +123,7 @@ pairs-more (x ∷ bs) b more = ap (λ (ms : List Merge). pair_of x.p x.q ∷ ms)
 keeps-more : (a b c : List ℕ) → KeepsLists a b → KeepsLists b c → length a ≤ length b → KeepsLists a c
 keeps-more a b c k l n from len w = l from len (omega (arith, w)) ∙ k from len w
 
--- the block of a pair
+-- the first invariant that the merge of a pair loses makes its block, with the least violation of it
 pub block-is : (invs : List Invariant) (g : Graph) (p q k : ℕ) (path : List ℕ) → IsPair g p q → IsFirstBroken (Merged g p q) invs k → IsLeastViolation (Merged g p q) (get_or invs k none) path
     → IsBlock invs g (record { p = p; q = q; inv = k; path = path })
 block-is invs g p q k path i f v =
@@ -134,7 +133,7 @@ block-is invs g p q k path i f v =
       least = λ inv e. subst (λ (x : Invariant). IsLeastViolation (Merged g p q) x path) (get_or_from_slice_get invs k inv none e) v;
     }
 
--- a turn
+-- a turn adds the block of the next pair
 pub blocking-turn : (invs : List Invariant) (parts : Parts) (log0 log : RunLists) (spans0 spans spans' : Numbers) (p q r s k : ℕ) (path : List ℕ) (span : Span)
     → IsBlocking invs parts log0 log spans0 spans p q → IsNextPair (G parts.traces) p q r s → IsFirstBroken (Merged (G parts.traces) r s) invs k
     → IsLeastViolation (Merged (G parts.traces) r s) (get_or invs k none) path → Pushes spans spans' path span → KeepsLists spans.numbers spans'.numbers
@@ -161,25 +160,18 @@ blocking-turn invs parts log0 log spans0 spans spans' p q r s k path span c n f 
       others = ap (λ (l : RunLists). record l { blocks = log.blocks ++ record { p = r; q = s; inv = k; path = span } ∷ [] }) c.others;
     }
 
--- how many blocks there are
+-- there are as many pairs of blocks as blocks
 pairs-count : (bs : List Block) → length (pairs_of bs) ≡ length bs
 pairs-count bs = length-map bs (λ (b : Block). pair_of b.p b.q)
 
+-- there are no more blocks than pairs
 pub blocks-few : (invs : List Invariant) (parts : Parts) (log0 log : RunLists) (spans0 spans : Numbers) (p q : ℕ) → IsBlocking invs parts log0 log spans0 spans p q → length log.blocks ≤ pair_count parts
 blocks-few invs parts log0 log spans0 spans p q c =
     let a : length (pairs_of (blocks_of log spans) ++ c.rest) ≡ length (pairs_of (blocks_of log spans)) + length c.rest = length-append (pairs_of (blocks_of log spans)) c.rest in
     let d : length (blocks_of log spans) ≡ length log.blocks = length-map log.blocks (block_of spans.numbers) in
     omega (arith, ap (λ (ms : List Merge). length ms) c.pairs, pairs-count (blocks_of log spans))
 
-pub blocks-fewer : (invs : List Invariant) (parts : Parts) (log0 log : RunLists) (spans0 spans : Numbers) (p q r s : ℕ) → IsBlocking invs parts log0 log spans0 spans p q
-    → IsNextPair (G parts.traces) p q r s → length log.blocks < pair_count parts
-blocks-fewer invs parts log0 log spans0 spans p q r s c n =
-    let a : length (pairs_of (blocks_of log spans) ++ c.rest) ≡ length (pairs_of (blocks_of log spans)) + length c.rest = length-append (pairs_of (blocks_of log spans)) c.rest in
-    let d : length (blocks_of log spans) ≡ length log.blocks = length-map log.blocks (block_of spans.numbers) in
-    let o : 0 < length c.rest = remain-some (G parts.traces) p q r s c.rest c.remain n in
-    omega (arith, ap (λ (ms : List Merge). length ms) c.pairs, pairs-count (blocks_of log spans))
-
--- the end
+-- behind the last pair the blocks are those of all pairs
 pub blocking-end : (invs : List Invariant) (parts : Parts) (log0 log : RunLists) (spans0 spans : Numbers) (p q : ℕ) → HasIds parts → IsBlocking invs parts log0 log spans0 spans p q
     → HasNoPairBehind (G parts.traces) p q → AreBlocks invs (G parts.traces) (blocks_of log spans)
 blocking-end invs parts log0 log spans0 spans p q ids c n =
@@ -189,7 +181,7 @@ blocking-end invs parts log0 log spans0 spans p q ids c n =
     sym (append-none (pairs_of (blocks_of log spans))) ∙ ap (λ (ms : List Merge). pairs_of (blocks_of log spans) ++ ms) (sym e) ∙ c.pairs in
     pairs_give_blocks invs g parts.used (blocks_of log spans) (parts-below parts ids) pairs c.each
 
--- where there is no room for the next path
+-- where the next path has more numbers than there is room for, the blocks end there
 pub blocking-full : (invs : List Invariant) (parts : Parts) (log0 log : RunLists) (spans0 spans : Numbers) (p q r s k : ℕ) (path : List ℕ) → IsBlocking invs parts log0 log spans0 spans p q
     → IsNextPair (G parts.traces) p q r s → IsFirstBroken (Merged (G parts.traces) r s) invs k
     → IsLeastViolation (Merged (G parts.traces) r s) (get_or invs k none) path → 4000000 < length spans.numbers + length path
@@ -234,6 +226,7 @@ no-less invs g (d ∷ done) (c ∷ bs) b rest e x y z =
 each-block : (invs : List Invariant) (g : Graph) (bs : List Block) → AreBlocks invs g bs → AllByRecursion (IsBlock invs g) bs
 each-block invs g bs a = all_from (IsBlock invs g) bs (λ b i. let k : (k : ℕ) × (slice_get bs k ≡ Some b) = In-get b bs i in a.each k.0 b k.1)
 
+-- where the blocks end without room, those of all pairs have more numbers than there may be
 pub blocking-limit : (invs : List Invariant) (parts : Parts) (log : RunLists) (spans0 spans : Numbers) → HasIds parts → EndsWithoutRoom invs parts (blocks_of log spans) (length spans.numbers)
     → spans ≡ record spans0 { numbers = spans0.numbers ++ paths_of (blocks_of log spans) } → (bs : List Block) → AreBlocks invs (G parts.traces) bs
     → 4000000 < length spans0.numbers + block_numbers bs
@@ -247,28 +240,17 @@ blocking-limit invs parts log spans0 spans ids w e bs a =
     let t : 4000000 < length spans.numbers + length w.next.path = w.too_long in
     omega arith
 
--- what the log and the spans hold
-pub holds-still : (invs : List Invariant) (parts : Parts) (log0 log : RunLists) (spans0 spans : Numbers) (p q : ℕ) → IsBlocking invs parts log0 log spans0 spans p q
-    → HoldsPaths log0 spans0 → HoldsPaths log spans
-holds-still invs parts log0 log spans0 spans p q c h =
-    let bs : List Block = blocks_of log spans in
-    let n : length spans.numbers ≡ length spans0.numbers + length (paths_of bs) = ap (λ (x : Numbers). length x.numbers) c.paths ∙ length-append spans0.numbers (paths_of bs) in
-    let splits : log.splits ≡ log0.splits = ap (λ (l : RunLists). l.splits) c.others in
-    record {
-      splits = subst (λ (es : List SplitEntry). All (λ (x : SplitEntry). IsWithin spans.numbers x.path) es) (sym splits)
-          (All-weaker (λ (x : SplitEntry). IsWithin spans0.numbers x.path) (λ (x : SplitEntry). IsWithin spans.numbers x.path) (λ x w. omega (arith, w)) log0.splits h.splits);
-      blocks = c.held;
-    }
-
--- some invariant is lost by each merge
+-- where no merge keeps all invariants, the merged graph does not satisfy all of them
 pub none-lost : (invs : List Invariant) (h : Assignment) (r s : ℕ) → IsTyped h → IsPair (G h) r s → NoMerge invs h → SatisfiesAll (Merged (G h) r s) invs → ⊥
 none-lost invs h r s t i n sat = n r s i ((merge_satisfies h r s t i invs).1 sat)
 
+-- the graph does not satisfy the first invariant that is broken
 pub is-broken : (g : Graph) (invs : List Invariant) (k : ℕ) → IsFirstBroken g invs k → Satisfies g (get_or invs k none) → ⊥
 is-broken g invs k f sat =
     let o : (inv : Invariant) × (slice_get invs k ≡ Some inv) × (Satisfies g inv → ⊥) = broken g invs k f in
     o.2 (subst (λ (x : Invariant). Satisfies g x) (get_or_from_slice_get invs k o.0 none o.1) sat)
 
+-- the number of the first invariant that is broken is one of the list
 pub broken-within : (g : Graph) (invs : List Invariant) (k : ℕ) → IsFirstBroken g invs k → k < length invs
 broken-within g invs k f =
     let o : (inv : Invariant) × (slice_get invs k ≡ Some inv) × (Satisfies g inv → ⊥) = broken g invs k f in

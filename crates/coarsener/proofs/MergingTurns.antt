@@ -38,7 +38,7 @@ merges-end : (invs : List Invariant) (ms : List Merge) (h end : Assignment) → 
 merges-end invs [] h end w n = (subst (λ (x : Assignment). NoMerge invs x) w n, w)
 merges-end invs (m ∷ ms) h end w n = (w.0, merges-end invs ms (merge m.p m.q h) end w.1 n)
 
--- each merge takes an id away
+-- a truth value that follows from another counts for no less
 bit-le : (a b : Bool) → (a ≡ true → b ≡ true) → bit a ≤ bit b
 bit-le false b f = omega arith
 bit-le true b f = rw (f refl) (omega arith)
@@ -68,6 +68,7 @@ count-less f g y (x ∷ xs) k (inr r) u v =
     let c : bit (f x) ≤ bit (g x) = bit-le (f x) (g x) (k x (inl refl)) in
     omega arith
 
+-- the id that a merge takes away is live no more
 gone-is-dead : (h : Assignment) (p q : ℕ) → IsPair (G h) p q → is_live (merge p q h) q ≡ false
 gone-is-dead h p q i =
     let l : 2 ≤ p = i.low in
@@ -81,6 +82,7 @@ gone-is-dead h p q i =
 abbrev pub live_count : ℕ → Assignment → ℕ
 live_count n h = count_by (is_live h) (range_with_len 2 (n - 2))
 
+-- each merge takes an id away
 fewer-live : (h : Assignment) (n p q : ℕ) → 2 ≤ n → AreBelow n h → IsPair (G h) p q → suc (live_count n (merge p q h)) ≤ live_count n h
 fewer-live h n p q two b i =
     let l : 2 ≤ p = i.low in
@@ -107,9 +109,6 @@ pub record IsCoarsening (invs : List Invariant) (old now : Parts) (p q : ℕ) (m
 none-before : (invs : List Invariant) (h : Assignment) → LostBefore invs h 2 3
 none-before invs h r s i (inl l) sat = let a : 2 ≤ r = i.low in omega arith
 none-before invs h r s i (inr e) sat = let a : r < s = i.order in omega (arith, e.0, e.1)
-
-pub coarsening-start : (invs : List Invariant) (old : Parts) → SatisfiesAll (G old.traces) invs → IsCoarsening invs old old 2 2 []
-coarsening-start invs old s = record { so_far = refl; used = refl; lost = none-before invs old.traces; satisfied = s; few = omega arith }
 
 -- each pair before the next one is decided
 lost-between : (invs : List Invariant) (h : Assignment) (p q r s : ℕ) → LostBefore invs h p (q + 1) → IsNextPair (G h) p q r s → LostBefore invs h r s
@@ -153,7 +152,7 @@ lost-too invs h r s lost f u v i (inr e) sat =
 merges-more : (p q : ℕ) (log : RunLists) → merges_of (with_merge p q log) ≡ merges_of log ++ record { p = p; q = q } ∷ []
 merges-more p q log = map-append merge_of log.merges (record { p = p; q = q } ∷ [])
 
--- a turn
+-- a turn decides the next pair
 pub coarsening-turn : (invs : List Invariant) (old now new : Parts) (p q r s : ℕ) (log log' : RunLists) → HasIds now → IsCoarsening invs old now p q (merges_of log)
     → IsNextPair (G now.traces) p q r s → IsDecided invs now new log log' r s → IsCoarsening invs old new r s (merges_of log')
 coarsening-turn invs old now new p q r s log log' ids c n (inl d) =
@@ -198,11 +197,11 @@ coarsening-few invs old now p q r s ms ids c i =
     let w : length ms + live_count old.used now.traces ≤ live_count old.used old.traces = c.few in
     omega arith
 
--- the end
+-- behind the last pair coarsening has ended
 pub coarsening-end : (invs : List Invariant) (old now : Parts) (p q : ℕ) (ms : List Merge) → IsCoarsening invs old now p q ms → HasNoPairBehind (G now.traces) p q → Coarsens invs old.traces ms now.traces
 coarsening-end invs old now p q ms c n = merges-end invs ms old.traces now.traces c.so_far (lost-behind invs now.traces p q c.lost n)
 
--- the log but for its merges
+-- a turn changes nothing of the log but its merges
 pub others-turn : (invs : List Invariant) (old new : Parts) (first log log' : RunLists) (p q : ℕ) → log ≡ record first { merges = log.merges } → IsDecided invs old new log log' p q
     → log' ≡ record first { merges = log'.merges }
 others-turn invs old new first log log' p q e (inl d) = subst (λ (l : RunLists). l ≡ record first { merges = l.merges }) (sym d.told) e
@@ -210,5 +209,6 @@ others-turn invs old new first log log' p q e (inr d) =
     subst (λ (l : RunLists). l ≡ record first { merges = l.merges }) (sym d.told)
     (ap (λ (l : RunLists). record l { merges = log.merges ++ record { p = p; q = q } ∷ [] }) e)
 
+-- the log tells as many merges as it has
 pub merge-count : (log : RunLists) → length (merges_of log) ≡ length log.merges
 merge-count log = length-map log.merges merge_of

@@ -26,7 +26,7 @@ above p q [] r s a i = absurd i
 above p q (x ∷ xs) r s a (inl e) = subst₂ (λ (u v : ℕ). PairBefore p q u v) e.0 e.1 a.0
 above p q (x ∷ xs) r s a (inr i) = pair-next p q x.p x.q r s a.0 (above x.p x.q xs r s a.1 i)
 
--- all pairs
+-- the pairs of a graph, which ascend from (0, 0) on, ascend from (2, 2) on
 from-start : (g : Graph) (xs : List Merge) → PairsAscend 0 0 xs → ((r s : ℕ) → IsAmong r s xs → IsPair g r s) → PairsAscend 2 2 xs
 from-start g [] a f = tt
 from-start g (x ∷ xs) a f =
@@ -35,6 +35,7 @@ from-start g (x ∷ xs) a f =
     let o : x.p < x.q = i.order in
     (elim (cases_lt 2 x.p) [ inl k ↦ inl k | inr k ↦ inr (omega arith, omega arith) ], a.1)
 
+-- before the first pair all pairs are to come
 pub remain-start : (g : Graph) (n : ℕ) → IsBelow n g → Remain g 2 2 (pairs_below n g)
 remain-start g n b =
     let t : PairsAscend 0 0 (pairs_below n g) × ((p q : ℕ) → IsPair g p q ↔ IsAmong p q (pairs_below n g)) = pairs_tell g n b in
@@ -44,7 +45,7 @@ remain-start g n b =
       all = λ r s i k. (t.1 r s).0 i;
     }
 
--- the next pair is the first of them
+-- the next pair is the first of those to come
 is-head : (g : Graph) (p q r s : ℕ) (x : Merge) (xs : List Merge) → Remain g p q (x ∷ xs) → IsNextPair g p q r s → IsAmong r s (x ∷ xs) → (x.p ≡ r) × (x.q ≡ s)
 is-head g p q r s x xs m n (inl e) = e
 is-head g p q r s x xs m n (inr i) = absurd (n.first x.p x.q (m.pairs x.p x.q (inl (refl, refl))) m.ascend.0 (above x.p x.q xs r s m.ascend.1 i))
@@ -53,6 +54,7 @@ still-among : (r s u v : ℕ) (x : Merge) (xs : List Merge) → x.p ≡ r → x.
 still-among r s u v x xs e f k (inl j) = absurd (not-itself r s (subst₂ (λ (a b : ℕ). PairBefore r s a b) (sym j.0 ∙ e) (sym j.1 ∙ f) k))
 still-among r s u v x xs e f k (inr j) = j
 
+-- behind the next pair all but that one are to come
 pub remain-next : (g : Graph) (p q r s : ℕ) (rest : List Merge) → Remain g p q rest → IsNextPair g p q r s → (more : List Merge) × (rest ≡ pair_of r s ∷ more) × Remain g r s more
 remain-next g p q r s [] m n = absurd (m.all r s n.pair n.behind)
 remain-next g p q r s (x ∷ xs) m n =
@@ -67,11 +69,12 @@ remain-next g p q r s (x ∷ xs) m n =
       },
     )
 
+-- where no pair comes behind this one, none is left
 pub remain-none : (g : Graph) (p q : ℕ) (rest : List Merge) → Remain g p q rest → HasNoPairBehind g p q → rest ≡ []
 remain-none g p q [] m n = refl
 remain-none g p q (x ∷ xs) m n = absurd (n x.p x.q (m.pairs x.p x.q (inl (refl, refl))) m.ascend.0)
 
--- where there is a next pair, there is one
+-- where there is a next pair, some are left
 pub remain-some : (g : Graph) (p q r s : ℕ) (rest : List Merge) → Remain g p q rest → IsNextPair g p q r s → 0 < length rest
 remain-some g p q r s [] m n = absurd (m.all r s n.pair n.behind)
 remain-some g p q r s (x ∷ xs) m n = omega arith

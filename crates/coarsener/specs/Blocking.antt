@@ -19,7 +19,8 @@ abbrev pub pair_count : Parts → ℕ
 pair_count parts = length (pairs_below parts.used (G parts.traces))
 
 -- the blocks are those of the first pairs, and the path of the next block has more numbers than there is room for
-pub record EndsWithoutRoom (invs : List Invariant) (parts : Parts) (blocks : List Block) (held : ℕ) : Type 0 where
+pub record EndsWithoutRoom (invs : List Invariant) (parts : Parts) (blocks : List Block)
+    (held : ℕ) : Type 0 where
   pub next : Block
   pub rest : List Merge
   pub pairs : pairs_of blocks ++ pair_of next.p next.q ∷ rest ≡ pairs_below parts.used (G parts.traces)

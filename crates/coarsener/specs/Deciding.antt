@@ -28,9 +28,10 @@ pub record IsMerged (invs : List Invariant) (old new : Parts) (log log' : RunLis
   pub graph : new ≡ joined p q old
   pub told : log' ≡ with_merge p q log
 
--- one of the two
+-- the pair stays apart or is merged, by whether its merge loses an invariant
 abbrev pub IsDecided : List Invariant → Parts → Parts → RunLists → RunLists → ℕ → ℕ → Type 0
-IsDecided invs old new log log' p q = StaysApart invs old new log log' p q ⊎ IsMerged invs old new log log' p q
+IsDecided invs old new log log' p q =
+    StaysApart invs old new log log' p q ⊎ IsMerged invs old new log log' p q
 
 -- the number of the first invariant that the graph does not satisfy, or none where it satisfies all
 abbrev pub IsFirstBad : Graph → List Invariant → Option ℕ → Type 0

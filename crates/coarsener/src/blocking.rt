@@ -82,7 +82,8 @@ pub fn blocks<L: Ledger>(
     requires room { pair_count graph.now ≤ (log.old).block_room }
 
     // All blocks, where there is room for their paths.
-    ensures ok { OnOk result (AreBlocks invs.now (G (graph.now).traces) (blocks_of log.new spans.new)) }
+    ensures ok { OnOk result
+        (AreBlocks invs.now (G (graph.now).traces) (blocks_of log.new spans.new)) }
     ensures within { OnOk result (length (spans.new).numbers ≤ MAX_PATH_NUMBERS) }
 
     // When the limit is passed, and what stands then.

@@ -25,7 +25,10 @@ fn merge_unless_lost(graph: &mut PartGraph, planes: &mut Planes, log: &mut RunLo
     requires listed { (planes.old).clashes.invs ≡ (planes.old).invs }
     requires marks { AreMarksOf (planes.old).clashes (G (graph.old).traces) }
     requires room { length (log.old).merges < (log.old).merge_room }
-    ensures decided { IsDecided (planes.old).invs graph.old graph.new log.old log.new pair.p pair.q }
+
+    // What is decided; the marks are those of the graph after it.
+    ensures decided { IsDecided
+        (planes.old).invs graph.old graph.new log.old log.new pair.p pair.q }
     ensures marks { AreMarksOf (planes.new).clashes (G (graph.new).traces) }
     ensures list { (planes.new).invs ≡ (planes.old).invs }
     ensures listed { (planes.new).clashes.invs ≡ (planes.new).invs }
@@ -55,7 +58,8 @@ pub fn coarsen<L: Ledger>(
     requires room { MAX_STEPS ≤ (log.old).merge_room }
 
     // The whole run, and what stays as it was.
-    ensures run { Coarsens (planes.old).invs (graph.old).traces (merges_of log.new) (graph.new).traces }
+    ensures run { Coarsens
+        (planes.old).invs (graph.old).traces (merges_of log.new) (graph.new).traces }
     ensures used { (graph.new).used ≡ (graph.old).used }
     ensures others { log.new ≡ record log.old { merges = (log.new).merges } }
     ensures list { (planes.new).invs ≡ (planes.old).invs }

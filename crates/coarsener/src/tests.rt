@@ -1,7 +1,5 @@
-ghost use Rattle.std.specs.Prelude.{◌≡◌, ◌≤◌, ◌<◌, [], length, IfOk, IfSome, IsTrue};
+ghost use Rattle.std.specs.Prelude.{◌≡◌, ◌≤◌, ◌<◌, [], length, IfSome, IsTrue};
 ghost use Rattle.limits.specs.declared.TheConstants.{FIRST_TYPE, MAX_PAIRS, MAX_STEPS};
-ghost use Rattle.cell_pool.specs.Numbers.{Numbers};
-ghost use Rattle.cell_pool.specs.RunLists.{RunLists};
 ghost use Rattle.partition_model.specs.Assignments.{G};
 ghost use Rattle.partition_model.specs.Coarsening.{IsPair};
 ghost use Rattle.partition_model.specs.Refinement.{SatisfiesAll};
@@ -65,6 +63,8 @@ fn finish<L: Ledger>(
     requires satisfied { SatisfiesAll (G (graph.old).traces) invs.now }
     requires merges { (log.old).merges ≡ [] }
     requires blocks { (log.old).blocks ≡ [] }
+
+    // Room for all that is written, beside the paths of the splits.
     requires merge_room { MAX_STEPS ≤ (log.old).merge_room }
     requires block_room { MAX_PAIRS ≤ (log.old).block_room }
     requires numbers { (spans.old).room ≡ MAX_PATH_NUMBERS }

@@ -1,4 +1,4 @@
-use Rattle.std.proofs.Common.{◌≡◌, ◌<◌, ℕ, Option, None, Some, MatchOption, sym, subst}
+use Rattle.std.proofs.Common.{ℕ, Option, subst}
 use Rattle.std.proofs.lemmas.Bool.{ltb-true}
 use Rattle.partition_model.specs.Refinement.{SatisfiesAll, IsFirstBroken}
 use Rattle.coarsener.specs.Deciding.{IsFirstBad}
