@@ -94,8 +94,7 @@ module _ (p q x : ℕ) (recent was : List Bool) (old new : Found) where
       → IsFollowed p x q recent was (set was q true) old new
   followed_more changed inside grows but h _ still = spread_again p x q changed grows but (marked_apart p inside still) h
 
-  -- where more is found at the end of a link, which is marked, what was spread from ids without a mark is spread
-  -- still
+  -- where more is found at the end of a link, what was spread from ids without a mark is spread still
   pub more_keeps : (changed : Bool) → q < length was → Grows old new changed → IsSameBut q old new → KeepsSpread was (set was q true) old new
   more_keeps changed inside grows but r y z still =
       let ne : r ≢ q = marked_apart r inside still in (
@@ -109,7 +108,7 @@ AreSpreadFrom links g index recent marks found =
     (i : ℕ) (link : Link) → i < length links → get_or links i link ≡ link → IsStill marks link.from → (index ≤ i → IsStill recent link.from)
     → IsSpread link.from (g.typ link.to) link.to found found
 
--- one more link was followed
+-- with one more link followed, all links before the next place are
 pub links_more : (links : List Link) (g : Graph) (index : ℕ) (link none : Link) (recent was marks : List Bool) (old new : Found)
     → index < length links → link ≡ get_or links index none → KeepsSpread was marks old new → IsFollowed link.from (g.typ link.to) link.to recent was marks old new
     → AreSpreadFrom links g index recent was old → AreSpreadFrom links g (index + 1) recent marks new

@@ -248,7 +248,7 @@ refining-numbers invs old now k ss o a r =
     let lim : now.used ≤ MAX_PARTITIONS = r.limit in
     (split_paths_within_limit invs words old.used ss now.traces t a (omega arith) w, omega arith)
 
--- a list with one more at its front is cut into the same parts, the first with one more
+-- an event in front of the first part of a list is in front of the list
 one-before : (y : Event) (before behind u : List Event) → before ++ behind ≡ u → (y ∷ before) ++ behind ≡ y ∷ u
 one-before y before behind u e = ap (λ (es : List Event). y ∷ es) e
 
