@@ -122,8 +122,10 @@ one-status laws None files a b p q = p ∙ sym q
 one-status laws (Some task) files a b p q =
     sym p.is ∙ (ap end_status (one-end laws task (reads at_start (told_stages files (stages_of task))) p.end q.end p.ends q.ends) ∙ q.is)
 
+-- the words and the files have one status alone
 pub statuses-are-one : Laws → StatusesAreOne
 statuses-are-one laws words files a b p q = one-status laws (task_of words) files a b p q
 
+-- a run of a task over told files ends by one answer or one stop alone
 pub ends-are-one : Laws → EndsAreOne
 ends-are-one laws task files a b p q = one-end laws task (reads at_start (told_stages files (stages_of task))) a b p q

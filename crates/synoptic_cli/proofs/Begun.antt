@@ -19,7 +19,7 @@ no_model-shaped = record {
   blocks = record { order = tt; each = tt; numbers = omega arith };
 }
 
--- what the program begins with
+-- what the program begins with is what is there before the first stage
 pub begun : (log : Log) (model : Model) → log ≡ log_of [] → model ≡ no_model → IsHeld (record { rules = None; material = record { log = log; model = model } }) at_start
 begun log model same empty = record {
   form = tt;

@@ -6,16 +6,18 @@ use Rattle.synoptic_cli.specs.Task.{Stage, stage_names, input_count}
 use Rattle.synoptic_cli.specs.Stages.{SoFar, Stop, Filled, stage_reads, after, and_then, reads}
 use Rattle.synoptic_cli.specs.Endings.{IsTold, SomeBytes, told_stages}
 
+-- what follows from that which holds of the bytes of named inputs holds of them too
 pub contents-map : (files : Option Files) (names : List (List ℕ)) (P Q : List (List ℕ) → Type 0) → ((contents : List (List ℕ)) → P contents → Q contents)
     → SomeContents files names P → SomeContents files names Q
 contents-map None names P Q step some = (some.0, some.1, step some.0 some.2)
 contents-map (Some fs) names P Q step some = step (told_contents fs names) some
 
--- one file
+-- what holds of the bytes of a file holds of those of the one input with its name
 pub contents-one : (files : Option Files) (name bytes : List ℕ) (P : List (List ℕ) → Type 0) → IsTold files name bytes → P (bytes ∷ []) → SomeContents files (name ∷ []) P
 contents-one None name bytes P told here = (bytes ∷ [], omega arith, here)
 contents-one (Some fs) name bytes P told here = subst (λ (o : Option (List ℕ)). P (with_content o [])) (sym told) here
 
+-- what follows from that which holds of the bytes of stages holds of them too
 pub bytes-map : (files : Option Files) (stages : List Stage) (P Q : List Filled → Type 0) → ((filled : List Filled) → P filled → Q filled)
     → SomeBytes files stages P → SomeBytes files stages Q
 bytes-map files [] P Q step some = step [] some
@@ -23,7 +25,7 @@ bytes-map files (stage ∷ stages) P Q step some =
     contents-map files (stage_names stage) (λ contents. SomeBytes files stages (λ rest. P ((stage, contents) ∷ rest))) (λ contents. SomeBytes files stages (λ rest. Q ((stage, contents) ∷ rest)))
     (λ contents. bytes-map files stages (λ rest. P ((stage, contents) ∷ rest)) (λ rest. Q ((stage, contents) ∷ rest)) (λ rest. step ((stage, contents) ∷ rest))) some
 
--- first stages and then more
+-- what holds of the bytes of first stages and of those of the stages after them gives what holds of all
 pub bytes-both : (files : Option Files) (first second : List Stage) (P Q R : List Filled → Type 0) → ((f s : List Filled) → P f → Q s → R (f ++ s))
     → SomeBytes files first P → SomeBytes files second Q → SomeBytes files (first ++ second) R
 bytes-both files [] second P Q R step p q = bytes-map files second Q R (λ s. step [] s p) q
@@ -42,7 +44,7 @@ bytes-any files (stage ∷ stages) P any =
     contents-any files (stage_names stage) (λ contents. SomeBytes files stages (λ rest. P ((stage, contents) ∷ rest)))
     (λ contents. bytes-any files stages (λ rest. P ((stage, contents) ∷ rest)) (λ rest. any ((stage, contents) ∷ rest)))
 
--- first stages, whatever the bytes of those after them
+-- what holds of the bytes of first stages gives what holds of all, whatever the bytes of those after them
 pub bytes-first : (files : Option Files) (first second : List Stage) (P R : List Filled → Type 0) → ((f s : List Filled) → P f → R (f ++ s)) → SomeBytes files first P
     → SomeBytes files (first ++ second) R
 bytes-first files first second P R step p = bytes-both files first second P (λ s. Unit {0}) R (λ f s here any. step f s here) p (bytes-any files second (λ s. Unit {0}) (λ s. tt))
@@ -52,11 +54,12 @@ pub bytes-told : (files : Files) (stages : List Stage) (P : List Filled → Type
 bytes-told files [] P some = some
 bytes-told files (stage ∷ stages) P some = bytes-told files stages (λ rest. P ((stage, told_contents files (stage_names stage)) ∷ rest)) some
 
--- how many inputs the stages have
+-- how many inputs stages have, where they stand with their bytes
 abbrev pub filled_count : List Filled → ℕ
 filled_count [] = 0
 filled_count (filled ∷ rest) = length (stage_names filled.0) + filled_count rest
 
+-- stages with their bytes have as many inputs as the stages alone
 pub bytes-count : (files : Option Files) (stages : List Stage) (P : List Filled → Type 0) → SomeBytes files stages P
     → SomeBytes files stages (λ filled. (filled_count filled ≡ input_count stages) × P filled)
 bytes-count files [] P some = (refl, some)
@@ -68,6 +71,7 @@ bytes-count files (stage ∷ stages) P some =
     (λ rest. (length (stage_names stage) + filled_count rest ≡ length (stage_names stage) + input_count stages) × P ((stage, contents) ∷ rest))
     (λ rest p. (ap (λ n. length (stage_names stage) + n) p.0, p.1)) (bytes-count files stages (λ rest. P ((stage, contents) ∷ rest)) here)) some
 
+-- first stages and those after them have the inputs of both
 pub input_count-append : (first second : List Stage) → input_count (first ++ second) ≡ input_count first + input_count second
 input_count-append [] second = omega arith
 input_count-append (stage ∷ first) second = omega (arith, input_count-append first second)
@@ -89,6 +93,7 @@ after-after : (a b : ℕ) (r : Result SoFar Stop) → after a (after b r) ≡ af
 after-after a b (Ok s) = refl
 after-after a b (Err stop) = ap (λ (s : Stop). Err s) (same-stop (later (a + b) stop) (a + (b + stop.count)) (omega arith))
 
+-- a reading that does not stop after more inputs reads the same without them
 pub after-ok : (n : ℕ) (r : Result SoFar Stop) (s : SoFar) → after n r ≡ Ok s → r ≡ Ok s
 after-ok n (Ok t) s is = is
 after-ok n (Err stop) s is = cc

@@ -25,7 +25,7 @@ use Rattle.synoptic_cli.proofs.Rules.{memory-ends}
 use Rattle.synoptic_cli.proofs.ModelStage.{first-lacking, stopped}
 use Rattle.synoptic_cli.proofs.LogStage.{AreReadAlike, ReadAlike, alike-forms, log-lacks, log-stage-is, log-stops}
 
--- all stages of a task were read
+-- where the stages before the log and then the log were read, all inputs of the task were read
 pub task-read : (task : Task) (start held : rust.SoFar) (old mid new : InputState) (last : rust.SoFar) → IsHeld start at_start → Stays old mid → Reads (first_stages task) start old mid held
     → Reads (log_stages task) held mid new last → ReadsTask task old new last.material
 task-read task start held old mid new last is stays first second =
@@ -141,6 +141,6 @@ log-memory e is = cc
 pub stage-faults : (task : Task) (start held : rust.SoFar) (old mid : InputState) → IsHeld start at_start → Reads (first_stages task) start old mid held → mid.faults ≡ old.faults
 stage-faults task start held old mid is first = read-faults (input_count (first_stages task)) old mid (first at_start is).2.inputs
 
--- nor before the stage of the model
+-- no fault was counted before the stage of the model
 pub rules-faults : (task : Task) (start held : rust.SoFar) (old mid : InputState) → IsHeld start at_start → Reads (rules_stages task) start old mid held → mid.faults ≡ old.faults
 rules-faults task start held old mid is first = read-faults (input_count (rules_stages task)) old mid (first at_start is).2.inputs

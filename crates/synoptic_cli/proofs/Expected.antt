@@ -102,6 +102,7 @@ there : {A B C : Type 0} → A ⊎ C → A ⊎ (B ⊎ C)
 there (inl a) = inl a
 there (inr c) = inr (inr c)
 
+-- a status with its cause is the one that is expected of the words and the files
 pub cause-expected : (status : Status) (words : List (List ℕ)) (old new : World) → HasCause status words old new → IsExpected status words old new
 cause-expected Done words old new cause = if-some old.inputs.files _ (λ files some calm-in calm-patterns calm-out. inl (done-task words cause.0 files Done old new some cause.1 cause.2))
 cause-expected (NoCheck part) words old new cause = if-some old.inputs.files _ (λ files some calm-in calm-patterns calm-out. inl (done-task words cause.0 files (NoCheck part) old new some cause.1 cause.2))

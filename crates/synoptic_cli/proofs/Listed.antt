@@ -48,6 +48,7 @@ candidate-named types inv forms =
     (λ (pair : IsPair (length types) inv). (inr (has-text types inv.a pair.a_low pair.a_high), has-text types inv.b pair.b_low pair.b_high))
     forms
 
+-- the listed invariants are exactly those that hold, in order and none twice, and their types but INITIAL have texts
 pub lists-exactly : MinedTells → MinedKeepsOrder → CandidatesTell → (log : Log) → ListsExactly log
 lists-exactly tells keeps forms log =
     let count = length log.types in

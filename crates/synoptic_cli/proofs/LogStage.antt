@@ -38,6 +38,7 @@ ReadAlike =
 abbrev pub AreReadAlike : Setting → Setting → Type 0
 AreReadAlike s t = (files : List (List ℕ)) → (first_refusal s files ≡ first_refusal t files) × (events_of s files ≡ events_of t files)
 
+-- forms that decide lines alike read each log alike
 pub alike-forms : ReadAlike → (f g : Form) (ignore join : Bool) → AreAlikeForms f g → AreReadAlike (record { form = f; ignore = ignore; join = join }) (record { form = g; ignore = ignore; join = join })
 alike-forms law form.Plain form.Plain ignore join alike = λ files. (refl, refl)
 alike-forms law (form.Rules rs) (form.Rules ss) ignore join alike = λ files. law rs ss ignore join files alike
@@ -58,6 +59,7 @@ log-value so_far s t count contents log alike many none value =
 log-read : (names : List (List ℕ)) (old new : InputState) (s : Setting) (log : Log) → 0 < length names → ReadsLog s names old new log → ReadAll (length names + 0) old new
 log-read names old new s log some read = inl (omega (arith, some), record { opens = omega (arith, read.opened.opens); faults = read.opened.faults }, read.at_end)
 
+-- a log that was read whole takes what was read before it to the same with that log
 pub log-through : (so_far : SoFar) (s : Setting) (names : List (List ℕ)) (ignore join : Bool) (old new : InputState) (log : Log) → AreReadAlike s (setting_by so_far ignore join)
     → 0 < length names → ReadsLog s names old new log → HasRead (LogFiles names ignore join ∷ []) old new so_far (record { form = so_far.form; material = record { log = log; model = so_far.material.model } })
 log-through so_far s names ignore join old new log alike some read =
@@ -69,7 +71,7 @@ log-through so_far s names ignore join old new log alike some read =
       inputs = log-read names old new s log some read;
     }
 
--- the stage of a task that reads a log
+-- a task that reads a log has one stage of it, with its files
 pub log-stage-is : (task : Task) → IsSome task.form → log_stages task ≡ LogFiles (inputs_of task.files) task.ignore task.join ∷ []
 log-stage-is task some = stage-is task.form task.files task.ignore task.join some
   where
@@ -82,6 +84,7 @@ some-input : (files : List (List ℕ)) → 0 < length (inputs_of files)
 some-input [] = omega arith
 some-input (name ∷ names) = omega arith
 
+-- a log that was read whole takes what the program holds to the same with that log
 pub log-held : ReadAlike → (task : Task) (held : rust.SoFar) (old new : InputState) (log : Log) → IsSome task.form
     → ReadsLog (setting_of task (held_form held)) (inputs_of task.files) old new log
     → Reads (log_stages task) held old new (record { rules = held.rules; material = record { log = log; model = held.material.model } })
@@ -100,6 +103,7 @@ refused-value : (so_far : SoFar) (t : Setting) (count number : ℕ) (contents : 
 refused-value so_far t count number contents e refusal at =
     ap (with_log so_far t count contents) refusal ∙ ap (λ (o : Option ℕ). let r : Result SoFar Stop = Err (stop_at o (status_of e)) in r) at
 
+-- where a log is refused, its stage stops at the input that has the refusal
 pub log-stops : (so_far : SoFar) (s : Setting) (names : List (List ℕ)) (ignore join : Bool) (old new : InputState) (e : ReadError) → AreReadAlike s (setting_by so_far ignore join)
     → (refusal : RefusesLog s names old new e) → StopsReading (LogFiles names ignore join ∷ []) old new so_far (stop_after (refusal.number + 1) (status_of e))
 log-stops so_far s names ignore join old new e alike refusal =
@@ -136,6 +140,7 @@ lacks-value so_far t count number contents none many below =
     ap (with_log so_far t count contents) none
     ∙ (cond-true _ _ _ test ∙ ap (λ (n : ℕ). let r : Result SoFar Stop = Err (stop_after n (ReadFault (sources.Log n))) in r) many)
 
+-- where a file of a log is the first that is not there, and nothing before it is refused, its stage stops before it
 pub log-lacks : (so_far : SoFar) (s : Setting) (names : List (List ℕ)) (ignore join : Bool) (told : Option Files) (number : ℕ) → AreReadAlike s (setting_by so_far ignore join)
     → IsLacking s told names number → SomeBytes told (LogFiles names ignore join ∷ []) (λ filled. reads so_far filled ≡ Err (stop_after number (ReadFault (sources.Log number))))
 log-lacks so_far s names ignore join None number alike lacks = absurd lacks

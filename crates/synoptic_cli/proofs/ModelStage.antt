@@ -54,6 +54,7 @@ short-read bytes model read =
     (λ (short : length bytes ≤ MAX_MODEL_BYTES). short)
     (cases_lt MAX_MODEL_BYTES (length bytes))
 
+-- the model that is read of a file, up to one byte past its limit, is that of the file
 pub model-read : (old new : InputState) (name bytes : List ℕ) (model : Model) → ReadsInput old new name MAX_MODEL_BYTES bytes → file_reads bytes ≡ Ok model → IsWellShaped model → ReadsModel old new name model
 model-read old new name bytes model reads read shaped =
     let found = told-bytes MAX_MODEL_BYTES old.files name bytes (λ content. file_reads content ≡ Ok model) _ reads.told (λ content same. sym (model-same content bytes same) ∙ read) read in
@@ -70,6 +71,7 @@ fails-is : {A : Type 0} (e : FileError) (read : Result A FileError) → e ≢ re
 fails-is refused.Memory read other fails = absurd (other refl)
 fails-is e read other fails = fails
 
+-- a refusal of what was read of a file is that of the file, unless memory was wanted
 pub model-refused : (old new : InputState) (name bytes : List ℕ) (e : FileError) → ReadsInput old new name MAX_MODEL_BYTES bytes → e ≢ refused.Memory → Fails e (file_reads bytes)
     → RefusesFile old new name e
 model-refused old new name bytes e reads other fails =
@@ -77,13 +79,14 @@ model-refused old new name bytes e reads other fails =
     let found = told-bytes MAX_MODEL_BYTES old.files name bytes (λ content. file_reads content ≡ Err e) _ reads.told (λ content same. sym (model-same content bytes same) ∙ read) read in
     record { bytes = found.0; told = found.1; read = found.2; not_memory = other; opened = record { opens = reads.opens; faults = reads.faults }; rest = told-part old.files name _ _ reads.told }
 
--- why the file gives no model
+-- a refusal of what was read of a file is why the file gives no model
 pub model-halts : (old new : InputState) (name bytes : List ℕ) (e : FileError) → ReadsInput old new name MAX_MODEL_BYTES bytes → Fails e (file_reads bytes) → ModelHalts old new name (halt_of e)
 model-halts old new name bytes refused.Memory reads fails = reads.opens
 model-halts old new name bytes e reads fails = model-refused old new name bytes e reads (λ same. cc) fails
 
 -- ---- the stage
 
+-- the model of a file takes what the program holds to the same with that model
 pub model-held : (held : rust.SoFar) (old new : InputState) (name : List ℕ) (model : Model) → ReadsModel old new name model
     → Reads (ModelFile name ∷ []) held old new (record { rules = held.rules; material = record { log = held.material.log; model = model } })
 model-held held old new name model read = λ so_far is. (
@@ -238,7 +241,7 @@ model-ends-of : (task : Task) (w : Option (List ℕ)) (old mid new : InputState)
 model-ends-of task None old mid new before after halt is here cause = absurd cause
 model-ends-of task (Some name) old mid new before after halt is here cause = model-ends task name old mid new before after halt (here name is) cause
 
--- the same for what the program holds
+-- the run ends so where its model's file gives none, for what the program holds
 pub model-stage-ends : (task : Task) (start held : rust.SoFar) (old mid new : InputState) (before after : PatternsState) (halt : ModelHalt) → IsHeld start at_start → Stays old mid
     → Reads (rules_stages task) start old mid held → IsSomeAnd task.model (λ name. ModelHalts mid new name halt) → Ends (halt_status halt) task old new before after
 model-stage-ends task start held old mid new before after halt is stays first cause =

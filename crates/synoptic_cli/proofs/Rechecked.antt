@@ -4,8 +4,8 @@ use Rattle.std.specs.Prelude.{if◌then◌else◌}
 use Rattle.std.proofs.lemmas.List.{append-nil, map-append}
 use Rattle.outside.specs.Inputs.{Files, bytes_of}
 use Rattle.invariants.specs.declared.records.Model.{Model}
-use Rattle.traces.specs.Words.{Log, log_of}
-use Rattle.models.specs.Models.{typed_words, IsModelOf}
+use Rattle.traces.specs.Words.{log_of}
+use Rattle.models.specs.Models.{typed_words}
 use Rattle.models.specs.Checks.{IsValid}
 use Rattle.models.proofs.Valid.{models-valid}
 use Rattle.model_check.specs.declared.verdict.Verdict.{Verdict}
@@ -22,12 +22,11 @@ use Rattle.synoptic_cli.specs.declared.answer.Answer.{Answer}
 use Rattle.synoptic_cli.specs.declared.material.Material.{Material}
 use Rattle.synoptic_cli.specs.declared.status.LimitKind.{LimitKind}
 use Rattle.synoptic_cli.specs.Task.{ModelFile, Stage, file_stage, log_stage, log_stages, rules_stages, stage_names, stages_of}
-use Rattle.synoptic_cli.specs.Stages.{Filled, SoFar, Stop, after, and_then, at_start, reads, reads_model, setting_by, stage_reads, with_log, with_model}
-use Rattle.synoptic_cli.specs.declared.status.Status.{Status}
+use Rattle.synoptic_cli.specs.Stages.{Filled, SoFar, Stop, after, and_then, at_start, reads, reads_model, setting_by, with_log, with_model}
 use Rattle.synoptic_cli.specs.declared.status.Status.TheVariants.{Done}
 use Rattle.synoptic_cli.specs.Commands.{AnswersBy}
 use Rattle.synoptic_cli.specs.Commands.Inference.{PassesNone}
-use Rattle.synoptic_cli.specs.Commands.CheckModel.{Answers, Says, answer_of}
+use Rattle.synoptic_cli.specs.Commands.CheckModel.{Says, answer_of}
 use Rattle.synoptic_cli.specs.Endings.{EndsAfter, end_status, told_stages}
 use Rattle.synoptic_cli.specs.Rechecks.{InferIsDone, InferredAreAccepted, ModelsAreAccepted, checking}
 use Rattle.synoptic_cli.proofs.Bytes.{after-ok, filled_count, reads-append, reads-stop}
@@ -120,6 +119,7 @@ ends-yes task name s (Err last) valid ends =
     let same : ◌≡◌ {A = Result Answer LimitKind} (Err ends.0) (Ok (answer_of Yes)) = said-yes s.material ends.1.verdict (Err ends.0) valid ends.1.exact ends.1.value in
     cc
 
+-- a file that says the model of a log passes its check against that log
 pub models-accepted : ModelsAreAccepted
 models-accepted files task name bytes model so_far end none whole typed is told read ends =
     ends-yes task name (put model so_far) end (models-valid model (typed_words so_far.material.log) typed is)
@@ -135,6 +135,7 @@ accepted-after files task name a end (Ok s) infers none whole wrote told ends =
     ends-yes task name (put answers.1.model s) end answers.1.valid
     (subst (λ (r : Result SoFar Stop). EndsAfter (checking task name) r end) (check-reads files task name a.text answers.1.model s none whole told answers.1.reads_back) ends)
 
+-- a file with the text that an inference answered passes its check against the same log
 pub inferred-accepted : InferredAreAccepted
 inferred-accepted before after task name a status infers none alike wrote told ended =
     let same : EndsAfter task (reads at_start (told_stages after (stages_of task))) (Ok a) = subst (λ (filled : List Filled). EndsAfter task (reads at_start filled) (Ok a)) alike wrote in
@@ -150,6 +151,7 @@ done-after task s (Err last) infers none ends =
     let passes : AnswersBy Infer task s.material (Err ends.0) = subst (λ (command : Command). AnswersBy command task s.material (Err ends.0)) infers ends.1 in
     absurd (none ends.0 passes)
 
+-- an inference whose inputs are not refused, and which passes no limit, ends with Done
 pub infer-done : InferIsDone
 infer-done files task s status infers read none told =
     sym told.is

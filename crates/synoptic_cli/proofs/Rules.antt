@@ -59,6 +59,7 @@ short-read bytes rules read =
     (λ (short : length bytes ≤ 65536). short)
     (cases_lt 65536 (length bytes))
 
+-- rules that are read of a file, up to one byte past its limit, are like those of the whole file
 pub rules-read : (old new : InputState) (name bytes : List ℕ) (rules : List Rule) → ReadsInput old new name 65536 bytes → AreRead bytes rules → ReadsRules old new name rules
 rules-read old new name bytes rules reads read =
     let found = told-bytes 65536 old.files name bytes (λ content. rules_of content ≡ Ok read.0) _ reads.told (λ content same. sym (rules-same content bytes same) ∙ read.1) read.1 in
@@ -112,10 +113,11 @@ one-input : (task : Task) (name : List ℕ) → rules_name task.form ≡ Some na
 one-input task name is =
     subst (λ (w : Option (List ℕ)). 1 ≤ input_count ((file_stage RulesFile w ++ model_stages task) ++ log_stages task)) (sym is) (omega arith)
 
+-- where memory was wanted and one input was opened at most, each task with this file of rules ends by that
 pub memory-by-rules : (old new : InputState) (before after : PatternsState) (name : List ℕ) → new.opens ≤ old.opens + 1 → EndsByRules Memory name old new before after
 memory-by-rules old new before after name few = λ task is. memory-ends task old new before after (omega (arith, few, one-input task name is))
 
--- the same, with want of memory among the refusals
+-- each task with this file of rules ends by its refusal, want of memory among the refusals
 pub rules-end : (old new : InputState) (before after : PatternsState) (name bytes : List ℕ) (e : RuleError) → ReadsInput old new name 65536 bytes → IsRefused bytes before after e
     → EndsByRules (rules_answer e) name old new before after
 rules-end old new before after name bytes refused.Memory reads refusal = memory-by-rules old new before after name (omega (arith, reads.opens))
@@ -137,6 +139,7 @@ rules-through old new name rules so_far read = (
   },
 )
 
+-- the rules of a file take what the program holds to the same with these rules
 pub rules-held : (held : rust.SoFar) (old new : InputState) (name : List ℕ) (rules : LineRules) → ReadsRules old new name (rules_in rules)
     → Reads (RulesFile name ∷ []) held old new (record { rules = Some rules; material = held.material })
 rules-held held old new name rules read = λ so_far is.

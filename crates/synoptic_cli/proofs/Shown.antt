@@ -1,7 +1,7 @@
 -- The graph of a log's first assignment shows the log.
 use Rattle.std.proofs.Common.{◌≡◌, ℕ, ◌≤◌, List, [], ◌∷◌, ◌++◌, map, refl, ap, ap₂, ◌∙◌, subst}
 use Rattle.std.specs.List.{AllByRecursion}
-use Rattle.traces.specs.Words.{Log, Trace, words_of}
+use Rattle.traces.specs.Words.{Log, Trace}
 use Rattle.traces.specs.Words as logs
 use Rattle.invariants.specs.declared.records.Partition.{Partition}
 use Rattle.invariants.specs.declared.records.Edge.{Edge}
@@ -44,6 +44,7 @@ accepted : (g : Graph) (h : Assignment) → AllByRecursion (λ trace. IsPath g (
 accepted g [] all = tt
 accepted g (trace ∷ traces) all = ((id_list trace, all.0.0, all.0.1), accepted g traces all.1)
 
+-- the graph of the first assignment of a log shows exactly what there is
 pub graph-shown : (log : Log) → AcceptsTraces → ListingsTell → GraphsAreFormed → IsTyped (start_of log).traces → 2 ≤ (start_of log).used → AreBelow (start_of log).used (start_of log).traces → ShowsExactly log
 graph-shown log accepts tell formed typed two below =
     let h : Assignment = (start_of log).traces in

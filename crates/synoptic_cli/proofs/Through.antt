@@ -18,15 +18,15 @@ pub record StopsReading (stages : List Stage) (old new : InputState) (before : S
   pub bytes : SomeBytes old.files stages (λ filled. reads before filled ≡ Err stop)
   pub opened : OpenedAll stop.count old new
 
--- the same count by another word
+-- so many inputs were opened, in whichever way their number is given
 pub opened-is : (a b : ℕ) (old new : InputState) → a ≡ b → Opened a old new → Opened b old new
 opened-is a b old new same opened = subst (λ n. Opened n old new) same opened
 
--- some inputs and some more
+-- where inputs were opened and then more, as many as both were opened
 pub opened-both : (a b : ℕ) (old mid new : InputState) → Opened a old mid → Opened b mid new → Opened (a + b) old new
 opened-both a b old mid new first second = record { opens = omega (arith, first.opens, second.opens); faults = second.faults ∙ first.faults }
 
--- what is opened after what was read
+-- where inputs were read and then more opened, as many as both were opened
 pub opens-both : (a b : ℕ) (old mid new : InputState) → ReadAll a old mid → OpenedAll b mid new → OpenedAll (a + b) old new
 opens-both a b old mid new first second =
     ⊎_elim
@@ -42,7 +42,7 @@ opens-both a b old mid new first second =
     second)
     first
 
--- what was read after what was read
+-- where inputs were read and then more, as many as both were read
 pub read-both : (a b : ℕ) (old mid new : InputState) → ReadAll a old mid → ReadAll b mid new → ReadAll (a + b) old new
 read-both a b old mid new first second =
     ⊎_elim
@@ -59,15 +59,17 @@ read-both a b old mid new first second =
     second)
     first
 
--- as many inputs were opened as there are
+-- inputs that were read were opened
 pub read-opens : (count : ℕ) (old new : InputState) → ReadAll count old new → OpenedAll count old new
 read-opens count old new read =
     ⊎_elim (λ (some : (0 < count) × Opened count old new × IsAtEnd new.rest). inl (some.0, some.1)) (λ (none : (count ≡ 0) × (new ≡ old)). inr none) read
 
+-- no fault was counted where inputs were read
 pub read-faults : (count : ℕ) (old new : InputState) → ReadAll count old new → new.faults ≡ old.faults
 read-faults count old new read =
     ⊎_elim (λ (some : (0 < count) × Opened count old new × IsAtEnd new.rest). some.1.faults) (λ (none : (count ≡ 0) × (new ≡ old)). ap (λ (s : InputState). s.faults) none.1) read
 
+-- where inputs were read, no more than these were opened
 pub read-most : (count : ℕ) (old new : InputState) → ReadAll count old new → new.opens ≤ old.opens + count
 read-most count old new read =
     ⊎_elim (λ (some : (0 < count) × Opened count old new × IsAtEnd new.rest). omega (arith, some.1.opens))
@@ -95,11 +97,11 @@ opens-through a b opens old mid read is =
     subst (λ (n : ℕ). opens ≡ opens_after old.opens n) (omega (arith, none.0)) (subst (λ (s : InputState). opens ≡ opens_after s.opens b) none.1 is))
     read
 
--- the same where nothing is open
+-- where inputs were read, and then more were opened and none is open, so it is of all together
 pub stops-through : (a b : ℕ) (old mid new : InputState) → ReadAll a old mid → StopsBefore b mid new → StopsBefore (a + b) old new
 stops-through a b old mid new read stops = record { opens = opens-through a b new.opens old mid read stops.opens; closed = stops.closed }
 
--- an input that was opened after those that were read, and is open
+-- an input that is open behind more inputs is open behind these and those that were read before them
 pub open-through : (a b limit : ℕ) (old mid new : InputState) (name : List ℕ) → ReadAll a old mid → Stays old mid → LeavesOpen b limit mid new name → LeavesOpen (a + b) limit old new name
 open-through a b limit old mid new name read stays within = record {
   opens = subst (λ (n : ℕ). new.opens ≡ opens_after old.opens n) (omega arith) (opens-through a (b + 1) new.opens old mid read within.opens);
@@ -107,7 +109,7 @@ open-through a b limit old mid new name read stays within = record {
   left = subst (λ (files : Option Files). IfTold files name (λ content. LosesFront (Some content) new.rest limit)) stays.files within.left;
 }
 
--- stages that were read, and then more
+-- stages that were read, and then those after them, were read together
 pub read-more : (first second : List Stage) (old mid new : InputState) (a b c : SoFar) → Stays old mid → HasRead first old mid a b → HasRead second mid new b c
     → HasRead (first ++ second) old new a c
 read-more first second old mid new a b c stays read more = record {
@@ -117,7 +119,7 @@ read-more first second old mid new a b c stays read more = record {
   inputs = subst (λ (n : ℕ). ReadAll n old new) (sym (input_count-append first second)) (read-both (input_count first) (input_count second) old mid new read.inputs more.inputs);
 }
 
--- the bytes of stages that were read, and then of a stop
+-- over the bytes of stages that were read, and of those after them that stop, all together stop there
 pub stop-bytes : (files : Option Files) (first second : List Stage) (a b : SoFar) (stop : Stop) → SomeBytes files first (λ f. reads a f ≡ Ok b) → SomeBytes files second (λ g. reads b g ≡ Err stop)
     → SomeBytes files (first ++ second) (λ f. reads a f ≡ Err (later (input_count first) stop))
 stop-bytes files first second a b stop read stops =
@@ -125,7 +127,7 @@ stop-bytes files first second a b stop read stops =
     (λ f g p q. reads-append f g a b p.1 ∙ (ap (after (filled_count f)) q ∙ ap (λ (n : ℕ). let r : Result SoFar Stop = Err (later n stop) in r) p.0))
     (bytes-count files first (λ f. reads a f ≡ Ok b) read) stops
 
--- stages that were read, and then a stop
+-- where stages were read, and those after them stop, all together stop there
 pub read-stop : (first second : List Stage) (old mid new : InputState) (a b : SoFar) (stop : Stop) → Stays old mid → HasRead first old mid a b → StopsReading second mid new b stop
     → StopsReading (first ++ second) old new a (later (input_count first) stop)
 read-stop first second old mid new a b stop stays read stops = record {
@@ -148,6 +150,6 @@ reads-both first second start held last old mid new stays one two = λ so_far is
     let b = two a.0 a.1 in
     (b.0, b.1, read-more first second old mid new so_far a.0 b.0 stays a.2 b.2)
 
--- what stays through two steps
+-- what stays through two steps stays through both together
 pub stays-both : (old mid new : InputState) → Stays old mid → Stays mid new → Stays old new
 stays-both old mid new one two = record { files = two.files ∙ one.files; may_fail = two.may_fail ∙ one.may_fail; faults = omega (arith, one.faults, two.faults) }

@@ -1,5 +1,5 @@
 -- The paths of a log's traces through the graph of its model.
-use Rattle.std.proofs.Common.{◌≡◌, ◌⊎◌, ℕ, suc, ◌+◌, ◌≤◌, true, false, List, [], ◌∷◌, ◌++◌, map, length, take, drop, fold, count_by, Contains, refl, sym, ap, ap₂, ◌∙◌, subst, inl, inr, length-append}
+use Rattle.std.proofs.Common.{◌≡◌, ◌⊎◌, ℕ, suc, ◌+◌, ◌≤◌, List, [], ◌∷◌, ◌++◌, map, length, take, drop, fold, refl, sym, ap, ap₂, ◌∙◌, subst, inl, inr, length-append}
 use Rattle.std.specs.List.{AllByRecursion, list_any}
 use Rattle.std.proofs.lemmas.Bool.{cases_Bool, cond-true, cond-false}
 use Rattle.std.proofs.lemmas.List.{map-append, length-map}
@@ -7,17 +7,17 @@ use Rattle.std.proofs.lemmas.List.Sums.{sum_by-cons}
 use Rattle.std.proofs.Math.Seq.{take-append_seam, drop-append_seam}
 use Rattle.traces.specs.Words.{Log, Trace, event_count_of, first_met, with_new}
 use Rattle.partition_model.specs.Graphs.{Graph, IsPath, word}
-use Rattle.partition_model.specs.Assignments.{Event, Assignment, AllEvents, G, IsTyped, events, id_list, ids_of, inner_words, type_of, types_of, with_ends, word_of}
+use Rattle.partition_model.specs.Assignments.{Event, Assignment, AllEvents, G, events, id_list, ids_of, inner_words, type_of, types_of, word_of}
 use Rattle.partition_model.specs.Laws.{AcceptsTraces, CoarseningKeeps, Keeps, RefinementKeeps}
 use Rattle.partition_model.specs.Listings.{parts_of}
 use Rattle.partition_model.proofs.Lists.{In, In-append, In-map}
-use Rattle.partition_model.proofs.Listing.{Contains-In, In-Contains}
+use Rattle.partition_model.proofs.Listing.{In-Contains}
 use Rattle.partition_graph.specs.Parts.{inner_words_of}
 use Rattle.models.specs.Models.{mined_of, typed_words}
 use Rattle.models.specs.Laws.{IsTypedLog}
 use Rattle.models.proofs.Valid.{mined-hold}
 use Rattle.infer_core.specs.Runs.{AreFinal}
-use Rattle.reports.specs.Paths.{TracePath, Taken, PathsTell, paths_of, same_ids, taken, taken_by, total, trace_path}
+use Rattle.reports.specs.Paths.{TracePath, Taken, PathsTell, paths_of, same_ids, taken, taken_by, trace_path}
 use Rattle.synoptic_cli.specs.Commands.PrintPaths.{IsWalked, ShowsPaths, lines, paths}
 
 -- ---- the paths are those of an assignment of the log's words
@@ -35,6 +35,7 @@ next-path : (trace : List Event) (h : Assignment) (types : List ℕ) (traces : L
 next-path trace h types traces same rest =
     rw (as-many trace types same, take-append_seam (ids_of trace) (parts_of h), drop-append_seam (ids_of trace) (parts_of h), rest) (ap (λ (ts : List ℕ). trace_path ts (ids_of trace) ∷ map path_in h) (sym same))
 
+-- the paths of a log's traces, by the ids of an assignment of its words, are those of that assignment
 pub paths-in : (traces : List Trace) (h : Assignment) → inner_words h ≡ map (λ trace. trace.events) traces → paths_of traces (parts_of h) ≡ map path_in h
 paths-in [] [] same = refl
 paths-in [] (trace ∷ h) same = absurd cc
@@ -109,6 +110,7 @@ walked : (g : Graph) (h : Assignment) → AllByRecursion (λ trace. IsPath g (id
 walked g [] all = tt
 walked g (trace ∷ h) all = (all.0, walked g h all.1)
 
+-- where coarsening ends, the assignment keeps the log's words and its mined invariants
 pub final-keeps : (log : Log) (ids : List ℕ) → RefinementKeeps → CoarseningKeeps → IsTypedLog (typed_words log) → (final : AreFinal (typed_words log) ids)
     → Keeps (mined_of (typed_words log)) (inner_words_of log) final.end
 final-keeps log ids refinement coarsening typed final =
@@ -116,10 +118,12 @@ final-keeps log ids refinement coarsening typed final =
     let words = inner_words_of log in
     (coarsening invs words final.refined final.merges final.end (refinement invs words (length log.types + 2) final.splits final.refined typed (mined-hold (typed_words log)) final.refines) final.coarsens).0
 
+-- where coarsening ends, there is an id for each event of the log
 pub final-count : (log : Log) (ids : List ℕ) → RefinementKeeps → CoarseningKeeps → IsTypedLog (typed_words log) → AreFinal (typed_words log) ids → length ids ≡ event_count_of log.traces
 final-count log ids refinement coarsening typed final =
     ap length final.value ∙ ids-count log.traces final.end (final-keeps log ids refinement coarsening typed final).words_are
 
+-- by the ids where coarsening ends, each trace is shown in one line, as a path of the graph there
 pub paths-shown : (log : Log) (ids : List ℕ) → RefinementKeeps → CoarseningKeeps → AcceptsTraces → PathsTell → IsTypedLog (typed_words log) → (final : AreFinal (typed_words log) ids)
     → ShowsPaths log ids (G final.end)
 paths-shown log ids refinement coarsening accepts tell typed final =

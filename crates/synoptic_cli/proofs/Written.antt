@@ -37,11 +37,13 @@ answer-cause Done words task old new is asks written = (task, asks, written)
 answer-cause (NoCheck part) words task old new is asks written = (task, asks, written)
 answer-cause status words task old new is asks written = absurd is
 
+-- an answer that was written whole is the cause of its status
 pub written-whole : (task : Task) (words : List (List ℕ)) (old new : World) (m : Material) (a : Answer) → ReadsTask task old.inputs new.inputs m → Answers task m (Ok a) → IsVerdict a.status
     → Appends old.out.written new.out.written a.text → new.out.faults ≡ old.out.faults → task_of words ≡ Some task → HasCause a.status words old new
 written-whole task words old new m a read answers verdict appended calm asks =
     answer-cause a.status words task old new verdict asks (record { text = a.text; answer = task-answered task old new m a read answers; written = appended; faults = calm })
 
+-- an answer of which a front was written, with a fault, is the cause of a fault of the output
 pub written-in-part : (task : Task) (old new : World) (m : Material) (a : Answer) → ReadsTask task old.inputs new.inputs m → Answers task m (Ok a)
     → AppendsFront old.out a.text new.out → Rose old.out.faults new.out.faults → WritesPart old new task
 written-in-part task old new m a read answers front rose = record { whole = a; answer = task-answered task old new m a read answers; written = front; rose = rose }
@@ -50,7 +52,7 @@ written-in-part task old new m a read answers front rose = record { whole = a; a
 pub limit-given : (task : Task) (m : Material) (why : NoAnswer) (kind : LimitKind) → why ≡ no_answer.Limit kind → Gives (Answers task m) (Err why) → Answers task m (Err kind)
 limit-given task m why kind is given = subst (λ (w : NoAnswer). Gives (Answers task m) (Err w)) is given
 
--- the command stops at a limit
+-- where the command stops at a limit, the run ends by that limit
 pub limit-ends : (task : Task) (old new : InputState) (before after : PatternsState) (m : Material) (kind : LimitKind) → ReadsTask task old new m → Answers task m (Err kind) → Ends (Limit kind) task old new before after
 limit-ends task old new before after m kind read answers = λ words out asks. (
   task,

@@ -22,7 +22,8 @@ told_stages files stages = map (λ stage. (stage, told_contents files (stage_nam
 abbrev pub SomeBytes : Option Files → List Stage → (List Filled → Type 0) → Type 0
 SomeBytes files [] P = P []
 SomeBytes files (stage ∷ stages) P =
-    SomeContents files (stage_names stage) (λ contents. SomeBytes files stages (λ rest. P ((stage, contents) ∷ rest)))
+    SomeContents files (stage_names stage)
+    (λ contents. SomeBytes files stages (λ rest. P ((stage, contents) ∷ rest)))
 
 -- a run ends so after this reading: by the stop of the reading; or by what the task's command answers of what was read,
 -- and at a limit by a stop after all inputs
@@ -62,7 +63,8 @@ IsStatusOf words files status = HasStatus (task_of words) files status
 -- a run over told files ends in one way alone
 abbrev pub EndsAreOne : Type 0
 EndsAreOne =
-    (task : Task) (files : Files) (a b : Result Answer Stop) → EndsOver task (told_stages files (stages_of task)) a
+    (task : Task) (files : Files) (a b : Result Answer Stop)
+    → EndsOver task (told_stages files (stages_of task)) a
     → EndsOver task (told_stages files (stages_of task)) b → a ≡ b
 
 -- so the words and the files have one status alone
@@ -80,7 +82,8 @@ IsTold (Some files) name bytes = bytes_of files name ≡ Some bytes
 abbrev pub IsFirstLacking : Option Files → Task → Source → Type 0
 IsFirstLacking None task source = ⊥
 IsFirstLacking (Some files) task source =
-    (count : ℕ) × (reads at_start (told_stages files (stages_of task)) ≡ Err (stop_after count (ReadFault source)))
+    (count : ℕ)
+    × (reads at_start (told_stages files (stages_of task)) ≡ Err (stop_after count (ReadFault source)))
 
 -- so many inputs were opened, with no fault; or there is none, and nothing was touched
 abbrev pub OpenedAll : ℕ → InputState → InputState → Type 0

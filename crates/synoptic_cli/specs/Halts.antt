@@ -100,7 +100,7 @@ abbrev pub halt_of : FileError → ModelHalt
 halt_of file_error.Memory = halts.Memory
 halt_of e = halts.Refused e
 
--- the status that it is answered by
+-- the status that is answered where the model's file gives none
 abbrev pub halt_status : ModelHalt → Status
 halt_status halts.Missing = ReadFault sources.ModelFile
 halt_status halts.Fault = ReadFault sources.ModelFile
@@ -146,7 +146,8 @@ pub record HasRead (stages : List Stage) (old new : InputState) (before now : So
 -- the stages were read, after what the program held, and gave what it holds now
 abbrev pub Reads : List Stage → rust.SoFar → (old new : InputState) → rust.SoFar → Type 0
 Reads stages before old new now =
-    (so_far : SoFar) → IsHeld before so_far → (next : SoFar) × IsHeld now next × HasRead stages old new so_far next
+    (so_far : SoFar) → IsHeld before so_far
+    → (next : SoFar) × IsHeld now next × HasRead stages old new so_far next
 
 -- the task's inputs were read, and this is what the command is to work on, with a model that is well shaped
 pub record ReadsTask (task : Task) (old new : InputState) (material : Material) : Type 0 where

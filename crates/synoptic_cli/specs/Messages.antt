@@ -46,8 +46,8 @@ rule_message rule_error.Memory = codes ": out of memory\n"
 -- the line of a log, and what is wrong with it
 abbrev pub line_message : Option Task → At → List ℕ → List ℕ
 line_message task at what =
-    codes "synoptic: " ++ shown_source task (sources.Log at.file) ++ codes ":" ++ decimal at.line ++ codes ": " ++ what
-    ++ codes "\n"
+    codes "synoptic: " ++ shown_source task (sources.Log at.file) ++ codes ":" ++ decimal at.line
+    ++ codes ": " ++ what ++ codes "\n"
 
 -- why a line of a log is refused
 abbrev pub log_message : Option Task → LogFault → List ℕ
@@ -96,7 +96,8 @@ task_message task Usage =
 task_message task (Expressions e) = codes "synoptic: expressions" ++ rule_message e
 task_message task (Log fault) = log_message task fault
 task_message task (Limit kind) = limit_message kind
-task_message task (ReadFault source) = codes "synoptic: cannot read " ++ shown_source task source ++ codes "\n"
+task_message task (ReadFault source) =
+    codes "synoptic: cannot read " ++ shown_source task source ++ codes "\n"
 task_message task WriteFault = codes "synoptic: cannot write\n"
 task_message task Memory = codes "synoptic: out of memory\n"
 task_message task (ModelFile e) = codes "synoptic: model file: " ++ file_fault e ++ codes "\n"

@@ -92,7 +92,7 @@ abbrev pub stop_at : Option ℕ → Status → Stop
 stop_at (Some number) status = stop_after (number + 1) status
 stop_at None status = stop_after 0 status
 
--- how a log of so many files is read
+-- how a log is read after what was read before it
 abbrev pub setting_by : SoFar → (ignore join : Bool) → Setting
 setting_by so_far ignore join = record { form = so_far.form; ignore = ignore; join = join }
 

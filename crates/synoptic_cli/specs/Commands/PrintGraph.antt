@@ -30,7 +30,8 @@ IsFound log id =
 pub record ShowsExactly (log : Log) : Type 0 where
   pub words : map word_of (start_of log).traces ≡ words_of log
   pub by_type : AllEvents (λ e. e.id ≡ e.typ) (start_of log).traces
-  pub partitions : ArePartitions (partitions_below (start_of log).used (start_of log).traces) (start_of log).traces
+  pub partitions : ArePartitions (partitions_below (start_of log).used (start_of log).traces)
+      (start_of log).traces
   pub edges : AreEdges (edges_below (start_of log).used (start_of log).traces) (start_of log).traces
   pub accepted : AllByRecursion (Accepts (G (start_of log).traces)) (words_of log)
   -- for each edge listed, the partition that it leaves and the one that it enters are found

@@ -29,7 +29,8 @@ AreInOrder log =
 -- no invariant is listed twice
 abbrev pub AreOnce : Log → Type 0
 AreOnce log =
-    (j k : ℕ) (inv : Invariant) → slice_get (listed log) j ≡ Some inv → slice_get (listed log) k ≡ Some inv → j ≡ k
+    (j k : ℕ) (inv : Invariant)
+    → slice_get (listed log) j ≡ Some inv → slice_get (listed log) k ≡ Some inv → j ≡ k
 
 -- the invariants listed are exactly the candidates that hold, by places, of every word of the log; they stand in the
 -- candidates' order, none twice; and each type that they name is INITIAL, as the first of the two, or has a text

@@ -23,14 +23,16 @@ count_line what number = what ++ decimal number ++ codes "\n"
 -- how large the log is
 abbrev pub log_lines : Log → List ℕ
 log_lines log =
-    count_line (codes "traces ") (length log.traces) ++ count_line (codes "events ") (event_count_of log.traces)
+    count_line (codes "traces ") (length log.traces)
+    ++ count_line (codes "events ") (event_count_of log.traces)
     ++ count_line (codes "types ") (length log.types)
 
 -- how large the model is
 abbrev pub model_lines : Model → List ℕ
 model_lines m =
     count_line (codes "invariants ") (length m.invariants) ++ count_line (codes "splits ") (length m.splits)
-    ++ count_line (codes "merges ") (length m.merges) ++ count_line (codes "partitions ") (length m.partitions)
+    ++ count_line (codes "merges ") (length m.merges)
+    ++ count_line (codes "partitions ") (length m.partitions)
 
 -- the eight lines, of a model that the check accepts
 abbrev pub summary : Log → Model → List ℕ

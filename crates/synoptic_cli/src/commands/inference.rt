@@ -29,6 +29,8 @@ fn infer<L: Ledger>(bench: &mut Workbench, blank: Blank) -> Result<(), LimitKind
     requires parts { blank.parts ≡ L.parts }
     requires stands { 0 < blank.parts }
     requires opened { (bench.old).stage ≡ Stage.Opened }
+
+    // The log stays. Its model is inferred, or the limit that its inference passes is answered.
     ensures log { (bench.new).log ≡ (bench.old).log }
     ensures stage { OnOk result ((bench.new).stage ≡ Stage.Inferred) }
     ensures none { OnOk result (PassesNone (typed_words (bench.old).log)) }

@@ -1,4 +1,4 @@
-use Rattle.std.proofs.Common.{◌∙◌, ℕ, List, Option, ap, subst, sym}
+use Rattle.std.proofs.Common.{ℕ, List, Option, ap, subst, sym}
 use Rattle.std.specs.Option.{option_map}
 use Rattle.synoptic_cli.specs.Task.{file_stage, ModelFile}
 use Rattle.synoptic_cli.specs.Halts.{Reads}

@@ -1,6 +1,5 @@
 use Rattle.std.proofs.Common.{◌≡◌, ℕ, List, ◌++◌, length, codes, ap, ◌∙◌, append_assoc}
-use Rattle.invariants.specs.declared.records.Model.{Model}
-use Rattle.synoptic_cli.specs.Commands.RunBench.{count_line, model_lines}
+use Rattle.synoptic_cli.specs.Commands.RunBench.{count_line}
 use Rattle.synoptic_cli.proofs.commands.run_bench.push_model.Goals as goal
 
 -- four texts, one behind another

@@ -1,4 +1,4 @@
-use Rattle.std.proofs.Common.{List, ℕ, ◌≡◌, ap, subst, ◌∙◌}
+use Rattle.std.proofs.Common.{List, ℕ, ap, subst, ◌∙◌}
 use Rattle.traces.specs.Words.{Log}
 use Rattle.models.specs.Laws.{IsTypedLog}
 use Rattle.models.specs.Limits.{IsWithinLimits}
