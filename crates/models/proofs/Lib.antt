@@ -9,6 +9,6 @@ pub mod FirstSteps
 pub mod Unique
 pub mod Shaped
 pub mod Formed
-pub mod Rows
+pub mod Examples
 pub mod EmptyLog
 pub mod Listed
