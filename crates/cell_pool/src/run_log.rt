@@ -99,9 +99,7 @@ impl RunLog {
           splits = (self.old).splits ++ record { inv = inv; place = place; path = path } ∷ [];
         } }
     {
-        if self.splits.push(SplitEntry { inv, place, path }).is_err() {
-            unreachable!()
-        }
+        self.splits.push_reserved(SplitEntry { inv, place, path });
     }
 
     /// Appends a merge of partition q into partition p. Its room is not used up.
@@ -111,9 +109,7 @@ impl RunLog {
           merges = (self.old).merges ++ record { p = p; q = q } ∷ [];
         } }
     {
-        if self.merges.push(MergeEntry { p, q }).is_err() {
-            unreachable!()
-        }
+        self.merges.push_reserved(MergeEntry { p, q });
     }
 
     /// Appends a block: partitions p and q stay apart for the invariant at place `inv` of its list, as a path shows. Its
@@ -124,9 +120,7 @@ impl RunLog {
           blocks = (self.old).blocks ++ record { p = p; q = q; inv = inv; path = path } ∷ [];
         } }
     {
-        if self.blocks.push(BlockEntry { p, q, inv, path }).is_err() {
-            unreachable!()
-        }
+        self.blocks.push_reserved(BlockEntry { p, q, inv, path });
     }
 
     /// The splits, in the order in which they were added.
