@@ -8,7 +8,7 @@ use Rattle.partition_model.specs.Listings.{ids_below, CountsAddUp}
 use Rattle.partition_model.proofs.Lists.{In, In-append_left, In-append_right, all_in, bit, edge_count-cons, members-cons, member-of}
 use Rattle.partition_model.proofs.Stitching.{id-high}
 
--- sums over a list
+-- a sum of sums is the sum of both
 sum-both : (f g k : ℕ → ℕ) (xs : List ℕ) → ((x : ℕ) → k x ≡ f x + g x) → sum_by k xs ≡ sum_by f xs + sum_by g xs
 sum-both f g k [] e = refl
 sum-both f g k (x ∷ xs) e =
@@ -19,6 +19,7 @@ sum-both f g k (x ∷ xs) e =
     let i : sum_by k xs ≡ sum_by f xs + sum_by g xs = sum-both f g k xs e in
     omega arith
 
+-- a sum of nothing but 0 is 0
 sum-none : (f : ℕ → ℕ) (xs : List ℕ) → ((x : ℕ) → f x ≡ 0) → sum_by f xs ≡ 0
 sum-none f [] e = refl
 sum-none f (x ∷ xs) e =
@@ -27,7 +28,7 @@ sum-none f (x ∷ xs) e =
     let i : sum_by f xs ≡ 0 = sum-none f xs e in
     omega arith
 
--- over numbers from a on, of which one alone counts
+-- a sum over numbers from a on, of which none counts, is 0
 sum-above : (f : ℕ → ℕ) (y a m : ℕ) → y < a → ((x : ℕ) → x ≢ y → f x ≡ 0) → sum_by f (range_with_len a m) ≡ 0
 sum-above f y a zero l e = refl
 sum-above f y a (suc m) l e =
@@ -36,6 +37,7 @@ sum-above f y a (suc m) l e =
     let i : sum_by f (range_with_len (a + 1) m) ≡ 0 = sum-above f y (a + 1) m (omega arith) e in
     omega arith
 
+-- a sum over numbers of which one alone counts is what that one counts
 sum-at : (f : ℕ → ℕ) (y a m : ℕ) → a ≤ y → y < a + m → ((x : ℕ) → x ≢ y → f x ≡ 0) → sum_by f (range_with_len a m) ≡ f y
 sum-at f y a zero l k e = absurd (omega arith)
 sum-at f y a (suc m) l k e =
@@ -52,19 +54,20 @@ sum-at f y a (suc m) l k e =
           omega arith
     ]
 
--- one pair of neighbours, counted over its second and over its first
+-- one pair of neighbours, counted over its second
 second : (n : ℕ) (b : Bool) (y : ℕ) → y < n → sum_by (λ q. bit (b && y == q)) (ids_below n) ≡ bit b
 second n false y l = sum-none (λ q. bit (false && y == q)) (ids_below n) (λ q. refl)
 second n true y l =
     let t : (y == y) ≡ true = eq-eqb y y refl in
     sum-at (λ q. bit (true && y == q)) y 0 n (omega arith) (omega arith) (λ q d. let f : (y == q) ≡ false = ne_eqb y q (λ e. d (sym e)) in ap bit f) ∙ ap bit t
 
+-- one pair of neighbours, counted over its first
 first : (n : ℕ) (b : Bool) (x : ℕ) → x < n → sum_by (λ p. bit (x == p && b)) (ids_below n) ≡ bit b
 first n b x l =
     let t : (x == x) ≡ true = eq-eqb x x refl in
     sum-at (λ p. bit (x == p && b)) x 0 n (omega arith) (omega arith) (λ p d. let f : (x == p) ≡ false = ne_eqb x p (λ e. d (sym e)) in ap (λ (z : Bool). bit (z && b)) f) ∙ ap (λ (z : Bool). bit (z && b)) t
 
--- the pairs of one trace from a place on
+-- from a place of a trace on, the pairs that leave p are as many as p stands there
 out-of : (n p x : ℕ) (es : List Event) → p ≢ 1 → 2 ≤ n → ((e : Event) → In e es → e.id < n)
     → sum_by (λ q. pairs p q (x ∷ (ids_of es ++ 1 ∷ []))) (ids_below n) ≡ bit (x == p) + count_by (λ e. e.id == p) es
 out-of n p x [] d l f =
@@ -82,6 +85,7 @@ out-of n p x (e ∷ es) d l f =
     let m : count_by (λ e. e.id == p) (e ∷ es) ≡ bit (e.id == p) + count_by (λ e. e.id == p) es = members-cons p e es in
     omega arith
 
+-- from a place of a trace on, the pairs that enter q are as many as q stands behind it
 into : (n q x : ℕ) (es : List Event) → 2 ≤ n → x < n → ((e : Event) → In e es → e.id < n)
     → sum_by (λ p. pairs p q (x ∷ (ids_of es ++ 1 ∷ []))) (ids_below n) ≡ bit (1 == q) + count_by (λ e. e.id == q) es
 into n q x [] l k f =
@@ -102,17 +106,21 @@ into n q x (e ∷ es) l k f =
 abbrev ends : Bool → Assignment → ℕ
 ends b h = if b then length h else 0
 
+-- one trace more has one end more
 ends-cons : (b : Bool) (t : List Event) (h : Assignment) → ends b (t ∷ h) ≡ bit b + ends b h
 ends-cons true t h = omega arith
 ends-cons false t h = refl
 
+-- no traces have no ends
 ends-none : (b : Bool) → ends b [] ≡ 0
 ends-none true = refl
 ends-none false = refl
 
+-- the events of an id in one trace and in the others
 members-append : (p : ℕ) (t : List Event) (h : Assignment) → members (t ∷ h) p ≡ count_by (λ e. e.id == p) t + members h p
 members-append p t h = sum_by-append (λ (e : Event). cond (e.id == p) 1 0) t (events h)
 
+-- the counts of the edges out of p add up to its events, and for INITIAL the traces beside them
 all-out : (h : Assignment) (n p : ℕ) → p ≢ 1 → 2 ≤ n → ((e : Event) → In e (events h) → e.id < n) → sum_by (λ q. edge_count h p q) (ids_below n) ≡ ends (0 == p) h + members h p
 all-out [] n p d l f =
     let a : sum_by (λ q. edge_count [] p q) (ids_below n) ≡ 0 = sum-none (λ q. edge_count [] p q) (ids_below n) (λ q. refl) in
@@ -127,6 +135,7 @@ all-out (t ∷ h) n p d l f =
     let m : members (t ∷ h) p ≡ count_by (λ e. e.id == p) t + members h p = members-append p t h in
     omega arith
 
+-- the counts of the edges into q add up to its events, and for TERMINAL the traces beside them
 all-into : (h : Assignment) (n q : ℕ) → 2 ≤ n → ((e : Event) → In e (events h) → e.id < n) → sum_by (λ p. edge_count h p q) (ids_below n) ≡ ends (1 == q) h + members h q
 all-into [] n q l f =
     let a : sum_by (λ p. edge_count [] p q) (ids_below n) ≡ 0 = sum-none (λ p. edge_count [] p q) (ids_below n) (λ p. refl) in
@@ -153,9 +162,11 @@ no-member h p t l =
       | inr k ↦ omega arith
     ]
 
+-- the size of an id that is no end is the number of its events
 size-high : (h : Assignment) (p : ℕ) → 2 ≤ p → size h p ≡ members h p
 size-high h p l = let f : nat_lt p 2 ≡ false = le-ltb p 2 l in ap (λ (b : Bool). if b then length h else members h p) f
 
+-- so those out of an id other than TERMINAL add up to its size
 add-out : (h : Assignment) (n p : ℕ) → IsTyped h → p ≢ 1 → sum_by (λ q. edge_count h p q) (ids_below n) ≡ ends (0 == p) h + members h p → sum_by (λ q. edge_count h p q) (ids_below n) ≡ size h p
 add-out h n zero t d e = let m : members h 0 ≡ 0 = no-member h 0 t (omega arith) in omega arith
 add-out h n (suc zero) t d e = absurd (d refl)
@@ -165,6 +176,7 @@ add-out h n (suc (suc p)) t d e =
     let v : size h (suc (suc p)) ≡ members h (suc (suc p)) = size-high h (suc (suc p)) (omega arith) in
     omega arith
 
+-- and so do those into an id other than INITIAL
 add-into : (h : Assignment) (n q : ℕ) → IsTyped h → q ≢ 0 → sum_by (λ p. edge_count h p q) (ids_below n) ≡ ends (1 == q) h + members h q → sum_by (λ p. edge_count h p q) (ids_below n) ≡ size h q
 add-into h n zero t d e = absurd (d refl)
 add-into h n (suc zero) t d e = let m : members h 1 ≡ 0 = no-member h 1 t (omega arith) in omega arith
@@ -174,6 +186,7 @@ add-into h n (suc (suc q)) t d e =
     let v : size h (suc (suc q)) ≡ members h (suc (suc q)) = size-high h (suc (suc q)) (omega arith) in
     omega arith
 
+-- the counts of the edges of an id add up to its size, out of it but for TERMINAL and into it but for INITIAL
 pub counts_add_up : CountsAddUp
 counts_add_up h n t l b =
     let f : (e : Event) → In e (events h) → e.id < n = λ e i. all_in (λ e. e.id < n) e (events h) b i in

@@ -24,6 +24,7 @@ listed-in h t trace i x (inr k) =
       | inr b ↦ elim b [ inl e ↦ ap (G h).listed (sym e) | inr n ↦ absurd n ]
     ]
 
+-- the graph of an assignment is formed
 pub graphs_are_formed : GraphsAreFormed
 graphs_are_formed h t =
     record {
@@ -58,6 +59,7 @@ onto-end p q x u l k e =
       | inr a ↦ sym (onto_other p q x a) ∙ e
     ]
 
+-- the merged graph of a formed graph is formed, and q is gone from it
 pub merged_are_formed : MergedAreFormed
 merged_are_formed g p q f l m lp = (
   record {
@@ -87,10 +89,12 @@ merged-target g p q u v k =
     let cd : (not (u == q) ≡ true) × (not (v == q) ≡ true) = and_parts (not (u == q)) (not (v == q)) ab.0 in
     eqb-false v q (not-true (v == q) cd.1)
 
+-- a walk of the merged graph does not go to the id that was merged away
 walk-avoids : (g : Graph) (p q u : ℕ) (xs : List ℕ) (r : ℕ) → Walk (Merged g p q) u xs r → AllByRecursion (λ x. x ≢ q) xs
 walk-avoids g p q u [] r w = tt
 walk-avoids g p q u (x ∷ xs) r w = (merged-target g p q u x w.0, walk-avoids g p q x xs r w.1)
 
+-- no path of the merged graph names the id that was merged away
 pub merged_paths_avoid : MergedPathsAvoid
 merged_paths_avoid g p q l [] i = absurd i
 merged_paths_avoid g p q l (x ∷ xs) i = ((λ e. let z : x ≡ 0 = i.0 in absurd (omega arith)), walk-avoids g p q x xs 1 i.1)

@@ -13,11 +13,12 @@ use Rattle.partition_model.proofs.Merging.{merge_typed}
 use Rattle.partition_model.proofs.Following.{accepts_traces}
 use Rattle.partition_model.proofs.Runs.{broken, next-run, start-run}
 
--- another naming of ids keeps the words
+-- another naming of ids keeps the types of a trace
 types-renamed : (f : ℕ → ℕ) (t : List Event) → types_of (map (renamed_event f) t) ≡ types_of t
 types-renamed f [] = refl
 types-renamed f (e ∷ t) = ap (λ (z : List ℕ). e.typ ∷ z) (types-renamed f t)
 
+-- and so it keeps the words
 pub words-renamed : (f : ℕ → ℕ) (h : Assignment) → inner_words (renamed f h) ≡ inner_words h
 words-renamed f [] = refl
 words-renamed f (t ∷ h) = ap₂ (λ (x : List ℕ) (z : List (List ℕ)). x ∷ z) (types-renamed f t) (words-renamed f h)
@@ -27,6 +28,7 @@ words-accepted : (k h : Assignment) → AllByRecursion (λ trace. IsPath (G k) (
 words-accepted k [] a = tt
 words-accepted k (t ∷ h) a = ((id_list t, a.0.0, a.0.1), words-accepted k h a.1)
 
+-- an assignment of the words, with one type for each id and each invariant satisfied, keeps all
 pub keeps : (invs : List Invariant) (words : List (List ℕ)) (h : Assignment) → inner_words h ≡ words → IsTyped h → SatisfiesAll (G h) invs → Keeps invs words h
 keeps invs words h e t s =
     record {
@@ -36,6 +38,7 @@ keeps invs words h e t s =
       satisfies = s;
     }
 
+-- a run of refinement from any state keeps it
 refined-keeps : (invs : List Invariant) (words : List (List ℕ)) (splits : List Split) (h : Assignment) (n : ℕ) (end : Assignment) → IsRun words h n → 2 ≤ n → HoldAll words invs
     → Refines invs h n splits end → Keeps invs words end
 refined-keeps invs words [] h n end r l a w =
@@ -47,9 +50,11 @@ refined-keeps invs words (s ∷ ss) h n end r l a w =
     let r2 : IsRun words (after_split n s h) (suc n) = subst (λ (m : ℕ). IsRun words (after_split n s h) m) e r1 in
     refined-keeps invs words ss (after_split n s h) (suc n) end r2 (omega arith) a w.1
 
+-- it is kept where refinement ends
 pub refinement_keeps : RefinementKeeps
 refinement_keeps invs words n splits end a hold w = refined-keeps invs words splits (by_type words) n end (start-run words n a) a.two hold w
 
+-- it is kept where coarsening ends, after which no merge keeps every invariant
 pub coarsening_keeps : CoarseningKeeps
 coarsening_keeps invs words h [] end k w = (
   subst (λ (x : Assignment). Keeps invs words x) (sym w.1) k,

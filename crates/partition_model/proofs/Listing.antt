@@ -9,21 +9,23 @@ use Rattle.partition_model.specs.Listings.{ids_below, partition_of, partitions_b
 use Rattle.partition_model.proofs.Lists.{In, In-append, In-append_left, In-append_right, In-map, map-In, In-events, all_in, edge-In, pairs-In, pairs-first}
 use Rattle.partition_model.proofs.Passes.{live-member}
 
--- a member, by its place
+-- a member has a place
 pub Contains-In : {X : Type 0} (x : X) (xs : List X) → In x xs → Contains xs x
 Contains-In x [] i = absurd i
 Contains-In x (y ∷ xs) (inl e) = (0, omega arith, e)
 Contains-In x (y ∷ xs) (inr r) = let o : Contains xs x = Contains-In x xs r in (suc o.0, omega (arith, o.1), o.2)
 
+-- what stands at a place is a member
 In-place : {X : Type 0} (xs : List X) (k : ℕ) (x : X) → k < length xs → slice_index_or xs k x ≡ x → In x xs
 In-place [] k x l e = absurd (omega arith)
 In-place (y ∷ xs) zero x l e = inl e
 In-place (y ∷ xs) (suc k) x l e = inr (In-place xs k x (omega arith) e)
 
+-- what has a place is a member
 pub In-Contains : {X : Type 0} (xs : List X) (x : X) → Contains xs x → In x xs
 In-Contains xs x c = In-place xs c.0 x c.1 c.2
 
--- a filtered list
+-- a member of a filtered list is one of the list, and passes
 pub In-filter : {X : Type 0} (p : X → Bool) (x : X) (xs : List X) → In x (filter p xs) → In x xs × (p x ≡ true)
 In-filter p x [] i = absurd i
 In-filter {X} p x (y ∷ xs) i =
@@ -40,6 +42,7 @@ In-filter {X} p x (y ∷ xs) i =
           (inr o.0, o.1)
     ]
 
+-- a member that passes is in the filtered list
 pub filter-In : {X : Type 0} (p : X → Bool) (x : X) (xs : List X) → In x xs → p x ≡ true → In x (filter p xs)
 filter-In p x [] i t = absurd i
 filter-In {X} p x (y ∷ xs) (inl e) t =
@@ -50,7 +53,7 @@ filter-In {X} p x (y ∷ xs) (inr r) t =
       | inr a ↦ subst (λ (b : Bool). In x (cond b (y ∷ filter p xs) (filter p xs))) (sym a) (filter-In p x xs r t)
     ]
 
--- lists joined end to end
+-- a member of lists joined end to end is in one of them
 pub In-flat_map : {X Y : Type 0} (f : X → List Y) (y : Y) (xs : List X) → In y (flat_map f xs) → (x : X) × In x xs × In y (f x)
 In-flat_map f y [] i = absurd i
 In-flat_map {X} f y (x ∷ xs) i =
@@ -59,12 +62,13 @@ In-flat_map {X} f y (x ∷ xs) i =
       | inr b ↦ let o : (z : X) × In z xs × In y (f z) = In-flat_map f y xs b in (o.0, inr o.1, o.2)
     ]
 
+-- a member of one of the lists is in what they are joined to
 pub flat_map-In : {X Y : Type 0} (f : X → List Y) (y : Y) (x : X) (xs : List X) → In x xs → In y (f x) → In y (flat_map f xs)
 flat_map-In f y x [] i j = absurd i
 flat_map-In {X} f y x (z ∷ xs) (inl e) j = In-append_left y (f z) (flat_map f xs) (subst (λ (w : X). In y (f w)) (sym e) j)
 flat_map-In f y x (z ∷ xs) (inr r) j = In-append_right y (f z) (flat_map f xs) (flat_map-In f y x xs r j)
 
--- the numbers from a on
+-- a number from a on, and no further than the range goes, is in it
 pub range-In : (a m x : ℕ) → a ≤ x → x < a + m → In x (range_with_len a m)
 range-In a zero x l k = absurd (omega arith)
 range-In a (suc m) x l k =
@@ -73,7 +77,7 @@ range-In a (suc m) x l k =
       | inr o ↦ inl (omega arith)
     ]
 
--- ids of events, of ends and of edges are below the bound
+-- the ids of a trace's list are below the bound
 below-of : (h : Assignment) (n : ℕ) → 2 ≤ n → AreBelow n h → (trace : List Event) → In trace h → (x : ℕ) → In x (id_list trace) → x < n
 below-of h n l b trace i x (inl e) = omega arith
 below-of h n l b trace i x (inr k) =
@@ -84,6 +88,7 @@ below-of h n l b trace i x (inr k) =
       | inr c ↦ elim c [ inl e ↦ omega arith | inr z ↦ absurd z ]
     ]
 
+-- live ids are below the bound
 live-below : (h : Assignment) (n p : ℕ) → 2 ≤ n → AreBelow n h → is_live h p ≡ true → p < n
 live-below h n p l b k =
     elim (cases_lt p 2) [
@@ -93,11 +98,12 @@ live-below h n p l b k =
           subst (λ (z : ℕ). z < n) o.2 (all_in (λ e. e.id < n) o.0 (events h) b o.1)
     ]
 
--- partitions in order
+-- partitions that ascend from b on ascend from each lower number on
 ascend-lower : (a b : ℕ) (xs : List Partition) → a ≤ b → AscendIds b xs → AscendIds a xs
 ascend-lower a b [] l s = tt
 ascend-lower a b (x ∷ xs) l s = (let k : b ≤ x.id = s.0 in omega arith, s.1)
 
+-- the live ids from a on give partitions that ascend
 partitions-ascend : (h : Assignment) (a m : ℕ) → AscendIds a (map (partition_of h) (filter (is_live h) (range_with_len a m)))
 partitions-ascend h a zero = tt
 partitions-ascend h a (suc m) =
@@ -111,7 +117,7 @@ partitions-ascend h a (suc m) =
           (ascend-lower a (a + 1) (map (partition_of h) (filter (is_live h) (range_with_len (a + 1) m))) (omega arith) i)
     ]
 
--- the partitions
+-- the list has the partitions of the assignment, once each, ascending
 pub are_partitions : (h : Assignment) (n : ℕ) → 2 ≤ n → AreBelow n h → ArePartitions (partitions_below n h) h
 are_partitions h n l b =
     record {
@@ -129,7 +135,7 @@ are_partitions h n l b =
       );
     }
 
--- edges in order: from one id, and from one id after another
+-- edges that ascend from a pair on ascend from each smaller pair on
 edges-lower : (p q r s : ℕ) (xs : List Edge) → (p < r) ⊎ ((p ≡ r) × (q ≤ s)) → AscendEdges r s xs → AscendEdges p q xs
 edges-lower p q r s [] l a = tt
 edges-lower p q r s (x ∷ xs) l a = (lower l a.0, a.1)
@@ -140,6 +146,7 @@ edges-lower p q r s (x ∷ xs) l a = (lower l a.0, a.1)
     lower (inr u) (inl v) = inl (omega arith)
     lower (inr u) (inr v) = inr (u.0 ∙ v.0, omega arith)
 
+-- the edges from one id ascend, and then those behind them
 edges-then : (h : Assignment) (p a m : ℕ) (more : List Edge) → AscendEdges (suc p) 0 more
     → AscendEdges p a (map (edge_between h p) (filter (λ q. nat_lt 0 (edge_count h p q)) (range_with_len a m)) ++ more)
 edges-then h p a zero more s = edges-lower p a (suc p) 0 more (inl (omega arith)) s
@@ -155,6 +162,7 @@ edges-then h p a (suc m) more s =
           (edges-lower p a p (a + 1) (map (edge_between h p) (filter (λ q. nat_lt 0 (edge_count h p q)) (range_with_len (a + 1) m)) ++ more) (inr (refl, omega arith)) i)
     ]
 
+-- the edges from one id after another ascend
 edges-ascend : (h : Assignment) (n a m : ℕ) → AscendEdges a 0 (flat_map (edges_from n h) (range_with_len a m))
 edges-ascend h n a zero = tt
 edges-ascend h n a (suc m) =
@@ -162,7 +170,7 @@ edges-ascend h n a (suc m) =
     edges-then h a 0 n (flat_map (edges_from n h) (range_with_len (a + 1) m))
     (subst (λ (z : ℕ). AscendEdges z 0 (flat_map (edges_from n h) (range_with_len (a + 1) m))) (add-one a) i)
 
--- the edges
+-- the list has the edges of the assignment, once each, ascending
 pub are_edges : (h : Assignment) (n : ℕ) → 2 ≤ n → AreBelow n h → AreEdges (edges_below n h) h
 are_edges h n l b =
     record {
@@ -191,5 +199,6 @@ are_edges h n l b =
       );
     }
 
+-- where ids are below n, the lists have all partitions and all edges
 pub listings_tell : ListingsTell
 listings_tell h n l b = (are_partitions h n l b, are_edges h n l b)

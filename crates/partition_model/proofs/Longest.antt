@@ -40,6 +40,7 @@ follows-one (t ∷ h) path l =
           (t, inl refl, omega arith)
     ]
 
+-- the path follows the traces for this many ids and no more
 longest : (h : Assignment) (path : List ℕ) → 0 < length h → IsLongest h path (followed h path)
 longest h path l =
     let o : (trace : List Event) × In trace h × (common path (id_list trace) ≡ followed h path) = follows-one h path l in
@@ -61,9 +62,11 @@ from-start (t ∷ h) (x ∷ xs) l e =
     let b : 1 ≤ common (x ∷ xs) (id_list t) = begins-common 1 (x ∷ xs) (id_list t) (omega arith) ((let z : Some x ≡ Some 0 = e in cc), tt) in
     omega arith
 
+-- a number but 0 is the one after that before it
 suc-pred : (n : ℕ) → 0 < n → suc (pred n) ≡ n
 suc-pred zero l = absurd (omega arith)
 suc-pred (suc n) l = refl
 
+-- the stitch is the last place up to which the path follows the traces
 pub stitch_is_last : StitchIsLast
 stitch_is_last h path l = (longest h path l, λ e. suc-pred (followed h path) (from-start h path l e))

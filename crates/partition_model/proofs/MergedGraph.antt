@@ -12,6 +12,7 @@ use Rattle.partition_model.proofs.Naming.{events-renamed}
 use Rattle.partition_model.proofs.Merging.{onto_other, gone, merged_to, to_merged, same_path, merge_to_merged, merged_to_merge}
 use Rattle.partition_model.proofs.Passes.{live-member, member-live, live-back, type-back}
 
+-- two tests that pass in the same cases are equal
 both-ways : (a b : Bool) → (a ≡ true → b ≡ true) → (b ≡ true → a ≡ true) → a ≡ b
 both-ways true b f g = sym (f refl)
 both-ways false true f g = g refl
@@ -23,6 +24,7 @@ end-listed h zero l = refl
 end-listed h (suc zero) l = refl
 end-listed h (suc (suc u)) l = absurd (omega arith)
 
+-- both ends have their own types
 end-type : (h : Assignment) (u : ℕ) → u < 2 → (G h).typ u ≡ u
 end-type h zero l = refl
 end-type h (suc zero) l = refl
@@ -36,7 +38,7 @@ live-on h p q u l n k =
     subst (λ (es : List Event). In (renamed_event (onto p q) o.0) es) (sym (events-renamed (onto p q) h)) (map-In (renamed_event (onto p q)) o.0 (events h) o.1) in
     member-live (merge p q h) u l (renamed_event (onto p q) o.0) j (ap (onto p q) o.2 ∙ onto_other p q u n)
 
--- the listed ids of both are the same
+-- what is listed after the merge is listed in the merged graph
 to-listed : (h : Assignment) (p q u : ℕ) → IsPair (G h) p q → (G (merge p q h)).listed u ≡ true → (Merged (G h) p q).listed u ≡ true
 to-listed h p q u i k =
     let l : 2 ≤ p = i.low in
@@ -52,6 +54,7 @@ to-listed h p q u i k =
           rw (a, b) refl
     ]
 
+-- what is listed in the merged graph is listed after the merge
 from-listed : (h : Assignment) (p q u : ℕ) → (Merged (G h) p q).listed u ≡ true → (G (merge p q h)).listed u ≡ true
 from-listed h p q u k =
     let a : (not (u == q) ≡ true) × ((G h).listed u ≡ true) = and_parts (not (u == q)) ((G h).listed u) k in
@@ -60,7 +63,7 @@ from-listed h p q u k =
       | inr s ↦ live-on h p q u s (eqb-false u q (not-true (u == q) a.0)) a.1
     ]
 
--- and so are their types
+-- a listed id has one type in both
 same-type : (h : Assignment) (p q u : ℕ) → IsTyped h → IsPair (G h) p q → (Merged (G h) p q).listed u ≡ true → (G (merge p q h)).typ u ≡ (Merged (G h) p q).typ u
 same-type h p q u t i k =
     elim (cases_lt u 2) [
@@ -68,6 +71,7 @@ same-type h p q u t i k =
       | inr s ↦ type-back h p q u t i s (from-listed h p q u k)
     ]
 
+-- the graph of the merged assignment is the merged graph
 pub merge_is_merged : MergeIsMerged
 merge_is_merged h p q t i =
     record {

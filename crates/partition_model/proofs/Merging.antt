@@ -13,12 +13,15 @@ use Rattle.partition_model.proofs.Lists.{In, all_in, all_from, In-map, edge-In, 
 use Rattle.partition_model.proofs.Paths.{Maps, accepts_maps, satisfies_maps, all_maps, path_maps}
 use Rattle.partition_model.proofs.Naming.{renamed_maps, events-renamed, TypedBy, typed_from, type_known, edge_target, id_list-renamed}
 
+-- p stands for q
 pub onto_same : (p q : ℕ) → onto p q q ≡ p
 onto_same p q = rw (eq-eqb q q refl)
 
+-- each other id stands for itself
 pub onto_other : (p q x : ℕ) → x ≢ q → onto p q x ≡ x
 onto_other p q x n = rw (ne_eqb x q n)
 
+-- p stands for each id that is q
 pub onto_is : (p q x : ℕ) → x ≡ q → onto p q x ≡ p
 onto_is p q x e = rw (eq-eqb x q e)
 
@@ -53,6 +56,7 @@ merged_from g p q x y n k =
       ]
     ]
 
+-- a merge takes the paths of a graph to those of the merged graph
 pub merged_maps : (g : Graph) (p q : ℕ) → 2 ≤ p → p < q → g.typ p ≡ g.typ q → Maps (onto p q) g (Merged g p q)
 merged_maps g p q l m t =
     record {
@@ -66,13 +70,15 @@ merged_maps g p q l m t =
       ];
     }
 
+-- every word of a path is one of a path of the merged graph
 pub merge_grows : MergeGrows
 merge_grows g p q l m t w a = accepts_maps (onto p q) g (Merged g p q) (merged_maps g p q l m t) w a
 
+-- an invariant that the merged graph satisfies was satisfied before
 pub merged_keeps : MergedKeeps
 merged_keeps g p q l m t inv s = satisfies_maps (onto p q) g (Merged g p q) (merged_maps g p q l m t) inv s
 
--- assignments
+-- after a merge, the types from before fit the ids
 pub merge_typed : (h : Assignment) (p q : ℕ) → IsTyped h → IsPair (G h) p q → TypedBy (λ x. type_of h x) (merge p q h)
 merge_typed h p q t i =
     subst (λ (es : List Event). AllByRecursion (λ e. (2 ≤ e.id) × (e.typ ≡ type_of h e.id)) es) (sym (events-renamed (onto p q) h))
@@ -91,15 +97,19 @@ merge_typed h p q t i =
           (subst (λ (x : ℕ). 2 ≤ x) c a.0, sym et ∙ a.1 ∙ ap (λ (x : ℕ). type_of h x) c)
     ]))
 
+-- a merge leaves INITIAL
 onto_zero : (g : Graph) (p q : ℕ) → IsPair g p q → onto p q 0 ≡ 0
 onto_zero g p q i = onto_other p q 0 (λ e. let l : 2 ≤ p = i.low in let m : p < q = i.order in absurd (omega arith))
 
+-- a merge leaves TERMINAL
 onto_one : (g : Graph) (p q : ℕ) → IsPair g p q → onto p q 1 ≡ 1
 onto_one g p q i = onto_other p q 1 (λ e. let l : 2 ≤ p = i.low in let m : p < q = i.order in absurd (omega arith))
 
+-- a merge takes the paths of the graph to those of the graph after it
 pub merge_maps : (h : Assignment) (p q : ℕ) → IsTyped h → IsPair (G h) p q → Maps (onto p q) (G h) (G (merge p q h))
 merge_maps h p q t i = renamed_maps (onto p q) (onto_zero (G h) p q i) (onto_one (G h) p q i) h (typed_from (λ x. type_of h x) (merge p q h) (merge_typed h p q t i))
 
+-- an edge after the merge stands for one before it
 merge_edge_back : (h : Assignment) (p q u v : ℕ) → IsPair (G h) p q → (G (merge p q h)).edge u v ≡ true → (x y : ℕ) × (onto p q x ≡ u) × (onto p q y ≡ v) × ((G h).edge x y ≡ true)
 merge_edge_back h p q u v i k =
     let o : (trace : List Event) × In trace (merge p q h) × (0 < pairs u v (id_list trace)) = edge-In u v (merge p q h) k in
@@ -110,6 +120,7 @@ merge_edge_back h p q u v i k =
     let b : (x y : ℕ) × (onto p q x ≡ u) × (onto p q y ≡ v) × (0 < pairs x y (id_list m.0)) = pairs-back (onto p q) u v (id_list m.0) l in
     (b.0, b.1, b.2, b.3, In-edge b.0 b.1 m.0 h m.1 b.4)
 
+-- an edge of the merged graph stands for one of the graph
 pub merged_parts : (g : Graph) (p q u v : ℕ) → merged_edge g p q u v ≡ true → (x y : ℕ) × (onto p q x ≡ u) × (onto p q y ≡ v) × (g.edge x y ≡ true)
 merged_parts g p q u v k =
     let ab : ((not (u == q) && not (v == q)) ≡ true) × ((g.edge u v || (u == p && g.edge q v) || (v == p && g.edge u q) || (u == p && v == p && g.edge q q)) ≡ true) =
@@ -135,7 +146,7 @@ merged_parts g p q u v k =
           (q, q, onto_same p q ∙ sym (eqb-true u p z.0), onto_same p q ∙ sym (eqb-true v p z.1), w.1)
     ]
 
--- the edges of both are the same
+-- an edge after the merge is one of the merged graph
 pub merged_to : (h : Assignment) (p q u v : ℕ) → IsPair (G h) p q → (G (merge p q h)).edge u v ≡ true → (Merged (G h) p q).edge u v ≡ true
 merged_to h p q u v i k =
     let b : (x y : ℕ) × (onto p q x ≡ u) × (onto p q y ≡ v) × ((G h).edge x y ≡ true) = merge_edge_back h p q u v i k in
@@ -143,6 +154,7 @@ merged_to h p q u v i k =
     subst (λ (z : ℕ). merged_edge (G h) p q u z ≡ true) b.3
     (subst (λ (z : ℕ). merged_edge (G h) p q z (onto p q b.1) ≡ true) b.2 (merged_from (G h) p q b.0 b.1 n b.4))
 
+-- an edge of the merged graph is one after the merge
 pub to_merged : (h : Assignment) (p q u v : ℕ) → IsTyped h → IsPair (G h) p q → (Merged (G h) p q).edge u v ≡ true → (G (merge p q h)).edge u v ≡ true
 to_merged h p q u v t i k =
     let b : (x y : ℕ) × (onto p q x ≡ u) × (onto p q y ≡ v) × ((G h).edge x y ≡ true) = merged_parts (G h) p q u v k in
@@ -150,7 +162,7 @@ to_merged h p q u v t i k =
     subst (λ (z : ℕ). (G (merge p q h)).edge u z ≡ true) b.3
     (subst (λ (z : ℕ). (G (merge p q h)).edge z (onto p q b.1) ≡ true) b.2 (m.edges b.0 b.1 b.4))
 
--- the types at the ends of edges
+-- the id that an edge enters after the merge has its type from before
 merge_type : (h : Assignment) (p q u v : ℕ) → IsTyped h → IsPair (G h) p q → (G (merge p q h)).edge u v ≡ true → type_of (merge p q h) v ≡ type_of h v
 merge_type h p q u v t i k =
     elim (edge_target (merge p q h) u v k) [
@@ -158,26 +170,31 @@ merge_type h p q u v t i k =
       | inr m ↦ subst (λ (x : ℕ). type_of (merge p q h) x ≡ type_of h x) m.2 (type_known (λ x. type_of h x) (merge p q h) (merge_typed h p q t i) m.0 m.1)
     ]
 
+-- a path after the merge is one of the merged graph
 pub merge_to_merged : (h : Assignment) (p q : ℕ) → IsTyped h → IsPair (G h) p q → Maps (λ x. x) (G (merge p q h)) (Merged (G h) p q)
 merge_to_merged h p q t i =
     record { zero_is = refl; one_is = refl; start = refl; edges = λ u v k. merged_to h p q u v i k; types = λ u v k. sym (merge_type h p q u v t i k) }
 
+-- a path of the merged graph is one after the merge
 pub merged_to_merge : (h : Assignment) (p q : ℕ) → IsTyped h → IsPair (G h) p q → Maps (λ x. x) (Merged (G h) p q) (G (merge p q h))
 merged_to_merge h p q t i =
     record { zero_is = refl; one_is = refl; start = refl; edges = λ u v k. to_merged h p q u v t i k; types = λ u v k. merge_type h p q u v t i (to_merged h p q u v t i k) }
 
+-- where each number stands for itself, a list stays as it is
 map_same : (xs : List ℕ) → map (λ (x : ℕ). x) xs ≡ xs
 map_same [] = refl
 map_same (x ∷ xs) = ap (λ (z : List ℕ). x ∷ z) (map_same xs)
 
+-- where each id may stand for itself, the paths of one graph are paths of the other, with the same words
 pub same_path : (g k : Graph) → Maps (λ x. x) g k → (path : List ℕ) → IsPath g path → IsPath k path × (word k path ≡ word g path)
 same_path g k m path i = subst (λ (z : List ℕ). IsPath k z × (word k z ≡ word g path)) (map_same path) (path_maps (λ x. x) g k m path i)
 
--- merges, one after another
+-- two namings of a trace, one after the other, are one naming
 traces_twice : (f g k : ℕ → ℕ) → ((x : ℕ) → f (g x) ≡ k x) → (t : List Event) → map (renamed_event f) (map (renamed_event g) t) ≡ map (renamed_event k) t
 traces_twice f g k e [] = refl
 traces_twice f g k e (d ∷ t) = ap₂ (λ (x : ℕ) (z : List Event). record { typ = d.typ; id = x } ∷ z) (e d.id) (traces_twice f g k e t)
 
+-- and so they are of an assignment
 pub renamed_twice : (f g k : ℕ → ℕ) → ((x : ℕ) → f (g x) ≡ k x) → (h : Assignment) → renamed f (renamed g h) ≡ renamed k h
 renamed_twice f g k e [] = refl
 renamed_twice f g k e (t ∷ h) = ap₂ (λ (x : List Event) (z : Assignment). x ∷ z) (traces_twice f g k e t) (renamed_twice f g k e h)
@@ -202,6 +219,7 @@ gone h p q r i l k e =
 abbrev after : ℕ → ℕ → ℕ → ℕ → ℕ → ℕ
 after p q r s x = if x == q then onto r s p else x
 
+-- two merges, the second one first
 swapped : (p q r s : ℕ) → r ≢ q → s ≢ q → (x : ℕ) → onto r s (onto p q x) ≡ after p q r s (onto r s x)
 swapped p q r s rq sq x =
     elim (cases_eq x q) [
@@ -224,6 +242,7 @@ swapped p q r s rq sq x =
           ]
     ]
 
+-- a pair whose merge loses an invariant loses it after a further merge, as long as its ids are there
 pub lost_stays_lost : LostStaysLost
 lost_stays_lost h p q r s t i j invs sat =
     let rl : 2 ≤ r = j.low in

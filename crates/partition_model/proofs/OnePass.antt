@@ -44,6 +44,7 @@ next-of invs h k inv s e b i v p =
 abbrev Goes : List (List ℕ) → List Invariant → ℕ → List Split → Assignment → Assignment → ℕ → Type 0
 Goes words invs k later end middle m = IsRun words middle m → 2 ≤ m → SatisfiesBefore (G middle) invs (suc k) → Refines invs middle m later end
 
+-- the splits for one invariant, and then the later ones, are the whole run
 until : (words : List (List ℕ)) (invs : List Invariant) (k : ℕ) (inv : Invariant) (now later : List Split) (h middle end : Assignment) (n : ℕ) → IsRun words h n → 2 ≤ n → HoldAll words invs
     → slice_get invs k ≡ Some inv → SatisfiesBefore (G h) invs k → SplitsUntil inv k h n now middle → Goes words invs k later end middle (n + length now) → Refines invs h n (now ++ later) end
 until words invs k inv [] later h middle end n r l a e b w f =
@@ -83,5 +84,6 @@ over words invs (inv ∷ rest) k h n splits end r l a at b w =
     subst (λ (ss : List Split). Refines invs h n ss end) w.3
     (until words invs k inv w.0 w.1 h w.2 end n r l a e b w.4 (λ r' l' b'. over words invs rest (suc k) w.2 (n + length w.0) w.1 end r' l' a at' b' w.5))
 
+-- one pass over the invariants makes the whole run of refinement
 pub one_pass_refines : OnePassRefines
 one_pass_refines invs words h n splits end r l a w = over words invs invs 0 h n splits end r l a (λ j. ap (slice_get invs) (omega arith)) (λ j inv m e. absurd (omega arith)) w

@@ -13,18 +13,20 @@ use Rattle.partition_model.proofs.Lists.{In, In-map, member-of, count-member}
 use Rattle.partition_model.proofs.Naming.{events-renamed, typed_from, type_known}
 use Rattle.partition_model.proofs.Merging.{onto_is, onto_other, merge_typed, gone, lost_stays_lost}
 
--- a live id of at least 2 has an event, and the other way round
+-- a live id of at least 2 has an event
 pub live-member : (h : Assignment) (r : ℕ) → 2 ≤ r → (G h).listed r ≡ true → (e : Event) × In e (events h) × (e.id ≡ r)
 live-member h r l k =
     let f : nat_lt r 2 ≡ false = le-ltb r 2 l in
     let c : (nat_lt r 2 || nat_lt 0 (members h r)) ≡ true = k in
     member-of r (events h) (ltb-true 0 (members h r) (rw f at c))
 
+-- an id of at least 2 that has an event is live
 pub member-live : (h : Assignment) (r : ℕ) → 2 ≤ r → (e : Event) → In e (events h) → e.id ≡ r → (G h).listed r ≡ true
 member-live h r l e i q =
     let f : nat_lt r 2 ≡ false = le-ltb r 2 l in
     rw f (lt-ltb 0 (members h r) (count-member r e (events h) i q))
 
+-- an id that is live after a merge was live before it
 pub live-back : (h : Assignment) (p q r : ℕ) → IsPair (G h) p q → 2 ≤ r → (G (merge p q h)).listed r ≡ true → (G h).listed r ≡ true
 live-back h p q r i l k =
     let o : (e : Event) × In e (events (merge p q h)) × (e.id ≡ r) = live-member (merge p q h) r l k in
@@ -36,11 +38,13 @@ live-back h p q r i l k =
       | inr s ↦ member-live h r l b.0 b.1 (sym (onto_other p q b.0.id s) ∙ u)
     ]
 
+-- and it has its type from before
 pub type-back : (h : Assignment) (p q r : ℕ) → IsTyped h → IsPair (G h) p q → 2 ≤ r → (G (merge p q h)).listed r ≡ true → type_of (merge p q h) r ≡ type_of h r
 type-back h p q r t i l k =
     let o : (e : Event) × In e (events (merge p q h)) × (e.id ≡ r) = live-member (merge p q h) r l k in
     subst (λ (x : ℕ). type_of (merge p q h) x ≡ type_of h x) o.2 (type_known (λ x. type_of h x) (merge p q h) (merge_typed h p q t i) o.0 o.1)
 
+-- a pair of one type after a merge was one before it
 pub pair-back : (h : Assignment) (p q r s : ℕ) → IsTyped h → IsPair (G h) p q → IsPair (G (merge p q h)) r s → IsPair (G h) r s
 pair-back h p q r s t i j =
     let l : 2 ≤ r = j.low in
@@ -54,6 +58,7 @@ pair-back h p q r s t i j =
       types = sym (type-back h p q r t i l j.has_p) ∙ j.types ∙ type-back h p q s t i l' j.has_q;
     }
 
+-- a merge that keeps every invariant, where each pair before it was lost, is the next one, and each pair before it stays lost
 pub one_pass_merges : OnePassMerges
 one_pass_merges invs h p q t i lost keeps = (
   record { pair = i; keeps = keeps; first = λ r s j b. lost r s j b },
@@ -70,7 +75,7 @@ one_pass_merges invs h p q t i lost keeps = (
     before r s (inl l) n = inl l
     before r s (inr e) n = inr (e.0, (let l : s < q + 1 = e.1 in omega arith))
 
--- after any number of merges
+-- after any number of merges, a pair whose merge loses an invariant still loses it
 pub lost_through_merges : LostThroughMerges
 lost_through_merges invs h [] r s t a j = (j, λ sat. sat)
 lost_through_merges invs h (m ∷ ms) r s t a j =
@@ -101,6 +106,7 @@ before-all r s p q (m ∷ ms) b a (inr i) = before-all r s m.p m.q ms (then-befo
 abbrev LostOutside : List Invariant → Assignment → List Merge → Type 0
 LostOutside invs h rest = (r s : ℕ) → IsPair (G h) r s → (IsAmong r s rest → ⊥) → SatisfiesAll (G (merge r s h)) invs → ⊥
 
+-- one pass over what is left of the pairs makes the rest of the run
 passes : (invs : List Invariant) (pairs : List Merge) (h : Assignment) (p q : ℕ) (merges : List Merge) (end : Assignment) → IsTyped h
     → PairsAscend p q pairs → LostOutside invs h pairs → Passes invs h pairs merges end → Coarsens invs h merges end
 passes invs [] h p q merges end t a lost w =
@@ -131,5 +137,6 @@ passes invs (m ∷ rest) h p q merges end t a lost (inr w) =
     ] in
     passes invs rest h m.p m.q merges end t a.1 out w.1
 
+-- one pass over all pairs makes the whole run of coarsening
 pub one_pass_coarsens : OnePassCoarsens
 one_pass_coarsens invs h pairs merges end t a all w = passes invs pairs h 0 0 merges end t a (λ r s j n sat. n (all r s j)) w

@@ -16,23 +16,27 @@ use Rattle.partition_model.proofs.Stitching.{stitch_divides, In-split}
 use Rattle.partition_model.proofs.Rests.{split-types, run-rests, start-rests}
 use Rattle.partition_model.proofs.Counting.{places}
 
--- words
+-- a split keeps the words
 pub words-split : (p q n : ℕ) (h : Assignment) → inner_words (split p q n h) ≡ inner_words h
 words-split p q n [] = refl
 words-split p q n (t ∷ h) = ap₂ (λ (x : List ℕ) (z : List (List ℕ)). x ∷ z) (split-types p q n t) (words-split p q n h)
 
+-- the first assignment of a word has its types
 types-typed : (w : List ℕ) → types_of (map (λ (t : ℕ). record { typ = t; id = t }) w) ≡ w
 types-typed [] = refl
 types-typed (t ∷ w) = ap (λ (z : List ℕ). t ∷ z) (types-typed w)
 
+-- the first assignment of the words has these words
 pub words-typed : (words : List (List ℕ)) → inner_words (by_type words) ≡ words
 words-typed [] = refl
 words-typed (w ∷ words) = ap₂ (λ (x : List ℕ) (z : List (List ℕ)). x ∷ z) (types-typed w) (words-typed words)
 
+-- what holds of each word holds of the word of each trace
 pub holds-at : (inv : Invariant) (h : Assignment) → AllByRecursion (λ w. Holds inv (with_ends w)) (inner_words h) → AllByRecursion (λ trace. Holds inv (word_of trace)) h
 holds-at inv [] a = tt
 holds-at inv (t ∷ h) a = (a.0, holds-at inv h a.1)
 
+-- an invariant of the list holds of the word of each trace
 pub traces-hold : (words : List (List ℕ)) (h : Assignment) (n : ℕ) (inv : Invariant) (invs : List Invariant) (k : ℕ) → IsRun words h n → HoldAll words invs → slice_get invs k ≡ Some inv → AllByRecursion (λ trace. Holds inv (word_of trace)) h
 traces-hold words h n inv [] k r a e = absurd (cc e)
 traces-hold words h n inv (i ∷ invs) zero r a e =
@@ -40,13 +44,15 @@ traces-hold words h n inv (i ∷ invs) zero r a e =
     holds-at inv h (subst₂ (λ (x : Invariant) (ws : List (List ℕ)). AllByRecursion (λ w. Holds x (with_ends w)) ws) q (sym r.words_are) a.0)
 traces-hold words h n inv (i ∷ invs) (suc k) r a e = traces-hold words h n inv invs k r a.1 e
 
--- fresh ids
+-- the next id of the run is new
 pub fresh-run : (words : List (List ℕ)) (h : Assignment) (n : ℕ) → IsRun words h n → 2 ≤ n → IsFresh n h
 fresh-run words h n r l = (l, all_from (λ e. e.id ≢ n) (events h) (λ e i q. absurd (let b : e.id < n = all_in (λ e. e.id < n) e (events h) r.below i in omega arith)))
 
+-- an id below 2 stays when a division is undone
 back-low : (p n x : ℕ) → 2 ≤ n → x < 2 → back p n x ≡ x
 back-low p n x l k = rw (ne_eqb x n (λ q. absurd (omega arith)))
 
+-- a split keeps one type for each id
 pub split-typed : (h : Assignment) (p q n : ℕ) → IsTyped h → IsFresh n h → IsTyped (split p q n h)
 split-typed h p q n t f =
     let e : renamed (back p n) (split p q n h) ≡ h = split_back p q n h f.1 in
@@ -55,6 +61,7 @@ split-typed h p q n t f =
     typed_from (λ x. type_of h (back p n x)) (split p q n h)
     (typed_back (back p n) (back-low p n 0 f.0 (omega arith)) (back-low p n 1 f.0 (omega arith)) (λ x. type_of h x) (split p q n h) a)
 
+-- an event has, after the split, the new id or its own
 moved-cases : (p q n : ℕ) (d : Event) (t : List Event) (e : Event) → record { typ = d.typ; id = moved_id p q n d t } ≡ e → (e.id ≡ n) ⊎ (e.id ≡ d.id)
 moved-cases p q n d t e k =
     let x : moved_id p q n d t ≡ e.id = ap (λ (z : Event). z.id) k in
@@ -63,12 +70,13 @@ moved-cases p q n d t e k =
       | inr b ↦ inr (let y : d.id ≡ e.id = rw b at x in sym y)
     ]
 
--- an event after the split
+-- each event after the split comes from one before it, with the new id or its own
 pub split-event : (p q n : ℕ) (t : List Event) (e : Event) → In e (split_trace p q n t) → (d : Event) × In d t × ((e.id ≡ n) ⊎ (e.id ≡ d.id))
 split-event p q n [] e i = absurd i
 split-event p q n (d ∷ t) e (inl k) = (d, inl refl, moved-cases p q n d t e k)
 split-event p q n (d ∷ t) e (inr r) = let o : (c : Event) × In c t × ((e.id ≡ n) ⊎ (e.id ≡ c.id)) = split-event p q n t e r in (o.0, inr o.1, o.2)
 
+-- each trace after the split comes from one before it
 pub split-In : (p q n : ℕ) (s : List Event) (h : Assignment) → In s (split p q n h) → (t : List Event) × In t h × (split_trace p q n t ≡ s)
 split-In p q n s h i = In-map (λ trace. split_trace p q n trace) s h i
 
@@ -81,6 +89,7 @@ stays p q n (c ∷ t) e (inl a) k =
     (record { typ = c.typ; id = moved_id p q n c t }, inl refl, rw f b)
 stays p q n (c ∷ t) e (inr r) k = let o : (d : Event) × In d (split_trace p q n t) × (d.id ≡ e.id) = stays p q n t e r k in (o.0, inr o.1, o.2)
 
+-- a split of which both parts have events keeps what the run keeps
 pub split-run : (words : List (List ℕ)) (h : Assignment) (p q n : ℕ) → IsRun words h n → 2 ≤ n → 0 < members (split p q n h) n → 0 < members (split p q n h) p → IsRun words (split p q n h) (n + 1)
 split-run words h p q n r l mv lf =
     record {
@@ -106,18 +115,19 @@ split-run words h p q n r l mv lf =
       ];
     }
 
--- the first invariant that is broken
+-- the first invariant that is broken is one of the list, and is not satisfied
 pub broken : (g : Graph) (invs : List Invariant) (k : ℕ) → IsFirstBroken g invs k → (inv : Invariant) × (slice_get invs k ≡ Some inv) × (Satisfies g inv → ⊥)
 broken g [] k b = absurd b
 broken g (inv ∷ invs) zero b = (inv, refl, b)
 broken g (inv ∷ invs) (suc k) b = broken g invs k b.1
 
+-- an invariant that is not satisfied, where those before it are, is the first that is broken
 pub broken-first : (g : Graph) (invs : List Invariant) (k : ℕ) (inv : Invariant) → slice_get invs k ≡ Some inv → SatisfiesBefore g invs k → (Satisfies g inv → ⊥) → IsFirstBroken g invs k
 broken-first g [] k inv e s b = absurd (cc e)
 broken-first g (i ∷ invs) zero inv e s b = let q : i ≡ inv = cc in λ x. b (subst (λ (z : Invariant). Satisfies g z) q x)
 broken-first g (i ∷ invs) (suc k) inv e s b = (s 0 i (omega arith) refl, broken-first g invs k inv e (λ j v l q. s (suc j) v (omega arith) q) b)
 
--- one step
+-- one step keeps what the run keeps
 pub next-run : (words : List (List ℕ)) (invs : List Invariant) (h : Assignment) (n : ℕ) (s : Split) (inv : Invariant) → IsRun words h n → 2 ≤ n → HoldAll words invs
     → slice_get invs s.inv ≡ Some inv → IsLeastViolation (G h) inv s.path → s.place ≡ stitch h s.path → IsRun words (after_split n s h) (n + 1)
 next-run words invs h n s inv r l a e v p =
@@ -127,6 +137,7 @@ next-run words invs h n s inv r l a e v p =
     subst (λ (i : ℕ). IsRun words (split (slice_index s.path i) (slice_index s.path (i + 1)) n h) (n + 1)) (sym p)
     (split-run words h (slice_index s.path (stitch h s.path)) (slice_index s.path (stitch h s.path + 1)) n r l d.moved d.left)
 
+-- and so do all steps from any state
 runs-from : (words : List (List ℕ)) (invs : List Invariant) (splits : List Split) (h : Assignment) (n : ℕ) (end : Assignment) → IsRun words h n → 2 ≤ n → HoldAll words invs
     → Splits invs h n splits end → IsRun words end (n + length splits)
 runs-from words invs [] h n end r l a w =
@@ -140,12 +151,13 @@ runs-from words invs (s ∷ ss) h n end r l a w =
     let e2 : suc n + length ss ≡ n + suc (length ss) = omega arith in
     subst (λ (m : ℕ). IsRun words end m) e2 i
 
--- the start
+-- at first, the type and the id of each event of a word are the same
 same-event : (w : List ℕ) (e : Event) → In e (map (λ (t : ℕ). record { typ = t; id = t }) w) → e.typ ≡ e.id
 same-event [] e i = absurd i
 same-event (t ∷ w) e (inl q) = sym (ap (λ (x : Event). x.typ) q) ∙ ap (λ (x : Event). x.id) q
 same-event (t ∷ w) e (inr r) = same-event w e r
 
+-- and so they are of all events
 same-id : (words : List (List ℕ)) (e : Event) → In e (events (by_type words)) → e.typ ≡ e.id
 same-id [] e i = absurd i
 same-id (w ∷ words) e i =
@@ -154,6 +166,7 @@ same-id (w ∷ words) e i =
       | inr b ↦ same-id words e b
     ]
 
+-- the first assignment has what the run keeps
 pub start-run : (words : List (List ℕ)) (n : ℕ) → AreTyped words n → IsRun words (by_type words) n
 start-run words n a =
     record {
@@ -169,10 +182,11 @@ start-run words n a =
       each_live = λ p l k. a.each p l k;
     }
 
+-- every state of the run of refinement keeps it
 pub runs_keep : RunsKeep
 runs_keep invs words n splits end a hold w = runs-from words invs splits (by_type words) n end (start-run words n a) a.two hold w
 
--- one pass over the invariants
+-- a split for an invariant, where those before it are satisfied, is the next one, and these stay so
 pub one_pass_splits : OnePassSplits
 one_pass_splits invs words h n k inv path r l hold e before v =
     let s : Split = record { inv = k; place = stitch h path; path = path } in
@@ -183,12 +197,13 @@ one_pass_splits invs words h n k inv path r l hold e before v =
       λ j i m q. split_keeps h (slice_index path (stitch h path)) (slice_index path (stitch h path + 1)) n r.typed (fresh-run words h n r l) i (before j i m q),
     )
 
--- an event and what follows it
+-- an event of a trace, and what stands before and behind it
 rest-of : (e : Event) (t : List Event) → In e t → (front es : List Event) × (front ++ e ∷ es ≡ t)
 rest-of e [] i = absurd i
 rest-of e (d ∷ t) (inl q) = ([], t, ap (λ (z : Event). z ∷ t) (sym q))
 rest-of e (d ∷ t) (inr r) = let o : (front es : List Event) × (front ++ e ∷ es ≡ t) = rest-of e t r in (d ∷ o.0, o.1, ap (λ (z : List Event). d ∷ z) o.2)
 
+-- an event and what follows it end a trace
 ends-of : (e : Event) (h : Assignment) → In e (events h) → (es : List Event) × EndsIn (e ∷ es) h
 ends-of e [] i = absurd i
 ends-of e (t ∷ h) i =
@@ -197,6 +212,7 @@ ends-of e (t ∷ h) i =
       | inr b ↦ let o : (es : List Event) × EndsIn (e ∷ es) h = ends-of e h b in (o.0, inr o.1)
     ]
 
+-- a list among the lists is a member of them
 among : (w : List ℕ) (names : List (List ℕ)) → IsOneOf w names → In w names
 among w [] i = i
 among w (v ∷ names) (inl e) = inl e
@@ -206,6 +222,7 @@ among w (v ∷ names) (inr r) = inr (among w names r)
 abbrev At-rest : Assignment → ℕ → List ℕ → Type 0
 At-rest h k w = (rest : List Event) × EndsIn rest h × (types_of rest ≡ w) × (next_id rest ≡ k + 2)
 
+-- there are no more ids than rests
 pub ids_within_rests : IdsWithinRests
 ids_within_rests invs words n splits end names a hold w nm =
     let r : IsRun words end (n + length splits) = runs_keep invs words n splits end a hold w in
@@ -221,6 +238,7 @@ ids_within_rests invs words n splits end names a hold w nm =
     (types_of (e.0 ∷ es.0), among (types_of (e.0 ∷ es.0)) names (nm (e.0 ∷ es.0) es.1 (λ q. cc)), (e.0 ∷ es.0, es.1, refl {a = types_of (e.0 ∷ es.0)}, e.2))) in
     omega arith
 
+-- there are fewer splits than events, where there is one
 pub fewer_splits : FewerSplitsThanEvents
 fewer_splits invs words n splits end a hold l w =
     let r : IsRun words end (n + length splits) = runs_keep invs words n splits end a hold w in

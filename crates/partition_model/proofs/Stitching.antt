@@ -11,7 +11,7 @@ use Rattle.partition_model.specs.Laws.{Divides, StitchDivides}
 use Rattle.partition_model.proofs.Lists.{In, In-append, In-map, In-events, all_in, edge-In, pairs-In, pairs-first, count-member}
 use Rattle.partition_model.proofs.Following.{follows}
 
--- the longest prefix
+-- what two lists have in common is no longer than the first
 pub common-le : (xs ys : List ℕ) → common xs ys ≤ length xs
 common-le [] ys = omega arith
 common-le (x ∷ xs) [] = omega arith
@@ -21,6 +21,7 @@ common-le (x ∷ xs) (y ∷ ys) =
       | false ↦ omega arith
     ]
 
+-- a path follows the traces at least as far as each of them
 pub followed-in : (path : List ℕ) (trace : List Event) (h : Assignment) → In trace h → common path (id_list trace) ≤ followed h path
 followed-in path trace [] i = absurd i
 followed-in path trace (t ∷ h) (inl e) =
@@ -30,6 +31,7 @@ followed-in path trace (t ∷ h) (inr r) =
     let a : common path (id_list trace) ≤ followed h path = followed-in path trace h r in
     omega arith
 
+-- where it follows them at all, it follows one of them as far
 pub followed-by : (path : List ℕ) (h : Assignment) → 0 < followed h path → (trace : List Event) × In trace h × (common path (id_list trace) ≡ followed h path)
 followed-by path [] k = absurd (omega arith)
 followed-by path (t ∷ h) k =
@@ -55,6 +57,7 @@ later_id h t trace i x k =
       | inr b ↦ elim b [ inl e ↦ inl (sym e) | inr n ↦ absurd n ]
     ]
 
+-- no edge enters INITIAL
 pub enters_no_zero : (h : Assignment) → IsTyped h → (u v : ℕ) → (G h).edge u v ≡ true → v ≢ 0
 enters_no_zero h t u v k z =
     let o : (trace : List Event) × In trace h × (0 < pairs u v (id_list trace)) = edge-In u v h k in
@@ -70,6 +73,7 @@ one-last v (e ∷ es) f k =
     let z : 0 < 0 + pairs 1 v (ids_of es ++ 1 ∷ []) = rw t at k in
     one-last v es (λ d i. f d (inr i)) (omega (arith, z))
 
+-- no edge leaves TERMINAL
 pub leaves_no_one : (h : Assignment) → IsTyped h → (v : ℕ) → (G h).edge 1 v ≡ true → ⊥
 leaves_no_one h t v k =
     let o : (trace : List Event) × In trace h × (0 < pairs 1 v (id_list trace)) = edge-In 1 v h k in
@@ -107,23 +111,25 @@ whole g p (r ∷ rs) (e ∷ es) n f w c =
       | inr m ↦ let t : (r == e.id) ≡ false = ne_eqb r e.id m in let z : 0 ≡ suc (length rs) = rw t at c in absurd (omega arith)
     ]
 
--- the edge at a place of a walk
+-- two neighbours of a walk have an edge
 walk-edge : (g : Graph) (p : ℕ) (xs : List ℕ) (q c : ℕ) → Walk g p xs q → suc c < length xs → g.edge (slice_index xs c) (slice_index xs (suc c)) ≡ true
 walk-edge g p [] q c w l = absurd (omega arith)
 walk-edge g p (r ∷ []) q c w l = absurd (omega arith)
 walk-edge g p (r ∷ s ∷ rs) q zero w l = w.1.0
 walk-edge g p (r ∷ s ∷ rs) q (suc c) w l = walk-edge g r (s ∷ rs) q c w.1 (omega arith)
 
+-- each id of a walk is entered by an edge
 walk-into : (g : Graph) (p : ℕ) (xs : List ℕ) (q c : ℕ) → Walk g p xs q → c < length xs → (u : ℕ) × (g.edge u (slice_index xs c) ≡ true)
 walk-into g p [] q c w l = absurd (omega arith)
 walk-into g p (r ∷ rs) q zero w l = (p, w.0)
 walk-into g p (r ∷ rs) q (suc c) w l = walk-into g r rs q c w.1 (omega arith)
 
+-- the ids from a place on begin with the next id
 begins-next : (b : ℕ) (es : List Event) → begins_with b (ids_of es ++ 1 ∷ []) ≡ (next_id es == b)
 begins-next b [] = refl
 begins-next b (e ∷ es) = refl
 
--- the part that moves
+-- a split along neighbours of a trace moves an event of it
 moved-part : (a b n : ℕ) (es : List Event) → 0 < pairs a b (ids_of es ++ 1 ∷ []) → (e : Event) × In e (split_trace a b n es) × (e.id ≡ n)
 moved-part a b n [] k =
     elim (cases_Bool (1 == a && false)) [
@@ -141,11 +147,12 @@ moved-part a b n (e ∷ es) k =
           (o.0, inr o.1, o.2)
     ]
 
--- the part that stays
+-- where a trace and a path have no more in common, the next ids differ
 differs : (s : ℕ) (rs : List ℕ) (es : List Event) → common (s ∷ rs) (ids_of es ++ 1 ∷ []) ≡ 0 → next_id es ≢ s
 differs s rs [] k e = let t : (s == 1) ≡ true = eq-eqb s 1 (sym e) in let z : suc (common rs []) ≡ 0 = rw t at k in absurd (omega arith)
 differs s rs (d ∷ es) k e = let t : (s == d.id) ≡ true = eq-eqb s d.id (sym e) in let z : suc (common rs (ids_of es ++ 1 ∷ [])) ≡ 0 = rw t at k in absurd (omega arith)
 
+-- a split where the path leaves a trace lets an event of this trace stay
 left-part : (g : Graph) → ((v : ℕ) → g.edge 1 v ≡ true → ⊥) → (n p : ℕ) (xs : List ℕ) (es : List Event) (c : ℕ) → Walk g p xs 1 → common xs (ids_of es ++ 1 ∷ []) ≡ suc c → suc c < length xs
     → (e : Event) × In e (split_trace (slice_index xs c) (slice_index xs (suc c)) n es) × (e.id ≡ slice_index xs c)
 left-part g o n p [] es c w k l = absurd (omega arith)
@@ -177,15 +184,17 @@ left-part g o n p (r ∷ s ∷ rs) (e ∷ es) (suc c) w k l =
       | inr m ↦ let t : (r == e.id) ≡ false = ne_eqb r e.id m in let z : 0 ≡ suc (suc c) = rw t at k in absurd (omega arith)
     ]
 
+-- each trace is there, split, after the split
 pub In-split : (p q n : ℕ) (t : List Event) (h : Assignment) → In t h → In (split_trace p q n t) (split p q n h)
 In-split p q n t [] i = absurd i
 In-split p q n t (s ∷ h) (inl e) = inl (ap (split_trace p q n) e)
 In-split p q n t (s ∷ h) (inr r) = inr (In-split p q n t h r)
 
+-- an event of a split trace is counted after the split
 member-split : (p q n x : ℕ) (t : List Event) (h : Assignment) → In t h → (e : Event) × In e (split_trace p q n t) × (e.id ≡ x) → 0 < members (split p q n h) x
 member-split p q n x t h i o = count-member x o.0 (events (split p q n h)) (In-events o.0 (split_trace p q n t) (split p q n h) (In-split p q n t h i) o.1) o.2
 
--- all at the place c of the path without its first id
+-- a path that follows the traces for c + 2 ids, and not whole, is divided at the last of these
 divides_at : (h : Assignment) (n : ℕ) (xs : List ℕ) (c : ℕ) → IsTyped h → Walk (G h) 0 xs 1 → followed h (0 ∷ xs) ≡ suc (suc c) → suc c < length xs → Divides h (0 ∷ xs) n
 divides_at h n xs c t w k l =
     let st : stitch h (0 ∷ xs) ≡ suc c = ap pred k in
@@ -242,11 +251,13 @@ not-whole h inv xs t a w n two =
           absurd (n (subst (λ (z : List ℕ). Holds inv z) (sym ww) hd))
     ]
 
+-- so is a path that follows the traces for k ids, from 2 on and not whole
 from-count : (h : Assignment) (n : ℕ) (xs : List ℕ) (k : ℕ) → IsTyped h → Walk (G h) 0 xs 1 → followed h (0 ∷ xs) ≡ k → 2 ≤ k → k < suc (length xs) → Divides h (0 ∷ xs) n
 from-count h n xs zero t w e a b = absurd (omega arith)
 from-count h n xs (suc zero) t w e a b = absurd (omega arith)
 from-count h n xs (suc (suc c)) t w e a b = divides_at h n xs c t w e (omega arith)
 
+-- a path from 0 that breaks an invariant is divided where it leaves the traces
 from-zero : (h : Assignment) (inv : Invariant) (xs : List ℕ) (n : ℕ) → IsTyped h → AllByRecursion (λ trace. Holds inv (word_of trace)) h
     → Walk (G h) 0 xs 1 → (Holds inv (word (G h) (0 ∷ xs)) → ⊥) → Divides h (0 ∷ xs) n
 from-zero h inv [] n t a w br = absurd (let z : zero ≡ suc zero = w in omega arith)
@@ -254,6 +265,7 @@ from-zero h inv (r ∷ rs) n t a w br =
     let two : 2 ≤ followed h (0 ∷ r ∷ rs) = two-followed h t r rs w.0 in
     from-count h n (r ∷ rs) (followed h (0 ∷ r ∷ rs)) t w refl two (not-whole h inv (r ∷ rs) t a w br two)
 
+-- a violation leaves the traces strictly between its ends, and both parts of the id there have events
 pub stitch_divides : StitchDivides
 stitch_divides h inv [] n t f a br = absurd br.0
 stitch_divides h inv (x ∷ xs) n t f a br =

@@ -107,7 +107,8 @@ abbrev pub LostThroughMerges : Type 0
 LostThroughMerges =
     (invs : List Invariant) (h : Assignment) (ms : List Merge) (r s : ℕ) → IsTyped h → MergeInTurn h ms
     → IsPair (G (merged_by ms h)) r s
-    → IsPair (G h) r s × (SatisfiesAll (G (merge r s (merged_by ms h))) invs → SatisfiesAll (G (merge r s h)) invs)
+    → IsPair (G h) r s
+    × (SatisfiesAll (G (merge r s (merged_by ms h))) invs → SatisfiesAll (G (merge r s h)) invs)
 
 -- the graph accepts each word, by the trace's list of ids
 abbrev pub AcceptsTraces : Type 0
@@ -125,8 +126,11 @@ TracesBreakNone =
 pub record Divides (h : Assignment) (path : List ℕ) (n : ℕ) : Type 0 where
   pub after_start : 1 ≤ stitch h path
   pub before_end : stitch h path + 1 < length path
-  pub moved : 0 < members (split (slice_index path (stitch h path)) (slice_index path (stitch h path + 1)) n h) n
-  pub left : 0 < members (split (slice_index path (stitch h path)) (slice_index path (stitch h path + 1)) n h) (slice_index path (stitch h path))
+  pub moved : 0 < members
+      (split (slice_index path (stitch h path)) (slice_index path (stitch h path + 1)) n h) n
+  pub left : 0 < members
+      (split (slice_index path (stitch h path)) (slice_index path (stitch h path + 1)) n h)
+      (slice_index path (stitch h path))
 
 -- a violation leaves the traces strictly between its ends, and both parts of the id there have events
 abbrev pub StitchDivides : Type 0
@@ -145,7 +149,8 @@ pub record IsLongest (h : Assignment) (path : List ℕ) (n : ℕ) : Type 0 where
 abbrev pub StitchIsLast : Type 0
 StitchIsLast =
     (h : Assignment) (path : List ℕ) → 0 < length h
-    → IsLongest h path (followed h path) × (slice_get path 0 ≡ Some INITIAL → suc (stitch h path) ≡ followed h path)
+    → IsLongest h path (followed h path)
+    × (slice_get path 0 ≡ Some INITIAL → suc (stitch h path) ≡ followed h path)
 
 -- where a labelling is inductive, no path breaks the invariant
 abbrev pub InductiveSatisfies : Type 0
@@ -163,14 +168,16 @@ ReachedSatisfies = (inv : Invariant) (g : Graph) → IsInductive inv g (Reached 
 
 -- each pair before (p, q) loses an invariant by its merge
 abbrev pub LostBefore : List Invariant → Assignment → ℕ → ℕ → Type 0
-LostBefore invs h p q = (r s : ℕ) → IsPair (G h) r s → PairBefore r s p q → SatisfiesAll (G (merge r s h)) invs → ⊥
+LostBefore invs h p q =
+    (r s : ℕ) → IsPair (G h) r s → PairBefore r s p q → SatisfiesAll (G (merge r s h)) invs → ⊥
 
 -- a merge that keeps every invariant, where each pair before it was lost, is the next one, and each pair before it stays lost
 abbrev pub OnePassMerges : Type 0
 OnePassMerges =
     (invs : List Invariant) (h : Assignment) (p q : ℕ) → IsTyped h → IsPair (G h) p q
     → LostBefore invs h p q → SatisfiesAll (G (merge p q h)) invs
-    → IsNextMerge invs h (record { p = p; q = q }) × LostBefore invs (merge p q h) p (q + 1) × IsTyped (merge p q h)
+    → IsNextMerge invs h (record { p = p; q = q })
+    × LostBefore invs (merge p q h) p (q + 1) × IsTyped (merge p q h)
 
 -- the list ascends strictly from the pair on
 abbrev pub PairsAscend : ℕ → ℕ → List Merge → Type 0
@@ -204,7 +211,8 @@ EndsIn rest (t ∷ h) = ((front : List Event) × (front ++ rest ≡ t)) ⊎ Ends
 
 -- events with equal remaining words have one id
 abbrev pub OneIdPerRest : Assignment → Type 0
-OneIdPerRest h = (a b : List Event) → EndsIn a h → EndsIn b h → types_of a ≡ types_of b → next_id a ≡ next_id b
+OneIdPerRest h =
+    (a b : List Event) → EndsIn a h → EndsIn b h → types_of a ≡ types_of b → next_id a ≡ next_id b
 
 -- so it is through all of refinement
 abbrev pub RestsStayTogether : Type 0
@@ -224,7 +232,7 @@ pub record IsRun (words : List (List ℕ)) (h : Assignment) (n : ℕ) : Type 0 w
   pub below : AllEvents (λ e. e.id < n) h
   pub each_live : (p : ℕ) → FIRST_TYPE ≤ p → p < n → 0 < members h p
 
--- the words use exactly the types from 2 up to n - 1
+-- the words use exactly the types from FIRST_TYPE up to n - 1
 pub record AreTyped (words : List (List ℕ)) (n : ℕ) : Type 0 where
   pub two : FIRST_TYPE ≤ n
   pub range : AllEvents (λ e. (FIRST_TYPE ≤ e.typ) × (e.typ < n)) (by_type words)
@@ -248,7 +256,8 @@ NamesRests names h = (rest : List Event) → EndsIn rest h → (rest ≡ [] → 
 -- so there are no more ids than rests
 abbrev pub IdsWithinRests : Type 0
 IdsWithinRests =
-    (invs : List Invariant) (words : List (List ℕ)) (n : ℕ) (splits : List Split) (end : Assignment) (names : List (List ℕ)) → AreTyped words n → HoldAll words invs
+    (invs : List Invariant) (words : List (List ℕ)) (n : ℕ) (splits : List Split) (end : Assignment)
+    (names : List (List ℕ)) → AreTyped words n → HoldAll words invs
     → Splits invs (by_type words) n splits end → NamesRests names end → n + length splits ≤ length names + 2
 
 -- and fewer splits than events, where there is one
@@ -265,7 +274,8 @@ SatisfiesBefore g invs k = (j : ℕ) (inv : Invariant) → j < k → slice_get i
 -- a split for the invariant with number k, where those before it are satisfied, is the next one, and these stay so
 abbrev pub OnePassSplits : Type 0
 OnePassSplits =
-    (invs : List Invariant) (words : List (List ℕ)) (h : Assignment) (n k : ℕ) (inv : Invariant) (path : List ℕ) → IsRun words h n → FIRST_TYPE ≤ n → HoldAll words invs
+    (invs : List Invariant) (words : List (List ℕ)) (h : Assignment) (n k : ℕ) (inv : Invariant)
+    (path : List ℕ) → IsRun words h n → FIRST_TYPE ≤ n → HoldAll words invs
     → slice_get invs k ≡ Some inv → SatisfiesBefore (G h) invs k → IsLeastViolation (G h) inv path
     → IsNextSplit invs h (record { inv = k; place = stitch h path; path = path })
     × IsRun words (after_split n (record { inv = k; place = stitch h path; path = path }) h) (n + 1)
@@ -288,7 +298,8 @@ PassesOver k (inv ∷ invs) h n splits end =
 -- one pass over the invariants makes the whole run of refinement
 abbrev pub OnePassRefines : Type 0
 OnePassRefines =
-    (invs : List Invariant) (words : List (List ℕ)) (h : Assignment) (n : ℕ) (splits : List Split) (end : Assignment) → IsRun words h n → FIRST_TYPE ≤ n → HoldAll words invs
+    (invs : List Invariant) (words : List (List ℕ)) (h : Assignment) (n : ℕ) (splits : List Split)
+    (end : Assignment) → IsRun words h n → FIRST_TYPE ≤ n → HoldAll words invs
     → PassesOver 0 invs h n splits end → Refines invs h n splits end
 
 -- what refinement and coarsening are for: one type for each id, a path for each word, and each invariant satisfied
@@ -308,12 +319,14 @@ RefinementKeeps =
 -- and where coarsening ends, after which no merge keeps every invariant
 abbrev pub CoarseningKeeps : Type 0
 CoarseningKeeps =
-    (invs : List Invariant) (words : List (List ℕ)) (h : Assignment) (merges : List Merge) (end : Assignment) → Keeps invs words h
+    (invs : List Invariant) (words : List (List ℕ)) (h : Assignment) (merges : List Merge)
+    (end : Assignment) → Keeps invs words h
     → Coarsens invs h merges end → Keeps invs words end × NoMerge invs end
 
 -- there is at most one least violation
 abbrev pub OneLeast : Type 0
-OneLeast = (g : Graph) (inv : Invariant) (a b : List ℕ) → IsLeastViolation g inv a → IsLeastViolation g inv b → a ≡ b
+OneLeast =
+    (g : Graph) (inv : Invariant) (a b : List ℕ) → IsLeastViolation g inv a → IsLeastViolation g inv b → a ≡ b
 
 -- a run of refinement can end in one way alone
 abbrev pub OneRefinement : Type 0
