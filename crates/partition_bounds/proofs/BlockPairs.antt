@@ -14,6 +14,7 @@ use Rattle.partition_bounds.proofs.Pairing.{pairs_tell, In-Among, Among-In}
 abbrev MergeBefore : Merge → Merge → Type 0
 MergeBefore x y = PairBefore x.p x.q y.p y.q
 
+-- what a list of pairs ascends from is before each of it
 pairs-above : (p q : ℕ) (xs : List Merge) (y : Merge) → PairsAscend p q xs → In y xs → PairBefore p q y.p y.q
 pairs-above p q [] y a i = absurd i
 pairs-above p q (x ∷ xs) y a i = elim i [
@@ -21,14 +22,17 @@ pairs-above p q (x ∷ xs) y a i = elim i [
   | inr j ↦ pair-next p q x.p x.q y.p y.q a.0 (pairs-above x.p x.q xs y a.1 j)
 ]
 
+-- in an ascending list each pair is before all later ones
 pairs-sorted : (p q : ℕ) (xs : List Merge) → PairsAscend p q xs → Sorted MergeBefore xs
 pairs-sorted p q [] a = tt
 pairs-sorted p q (x ∷ xs) a = (λ y i. pairs-above x.p x.q xs y a.1 i, pairs-sorted x.p x.q xs a.1)
 
+-- where blocks ascend, so do their pairs
 blocks-to-pairs : (p q : ℕ) (bs : List Block) → AscendFrom p q bs → PairsAscend p q (pairs_of bs)
 blocks-to-pairs p q [] a = tt
 blocks-to-pairs p q (b ∷ bs) a = (a.0, blocks-to-pairs b.p b.q bs a.1)
 
+-- where the pairs of blocks ascend, so do the blocks
 pairs-to-blocks : (p q : ℕ) (bs : List Block) → PairsAscend p q (pairs_of bs) → AscendFrom p q bs
 pairs-to-blocks p q [] a = tt
 pairs-to-blocks p q (b ∷ bs) a = (a.0, pairs-to-blocks b.p b.q bs a.1)
@@ -37,6 +41,7 @@ pairs-to-blocks p q (b ∷ bs) a = (a.0, pairs-to-blocks b.p b.q bs a.1)
 In-again : (z : Merge) (ms : List Merge) → In z ms → IsAmong z.p z.q ms
 In-again z ms i = In-Among z.p z.q ms i
 
+-- the blocks of a graph have its pairs, in their order
 pub blocks_follow_pairs : BlocksFollowPairs
 blocks_follow_pairs invs g n bs below a =
     let t : PairsAscend 0 0 (pairs_below n g) × ((p q : ℕ) → IsPair g p q ↔ IsAmong p q (pairs_below n g)) = pairs_tell g n below in
@@ -53,6 +58,7 @@ blocks_follow_pairs invs g n bs below a =
     let j : In (pair_of w.1.p w.1.q) (pairs_of bs) = map-In (λ (b : Block). pair_of b.p b.q) w.1 bs (get-In bs w.0 w.1 w.2) in
     subst₂ (λ (x y : ℕ). In (pair_of x y) (pairs_of bs)) w.3 w.4 j)
 
+-- blocks of these pairs, in their order, are the blocks of the graph
 pub pairs_give_blocks : PairsGiveBlocks
 pairs_give_blocks invs g n bs below e all =
     let t : PairsAscend 0 0 (pairs_below n g) × ((p q : ℕ) → IsPair g p q ↔ IsAmong p q (pairs_below n g)) = pairs_tell g n below in

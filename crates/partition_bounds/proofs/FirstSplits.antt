@@ -10,6 +10,7 @@ use Rattle.partition_model.proofs.Least.{one_least}
 use Rattle.partition_model.proofs.Runs.{broken}
 use Rattle.partition_model.proofs.Unique.{one-broken}
 
+-- where each invariant is satisfied, none is the first that is broken
 pub none-broken : (g : Graph) (invs : List Invariant) (k : ℕ) → SatisfiesAll g invs → IsFirstBroken g invs k → ⊥
 none-broken g [] k s b = b
 none-broken g (inv ∷ invs) zero s b = b s.0
@@ -28,9 +29,11 @@ one-split invs h s t a b =
     same : s.inv ≡ t.inv → s.place ≡ t.place → s.path ≡ t.path → s ≡ t
     same i q p = λ d. record { inv = i d; place = q d; path = p d }
 
+-- what is left of the run b after the splits a, which goes on from where these lead
 abbrev Rest : List Invariant → Assignment → Assignment → ℕ → List Split → List Split → Type 0
 Rest invs mid end n a b = (rest : List Split) × (a ++ rest ≡ b) × Refines invs mid (n + length a) rest end
 
+-- splits that are made one after another begin the whole run
 begin : (invs : List Invariant) (a b : List Split) (h mid end : Assignment) (n : ℕ) → Splits invs h n a mid → Refines invs h n b end → Rest invs mid end n a b
 begin invs [] b h mid end n x y =
     let y1 : Refines invs mid n b end = subst (λ (k : Assignment). Refines invs k n b end) (sym x) y in
@@ -43,13 +46,16 @@ begin invs (s ∷ ss) (t ∷ ts) h mid end n x y =
     let m : suc n + length ss ≡ n + suc (length ss) = omega arith in
     (r.0, ap₂ (λ (u : Split) (us : List Split). u ∷ us) e r.1, subst (λ (k : ℕ). Refines invs mid k r.0 end) m r.2)
 
+-- the first splits of a run begin the whole run
 pub splits_begin : SplitsBegin
 splits_begin invs h mid end n a b x y = begin invs a b h mid end n x y
 
+-- where there is a next split, the whole run goes on
 some-rest : (invs : List Invariant) (mid end : Assignment) (m : ℕ) (rest : List Split) (s : Split) → IsNextSplit invs mid s → Refines invs mid m rest end → 0 < length rest
 some-rest invs mid end m [] s i y = absurd (none-broken (G mid) invs s.inv y.0 i.first)
 some-rest invs mid end m (t ∷ ts) s i y = omega arith
 
+-- where a split follows the first ones, the whole run has more
 pub steps_exclude : StepsExclude
 steps_exclude invs h mid end n a b s x i y =
     let r : Rest invs mid end n a b = begin invs a b h mid end n x y in

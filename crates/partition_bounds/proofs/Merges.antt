@@ -34,6 +34,7 @@ live-below h n p l b k =
           subst (λ (z : ℕ). z < n) o.2 (all_in (λ e. e.id < n) o.0 (events h) b o.1)
     ]
 
+-- after a merge the ids of events are below the same bound
 pub merge-below : (h : Assignment) (n p q : ℕ) → 2 ≤ n → AreBelow n h → IsPair (G h) p q → AreBelow n (merge p q h)
 merge-below h n p q l b i =
     let k : q < n = live-below h n q l b i.has_q in
@@ -48,15 +49,17 @@ merge-below h n p q l b i =
       | inr s ↦ (let f : o.0.id ≡ e.id = sym (onto_other p q o.0.id s) ∙ ei in omega arith)
     ]))
 
+-- so they are where coarsening ends
 pub merges-below : (invs : List Invariant) (ms : List Merge) (h end : Assignment) (n : ℕ) → 2 ≤ n → AreBelow n h → Coarsens invs h ms end → AreBelow n end
 merges-below invs [] h end n l b c = subst (λ (x : Assignment). AreBelow n x) (sym c.1) b
 merges-below invs (m ∷ ms) h end n l b c = merges-below invs ms (merge m.p m.q h) end n l (merge-below h n m.p m.q l b c.0.pair) c.1
 
--- the merges: each takes an id away
+-- what holds only where another thing does counts for no more than that
 bit-le : (a b : Bool) → (a ≡ true → b ≡ true) → bit a ≤ bit b
 bit-le false b f = omega arith
 bit-le true b f = rw (f refl) (omega arith)
 
+-- a test that passes only where another does passes no more often
 count-le : (f g : ℕ → Bool) (xs : List ℕ) → ((x : ℕ) → In x xs → f x ≡ true → g x ≡ true) → count_by f xs ≤ count_by g xs
 count-le f g [] k = omega arith
 count-le f g (x ∷ xs) k =
@@ -66,6 +69,7 @@ count-le f g (x ∷ xs) k =
     let c : bit (f x) ≤ bit (g x) = bit-le (f x) (g x) (k x (inl refl)) in
     omega arith
 
+-- and it passes less often where the other passes once without it
 count-less : (f g : ℕ → Bool) (y : ℕ) (xs : List ℕ) → ((x : ℕ) → In x xs → f x ≡ true → g x ≡ true) → In y xs → f y ≡ false → g y ≡ true → suc (count_by f xs) ≤ count_by g xs
 count-less f g y [] k i u v = absurd i
 count-less f g y (x ∷ xs) k (inl e) u v =
@@ -82,6 +86,7 @@ count-less f g y (x ∷ xs) k (inr r) u v =
     let c : bit (f x) ≤ bit (g x) = bit-le (f x) (g x) (k x (inl refl)) in
     omega arith
 
+-- the id that is merged away is live no more
 gone-is-dead : (h : Assignment) (p q : ℕ) → IsPair (G h) p q → is_live (merge p q h) q ≡ false
 gone-is-dead h p q i =
     let l : 2 ≤ p = i.low in
@@ -91,6 +96,7 @@ gone-is-dead h p q i =
       | inr f ↦ f
     ]
 
+-- a merge leaves fewer live ids
 fewer-live : (h : Assignment) (j p q : ℕ) → AreBelow (suc (suc j)) h → IsPair (G h) p q
     → suc (count_by (is_live (merge p q h)) (range_with_len 2 j)) ≤ count_by (is_live h) (range_with_len 2 j)
 fewer-live h j p q b i =
@@ -100,6 +106,7 @@ fewer-live h j p q b i =
     count-less (is_live (merge p q h)) (is_live h) q (range_with_len 2 j)
     (λ x k t. live-back h p q x i (In-range 2 j x k).0 t) (range-In 2 j q (omega arith) (omega arith)) (gone-is-dead h p q i) i.has_q
 
+-- the merges and the ids that are live in the end are no more than those that were live before
 merges-few : (invs : List Invariant) (ms : List Merge) (h end : Assignment) (j : ℕ) → AreBelow (suc (suc j)) h → Coarsens invs h ms end
     → length ms + count_by (is_live end) (range_with_len 2 j) ≤ count_by (is_live h) (range_with_len 2 j)
 merges-few invs [] h end j b c =
@@ -111,6 +118,7 @@ merges-few invs (m ∷ ms) h end j b c =
     let f : suc (count_by (is_live (merge m.p m.q h)) (range_with_len 2 j)) ≤ count_by (is_live h) (range_with_len 2 j) = fewer-live h j m.p m.q b c.0.pair in
     omega arith
 
+-- a run of coarsening has at least two merges fewer than the bound of the ids
 pub merges_are_few : MergesAreFew
 merges_are_few invs h ms end zero l b c = absurd (omega arith)
 merges_are_few invs h ms end (suc zero) l b c = absurd (omega arith)
@@ -120,15 +128,19 @@ merges_are_few invs h ms end (suc (suc j)) l b c =
     let d : length (range_with_len 2 j) ≡ j = range-count 2 j in
     omega arith
 
+-- where the ids of events are below a bound, so are the listed ids of their graph
 pub graphs_are_below : GraphsAreBelow
 graphs_are_below h n l b p k = live-below h n p l b k
 
+-- and so are those of the merged graph
 pub merged_are_below : MergedAreBelow
 merged_are_below g p q n b u k = b u (and_parts (not (u == q)) (g.listed u) k).1
 
+-- a merge makes no new id
 pub merges_stay_below : MergesStayBelow
 merges_stay_below h p q n l i b = merge-below h n p q l b i
 
+-- one pass over the list of the pairs makes the whole run of coarsening
 pub pass_coarsens : PassCoarsens
 pass_coarsens invs h n ms end l t b w =
     let p : PairsAscend 0 0 (pairs_below n (G h)) × ((p q : ℕ) → IsPair (G h) p q ↔ IsAmong p q (pairs_below n (G h))) = pairs_tell (G h) n (graphs_are_below h n l b) in

@@ -38,25 +38,27 @@ same-lists {X} B asym (x ∷ xs) (y ∷ ys) s t f g =
       | inr j ↦ j
     ]
 
--- pairs of numbers, in their order
+-- no pair is both before and behind another
 pub pair-asym : (p q r s : ℕ) → PairBefore p q r s → PairBefore r s p q → ⊥
 pair-asym p q r s (inl a) (inl b) = omega (arith, a, b)
 pair-asym p q r s (inl a) (inr b) = omega (arith, a, b.0)
 pair-asym p q r s (inr a) (inl b) = omega (arith, a.0, b)
 pair-asym p q r s (inr a) (inr b) = omega (arith, a.1, b.1)
 
+-- what is before a pair is before all that this pair is before
 pub pair-next : (p q r s t u : ℕ) → PairBefore p q r s → PairBefore r s t u → PairBefore p q t u
 pair-next p q r s t u (inl a) (inl b) = inl (omega (arith, a, b))
 pair-next p q r s t u (inl a) (inr b) = inl (omega (arith, a, b.0))
 pair-next p q r s t u (inr a) (inl b) = inl (omega (arith, a.0, b))
 pair-next p q r s t u (inr a) (inr b) = inr (a.0 ∙ b.0, omega (arith, a.1, b.1))
 
--- an element and its place
+-- what stands at a place is an element
 pub get-In : {X : Type 0} (xs : List X) (k : ℕ) (x : X) → slice_get xs k ≡ Some x → In x xs
 get-In [] k x e = absurd (cc)
 get-In (y ∷ xs) zero x e = inl (cc)
 get-In (y ∷ xs) (suc k) x e = inr (get-In xs k x e)
 
+-- an element has a place
 pub In-get : {X : Type 0} (x : X) (xs : List X) → In x xs → (k : ℕ) × (slice_get xs k ≡ Some x)
 In-get x [] i = absurd i
 In-get {X} x (y ∷ xs) i = elim i [

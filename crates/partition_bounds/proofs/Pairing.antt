@@ -16,7 +16,7 @@ use Rattle.partition_model.proofs.Listing.{In-filter, filter-In, In-flat_map, fl
 use Rattle.partition_bounds.specs.Pairs.{is_pair, pair_of, pairs_from, pairs_below}
 use Rattle.partition_bounds.specs.Laws.{IsBelow, PairsTell, PairsAreFew, PairsWithinLimit}
 
--- the test of a pair
+-- a pair of one type passes the test
 pub pair-passes : (g : Graph) (p q : ℕ) → IsPair g p q → is_pair g p q ≡ true
 pair-passes g p q i =
     let l : 2 ≤ p = i.low in
@@ -25,6 +25,7 @@ pair-passes g p q i =
     let c : (g.typ p == g.typ q) ≡ true = eq-eqb (g.typ p) (g.typ q) i.types in
     rw (a, b, i.has_p, i.has_q, c) refl
 
+-- what passes the test is a pair of one type
 pub passed-pair : (g : Graph) (p q : ℕ) → is_pair g p q ≡ true → IsPair g p q
 passed-pair g p q e =
     let a : ((nat_lt 1 p && nat_lt p q && g.listed p && g.listed q) ≡ true) × ((g.typ p == g.typ q) ≡ true) =
@@ -35,20 +36,23 @@ passed-pair g p q e =
     let l : 1 < p = ltb-true 1 p d.0 in
     record { low = omega arith; order = ltb-true p q d.1; has_p = c.1; has_q = b.1; types = eqb-true (g.typ p) (g.typ q) a.1 }
 
--- membership
+-- merges of the same ids are the same
 same-merge : (m : Merge) (p q : ℕ) → m.p ≡ p → m.q ≡ q → m ≡ pair_of p q
 same-merge m p q e f = λ d. record { p = e d; q = f d }
 
+-- an element of a list of pairs is among them by its ids
 pub In-Among : (p q : ℕ) (ms : List Merge) → In (pair_of p q) ms → IsAmong p q ms
 In-Among p q [] i = i
 In-Among p q (m ∷ ms) (inl e) = inl (ap (λ (z : Merge). z.p) e, ap (λ (z : Merge). z.q) e)
 In-Among p q (m ∷ ms) (inr r) = inr (In-Among p q ms r)
 
+-- what is among pairs by its ids is an element of their list
 pub Among-In : (p q : ℕ) (ms : List Merge) → IsAmong p q ms → In (pair_of p q) ms
 Among-In p q [] i = i
 Among-In p q (m ∷ ms) (inl e) = inl (same-merge m p q e.0 e.1)
 Among-In p q (m ∷ ms) (inr r) = inr (Among-In p q ms r)
 
+-- each pair of one type is in the list
 pair-listed : (g : Graph) (n p q : ℕ) → IsBelow n g → IsPair g p q → IsAmong p q (pairs_below n g)
 pair-listed g n p q b i =
     let k : p < n = b p i.has_p in
@@ -57,6 +61,7 @@ pair-listed g n p q b i =
     let m : In (pair_of p q) (pairs_from n g p) = map-In (pair_of p) q (filter (is_pair g p) (ids_below n)) f in
     In-Among p q (pairs_below n g) (flat_map-In (pairs_from n g) (pair_of p q) p (ids_below n) (range-In 0 n p (omega arith) (omega arith)) m)
 
+-- what is in the list is a pair of one type
 listed-pair : (g : Graph) (n p q : ℕ) → IsAmong p q (pairs_below n g) → IsPair g p q
 listed-pair g n p q i =
     let o : (x : ℕ) × In x (ids_below n) × In (pair_of p q) (pairs_from n g x) = In-flat_map (pairs_from n g) (pair_of p q) (ids_below n) (Among-In p q (pairs_below n g) i) in
@@ -66,13 +71,15 @@ listed-pair g n p q i =
     let d : m.0 ≡ q = ap (λ (z : Merge). z.q) m.2 in
     passed-pair g p q (sym (ap₂ (λ (x y : ℕ). is_pair g x y) e d) ∙ f.1)
 
--- order: the pairs of one id behind a pair of the same id, or of a lower one
+-- the pairs of p with the m ids from a on
 abbrev those : Graph → ℕ → ℕ → ℕ → List Merge
 those g p a m = map (pair_of p) (filter (is_pair g p) (range_with_len a m))
 
+-- that these ascend, and more behind them, where b says whether (p, a) is one
 abbrev ascend-cond : Graph → ℕ → ℕ → ℕ → ℕ → ℕ → List Merge → Bool → Type 0
 ascend-cond g p r s a m more b = PairsAscend r s (map (pair_of p) (cond b (a ∷ filter (is_pair g p) (range_with_len (a + 1) m)) (filter (is_pair g p) (range_with_len (a + 1) m))) ++ more)
 
+-- behind a pair of p the pairs of p with higher ids ascend
 then-same : (g : Graph) (p b a m : ℕ) (more : List Merge) → b < a → ((k : ℕ) → PairsAscend p k more) → PairsAscend p b (those g p a m ++ more)
 then-same g p b a zero more l f = f b
 then-same g p b a (suc m) more l f =
@@ -81,6 +88,7 @@ then-same g p b a (suc m) more l f =
       | inr n ↦ subst (λ (c : Bool). ascend-cond g p p b a m more c) (sym n) (then-same g p b (a + 1) m more (omega arith) f)
     ]
 
+-- behind a pair of a lower id the pairs of p ascend
 then-next : (g : Graph) (p r s a m : ℕ) (more : List Merge) → r < p → ((k : ℕ) → PairsAscend p k more) → PairsAscend r s more → PairsAscend r s (those g p a m ++ more)
 then-next g p r s a zero more l f k = k
 then-next g p r s a (suc m) more l f k =
@@ -89,40 +97,47 @@ then-next g p r s a (suc m) more l f k =
       | inr n ↦ subst (λ (c : Bool). ascend-cond g p r s a m more c) (sym n) (then-next g p r s (a + 1) m more l f k)
     ]
 
+-- the pairs of ids from a on ascend
 ascend-from : (g : Graph) (n a m r s : ℕ) → r < a → PairsAscend r s (flat_map (pairs_from n g) (range_with_len a m))
 ascend-from g n a zero r s l = tt
 ascend-from g n a (suc m) r s l =
     then-next g a r s 0 n (flat_map (pairs_from n g) (range_with_len (a + 1) m)) l
     (λ k. ascend-from g n (a + 1) m a k (omega arith)) (ascend-from g n (a + 1) m r s (omega arith))
 
--- no pair begins with an end
+-- where nothing passes, the filtered list is empty
 none-pass : {X : Type 0} (f : X → Bool) (xs : List X) → ((x : X) → f x ≡ false) → filter f xs ≡ []
 none-pass f [] e = refl
 none-pass f (x ∷ xs) e = rw (e x) (none-pass f xs e)
 
+-- no pair begins with INITIAL
 none-from_0 : (g : Graph) (n : ℕ) → pairs_from n g 0 ≡ []
 none-from_0 g n = ap (map (pair_of 0)) (none-pass (is_pair g 0) (ids_below n) (λ q. refl))
 
+-- no pair begins with TERMINAL
 none-from_1 : (g : Graph) (n : ℕ) → pairs_from n g 1 ≡ []
 none-from_1 g n = ap (map (pair_of 1)) (none-pass (is_pair g 1) (ids_below n) (λ q. refl))
 
+-- so the list has only the pairs of ids from 2 on
 without-ends : (g : Graph) (m : ℕ) → pairs_below (suc (suc m)) g ≡ flat_map (pairs_from (suc (suc m)) g) (range_with_len 2 m)
 without-ends g m =
     ap₂ (λ (x y : List Merge). x ++ (y ++ flat_map (pairs_from (suc (suc m)) g) (range_with_len 2 m))) (none-from_0 g (suc (suc m))) (none-from_1 g (suc (suc m)))
 
+-- the list of the pairs ascends
 below-ascends : (g : Graph) (n : ℕ) → PairsAscend 0 0 (pairs_below n g)
 below-ascends g zero = tt
 below-ascends g (suc zero) = subst (λ (z : List Merge). PairsAscend 0 0 (z ++ [])) (sym (none-from_0 g 1)) tt
 below-ascends g (suc (suc m)) = subst (λ (z : List Merge). PairsAscend 0 0 z) (sym (without-ends g m)) (ascend-from g (suc (suc m)) 2 m 0 0 (omega arith))
 
+-- the list has each pair of one type once, in order, and no others
 pub pairs_tell : PairsTell
 pairs_tell g n b = (below-ascends g n, λ p q. (λ i. pair-listed g n p q b i, λ i. listed-pair g n p q i))
 
+-- how many numbers a range has
 pub range-count : (a n : ℕ) → length (range_with_len a n) ≡ n
 range-count a zero = refl
 range-count a (suc n) = ap suc (range-count (a + 1) n)
 
--- counts: the pairs of one id are no more than the ids above it
+-- among ids from a on, p has at most as many pairs as ids are above it
 above-count : (g : Graph) (p a m : ℕ) → count_by (is_pair g p) (range_with_len a m) ≤ (a + m) - suc p
 above-count g p a zero = omega arith
 above-count g p a (suc m) =
@@ -142,6 +157,7 @@ above-count g p a (suc m) =
           omega arith
     ]
 
+-- an id has at most as many pairs as there are ids above it
 from-count : (g : Graph) (n p : ℕ) → length (pairs_from n g p) ≤ n - suc p
 from-count g n p =
     let a : length (map (pair_of p) (filter (is_pair g p) (ids_below n))) ≡ length (filter (is_pair g p) (ids_below n)) = length-map (filter (is_pair g p) (ids_below n)) (pair_of p) in
@@ -154,6 +170,7 @@ triangle : ℕ → ℕ
 triangle zero = 0
 triangle (suc m) = m + triangle m
 
+-- twice that sum is a product
 twice-triangle : (m : ℕ) → 2 * triangle (suc m) ≡ suc m * m
 unfolding triangle
 twice-triangle zero = refl
@@ -164,6 +181,7 @@ twice-triangle (suc m) =
     let c : triangle (suc (suc m)) ≡ suc m + triangle (suc m) = refl in
     omega arith
 
+-- the pairs of the ids from a on are at most as many as such a sum
 all-count : (g : Graph) (n a m : ℕ) → a + m ≡ n → length (flat_map (pairs_from n g) (range_with_len a m)) ≤ triangle m
 unfolding triangle
 all-count g n a zero e = omega arith
@@ -174,6 +192,7 @@ all-count g n a (suc m) e =
     length-append (pairs_from n g a) (flat_map (pairs_from n g) (range_with_len (a + 1) m)) in
     omega arith
 
+-- the pairs are at most as many as m ids that are no ends have in all
 few : (g : Graph) (m : ℕ) → 2 * length (pairs_below (suc (suc m)) g) ≤ m * (m - 1)
 few g zero =
     let e : length (pairs_below 2 g) ≡ 0 = ap length (without-ends g 0) in
@@ -186,6 +205,7 @@ few g (suc m) =
     let p : suc m * (suc m - 1) ≡ suc m * m = ap (λ (z : ℕ). suc m * z) k in
     omega arith
 
+-- there are no more pairs than the ids other than the ends have in all
 pub pairs_are_few : PairsAreFew
 pairs_are_few g zero = omega arith
 pairs_are_few g (suc zero) =
@@ -198,6 +218,7 @@ pairs_are_few g (suc (suc m)) =
     let p : (suc (suc m) - 2) * (suc (suc m) - 3) ≡ m * (m - 1) = ap₂ (λ (x y : ℕ). x * y) a b in
     omega arith
 
+-- so there are at most so many pairs of all ids that may be
 pub pairs_within_limit : PairsWithinLimit
 pairs_within_limit g n l =
     let f : 2 * length (pairs_below n g) ≤ (n - 2) * (n - 3) = pairs_are_few g n in

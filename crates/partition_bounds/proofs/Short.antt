@@ -17,9 +17,11 @@ state_at g inv s [] k = s
 state_at g inv s (x ∷ xs) zero = step inv s (g.typ x)
 state_at g inv s (x ∷ xs) (suc k) = state_at g inv (step inv s (g.typ x)) xs k
 
+-- a step leads from one of the three states to one of them
 pub step-small : (inv : Invariant) (s x : ℕ) → s < 3 → step inv s x < 3
 step-small inv s x l = let k : step inv s x ≤ 2 = step-le inv.kind inv.a inv.b s x (omega arith) in omega arith
 
+-- so each state on a walk is one of the three
 pub state-small : (g : Graph) (inv : Invariant) (s : ℕ) (xs : List ℕ) (k : ℕ) → s < 3 → state_at g inv s xs k < 3
 state-small g inv s [] k l = l
 state-small g inv s (x ∷ xs) zero l = step-small inv s (g.typ x) l
@@ -31,6 +33,7 @@ walk-rest g p [] q k w l = absurd (omega arith)
 walk-rest g p (x ∷ xs) q zero w l = w.1
 walk-rest g p (x ∷ xs) q (suc k) w l = walk-rest g x xs q k w.1 (omega arith)
 
+-- the run over a walk is the run from the state at a place over what follows it
 pub run-rest : (g : Graph) (inv : Invariant) (s : ℕ) (xs : List ℕ) (k : ℕ) → k < length xs → run inv s (word g xs) ≡ run inv (state_at g inv s xs k) (word g (drop (suc k) xs))
 run-rest g inv s [] k l = absurd (omega arith)
 run-rest g inv s (x ∷ xs) zero l = refl
@@ -42,6 +45,7 @@ pub record IsCut (g : Graph) (inv : Invariant) (p s : ℕ) (xs : List ℕ) (q : 
   walk : Walk g p ys q
   ends : run inv s (word g ys) ≡ run inv s (word g xs)
 
+-- where an id stands twice with one state, the walk has a shorter one
 cut : (g : Graph) (inv : Invariant) (p s : ℕ) (xs : List ℕ) (q j k : ℕ) → Walk g p xs q → j < k → k < length xs
     → slice_index xs j ≡ slice_index xs k → state_at g inv s xs j ≡ state_at g inv s xs k → (ys : List ℕ) × IsCut g inv p s xs q ys
 cut g inv p s [] q j k w l m e f = absurd (omega arith)
@@ -65,25 +69,28 @@ cut g inv p s (x ∷ xs) q (suc j) (suc k) w l m e f =
     let h : length o.0 < length xs = o.1.shorter in
     (x ∷ o.0, record { shorter = omega arith; walk = (w.0, o.1.walk); ends = o.1.ends })
 
--- the ids of a walk but its first are entered, and all but its last are left
+-- each id of a walk is entered by an edge
 entered : (g : Graph) (p : ℕ) (xs : List ℕ) (q k : ℕ) → Walk g p xs q → k < length xs → (u : ℕ) × (g.edge u (slice_index xs k) ≡ true)
 entered g p [] q k w l = absurd (omega arith)
 entered g p (x ∷ xs) q zero w l = (p, w.0)
 entered g p (x ∷ xs) q (suc k) w l = entered g x xs q k w.1 (omega arith)
 
+-- each id of a walk but its last is left by an edge to the next one
 left : (g : Graph) (p : ℕ) (xs : List ℕ) (q k : ℕ) → Walk g p xs q → suc k < length xs → g.edge (slice_index xs k) (slice_index xs (suc k)) ≡ true
 left g p [] q k w l = absurd (omega arith)
 left g p (x ∷ []) q k w l = absurd (omega arith)
 left g p (x ∷ y ∷ xs) q zero w l = w.1.0
 left g p (x ∷ y ∷ xs) q (suc k) w l = left g x (y ∷ xs) q k w.1 (omega arith)
 
--- each id with each state, as one number
+-- the numbers of an id with each of the three states
 abbrev pub stations_of : ℕ → List ℕ
 stations_of p = (3 * p) ∷ (3 * p + 1) ∷ (3 * p + 2) ∷ []
 
+-- the numbers of each id with each state
 abbrev pub stations : List ℕ → List ℕ
 stations ids = flat_map stations_of ids
 
+-- there are three for each id
 pub stations-count : (ids : List ℕ) → length (stations ids) ≡ 3 * length ids
 stations-count [] = refl
 stations-count (p ∷ ids) =
@@ -91,6 +98,7 @@ stations-count (p ∷ ids) =
     let e : length (stations_of p ++ stations ids) ≡ length (stations_of p) + length (stations ids) = length-append (stations_of p) (stations ids) in
     omega arith
 
+-- an id of the list with a state has its number there
 pub station-In : (p s : ℕ) (ids : List ℕ) → In p ids → s < 3 → In (3 * p + s) (stations ids)
 station-In p s ids i l = flat_map-In stations_of (3 * p + s) p ids i (here s l)
   where
@@ -100,7 +108,7 @@ station-In p s ids i l = flat_map-In stations_of (3 * p + s) p ids i (here s l)
     here (suc (suc zero)) m = inr (inr (inl refl))
     here (suc (suc (suc t))) m = absurd (omega arith)
 
--- a list without what does not pass
+-- one more element makes a filtered list longer by one at most
 kept-or-not : {X : Type 0} (f : X → Bool) (x : X) (xs : List X) → length (filter f (x ∷ xs)) ≤ suc (length (filter f xs))
 kept-or-not f x xs =
     elim (cases_Bool (f x)) [
@@ -108,9 +116,11 @@ kept-or-not f x xs =
       | inr n ↦ rw n (omega arith)
     ]
 
+-- an element that does not pass adds nothing
 dropped : {X : Type 0} (f : X → Bool) (x : X) (xs : List X) → f x ≡ false → length (filter f (x ∷ xs)) ≡ length (filter f xs)
 dropped f x xs e = rw e refl
 
+-- a filtered list is no longer than the list
 filter-short : {X : Type 0} (f : X → Bool) (xs : List X) → length (filter f xs) ≤ length xs
 filter-short f [] = omega arith
 filter-short {X} f (x ∷ xs) =
@@ -118,6 +128,7 @@ filter-short {X} f (x ∷ xs) =
     let k : length (filter f (x ∷ xs)) ≤ suc (length (filter f xs)) = kept-or-not f x xs in
     omega arith
 
+-- it is shorter where an element does not pass
 pub without-one : {X : Type 0} (f : X → Bool) (x : X) (xs : List X) → In x xs → f x ≡ false → suc (length (filter f xs)) ≤ length xs
 without-one f x [] i e = absurd i
 without-one {X} f x (z ∷ xs) (inl a) e =
@@ -129,6 +140,7 @@ without-one {X} f x (z ∷ xs) (inr r) e =
     let k : length (filter f (z ∷ xs)) ≤ suc (length (filter f xs)) = kept-or-not f z xs in
     omega arith
 
+-- it is shorter by two where two elements do not pass
 without-two : {X : Type 0} (f : X → Bool) (x y : X) (xs : List X) → x ≢ y → In x xs → In y xs → f x ≡ false → f y ≡ false → length (filter f xs) + 2 ≤ length xs
 without-two f x y [] n i j d e = absurd i
 without-two {X} f x y (z ∷ xs) n (inl a) (inl b) d e = absurd (n (sym a ∙ b))
@@ -149,12 +161,15 @@ without-two {X} f x y (z ∷ xs) n (inr a) (inr b) d e =
 abbrev pub inner_ids : List ℕ → List ℕ
 inner_ids ids = filter (λ p. nat_lt 1 p) ids
 
+-- there are at least two ids more than those that are no ends
 pub inner-count : (ids : List ℕ) → In 0 ids → In 1 ids → length (inner_ids ids) + 2 ≤ length ids
 inner-count ids i j = without-two (λ p. nat_lt 1 p) 0 1 ids (λ e. absurd (omega arith)) i j refl refl
 
+-- the number tells the id and the state
 same-station : (a b s t : ℕ) → s < 3 → t < 3 → 3 * a + s ≡ 3 * b + t → (a ≡ b) × (s ≡ t)
 same-station a b s t k l e = (omega arith, omega arith)
 
+-- a number other than 0 and 1 is greater than 1
 high : (x : ℕ) → x ≢ 0 → x ≢ 1 → 1 < x
 high zero a b = absurd (a refl)
 high (suc zero) a b = absurd (b refl)
@@ -168,6 +183,7 @@ IsAt g inv s xs k y = (suc k < length xs) × (y ≡ 3 * slice_index xs k + state
 abbrev pub NoCut : Graph → Invariant → ℕ → ℕ → List ℕ → Type 0
 NoCut g inv p s xs = (ys : List ℕ) → IsCut g inv p s xs 1 ys → ⊥
 
+-- an id within a walk to TERMINAL is no end
 pub inner-at : (g : Graph) (p : ℕ) (xs ids : List ℕ) (k : ℕ) → IsFormed g → ((u : ℕ) → g.listed u ≡ true → In u ids) → Walk g p xs 1 → suc k < length xs → In (slice_index xs k) (inner_ids ids)
 inner-at g p xs ids k f all w l =
     let e : (u : ℕ) × (g.edge u (slice_index xs k) ≡ true) = entered g p xs 1 k w (omega arith) in
@@ -204,10 +220,12 @@ walk-within g inv p s xs among sm w none has =
           | inr o ↦ elim o [ inl l ↦ absurd (apart j k l b.0 (sym a.1 ∙ b.1)) | inr l ↦ absurd (apart k j l a.0 (sym b.1 ∙ a.1)) ]
         ]
 
+-- an id within a walk has, with its state, its number among those of the ids that are no ends
 pub station-at : (g : Graph) (inv : Invariant) (p s : ℕ) (xs ids : List ℕ) → IsFormed g → ((u : ℕ) → g.listed u ≡ true → In u ids) → s < 3 → Walk g p xs 1
     → (k : ℕ) → suc k < length xs → In (3 * slice_index xs k + state_at g inv s xs k) (stations (inner_ids ids))
 station-at g inv p s xs ids f all sm w k l = station-In (slice_index xs k) (state_at g inv s xs k) (inner_ids ids) (inner-at g p xs ids k f all w l) (state-small g inv s xs k sm)
 
+-- a walk whose end no shorter one has is at most three times as long as there are ids that are no ends, and one more
 pub walk-short : (g : Graph) (inv : Invariant) (p s : ℕ) (xs ids : List ℕ) → IsFormed g → ((u : ℕ) → g.listed u ≡ true → In u ids) → s < 3 → Walk g p xs 1 → NoCut g inv p s xs
     → length xs ≤ 3 * length (inner_ids ids) + 1
 walk-short g inv p s xs ids f all sm w none =
@@ -215,7 +233,7 @@ walk-short g inv p s xs ids f all sm w none =
     let m : length xs - 1 ≤ length (stations (inner_ids ids)) = walk-within g inv p s xs (stations (inner_ids ids)) sm w none (station-at g inv p s xs ids f all sm w) in
     omega arith
 
--- the path of a least violation
+-- no shorter walk has the end of a least violation
 pub no-cut : (g : Graph) (inv : Invariant) (x : ℕ) (xs : List ℕ) → IsLeastViolation g inv (x ∷ xs) → NoCut g inv x (step inv 0 (g.typ x)) xs
 no-cut g inv x xs v ys c =
     let l : length ys < length xs = c.shorter in
@@ -227,6 +245,7 @@ no-cut g inv x xs v ys c =
     let k : length (x ∷ xs) ≤ length (x ∷ ys) = v.shortest (x ∷ ys) br in
     omega arith
 
+-- a least violation has at most three times as many ids as the graph, less four
 pub least_is_short : LeastIsShort
 least_is_short g inv [] ids f all v = absurd v.breaks.0
 least_is_short g inv (x ∷ xs) ids f all v =

@@ -16,54 +16,64 @@ use Rattle.partition_bounds.specs.Laws.{LeastIsShorter, LeastWithinLimit}
 use Rattle.partition_bounds.proofs.Pairing.{range-count}
 use Rattle.partition_bounds.proofs.Short.{state_at, step-small, state-small, run-rest, stations, inner_ids, stations-count, station-In, station-at, without-one, inner-count, inner-at, NoCut, no-cut, walk-within, walk-short, least_is_short}
 
+-- nothing is true together with false
 and-false : (t : Bool) → (t && false) ≡ false
 and-false true = refl
 and-false false = refl
 
+-- one of two numbers below a bound is below it
 cond-below : (t : Bool) (m n k : ℕ) → m < k → n < k → cond t m n < k
 cond-below true m n k h l = h
 cond-below false m n k h l = l
 
+-- one of two numbers from a bound on is from it on
 cond-above : (t : Bool) (m n k : ℕ) → k ≤ m → k ≤ n → k ≤ cond t m n
 cond-above true m n k h l = h
 cond-above false m n k h l = l
 
--- to wait has the states 0 and 1 alone
+-- a step of AF leads from the states 0 and 1 to one of them
 af-step : (a b s x : ℕ) → s < 2 → step_of AF a b s x < 2
 af-step a b s x l = cond-below (x == a) 1 (cond (x == b) 0 s) 2 (omega arith) (cond-below (x == b) 0 s 2 (omega arith) l)
 
+-- so a walk has these states alone
 af-states : (a b : ℕ) (g : Graph) (s : ℕ) (xs : List ℕ) (k : ℕ) → s < 2 → state_at g (invariant AF a b) s xs k < 2
 af-states a b g s [] k l = l
 af-states a b g s (x ∷ xs) zero l = af-step a b s (g.typ x) l
 af-states a b g s (x ∷ xs) (suc k) l = af-states a b g (step_of AF a b s (g.typ x)) xs k (af-step a b s (g.typ x) l)
 
--- what has an earlier one stays well
+-- a monitor of AP that has read its first type keeps its state
 ap-step : (a b x : ℕ) → step_of AP a b 1 x ≡ 1
 ap-step a b x = rw (and-false (x == b), and-false (x == a)) refl
 
+-- so it does over a whole word
 ap-run : (a b : ℕ) (w : List ℕ) → run_of AP a b 1 w ≡ 1
 ap-run a b [] = refl
 ap-run a b (x ∷ w) = ap (λ (s : ℕ). run_of AP a b s w) (ap-step a b x) ∙ ap-run a b w
 
--- the first type is seen for good
+-- from another state than 0, a step of NF does not lead to it
 nf-step : (a b s x : ℕ) → 1 ≤ s → 1 ≤ step_of NF a b s x
 nf-step a b s x l = cond-above (x == b && nat_lt 0 s) 2 (cond (x == a && s == 0) 1 s) 1 (omega arith) (cond-above (x == a && s == 0) 1 s 1 (omega arith) l)
 
+-- so a walk from another state than 0 never comes to it
 nf-states : (a b : ℕ) (g : Graph) (s : ℕ) (xs : List ℕ) (k : ℕ) → 1 ≤ s → 1 ≤ state_at g (invariant NF a b) s xs k
 nf-states a b g s [] k l = l
 nf-states a b g s (x ∷ xs) zero l = nf-step a b s (g.typ x) l
 nf-states a b g s (x ∷ xs) (suc k) l = nf-states a b g (step_of NF a b s (g.typ x)) xs k (nf-step a b s (g.typ x) l)
 
+-- from the state 0, the first type leads to the state 1
 nf-first : (a b x : ℕ) → x ≡ a → step_of NF a b 0 x ≡ 1
 nf-first a b x e = rw (and-false (x == b), eq-eqb x a e) refl
 
+-- from the state 0, any other type leads back to it
 nf-other : (a b x : ℕ) → (x ≡ a → ⊥) → step_of NF a b 0 x ≡ 0
 nf-other a b x n = rw (and-false (x == b), ne_eqb x a n) refl
 
+-- after the first type the state is not 0
 nf-reads : (a b s x : ℕ) → x ≡ a → 1 ≤ step_of NF a b s x
 nf-reads a b zero x e = let f : step_of NF a b 0 x ≡ 1 = nf-first a b x e in omega arith
 nf-reads a b (suc s) x e = nf-step a b (suc s) x (omega arith)
 
+-- so it is at each id of this type on a walk
 nf-at : (a b : ℕ) (g : Graph) (s : ℕ) (xs : List ℕ) (k : ℕ) → k < length xs → g.typ (slice_index xs k) ≡ a → 1 ≤ state_at g (invariant NF a b) s xs k
 nf-at a b g s [] k l e = absurd (omega arith)
 nf-at a b g s (x ∷ xs) zero l e = nf-reads a b s (g.typ x) e
@@ -93,9 +103,11 @@ record IsFree (g : Graph) (inv : Invariant) (s : ℕ) (xs ids : List ℕ) (p t :
   small : t < 3
   never : (k : ℕ) → suc k < length xs → slice_index xs k ≡ p → state_at g inv s xs k ≡ t → ⊥
 
+-- there is such an id with such a state
 abbrev SomeFree : Graph → Invariant → ℕ → List ℕ → List ℕ → Type 0
 SomeFree g inv s xs ids = (p t : ℕ) × IsFree g inv s xs ids p t
 
+-- where an id is no end, a walk that ends badly has such an id with such a state
 free-of : (kind : Kind) (a b : ℕ) (g : Graph) (x : ℕ) (xs ids : List ℕ) (p : ℕ) → IsFormed g → ((u : ℕ) → g.listed u ≡ true → In u ids) → Walk g x xs 1
     → is_bad (invariant kind a b) (run (invariant kind a b) 0 (word g (x ∷ xs))) ≡ true → In p (inner_ids ids) → SomeFree g (invariant kind a b) (step (invariant kind a b) 0 (g.typ x)) xs ids
 free-of AF a b g x xs ids p f all w bad i = (
@@ -140,7 +152,7 @@ free-of NF a b g x xs ids p f all w bad i =
           )
     ]
 
--- without that station
+-- with such an id and state, a walk is at most three times as long as there are ids that are no ends
 walk-shorter : (g : Graph) (inv : Invariant) (p s : ℕ) (xs ids : List ℕ) → IsFormed g → ((u : ℕ) → g.listed u ≡ true → In u ids) → s < 3 → Walk g p xs 1 → NoCut g inv p s xs
     → SomeFree g inv s xs ids → length xs ≤ 3 * length (inner_ids ids)
 walk-shorter g inv p s xs ids f all sm w none o =
@@ -161,6 +173,7 @@ walk-shorter g inv p s xs ids f all sm w none o =
         let small_o : o.1 < 3 = o.2.small in
         ap not (ne_eqb (3 * slice_index xs k + state_at g inv s xs k) (3 * o.0 + o.1) (λ q. o.2.never k l (omega arith) (omega arith)))
 
+-- a list has an element or is empty
 some-or-none : (xs : List ℕ) → ((p : ℕ) × In p xs) ⊎ (length xs ≡ 0)
 some-or-none [] = inr refl
 some-or-none (x ∷ xs) = inl (x, inl refl)
@@ -173,6 +186,7 @@ ends-bad g inv x xs v =
       | inr n ↦ absurd (v.breaks.1 ((monitor_agrees inv (word g (x ∷ xs))).0 n))
     ]
 
+-- a least violation has one id less where there are ids beside the ends
 pub least_is_shorter : LeastIsShorter
 least_is_shorter g inv [] ids f all three v = absurd v.breaks.0
 least_is_shorter g inv (x ∷ xs) ids f all three v =
@@ -189,6 +203,7 @@ least_is_shorter g inv (x ∷ xs) ids f all three v =
           omega arith
     ]
 
+-- so it has at most so many ids where there are no more than may be
 pub least_within_limit : LeastWithinLimit
 least_within_limit g inv path n f below few v =
     let c : length (range_with_len 0 n) ≡ n = range-count 0 n in

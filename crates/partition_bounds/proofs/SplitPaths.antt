@@ -14,6 +14,7 @@ use Rattle.partition_bounds.specs.Laws.{SplitPathsWithinLimit}
 use Rattle.partition_bounds.proofs.Merges.{live-below}
 use Rattle.partition_bounds.proofs.Shorter.{least_within_limit}
 
+-- each path of the run is short, and so they are together
 along : (words : List (List ℕ)) (invs : List Invariant) (ss : List Split) (h : Assignment) (n : ℕ) (end : Assignment) → IsRun words h n → 2 ≤ n → HoldAll words invs → n + length ss ≤ 1024
     → Splits invs h n ss end → split_numbers ss ≤ 3067 * length ss
 along words invs [] h n end r l a lim w = omega arith
@@ -29,5 +30,6 @@ along words invs (s ∷ ss) h n end r l a lim w =
     let c : split_numbers (s ∷ ss) ≡ length s.path + split_numbers ss = sum_by-cons (λ (x : Split). length x.path) s ss in
     omega arith
 
+-- the paths of a run of splits have together at most so many numbers for each split
 pub split_paths_within_limit : SplitPathsWithinLimit
 split_paths_within_limit invs words n ss end t a lim w = along words invs ss (by_type words) n end (start-run words n t) t.two a lim w
