@@ -4,6 +4,7 @@ use Rattle.std.specs.List.{slice_get}
 use Rattle.invariants.proofs.CandidatePlaces.{candidates-differ}
 use Rattle.model_shape.specs.Ascending.{LeadsTo, Ascends, PartitionBefore, EdgeBefore, BlockBefore, CandidateBefore, AscendingTells}
 
+-- what is before something is before all that this is before
 abbrev Passes : {K : Type 0} → (K → K → Type 0) → Type 0
 Passes {K} Before = (x y z : K) → Before x y → Before y z → Before x z
 
@@ -13,6 +14,7 @@ before-each Before pass k [] l a j y e = absurd cc
 before-each Before pass k (x ∷ xs) l a zero y e = let same : x ≡ y = cc in subst (λ z. Before k z) same l
 before-each Before pass k (x ∷ xs) l a (suc j) y e = pass k x y l (before-each Before pass x xs a.0 a.1 j y e)
 
+-- in a list that ascends each is before all that come later
 in-order : {K : Type 0} (Before : K → K → Type 0) → Passes Before → (ks : List K) → Ascends Before ks → (i j : ℕ) (x y : K) → slice_get ks i ≡ Some x → slice_get ks j ≡ Some y → i < j → Before x y
 in-order Before pass [] a i j x y e f l = absurd cc
 in-order Before pass (k ∷ ks) a i zero x y e f l = absurd (omega (arith, l))
@@ -26,6 +28,7 @@ two-pass a b c d e f (inl p) (inr q) = inl (let s : c ≡ e = q.0 in omega (arit
 two-pass a b c d e f (inr p) (inl q) = inl (let s : a ≡ c = p.0 in omega (arith, q, s))
 two-pass a b c d e f (inr p) (inr q) = inr (p.0 ∙ q.0, let x : b < d = p.1 in let y : d < f = q.1 in omega (arith, x, y))
 
+-- so it is in the order of the candidates
 candidates-pass : (types : ℕ) → Passes (CandidateBefore types)
 candidates-pass types x y z p q =
     let same : p.later ≡ q.place = candidates-differ types p.later q.place y p.there q.here in
@@ -33,6 +36,7 @@ candidates-pass types x y z p q =
     let b : q.place < q.later = q.order in
     record { place = p.place; later = q.later; here = p.here; there = q.there; order = omega (arith, a, b, same) }
 
+-- each list of a model that ascends is in order throughout
 pub ascending_tells : AscendingTells
 ascending_tells =
     record {

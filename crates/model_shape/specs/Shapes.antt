@@ -143,8 +143,8 @@ pub record IsShapedBlock (invariants : ℕ) (partitions : List Partition) (x : B
   pub path : AreIds x.path
 
 -- such blocks, ascending by their two ids, and not too many numbers in the paths of splits and blocks
-pub record AreShapedBlocks (invariants : ℕ) (partitions : List Partition) (splits : List Split) (xs : List Block)
-    : Type 0 where
+pub record AreShapedBlocks (invariants : ℕ) (partitions : List Partition) (splits : List Split)
+    (xs : List Block) : Type 0 where
   pub order : Ascends BlockBefore xs
   pub each : AllByRecursion (IsShapedBlock invariants partitions) xs
   pub numbers : split_numbers splits + block_numbers xs ≤ MAX_PATH_NUMBERS
