@@ -12,10 +12,11 @@ use Rattle.invariants.specs.Mined.{holds_of_all, MinedTells}
 use Rattle.invariants.proofs.ByPlaces.{holds-Holds}
 use Rattle.invariants.proofs.CandidatePlaces.{candidates-differ, candidate-shape, first-at, pair-at}
 
--- an element and its place
+-- what stands at a place is an element
 pub Contains-from_place : {X : Type 0} (xs : List X) (k : ℕ) (x : X) → slice_get xs k ≡ Some x → Contains xs x
 Contains-from_place xs k x at = (k, slice_get_within xs k x at, get_or_from_slice_get xs k x x at)
 
+-- an element stands at its place
 pub place-from_Contains : {X : Type 0} (xs : List X) (x : X) (h : Contains xs x) → slice_get xs h.0 ≡ Some x
 place-from_Contains xs x h = slice_get-get_or xs h.0 x h.1 ∙ ap Some h.2
 
@@ -27,13 +28,16 @@ found count index inv at k = (
   λ other. ap Some (candidates-differ count index k inv at other),
 )
 
+-- what stands at no place has none
 pub absent : (count : ℕ) (inv : Invariant) → ((k : ℕ) → slice_get (candidates count) k ≡ Some inv → ⊥)
     → (k : ℕ) → (None ≡ Some k) ↔ (slice_get (candidates count) k ≡ Some inv)
 absent count inv none k = (λ e. absurd (none-some k e), λ at. absurd (none k at))
 
+-- a candidate that is found is an element
 pub found-none : (count index : ℕ) (inv : Invariant) → slice_get (candidates count) index ≡ Some inv → IsNone (Some index) ↔ (¬ Contains (candidates count) inv)
 found-none count index inv at = (λ e. cc, λ no. absurd (no (Contains-from_place (candidates count) index inv at)))
 
+-- what stands at no place is no element
 pub absent-none : (count : ℕ) (inv : Invariant) → ((k : ℕ) → slice_get (candidates count) k ≡ Some inv → ⊥) → IsNone {T = ℕ} None ↔ (¬ Contains (candidates count) inv)
 absent-none count inv none = (λ _ h. none h.0 (place-from_Contains (candidates count) inv h), λ _. refl)
 
@@ -43,18 +47,21 @@ place_of AF = 0
 place_of NF = 1
 place_of AP = 2
 
+-- at the place of a kind stands the kind
 kind_at-place_of : (kind : Kind) → kind_at (place_of kind) ≡ kind
 unfolding place_of
 kind_at-place_of AF = refl
 kind_at-place_of NF = refl
 kind_at-place_of AP = refl
 
+-- the place of a kind is less than 3
 place_of-lt : (kind : Kind) → place_of kind < 3
 unfolding place_of
 place_of-lt AF = omega arith
 place_of-lt NF = omega arith
 place_of-lt AP = omega arith
 
+-- the candidates are the two forms and no others
 pub candidates_tell : CandidatesTell
 candidates_tell count inv = (
   λ h. candidate-shape count h.0 inv (place-from_Contains (candidates count) inv h),
@@ -64,21 +71,25 @@ candidates_tell count inv = (
       (pair-at count inv inv.a inv.b (place_of inv.kind) refl refl (kind_at-place_of inv.kind) (place_of-lt inv.kind) pair.a_low pair.a_high pair.b_low pair.b_high)) h,
 )
 
--- the elements of a filtered list
+-- an element of a list is one of a longer list
 Contains-cons : {X : Type 0} (y : X) (xs : List X) (x : X) → Contains xs x → Contains (y ∷ xs) x
 Contains-cons y xs x h = (suc h.0, omega (arith, h.1), h.2)
 
+-- the first is an element
 Contains-first : {X : Type 0} (y : X) (xs : List X) → Contains (y ∷ xs) y
 Contains-first y xs = (0, omega arith, refl)
 
+-- an element stays one, whether another is put before it or not
 Contains-cond : {X : Type 0} (b : Bool) (y : X) (xs : List X) (x : X) → Contains xs x → Contains (cond b (y ∷ xs) xs) x
 Contains-cond true y xs x h = Contains-cons y xs x h
 Contains-cond false y xs x h = h
 
+-- what passes is kept
 Contains-kept : {X : Type 0} (b : Bool) (y : X) (xs : List X) → b ≡ true → Contains (cond b (y ∷ xs) xs) y
 Contains-kept true y xs e = Contains-first y xs
 Contains-kept false y xs e = cc
 
+-- each element that passes is in the filtered list
 All-kept : {X : Type 0} (p : X → Bool) (xs : List X) → All (λ x. p x ≡ true → Contains (filter p xs) x) xs
 All-kept p [] = All-nil (λ x. p x ≡ true → Contains [] x)
 All-kept p (y ∷ xs) =
@@ -86,13 +97,14 @@ All-kept p (y ∷ xs) =
     (λ e. Contains-kept (p y) y (filter p xs) e)
     (All-weaker (λ x. p x ≡ true → Contains (filter p xs) x) (λ x. p x ≡ true → Contains (filter p (y ∷ xs)) x) (λ x h e. Contains-cond (p y) y (filter p xs) x (h e)) xs (All-kept p xs))
 
+-- the filtered list has the elements that pass and no others
 pub Contains-filter : {X : Type 0} (p : X → Bool) (xs : List X) (x : X) → Contains (filter p xs) x ↔ (Contains xs x × (p x ≡ true))
 Contains-filter p xs x = (
   λ h. (All-contains (Contains xs) (filter p xs) x (All-filter p (Contains xs) xs (All-contains_itself xs)) h, All-contains (λ y. p y ≡ true) (filter p xs) x (filter_passes p xs) h),
   λ h. All-contains (λ y. p y ≡ true → Contains (filter p xs) y) xs x (All-kept p xs) h.0 h.1,
 )
 
--- a test of each word, and what it means
+-- the test of all words passes exactly where the invariant holds, by places, of each
 of_every : (words : List (List ℕ)) (inv : Invariant) → (holds_of_all words inv ≡ true) ↔ All (λ word. Holds inv word) words
 of_every [] inv = (λ _. All-nil (λ word. Holds inv word), λ _. refl)
 of_every (word ∷ words) inv = (
@@ -103,6 +115,7 @@ of_every (word ∷ words) inv = (
       rw (first, rest),
 )
 
+-- the mined list has the candidates that hold of every word and no others
 pub mined_tells : MinedTells
 mined_tells count words inv =
     let parts = Contains-filter (holds_of_all words) (candidates count) inv in

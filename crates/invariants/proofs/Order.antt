@@ -14,9 +14,11 @@ record IsBefore {X : Type 0} (xs : List X) (x y : X) : Type 0 where
   at_second : slice_get xs second ≡ Some y
   order : first < second
 
+-- two elements stand in the same order in a longer list
 before-cons : {X : Type 0} (z : X) (xs : List X) (x y : X) → IsBefore xs x y → IsBefore (z ∷ xs) x y
 before-cons z xs x y h = record { first = suc h.first; second = suc h.second; at_first = h.at_first; at_second = h.at_second; order = suc-le-suc h.order }
 
+-- the first element stands before all others
 before-first : {X : Type 0} (z : X) (xs : List X) (x y : X) → Some z ≡ Some x → Contains xs y → IsBefore (z ∷ xs) x y
 before-first z xs x y e h = record { first = 0; second = suc h.0; at_first = e; at_second = place-from_Contains xs y h; order = omega arith }
 
@@ -30,12 +32,14 @@ before-cond true z xs kept x y rest inside j zero at_j at_k order = absurd (omeg
 before-cond true z xs kept x y rest inside zero (suc k) at_j at_k order = before-first z xs x y at_j (inside (Contains-from_place kept k y at_k))
 before-cond true z xs kept x y rest inside (suc j) (suc k) at_j at_k order = before-cons z xs x y (rest j k at_j at_k (omega arith))
 
+-- two elements of a filtered list stand in that order in the list
 before-filter : {X : Type 0} (p : X → Bool) (xs : List X) (x y : X) (j k : ℕ)
     → slice_get (filter p xs) j ≡ Some x → slice_get (filter p xs) k ≡ Some y → j < k → IsBefore xs x y
 before-filter p [] x y j k at_j at_k order = absurd (none-some x at_j)
 before-filter p (z ∷ xs) x y j k at_j at_k order =
     before-cond (p z) z xs (filter p xs) x y (before-filter p xs x y) (λ h. ((Contains-filter p xs y).0 h).0) j k at_j at_k order
 
+-- two mined invariants stand in the order of the candidates
 pub mined_keeps_order : MinedKeepsOrder
 mined_keeps_order count words j k m n first second at_j at_k at_m at_n order =
     let h = before-filter (holds_of_all words) (candidates count) first second j k at_j at_k order in
