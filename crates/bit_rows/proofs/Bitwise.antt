@@ -9,6 +9,7 @@ use lib.Bits.{bit_and}
 xor_digit : (a b : ℕ) → a < 2 → b < 2 → (a + b) % 2 ≡ 0 → a ≡ b
 xor_digit a b ha hb e = omega arith
 
+-- two words whose exclusive or is 0 are one
 pub same_from_xor : (a b : ℕ) → bit_xor a b ≡ 0 → a ≡ b
 same_from_xor a b e = same_from_bits a b (λ i.
     xor_digit (bit_at a i) (bit_at b i) (bit_at-lt a i) (bit_at-lt b i) (sym (bit_at_xor a b i) ∙ ap (λ x. bit_at x i) e ∙ bit_at-zero i))
@@ -23,6 +24,7 @@ same_digits a b ha hb e = elim (digit_cases a ha) [
   | inr p ↦ elim (digit_cases b hb) [ inl q ↦ absurd (eqb-false a 1 (e ∙ ap (λ x. eqb x 1) q) p) | inr q ↦ p ∙ sym q ]
 ]
 
+-- two words of 64 bits with the same bits are one
 pub same_words : (a b : ℕ) → a < 2 ^ 64 → b < 2 ^ 64 → ((j : ℕ) → j < 64 → eqb (bit_at a j) 1 ≡ eqb (bit_at b j) 1) → a ≡ b
 same_words a b ha hb h = same_from_bits_below 64 a b ha hb (λ j below. same_digits (bit_at a j) (bit_at b j) (bit_at-lt a j) (bit_at-lt b j) (h j below))
 
@@ -41,11 +43,14 @@ and_digit a b ha hb = elim (digit_cases a ha) [
 not_digit : (b : ℕ) → b < 2 → eqb (1 - b) 1 ≡ not (eqb b 1)
 not_digit b hb = elim (digit_cases b hb) [ inl q ↦ rw q refl | inr q ↦ rw q refl ]
 
+-- a bit of the or of two words is set where it is set in one of them
 pub or_bit : (a b j : ℕ) → eqb (bit_at (bit_or a b) j) 1 ≡ (eqb (bit_at a j) 1 || eqb (bit_at b j) 1)
 or_bit a b j = ap (λ x. eqb x 1) (bit_at_or a b j) ∙ or_digit (bit_at a j) (bit_at b j) (bit_at-lt a j) (bit_at-lt b j)
 
+-- a bit of the and of two words is set where it is set in both
 pub and_bit : (a b j : ℕ) → eqb (bit_at (bit_and a b) j) 1 ≡ (eqb (bit_at a j) 1 && eqb (bit_at b j) 1)
 and_bit a b j = ap (λ x. eqb x 1) (bit_at_and a b j) ∙ and_digit (bit_at a j) (bit_at b j) (bit_at-lt a j) (bit_at-lt b j)
 
+-- a bit of the complement of a word is set where it is not set in the word
 pub not_bit : (b j : ℕ) → b < 2 ^ 64 → j < 64 → eqb (bit_at (bit_not w64 b) j) 1 ≡ not (eqb (bit_at b j) 1)
 not_bit b j fits below = ap (λ x. eqb x 1) (bit_at_not w64 b j fits below) ∙ not_digit (bit_at b j) (bit_at-lt b j)

@@ -7,8 +7,7 @@ use Rattle.std.specs.Int.Bits.{bit_or, bit_xor, xor_self, or_zero_l}
 use lib.Lanes.{zip2, chunk, put_chunk, fold_l}
 use Rattle.bit_rows.specs.Written.{word, IsApart, IsWritten, HasSeen, TellsChange}
 
--- ---- the words
-
+-- after one more block of eight words is written, eight words more are the given ones
 pub next_block : (old now : List ℕ) (to i : ℕ) (given : ℕ → ℕ) (ys : List ℕ) → length ys ≡ 8 → to + i + 8 ≤ length old → ((j : ℕ) → j < 8 → get_or ys j 0 ≡ given (i + j)) → IsWritten old now to i given
     → IsWritten old (put_chunk (to + i) now ys) to (i + 8) given
 next_block old now to i given ys eight room is h =
@@ -26,12 +25,13 @@ next_block old now to i given ys eight room is h =
       behind = λ k above. get_or-put_chunk_above (to + i) now ys k 0 (omega arith) ∙ h.behind k (omega arith);
     }
 
--- a block of the run that is written has not changed, nor has a block of a run apart
+-- a block of the run that is written has not changed
 pub here_block : (old now : List ℕ) (to i j : ℕ) (given : ℕ → ℕ) → IsWritten old now to i given → j < 8 → get_or (chunk (to + i) 8 now) j 0 ≡ word old to (i + j)
 here_block old now to i j given h below =
     let place : to + i + j ≡ to + (i + j) = omega arith in
     get_or-chunk (to + i) 8 now j 0 below ∙ ap (λ m. get_or now m 0) place ∙ h.behind (to + (i + j)) (omega arith)
 
+-- a block of a run that lies apart has not changed
 pub apart_block : (old now : List ℕ) (to from i j n : ℕ) (given : ℕ → ℕ) → IsApart to from n → i + 8 ≤ n → IsWritten old now to i given → j < 8 → get_or (chunk (from + i) 8 now) j 0 ≡ word old from (i + j)
 apart_block old now to from i j n given apart few h below =
     let place : from + i + j ≡ from + (i + j) = omega arith in
@@ -40,8 +40,7 @@ apart_block old now to from i j n given apart few h below =
       | inr ahead ↦ h.before (from + (i + j)) (omega arith)
     ]
 
--- ---- the lanes that have seen a change
-
+-- where the or over a list and a first word is 0, all of these words are 0
 pub fold_none : (a : ℕ) (xs : List ℕ) → fold_l bit_or a xs ≡ 0 → (a ≡ 0) × ((j : ℕ) → j < length xs → get_or xs j 0 ≡ 0)
 fold_none a [] e = (e, λ j below. absurd (omega arith))
 fold_none a (x ∷ xs) e =
@@ -54,6 +53,7 @@ fold_none a (x ∷ xs) e =
     none_at a x xs first others zero below = first
     none_at a x xs first others (suc j) below = others j (omega arith)
 
+-- where the or over a list and a first word is not 0, one of these words is not 0
 pub fold_some : (a : ℕ) (xs : List ℕ) → 0 < fold_l bit_or a xs → (0 < a) ⊎ ((j : ℕ) × (j < length xs) × (0 < get_or xs j 0))
 fold_some a [] some = inl some
 fold_some a (x ∷ xs) some = elim (fold_some (bit_or a x) xs some) [
@@ -67,6 +67,7 @@ fold_some a (x ∷ xs) some = elim (fold_some (bit_or a x) xs some) [
   | inr later ↦ inr (suc later.0, omega (arith, later.1), later.2)
 ]
 
+-- lanes that take up a block of differences tell of eight words more whether they agree
 pub next_seen_block : (i : ℕ) (one other : ℕ → ℕ) (more ds : List ℕ) → length more ≡ 8 → length ds ≡ 8 → ((j : ℕ) → j < 8 → get_or ds j 0 ≡ bit_xor (one (i + j)) (other (i + j)))
     → ((a b : ℕ) → bit_xor a b ≡ 0 → a ≡ b) → HasSeen i one other (fold_l bit_or 0 more) → HasSeen (i + 8) one other (fold_l bit_or 0 (zip2 bit_or more ds))
 next_seen_block i one other more ds eight eight_ds is same_from_xor h =
@@ -112,8 +113,7 @@ next_seen_block i one other more ds eight eight_ds is same_from_xor h =
       ];
     }
 
--- ---- blocks, and then words
-
+-- words that are written behind others make one run with them
 pub join_written : (old mid new : List ℕ) (to n m : ℕ) (given given' : ℕ → ℕ) → IsWritten old mid to n given → IsWritten mid new (to + n) m given' → ((k : ℕ) → k < m → given' k ≡ given (n + k)) → IsWritten old new to (n + m) given
 join_written old mid new to n m given given' h h' is = record {
   size = h'.size ∙ h.size;
@@ -128,6 +128,7 @@ join_written old mid new to n m given given' h h' is = record {
   behind = λ k above. h'.behind k (omega arith) ∙ h.behind k (omega arith);
 }
 
+-- two runs, one behind the other, changed where one of them changed
 pub join_tells : (n m : ℕ) (one other one' other' : ℕ → ℕ) (a b : Bool) → TellsChange n one other a → TellsChange m one' other' b → ((k : ℕ) → k < m → one' k ≡ one (n + k)) → ((k : ℕ) → k < m → other' k ≡ other (n + k))
     → TellsChange (n + m) one other (a || b)
 join_tells n m one other one' other' a b h h' is is' = record {
@@ -146,17 +147,20 @@ join_tells n m one other one' other' a b h h' is is' = record {
   ];
 }
 
+-- the test of the number against 0 says whether the words differ
 pub tells_from_seen : (n : ℕ) (one other : ℕ → ℕ) (more : ℕ) → HasSeen n one other more → TellsChange n one other (not (eqb more 0))
 tells_from_seen n one other more h = record {
   none = λ off. h.none (eqb-true more 0 (not-false (eqb more 0) off));
   some = λ on. h.some (let ne = eqb-false more 0 (not-true (eqb more 0) on) in elim (cases_lt 0 more) [ inl p ↦ p | inr z ↦ absurd (ne (omega arith)) ]);
 }
 
+-- the words behind the blocks have not changed
 pub rest_kept : (old mid : List ℕ) (to n k : ℕ) (given : ℕ → ℕ) → IsWritten old mid to n given → word mid (to + n) k ≡ word old to (n + k)
 rest_kept old mid to n k given h =
     let place : to + n + k ≡ to + (n + k) = omega arith in
     ap (λ p. get_or mid p 0) place ∙ h.behind (to + (n + k)) (omega arith)
 
+-- the words behind the blocks of a run that lies apart have not changed
 pub rest_apart : (old mid : List ℕ) (to from n count k : ℕ) (given : ℕ → ℕ) → IsApart to from count → n + k < count → IsWritten old mid to n given → word mid (from + n) k ≡ word old from (n + k)
 rest_apart old mid to from n count k given apart below h =
     let place : from + n + k ≡ from + (n + k) = omega arith in

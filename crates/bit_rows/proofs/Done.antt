@@ -15,9 +15,8 @@ use Rattle.bit_rows.specs.Written.{word, AllFit, IsWritten, TellsChange}
 use Rattle.bit_rows.proofs.Bitwise.{same_words, or_bit, and_bit, not_bit}
 use Rattle.bit_rows.proofs.Tabled.{length-table_of, length-row_of, row_at-table_of, is_set-table_of, same_table, row_in, place_in, this_row, other_row, written_layout, written_table}
 
--- ---- truth values of joined rows, also past their ends
-
 module _ (op : Bool → Bool → Bool) (off : op false false ≡ false) where
+  -- a bit of two rows joined place by place, also past their ends
   pub is_set-zip2 : (xs ys : List Bool) (i : ℕ) → length xs ≡ length ys → is_set (zip2 op xs ys) i ≡ op (is_set xs i) (is_set ys i)
   is_set-zip2 xs ys i long = elim (cases_lt i (length xs)) [
     | inl below ↦ get_or-zip2 op xs ys i false false false below (omega arith)
@@ -26,15 +25,16 @@ module _ (op : Bool → Bool → Bool) (off : op false false ≡ false) where
         ∙ sym (ap₂ op (get_or_past xs i false past) (get_or_past ys i false (omega arith)))
   ]
 
--- ---- one value
-
+-- an index within the table is the index of a row
 pub row_below : (view : List (List Bool)) (ws : List ℕ) (w rows bits r : ℕ) → view ≡ table_of ws w rows bits → r < length view → r < rows
 row_below view ws w rows bits r seen h = omega (arith, ap length seen, length-table_of ws w rows bits)
 
+-- each row has the same number of bits
 pub row_long : (view : List (List Bool)) (ws : List ℕ) (w rows bits r : ℕ) → view ≡ table_of ws w rows bits → r < length view → length (row_at view r) ≡ bits
 row_long view ws w rows bits r seen h =
     ap (λ v. length (row_at v r)) seen ∙ ap length (row_at-table_of ws w rows bits r (row_below view ws w rows bits r seen h)) ∙ length-row_of ws w bits r
 
+-- the words of a row hold its bits
 pub source : (view : List (List Bool)) (ws : List ℕ) (w rows bits r i : ℕ) → view ≡ table_of ws w rows bits → IsLaidOut ws w rows bits → r < length view → i < w * 64 → bit_of ws w r i ≡ is_set (row_at view r) i
 source view ws w rows bits r i seen laid hr hi =
     let within = row_below view ws w rows bits r seen hr in
@@ -43,13 +43,16 @@ source view ws w rows bits r i seen laid hr hi =
       | inr past ↦ laid.blank r i within past hi ∙ sym (get_or_past (row_at view r) i false (omega (arith, row_long view ws w rows bits r seen hr)))
     ]
 
+-- the words of a row stand within the words
 pub row_room : (view : List (List Bool)) (ws : List ℕ) (w rows bits r : ℕ) → view ≡ table_of ws w rows bits → IsLaidOut ws w rows bits → r < length view → r * w + w ≤ length ws
 row_room view ws w rows bits r seen laid h = row_in ws w rows bits r laid (row_below view ws w rows bits r seen h)
 
+-- the word of a bit stands within the words
 pub place_room : (view : List (List Bool)) (ws : List ℕ) (w rows bits r i : ℕ) → view ≡ table_of ws w rows bits → IsLaidOut ws w rows bits → r < length view → i < length (row_at view r) → r * w + i / 64 < length ws
 place_room view ws w rows bits r i seen laid h hi =
     place_in ws w rows bits r i laid (row_below view ws w rows bits r seen h) (omega (arith, row_long view ws w rows bits r seen h))
 
+-- the place of a bit lies within the words of its row
 pub place_wide : (view : List (List Bool)) (ws : List ℕ) (w rows bits r i : ℕ) → view ≡ table_of ws w rows bits → IsLaidOut ws w rows bits → r < length view → i < length (row_at view r) → i < w * 64
 place_wide view ws w rows bits r i seen laid h hi = omega (arith, row_long view ws w rows bits r seen h, laid.room)
 
@@ -65,14 +68,14 @@ set_shape view to n m row within long h = record {
   ];
 }
 
+-- rows that are made have the shape that was asked for
 pub made_shape : (rows bits : ℕ) (table : List (List Bool)) → table ≡ replicate rows (replicate bits false) → HasShape table rows bits
 made_shape rows bits table is = record {
   count = ap length is ∙ length-replicate rows (replicate bits false);
   long = λ r below. ap (λ t. length (row_at t r)) is ∙ ap length (get_or-replicate rows r (replicate bits false) [] below) ∙ length-replicate bits false;
 }
 
--- ---- after a write to a row
-
+-- the words hold the table with the new row, laid out as before, and the shape stays
 pub record IsDone (view : List (List Bool)) (w rows bits to : ℕ) (row : List Bool) (final : List ℕ) : Type 0 where
   pub laid : IsLaidOut final w rows bits
   pub table : table_of final w rows bits ≡ set view to row
@@ -94,6 +97,7 @@ module _ (view : List (List Bool)) (ws mid new final : List ℕ) (w rows bits to
   long_mid : (r : ℕ) → r < length view → length (row_at view r) ≡ bits
   long_mid r hr = row_long view mid w rows bits r seen_mid hr
 
+  -- a write of words with the bits of a row makes it the new row
   pub written_done : (given : ℕ → ℕ) (row : List Bool) → IsWritten mid new (to * w) w given → length row ≡ bits
       → ((i : ℕ) → i < w * 64 → eqb (bit_at (given (i / 64)) (i % 64)) 1 ≡ is_set row i) → IsDone view w rows bits to row final
   written_done given row h long digits =
@@ -106,6 +110,7 @@ module _ (view : List (List Bool)) (ws mid new final : List ℕ) (w rows bits to
         shape = λ n m had. subst (λ t. HasShape t n m) (sym table) (set_shape view to n m row within (long ∙ sym (long_mid to within)) had);
       }
 
+  -- a row that is cleared has no bit set
   pub clear_done : IsWritten mid new (to * w) w (λ _. 0) → IsDone view w rows bits to (replicate (length (row_at view to)) false) final
   clear_done h = written_done (λ _. 0) (replicate (length (row_at view to)) false) h (length-replicate (length (row_at view to)) false ∙ long_mid to within) (λ i below.
       ap (λ x. eqb x 1) (bit_at-zero (i % 64)) ∙ elim (cases_lt i (length (row_at view to))) [
@@ -113,12 +118,14 @@ module _ (view : List (List Bool)) (ws mid new final : List ℕ) (w rows bits to
         | inr past ↦ sym (get_or_past (replicate (length (row_at view to)) false) i false (omega (arith, length-replicate (length (row_at view to)) false)))
       ])
 
+  -- a row that is copied over is the row it was copied from
   pub copy_done : (from : ℕ) → from < length view → IsWritten mid new (to * w) w (word mid (from * w)) → IsDone view w rows bits to (row_at view from) final
   copy_done from hf h = written_done (word mid (from * w)) (row_at view from) h (long_mid from hf) (λ i below. from_mid from i hf below)
 
   same_long : (a b : ℕ) → a < length view → b < length view → length (row_at view a) ≡ length (row_at view b)
   same_long a b ha hb = long_mid a ha ∙ sym (long_mid b hb)
 
+  -- a row that takes up another has the bits of both
   pub or_done : (from : ℕ) → from < length view → IsWritten mid new (to * w) w (λ k. bit_or (word mid (to * w) k) (word mid (from * w) k))
       → IsDone view w rows bits to (either (row_at view to) (row_at view from)) final
   or_done from hf h = written_done _ (either (row_at view to) (row_at view from)) h (length-zip2 (λ x y. x || y) (row_at view to) (row_at view from) (same_long to from within hf) ∙ long_mid to within) (λ i below.
@@ -126,6 +133,7 @@ module _ (view : List (List Bool)) (ws mid new final : List ℕ) (w rows bits to
       ∙ ap₂ (λ x y. x || y) (from_mid to i within below) (from_mid from i hf below)
       ∙ sym (is_set-zip2 (λ x y. x || y) refl (row_at view to) (row_at view from) i (same_long to from within hf)))
 
+  -- a row that is met with another keeps what both have
   pub and_done : (from : ℕ) → from < length view → IsWritten mid new (to * w) w (λ k. bit_and (word mid (to * w) k) (word mid (from * w) k))
       → IsDone view w rows bits to (both (row_at view to) (row_at view from)) final
   and_done from hf h = written_done _ (both (row_at view to) (row_at view from)) h (length-zip2 (λ x y. x && y) (row_at view to) (row_at view from) (same_long to from within hf) ∙ long_mid to within) (λ i below.
@@ -140,12 +148,14 @@ module _ (view : List (List Bool)) (ws mid new final : List ℕ) (w rows bits to
       and_bit (word mid (a * w) (i / 64)) (bit_not w64 (word mid (b * w) (i / 64))) (i % 64)
       ∙ ap₂ (λ x y. x && y) (from_mid a i ha below) (not_bit (word mid (b * w) (i / 64)) (i % 64) (fits (b * w + i / 64)) (mod_below i 64 (omega arith)) ∙ ap not (from_mid b i hb below))
 
+  -- a row that another is taken from keeps what that one has not
   pub and_not_done : (from : ℕ) → from < length view → AllFit mid → IsWritten mid new (to * w) w (λ k. bit_and (word mid (to * w) k) (bit_not w64 (word mid (from * w) k)))
       → IsDone view w rows bits to (without (row_at view to) (row_at view from)) final
   and_not_done from hf fits h = written_done _ (without (row_at view to) (row_at view from)) h (length-zip2 (λ x y. x && not y) (row_at view to) (row_at view from) (same_long to from within hf) ∙ long_mid to within) (λ i below.
       without_digit to from i within hf below fits
       ∙ sym (is_set-zip2 (λ x y. x && not y) refl (row_at view to) (row_at view from) i (same_long to from within hf)))
 
+  -- a row takes up what two others have in common
   pub or_and_done : (a b : ℕ) → a < length view → b < length view → IsWritten mid new (to * w) w (λ k. bit_or (word mid (to * w) k) (bit_and (word mid (a * w) k) (word mid (b * w) k)))
       → IsDone view w rows bits to (either (row_at view to) (both (row_at view a) (row_at view b))) final
   or_and_done a b ha hb h =
@@ -158,6 +168,7 @@ module _ (view : List (List Bool)) (ws mid new final : List ℕ) (w rows bits to
       ∙ sym (is_set-zip2 (λ x y. x && y) refl (row_at view a) (row_at view b) i (same_long a b ha hb)))
       ∙ sym (is_set-zip2 (λ x y. x || y) refl (row_at view to) (both (row_at view a) (row_at view b)) i long))
 
+  -- a row takes up what one other has and another has not
   pub or_and_not_done : (a b : ℕ) → a < length view → b < length view → AllFit mid → IsWritten mid new (to * w) w (λ k. bit_or (word mid (to * w) k) (bit_and (word mid (a * w) k) (bit_not w64 (word mid (b * w) k))))
       → IsDone view w rows bits to (either (row_at view to) (without (row_at view a) (row_at view b))) final
   or_and_not_done a b ha hb fits h =
@@ -170,8 +181,7 @@ module _ (view : List (List Bool)) (ws mid new final : List ℕ) (w rows bits to
       ∙ sym (is_set-zip2 (λ x y. x && not y) refl (row_at view a) (row_at view b) i (same_long a b ha hb)))
       ∙ sym (is_set-zip2 (λ x y. x || y) refl (row_at view to) (without (row_at view a) (row_at view b)) i long))
 
-  -- ---- whether the row changed
-
+  -- where no word changed the table stays
   pub told_none : (given : ℕ → ℕ) (changed : Bool) → IsWritten mid new (to * w) w given → TellsChange w given (word mid (to * w)) changed → changed ≡ false → table_of final w rows bits ≡ view
   told_none given changed h tells off =
       ap (λ m. table_of m w rows bits) kept
@@ -186,6 +196,7 @@ module _ (view : List (List Bool)) (ws mid new final : List ℕ) (w rows bits to
       ])
       ∙ sym seen_mid
 
+  -- where a word changed the table does not stay
   pub told_some : (given : ℕ → ℕ) (changed : Bool) → IsWritten mid new (to * w) w given → IsLaidOut final w rows bits → AllFit mid → AllFit new
       → TellsChange w given (word mid (to * w)) changed → changed ≡ true → table_of final w rows bits ≡ view → ⊥
   told_some given changed h laid_final fits fits_new tells on same =
@@ -205,8 +216,6 @@ module _ (view : List (List Bool)) (ws mid new final : List ℕ) (w rows bits to
       let at : (m : List ℕ) → bit_of m w to i ≡ eqb (bit_at (word m (to * w) k) j) 1 = λ m. ap₂ (λ x y. eqb (bit_at (get_or m (to * w + x) 0) y) 1) row col in
       sym (at new) ∙ one ∙ sym other ∙ at mid))
 
--- ---- the first bit
-
 module _ (view : List (List Bool)) (ws mid : List ℕ) (w rows bits r k : ℕ) (seen : view ≡ table_of ws w rows bits) (laid : IsLaidOut ws w rows bits) (lent : mid ≡ ws) (within : r < length view)
     (before : (j : ℕ) → j < k → word mid (r * w) j ≡ 0) where
   from_lent : (i : ℕ) → i < w * 64 → eqb (bit_at (word mid (r * w) (i / 64)) (i % 64)) 1 ≡ is_set (row_at view r) i
@@ -216,12 +225,14 @@ module _ (view : List (List Bool)) (ws mid : List ℕ) (w rows bits r k : ℕ) (
   blank_before i hi early =
       sym (from_lent i hi) ∙ ap (λ x. eqb (bit_at x (i % 64)) 1) (before (i / 64) early) ∙ ap (λ x. eqb x 1) (bit_at-zero (i % 64))
 
+  -- where all words of a row are 0, all its bits are false
   pub no_set : k ≡ w → IsBlank (row_at view r)
   no_set all i = elim (cases_lt i (w * 64)) [
     | inl below ↦ blank_before i below (omega (arith, div_below i 64 w (omega arith) below))
     | inr past ↦ get_or_past (row_at view r) i false (omega (arith, row_long view ws w rows bits r seen within, laid.room))
   ]
 
+  -- the lowest bit of the first word that is not 0 is the first bit of the row that is set
   pub set_first : k < w → 0 < word mid (r * w) k → word mid (r * w) k < 2 ^ 64 → IsFirstSet (row_at view r) (k * 64 + trailing_zeros w64 (word mid (r * w) k))
   set_first below some fits =
       let x : ℕ = word mid (r * w) k in
@@ -251,6 +262,7 @@ module _ (view : List (List Bool)) (ws mid : List ℕ) (w rows bits r k : ℕ) (
             ];
       }
 
+  -- where all bits of a row are false, all its words are 0
   pub blank_all : k ≤ w → (k < w → 0 < word mid (r * w) k) → word mid (r * w) k < 2 ^ 64 → IsBlank (row_at view r) → k ≡ w
   blank_all most found fits blank = elim (cases_lt k w) [
     | inl below ↦
@@ -259,12 +271,12 @@ module _ (view : List (List Bool)) (ws mid : List ℕ) (w rows bits r k : ℕ) (
     | inr all ↦ omega arith
   ]
 
--- ---- a bit is written, and rows are made
-
+-- a digit that is 1 where a truth value is true stands for it
 pub digit_on : (on : Bool) → eqb (cond on 1 0) 1 ≡ on
 digit_on true = refl
 digit_on false = refl
 
+-- a bit that is written has its new value, and the others of its row stay
 pub put_done : (view : List (List Bool)) (ws final : List ℕ) (w rows bits to i v : ℕ) (on : Bool) → view ≡ table_of ws w rows bits → IsLaidOut ws w rows bits
     → final ≡ set ws (to * w + i / 64) v → to < length view → i < length (row_at view to) → bit_at v (i % 64) ≡ cond on 1 0
     → ((j : ℕ) → j < 64 → j ≢ i % 64 → bit_at v j ≡ bit_at (get_or ws (to * w + i / 64) 0) j)
@@ -303,6 +315,7 @@ put_done view ws final w rows bits to i v on seen laid kept within inside there 
           ]
     ])
 
+-- words that are all 0 make rows with no bit set
 pub made_table : (ws : List ℕ) (w rows bits : ℕ) → ((k : ℕ) → get_or ws k 0 ≡ 0) → table_of ws w rows bits ≡ replicate rows (replicate bits false)
 made_table ws w rows bits zeros =
     same_lists (table_of ws w rows bits) (replicate rows (replicate bits false)) (length-table_of ws w rows bits ∙ sym (length-replicate rows (replicate bits false))) (λ r d below.
@@ -315,6 +328,7 @@ made_table ws w rows bits zeros =
     ∙ sym (get_or-replicate bits i false e at_i))
     ∙ sym (get_or-replicate rows r (replicate bits false) d at_r))
 
+-- each word of words that are all 0 is 0, also past the last
 pub replicate_zeros : (zero_word n k : ℕ) → zero_word ≡ 0 → get_or (replicate n zero_word) k 0 ≡ 0
 replicate_zeros zero_word n k is = elim (cases_lt k n) [
   | inl below ↦ get_or-replicate n k zero_word 0 below ∙ is

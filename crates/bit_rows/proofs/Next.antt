@@ -9,23 +9,22 @@ use Rattle.bit_rows.specs.Tables.{row_at, is_set, IsNextSet, bit_of, table_of, I
 use Rattle.bit_rows.specs.Written.{word}
 use Rattle.bit_rows.proofs.Done.{source, row_long}
 
--- ---- a word without its low bits
-
+-- a word that is divided by a power of two and multiplied by it again fits 64 bits
 pub high_part : (x k : ℕ) → x < 2 ^ 64 → x / 2 ^ k * 2 ^ k % 2 ^ 64 ≡ x / 2 ^ k * 2 ^ k + 0
 high_part x k fits =
     let split : x / 2 ^ k * 2 ^ k + x % 2 ^ k ≡ x = div-add-mod' x (2 ^ k) in
     omega arith
 
+-- the low bits of such a word are 0
 pub low_gone : (x k i : ℕ) → x < 2 ^ 64 → i < k → bit_at (x / 2 ^ k * 2 ^ k % 2 ^ 64) i ≡ 0
 low_gone x k i fits below = ap (λ y. bit_at y i) (high_part x k fits) ∙ bit_at_cat_low (x / 2 ^ k) k 0 i below ∙ bit_at-zero i
 
+-- its other bits are those of the word
 pub high_kept : (x k i : ℕ) → x < 2 ^ 64 → k ≤ i → bit_at (x / 2 ^ k * 2 ^ k % 2 ^ 64) i ≡ bit_at x i
 high_kept x k i fits from =
     let split : x / 2 ^ k * 2 ^ k + x % 2 ^ k ≡ x = div-add-mod' x (2 ^ k) in
     ap (λ y. bit_at y i) (high_part x k fits) ∙ bit_at_cat_high (x / 2 ^ k) k 0 i (pow_pos k) from
     ∙ sym (ap (λ y. bit_at y i) (sym split) ∙ bit_at_cat_high (x / 2 ^ k) k (x % 2 ^ k) i (mod_below x (2 ^ k) (pow_pos k)) from)
-
--- ---- the word with the next bit
 
 module _ (view : List (List Bool)) (ws mid : List ℕ) (w rows bits r from : ℕ) (seen : view ≡ table_of ws w rows bits) (laid : IsLaidOut ws w rows bits) (lent : mid ≡ ws) (within : r < length view) where
   from_lent : (i : ℕ) → i < w * 64 → eqb (bit_at (word mid (r * w) (i / 64)) (i % 64)) 1 ≡ is_set (row_at view r) i
@@ -91,5 +90,6 @@ module _ (view : List (List Bool)) (ws mid : List ℕ) (w rows bits r from : ℕ
             ∙ ap (λ y. eqb y 1) (sym (same (i % 64) (omega arith)) ∙ ap (λ y. bit_at y (i % 64)) none ∙ bit_at-zero (i % 64))
       ]
 
+  -- past the words of a row no bit is set
   pub none_past : (i : ℕ) → w * 64 ≤ i → is_set (row_at view r) i ≡ false
   none_past i past = get_or_past (row_at view r) i false (omega (arith, row_long view ws w rows bits r seen within, laid.room))

@@ -8,18 +8,23 @@ use Rattle.std.specs.Int.{bit_at}
 use Rattle.bit_rows.specs.Tables.{row_at, is_set, bit_of, row_of, table_of, IsLaidOut}
 use Rattle.bit_rows.specs.Written.{IsApart, IsWritten}
 
+-- there are as many rows as asked for
 pub length-table_of : (ws : List ℕ) (w rows bits : ℕ) → length (table_of ws w rows bits) ≡ rows
 length-table_of ws w rows bits = length-map-range_with_len (row_of ws w bits) 0 rows
 
+-- a row has as many bits as asked for
 pub length-row_of : (ws : List ℕ) (w bits r : ℕ) → length (row_of ws w bits r) ≡ bits
 length-row_of ws w bits r = length-map-range_with_len (bit_of ws w r) 0 bits
 
+-- the row at an index, read from the words
 pub row_at-table_of : (ws : List ℕ) (w rows bits r : ℕ) → r < rows → row_at (table_of ws w rows bits) r ≡ row_of ws w bits r
 row_at-table_of ws w rows bits r h = get_or-map-range_with_len (row_of ws w bits) 0 rows r r [] h (omega arith)
 
+-- a bit of a row, read from the words
 pub is_set-row_of : (ws : List ℕ) (w bits r i : ℕ) → i < bits → is_set (row_of ws w bits r) i ≡ bit_of ws w r i
 is_set-row_of ws w bits r i h = get_or-map-range_with_len (bit_of ws w r) 0 bits i i false h (omega arith)
 
+-- a bit of a row of the table, read from the words
 pub is_set-table_of : (ws : List ℕ) (w rows bits r i : ℕ) → r < rows → i < bits → is_set (row_at (table_of ws w rows bits) r) i ≡ bit_of ws w r i
 is_set-table_of ws w rows bits r i hr hi = ap (λ row. is_set row i) (row_at-table_of ws w rows bits r hr) ∙ is_set-row_of ws w bits r i hi
 
@@ -49,6 +54,7 @@ table_set old new w rows bits to row within long others here =
           new_row ∙ kept ∙ sym (get_or-set_other (table_of old w rows bits) to r row d apart ∙ get_or-map-range_with_len (row_of old w bits) 0 rows r r d at_r (omega arith))
     ])
 
+-- words with the same bits make the same table
 pub same_table : (old new : List ℕ) (w rows bits : ℕ) → ((r i : ℕ) → r < rows → i < bits → bit_of new w r i ≡ bit_of old w r i) → table_of new w rows bits ≡ table_of old w rows bits
 same_table old new w rows bits h =
     same_lists (table_of new w rows bits) (table_of old w rows bits) (length-table_of new w rows bits ∙ sym (length-table_of old w rows bits)) (λ r d below.
@@ -57,16 +63,17 @@ same_table old new w rows bits h =
     ∙ same_row new w bits r (row_of old w bits r) (length-row_of old w bits r) (λ i hi. h r i at_r hi ∙ sym (is_set-row_of old w bits r i hi))
     ∙ sym (get_or-map-range_with_len (row_of old w bits) 0 rows r r d at_r (omega arith)))
 
--- ---- places
-
+-- the word of a bit stands within the words
 pub place_in : (ws : List ℕ) (w rows bits r i : ℕ) → IsLaidOut ws w rows bits → r < rows → i < bits → r * w + i / 64 < length ws
 place_in ws w rows bits r i h hr hi =
     let small : i / 64 < w = div_below i 64 w (omega arith) (omega (arith, h.room)) in
     omega (arith, mul-add-lt r w (i / 64) rows hr small, h.size)
 
+-- the words of a row stand within the words
 pub row_in : (ws : List ℕ) (w rows bits r : ℕ) → IsLaidOut ws w rows bits → r < rows → r * w + w ≤ length ws
 row_in ws w rows bits r h hr = omega (arith, row_fits r w rows w hr (omega arith), h.size)
 
+-- two rows do not overlap
 pub rows_apart : (a b w : ℕ) → a ≢ b → IsApart (a * w) (b * w) w
 rows_apart a b w ne = elim (cases_order a b) [
   | inl same ↦ absurd (ne same)
@@ -76,13 +83,13 @@ rows_apart a b w ne = elim (cases_order a b) [
   ]
 ]
 
--- ---- what a write to a row leaves
-
+-- the bits of the row that is written are those of the given words
 pub this_row : (old new : List ℕ) (w to i : ℕ) (given : ℕ → ℕ) → IsWritten old new (to * w) w given → i < w * 64 → bit_of new w to i ≡ eqb (bit_at (given (i / 64)) (i % 64)) 1
 this_row old new w to i given h room =
     let small : i / 64 < w = div_below i 64 w (omega arith) room in
     ap (λ x. eqb (bit_at x (i % 64)) 1) (h.inside (i / 64) small)
 
+-- the bits of the other rows stay
 pub other_row : (old new : List ℕ) (w to r i : ℕ) (given : ℕ → ℕ) → IsWritten old new (to * w) w given → r ≢ to → i < w * 64 → bit_of new w r i ≡ bit_of old w r i
 other_row old new w to r i given h ne room =
     let small : i / 64 < w = div_below i 64 w (omega arith) room in
@@ -91,6 +98,7 @@ other_row old new w to r i given h ne room =
       | inr above ↦ h.behind (r * w + i / 64) (omega arith)
     ])
 
+-- the words are still laid out as rows, where the given words have no bit behind those of a row
 pub written_layout : (old new : List ℕ) (w rows bits to : ℕ) (given : ℕ → ℕ) → IsLaidOut old w rows bits → IsWritten old new (to * w) w given
     → ((i : ℕ) → bits ≤ i → i < w * 64 → eqb (bit_at (given (i / 64)) (i % 64)) 1 ≡ false) → IsLaidOut new w rows bits
 written_layout old new w rows bits to given laid h blank = record {
@@ -103,6 +111,7 @@ written_layout old new w rows bits to given laid h blank = record {
   ];
 }
 
+-- the table has the new row in the place of the old one
 pub written_table : (old new : List ℕ) (w rows bits to : ℕ) (given : ℕ → ℕ) (row : List Bool) → IsLaidOut old w rows bits → to < rows → IsWritten old new (to * w) w given
     → length row ≡ bits → ((i : ℕ) → i < bits → eqb (bit_at (given (i / 64)) (i % 64)) 1 ≡ is_set row i)
     → table_of new w rows bits ≡ set (table_of old w rows bits) to row

@@ -8,9 +8,11 @@ use lib.Bits.{bit_and}
 use Rattle.bit_rows.specs.Written.{word, AllFit, IsApart, IsWritten, HasSeen}
 use Rattle.bit_rows.proofs.Bitwise.{same_from_xor}
 
+-- before the loop no word is written
 pub none_written : (ws : List ℕ) (at : ℕ) (given : ℕ → ℕ) → IsWritten ws ws at 0 given
 none_written ws at given = record { size = refl; inside = λ k h. absurd (omega arith); before = λ k h. refl; behind = λ k h. refl }
 
+-- after one more write one word more is the given one
 pub next_written : (old new : List ℕ) (at i v : ℕ) (given : ℕ → ℕ) → at + i < length old → v ≡ given i → IsWritten old new at i given → IsWritten old (set new (at + i) v) at (i + 1) given
 next_written old new at i v given room is h =
     let fits : at + i < length new = omega (arith, h.size) in
@@ -30,9 +32,11 @@ next_written old new at i v given room is h =
           get_or-set_other new (at + i) k v 0 apart ∙ h.behind k (omega arith);
     }
 
+-- of no words none differ
 pub none_seen : (one other : ℕ → ℕ) → HasSeen 0 one other 0
 none_seen one other = record { none = λ e k h. absurd (omega arith); some = λ h. absurd (omega arith) }
 
+-- the difference of one word more is taken up
 pub next_seen : (i : ℕ) (one other : ℕ → ℕ) (more : ℕ) → HasSeen i one other more → HasSeen (i + 1) one other (bit_or more (bit_xor (one i) (other i)))
 next_seen i one other more h =
     let left = le_or_l more (bit_xor (one i) (other i)) in
@@ -56,8 +60,6 @@ next_seen i one other more h =
       ];
     }
 
--- ---- reads in the loops
-
 -- the word that is written next has not changed
 pub here_kept : (old new : List ℕ) (to i : ℕ) (given : ℕ → ℕ) → IsWritten old new to i given → word new to i ≡ word old to i
 here_kept old new to i given h = h.behind (to + i) (omega arith)
@@ -69,8 +71,7 @@ apart_kept old new to from i n given apart below h = elim apart [
   | inr ahead ↦ h.before (from + i) (omega arith)
 ]
 
--- ---- the words still have 64 bits
-
+-- after a write each word still has 64 bits
 pub next_fits : (ws : List ℕ) (place v : ℕ) → AllFit ws → v < 2 ^ 64 → AllFit (set ws place v)
 next_fits ws place v fits small k = elim (cases_eq k place) [
   | inl same ↦ elim (cases_lt place (length ws)) [
@@ -80,5 +81,6 @@ next_fits ws place v fits small k = elim (cases_eq k place) [
   | inr other ↦ subst (λ x. x < 2 ^ 64) (sym (get_or-set_other ws place k v 0 other)) (fits k)
 ]
 
+-- what two words have in common has 64 bits
 pub and_fits : (a b : ℕ) → a < 2 ^ 64 → bit_and a b < 2 ^ 64
 and_fits a b small = omega (arith, and_le_l a b)

@@ -197,6 +197,8 @@ pub(crate) fn or_and_words(
     requires mask_in { mask + count ≤ length words.old }
     requires a_apart { IsApart to a count }
     requires mask_apart { IsApart to mask count }
+
+    // The words that are written, and whether any of them changed.
     ensures fits { AllFit words.old × AllFit words.new }
     ensures written { IsWritten words.old words.new to count
         (λ k. bit_or (word words.old to k) (bit_and (word words.old a k) (word words.old mask k))) }
@@ -227,6 +229,8 @@ pub(crate) fn or_and_not_words(
     requires mask_in { mask + count ≤ length words.old }
     requires a_apart { IsApart to a count }
     requires mask_apart { IsApart to mask count }
+
+    // The words that are written, and whether any of them changed.
     ensures fits { AllFit words.old × AllFit words.new }
     ensures written { IsWritten words.old words.new to count
         (λ k. bit_or (word words.old to k)

@@ -78,7 +78,8 @@ impl Rows {
     /// Turns all bits of row `r` off. The other rows stay.
     pub fn clear(&mut self, r: usize)
         requires { r < length self.old }
-        ensures rows { self.new ≡ slice_set self.old r (replicate (length (row_at self.old r)) false) }
+        ensures rows { self.new ≡ slice_set self.old r
+            (replicate (length (row_at self.old r)) false) }
         ensures shape { KeepsShape self.old self.new }
     {
         clear_words(self.words.as_mut_slice(), r * self.width, self.width);
@@ -95,7 +96,8 @@ impl Rows {
     /// The place of the first bit of row `r` that is on; `None` where they are all off.
     pub fn first_set(&self, r: usize) -> Option<usize>
         requires { r < length self.now }
-        ensures { MatchOption result (IsBlank (row_at self.now r)) (IsFirstSet (row_at self.now r)) }
+        ensures { MatchOption result (IsBlank (row_at self.now r))
+            (IsFirstSet (row_at self.now r)) }
     {
         let words = self.words.as_slice();
         let k = first_word(words, r * self.width, self.width);
@@ -152,6 +154,8 @@ impl Rows {
         requires to_row { to < length self.old }
         requires from_row { from < length self.old }
         requires apart { to ≢ from }
+
+        // The rows after the call, and what the answer says of them.
         ensures rows { self.new ≡ slice_set self.old to
             (either (row_at self.old to) (row_at self.old from)) }
         ensures shape { KeepsShape self.old self.new }
@@ -208,6 +212,8 @@ impl Rows {
         requires mask_row { mask < length self.old }
         requires a_apart { to ≢ a }
         requires mask_apart { to ≢ mask }
+
+        // The rows after the call, and what the answer says of them.
         ensures rows { self.new ≡ slice_set self.old to
             (either (row_at self.old to) (both (row_at self.old a) (row_at self.old mask))) }
         ensures shape { KeepsShape self.old self.new }
@@ -231,6 +237,8 @@ impl Rows {
         requires mask_row { mask < length self.old }
         requires a_apart { to ≢ a }
         requires mask_apart { to ≢ mask }
+
+        // The rows after the call, and what the answer says of them.
         ensures rows { self.new ≡ slice_set self.old to
             (either (row_at self.old to) (without (row_at self.old a) (row_at self.old mask))) }
         ensures shape { KeepsShape self.old self.new }
