@@ -27,11 +27,11 @@ done_from view next prev count lists wanted h keeps =
     }
 
 module _ (view : List (List ℕ)) (next prev : List ℕ) (count lists : ℕ) (seen : table_of next count lists ≡ view) (h : IsTable next prev count lists (table_of next count lists)) where
+  -- the lists that are seen lie in the nodes
   pub seen_table : IsTable next prev count lists view
   seen_table = subst (λ t. IsTable next prev count lists t) seen h
 
-  -- ---- reads
-
+  -- the node behind a head is the first cell of its list, or none
   pub first_done : (list node : ℕ) (answer : Option ℕ) → list < length view → node ≡ get_or next (count + list) node → answer ≡ cond (ltb node count) (Some node) None → answer ≡ slice_get (row_at view list) 0
   first_done list node answer low is says =
       let low_list : list < lists = omega (arith, seen_table.linked.size) in
@@ -39,6 +39,7 @@ module _ (view : List (List ℕ)) (next prev : List ℕ) (count lists : ℕ) (se
       says ∙ ap (λ m. cond (ltb m count) (Some m) None) read
       ∙ first_is next prev count (count + list) (row_at view list) (count + list) (seen_table.linked.chains list low_list) (seen_table.linked.cells list low_list) (omega arith)
 
+  -- the node behind a cell is the next cell of its list, or none
   pub next_done : (cell node : ℕ) (answer : Option ℕ) → node ≡ get_or next cell node → answer ≡ cond (ltb node count) (Some node) None
       → (list place : ℕ) → slice_get (row_at view list) place ≡ Some cell → answer ≡ slice_get (row_at view list) (place + 1)
   next_done cell node answer is says list place stands =
@@ -50,8 +51,6 @@ module _ (view : List (List ℕ)) (next prev : List ℕ) (count lists : ℕ) (se
       ∙ next_is next prev count (count + list) (row_at view list) (count + list) (seen_table.linked.chains list low_list) (seen_table.linked.cells list low_list) (omega arith) place cell stands
       ∙ ap (λ k. slice_get (row_at view list) k) (sym (add-one place))
 
-  -- ---- a move
-
   module _ (cell from to : ℕ) (from_in : from < length view) (to_in : to < length view) (apart : from ≢ to) (stands : Contains (row_at view from) cell) (p q : ℕ) (is_p : p ≡ get_or prev cell p) (is_q : q ≡ get_or next cell q) where
     cell_node : cell < count + lists
     cell_node = omega (arith, cell_low next prev count lists view seen_table cell from to from_in to_in apart stands)
@@ -62,9 +61,11 @@ module _ (view : List (List ℕ)) (next prev : List ℕ) (count lists : ℕ) (se
     behind : q ≡ get_or next cell 0
     behind = get_or_read next cell q (omega (arith, cell_node, seen_table.linked.next_size)) is_q 0
 
+    -- the node before a cell that is moved is one of the nodes
     pub before_in : p < length next
     before_in = omega (arith, before, before_low next prev count lists view seen_table cell from to from_in to_in apart stands, seen_table.linked.next_size)
 
+    -- the node behind a cell that is moved is one of the nodes
     pub behind_in : q < length prev
     behind_in = omega (arith, behind, behind_low next prev count lists view seen_table cell from to from_in to_in apart stands, seen_table.linked.prev_size)
 
@@ -84,9 +85,11 @@ module _ (view : List (List ℕ)) (next prev : List ℕ) (count lists : ℕ) (se
       end_is : t ≡ get_or (set prev (get_or next cell 0) (get_or prev cell 0)) (count + to) 0
       end_is = get_or_read prev1 (count + to) t to_node is_t 0 ∙ ap (λ l. get_or l (count + to) 0) prev1_is
 
+      -- the last node of the list that takes the cell is one of the nodes
       pub end_in : t < length next1
       end_in = omega (arith, end_is, end_low next prev count lists view seen_table cell from to from_in to_in apart stands, seen_table.linked.next_size, long)
 
+      -- the cell is taken out of its list and stands last in the other, and each cell stands once
       pub move_done : (next3 prev3 : List ℕ) → next3 ≡ set (set next1 t cell) cell (count + to) → prev3 ≡ set (set prev1 cell t) (count + to) cell
           → IsDone view next3 prev3 count lists (set (set view from (without (row_at view from) cell)) to (row_at view to ++ cell ∷ []))
       move_done next3 prev3 is_next is_prev =
@@ -101,8 +104,6 @@ module _ (view : List (List ℕ)) (next prev : List ℕ) (count lists : ℕ) (se
           (move_table next prev count lists view seen_table cell from to from_in to_in apart stands)))
           (move_keeps next prev count lists view seen_table cell from to from_in to_in apart stands)
 
-  -- ---- a splice
-
   module _ (from to : ℕ) (from_in : from < length view) (to_in : to < length view) (apart : from ≢ to) (f : ℕ) (is_f : f ≡ get_or next (count + from) f) where
     from_low : from < lists
     from_low = omega (arith, seen_table.linked.size)
@@ -113,9 +114,11 @@ module _ (view : List (List ℕ)) (next prev : List ℕ) (count lists : ℕ) (se
     head_is : f ≡ get_or next (count + from) 0
     head_is = get_or_read next (count + from) f (omega (arith, from_low, seen_table.linked.next_size)) is_f 0
 
+    -- where the list that is emptied has no cell, nothing is to change
     pub splice_none : f ≡ count + from → view ≡ set (set view from []) to (row_at view to ++ row_at view from)
     splice_none is = sym (empty_spliced next prev count lists view seen_table from to from_in to_in apart (sym head_is ∙ is))
 
+    -- the first node of the list that is emptied is one of the nodes
     pub first_in : f < length prev
     first_in = omega (arith, head_is, first_low next prev count lists view seen_table from to from_in to_in apart from from_low, seen_table.linked.prev_size)
 
@@ -126,12 +129,15 @@ module _ (view : List (List ℕ)) (next prev : List ℕ) (count lists : ℕ) (se
       last_to : t ≡ get_or prev (count + to) 0
       last_to = get_or_read prev (count + to) t (omega (arith, to_low, seen_table.linked.prev_size)) is_t 0
 
+      -- the last node of the list that is emptied is one of the nodes
       pub last_in : g < length next
       last_in = omega (arith, last_is, last_low next prev count lists view seen_table from to from_in to_in apart from from_low, seen_table.linked.next_size)
 
+      -- the last node of the list that takes the cells is one of the nodes
       pub last_to_in : t < length next
       last_to_in = omega (arith, last_to, last_low next prev count lists view seen_table from to from_in to_in apart to to_low, seen_table.linked.next_size)
 
+      -- one list is empty, the other has its cells behind its own, and each cell stands once
       pub splice_done : (next3 prev3 : List ℕ) → f ≢ count + from → next3 ≡ set (set (set next t f) g (count + to)) (count + from) (count + from) → prev3 ≡ set (set (set prev f t) (count + to) g) (count + from) (count + from)
           → IsDone view next3 prev3 count lists (set (set view from []) to (row_at view to ++ row_at view from))
       splice_done next3 prev3 some is_next is_prev =
@@ -150,8 +156,7 @@ module _ (view : List (List ℕ)) (next prev : List ℕ) (count lists : ℕ) (se
           subst (λ l. IsTable l prev3 count lists wanted) (sym next_is) (subst (λ l. IsTable (set (set (set next t0 f0) g0 (count + to)) (count + from) (count + from)) l count lists wanted) (sym prev_is) table) in
           done_from view next3 prev3 count lists wanted here (linked_keeps next prev count lists view seen_table from to from_in to_in apart next3 prev3 here)
 
--- ---- the start
-
+-- the nodes that are made hold all cells in the first list and none in the others
 pub made_done : (next prev : List ℕ) (count lists nodes : ℕ) → 1 ≤ lists → (count + lists < 2 ^ 32) × (nodes ≡ count + lists)
     → next ≡ map (next_at_start count) (range_with_len 0 nodes) → prev ≡ map (prev_at_start count) (range_with_len 0 nodes)
     → IsTable next prev count lists (table_of next count lists) × (table_of next count lists ≡ range_with_len 0 count ∷ replicate (lists - 1) []) × HasCells (table_of next count lists) count

@@ -61,6 +61,7 @@ module _ (next prev : List ℕ) (count lists : ℕ) (table : List (List ℕ)) (h
   unfolding row
   cells_in_row = h.linked.cells from from_low
 
+  -- the cell that is moved is one of the cells
   pub cell_low : cell < count
   cell_low = subst (λ x. x < count) is_cell (All-get_or (λ x. x < count) row place 0 inside cells_in_row)
 
@@ -76,8 +77,6 @@ module _ (next prev : List ℕ) (count lists : ℕ) (table : List (List ℕ)) (h
   unfolding row
   halves = chain_split next prev (count + from) front cell back (count + from) (subst (λ r. IsChain next prev (count + from) r (count + from)) parts (h.linked.chains from from_low))
 
-  -- ---- the cell is taken out
-
   p : ℕ
   p = get_or prev cell 0
 
@@ -87,9 +86,11 @@ module _ (next prev : List ℕ) (count lists : ℕ) (table : List (List ℕ)) (h
   nodes_from : (xs : List ℕ) → All (λ x. x < count) xs → All (λ x. x < count + lists) xs
   nodes_from xs low = All-weaker (λ x. x < count) (λ x. x < count + lists) (λ x small. omega arith) xs low
 
+  -- the node before the cell is one of the nodes
   pub before_low : get_or prev cell 0 < count + lists
   before_low = prev_has next prev (λ x. x < count + lists) (count + from) front cell halves.0 (omega (arith, from_low)) (nodes_from front front_low)
 
+  -- the node behind the cell is one of the nodes
   pub behind_low : get_or next cell 0 < count + lists
   behind_low = next_has next prev (λ x. x < count + lists) cell back (count + from) halves.1 (nodes_from back back_low) (omega (arith, from_low))
 
@@ -99,6 +100,7 @@ module _ (next prev : List ℕ) (count lists : ℕ) (table : List (List ℕ)) (h
   prev1 : List ℕ
   prev1 = set prev (get_or next cell 0) (get_or prev cell 0)
 
+  -- links between other nodes stay where the cell is taken out
   stays1 : (y z : ℕ) → y ≢ cell → z ≢ cell → IsLink next prev y z → IsLink next1 prev1 y z
   unfolding next1 prev1
   stays1 y z not_from not_to link = (
@@ -116,14 +118,13 @@ module _ (next prev : List ℕ) (count lists : ℕ) (table : List (List ℕ)) (h
   head_other : (list : ℕ) → count + list ≢ cell
   head_other list e = (let no : ⊥ = omega (arith, cell_low, e) in no)
 
+  -- the list from which the cell is taken out is a chain over its other cells
   chain_from : IsChain next1 prev1 (count + from) (front ++ back) (count + from)
   chain_from = chain_cut next prev next1 prev1 (λ x. x ≢ cell) (λ x. x ≢ cell) stays1 (count + from) front cell back (count + from) (head_other from) front_free front_free back_free back_free (head_other from) halves.0 halves.1 link1
 
   chain_other : (list : ℕ) → list < lists → list ≢ from → IsChain next1 prev1 (count + list) (row_at table list) (count + list)
   chain_other list low other =
       chain_stays next prev next1 prev1 (λ x. x ≢ cell) (λ x. x ≢ cell) stays1 (count + list) (row_at table list) (count + list) (head_other list) (others_free list low other) (others_free list low other) (head_other list) (h.linked.chains list low)
-
-  -- ---- the cell is put behind the last of the other list
 
   t : ℕ
   t = get_or prev1 (count + to) 0
@@ -146,6 +147,7 @@ module _ (next prev : List ℕ) (count lists : ℕ) (table : List (List ℕ)) (h
   prev2 : List ℕ
   prev2 = set (set prev1 cell (get_or prev1 (count + to) 0)) (count + to) cell
 
+  -- the last node of the other list is one of the nodes
   pub end_low : get_or (set prev (get_or next cell 0) (get_or prev cell 0)) (count + to) 0 < count + lists
   unfolding prev1
   end_low = last_low
@@ -158,6 +160,7 @@ module _ (next prev : List ℕ) (count lists : ℕ) (table : List (List ℕ)) (h
   unfolding prev1
   size1' = length-set prev (get_or next cell 0) (get_or prev cell 0) ∙ h.linked.prev_size
 
+  -- links between other nodes stay where the cell is put behind the last of the other list
   stays2 : (y z : ℕ) → y ≢ cell → (z ≢ cell) × (z ≢ count + to) → IsLink next1 prev1 y z → IsLink next2 prev2 y z
   unfolding next2 prev2
   stays2 y z not_from not_to link = (
@@ -214,6 +217,7 @@ module _ (next prev : List ℕ) (count lists : ℕ) (table : List (List ℕ)) (h
       chain_stays next1 prev1 next2 prev2 (λ x. x ≢ cell) (λ x. (x ≢ cell) × (x ≢ count + to)) stays2 (count + from) left (count + from) (head_other from) left_free (targets_of left left_free left_low)
       (head_other from, heads_apart from apart) chain_from
 
+  -- the other list with the cell behind its last is a chain
   chain_to2 : IsChain next2 prev2 (count + to) (row_at table to ++ cell ∷ []) (count + to)
   chain_to2 =
       chain_append next1 prev1 next2 prev2 (λ x. x ≢ cell) (λ x. (x ≢ cell) × (x ≢ count + to)) stays2 (count + to) (row_at table to) (count + to) cell [] (count + to) (head_other to)
@@ -260,13 +264,12 @@ module _ (next prev : List ℕ) (count lists : ℕ) (table : List (List ℕ)) (h
   unfolding moved result
   same = ap (λ l. set (set table from l) to (row_at table to ++ cell ∷ [])) (sym left_is)
 
+  -- after the move the nodes hold the lists with the cell in its new one
   pub move_table : IsTable (set (set (set next (get_or prev cell 0) (get_or next cell 0)) (get_or (set prev (get_or next cell 0) (get_or prev cell 0)) (count + to) 0) cell) cell (count + to))
       (set (set (set prev (get_or next cell 0) (get_or prev cell 0)) cell (get_or (set prev (get_or next cell 0) (get_or prev cell 0)) (count + to) 0)) (count + to) cell) count lists
       (set (set table from (without (row_at table from) cell)) to (row_at table to ++ cell ∷ []))
   unfolding next1 prev1 next2 prev2 result
   move_table = subst (λ t. IsTable next2 prev2 count lists t) same (record { linked = linked; total = total; limit = h.limit })
-
-  -- ---- each cell still stands once
 
   contains_left : (x : ℕ) → Contains row x → x ≢ cell → Contains left x
   unfolding left
@@ -282,6 +285,7 @@ module _ (next prev : List ℕ) (count lists : ℕ) (table : List (List ℕ)) (h
   unfolding moved
   moved_long = length-set (set table from left) to (row_at table to ++ cell ∷ []) ∙ length-set table from left
 
+  -- each cell that stood in a list stands in one after the move
   each_moved : (x : ℕ) → StandsIn table x → StandsIn moved x
   unfolding moved row
   each_moved x has = elim (cases_eq x cell) [
@@ -323,6 +327,7 @@ module _ (next prev : List ℕ) (count lists : ℕ) (table : List (List ℕ)) (h
       rows_of (λ list r. All (λ x. x < n) r) table from to left (row_at table to ++ cell ∷ []) from_in to_in apart (left_only n (low from))
       (All-push (λ x. x < n) (row_at table to) cell (low to) (All-contains (λ x. x < n) (row_at table from) cell (low from) stands)) (λ list not_from not_to. low list)
 
+  -- after the move each cell still stands once
   pub move_keeps : KeepsCells table (set (set table from (without (row_at table from) cell)) to (row_at table to ++ cell ∷ []))
   unfolding result
   move_keeps n had = subst (λ t. HasCells t n) same (record {

@@ -32,17 +32,18 @@ module _ (next prev : List ℕ) (count lists : ℕ) (table : List (List ℕ)) (h
   no_heads : (xs : List ℕ) → All (λ x. x < count) xs → All (λ x. (x ≢ count + from) × (x ≢ count + to)) xs
   no_heads xs low k d below = (no_head from xs low k d below, no_head to xs low k d below)
 
+  -- the last node of each list is one of the nodes
   pub last_low : (list : ℕ) → list < lists → get_or prev (count + list) 0 < count + lists
   last_low list low = prev_has next prev (λ x. x < count + lists) (count + list) (row_at table list) (count + list) (h.linked.chains list low) (omega arith) (nodes_from (row_at table list) (h.linked.cells list low))
 
+  -- the first node of each list is one of the nodes
   pub first_low : (list : ℕ) → list < lists → get_or next (count + list) 0 < count + lists
   first_low list low = next_has next prev (λ x. x < count + lists) (count + list) (row_at table list) (count + list) (h.linked.chains list low) (nodes_from (row_at table list) (h.linked.cells list low)) (omega arith)
-
-  -- ---- each cell still stands once
 
   spliced_long : length (set (set table from []) to (row_at table to ++ row_at table from)) ≡ length table
   spliced_long = length-set (set table from []) to (row_at table to ++ row_at table from) ∙ length-set table from []
 
+  -- each cell that stood in a list stands in one after the splice
   each_spliced : (x : ℕ) → StandsIn table x → StandsIn (set (set table from []) to (row_at table to ++ row_at table from)) x
   each_spliced x has = elim (cases_eq has.0 to) [
     | inl at_to ↦ (
@@ -71,6 +72,7 @@ module _ (next prev : List ℕ) (count lists : ℕ) (table : List (List ℕ)) (h
       rows_of (λ list r. All (λ x. x < n) r) table from to [] (row_at table to ++ row_at table from) from_in to_in apart (All-nil (λ x. x < n))
       (All-append (λ x. x < n) (row_at table to) (row_at table from) (low to) (low from)) (λ list not_from not_to. low list)
 
+  -- where the nodes hold the lists after the splice, each cell still stands once
   pub linked_keeps : (next' prev' : List ℕ) → IsTable next' prev' count lists (set (set table from []) to (row_at table to ++ row_at table from))
       → KeepsCells table (set (set table from []) to (row_at table to ++ row_at table from))
   linked_keeps next' prev' h' n had = record {
@@ -79,14 +81,13 @@ module _ (next prev : List ℕ) (count lists : ℕ) (table : List (List ℕ)) (h
     once = once_in next' prev' count lists (set (set table from []) to (row_at table to ++ row_at table from)) h'.linked;
   }
 
-  -- ---- an empty list changes nothing
-
   empty_row : (xs : List ℕ) → IsChain next prev (count + from) xs (count + from) → All (λ x. x < count) xs → get_or next (count + from) 0 ≡ count + from → xs ≡ []
   empty_row [] chain low is = refl
   empty_row (x ∷ xs) chain low is =
       let small = All-head (λ y. y < count) x xs low in
       absurd (omega (arith, chain.0.0, is, small))
 
+  -- where the list that is emptied has no cell, the splice changes nothing
   pub empty_spliced : get_or next (count + from) 0 ≡ count + from → set (set table from []) to (row_at table to ++ row_at table from) ≡ table
   empty_spliced is =
       let nothing : row_at table from ≡ [] = empty_row (row_at table from) (h.linked.chains from from_low) (h.linked.cells from from_low) is in
@@ -96,8 +97,7 @@ module _ (next prev : List ℕ) (count lists : ℕ) (table : List (List ℕ)) (h
       ∙ ap (λ l. set l to (row_at table to)) (set-get_or table from [])
       ∙ set-get_or table to []
 
-  -- ---- a list that is not empty
-
+  -- a list that is not empty
   module _ (xs : List ℕ) (f : ℕ) (is_row : row_at table from ≡ f ∷ xs) where
     chain_from : IsLink next prev (count + from) f × IsChain next prev f xs (count + from)
     chain_from = subst (λ r. IsChain next prev (count + from) r (count + from)) is_row (h.linked.chains from from_low)
@@ -244,6 +244,7 @@ module _ (next prev : List ℕ) (count lists : ℕ) (table : List (List ℕ)) (h
     spliced : IsTable next' prev' count lists (set (set table from []) to (row_at table to ++ row_at table from))
     spliced = record { linked = linked; total = total; limit = h.limit }
 
+    -- after the splice of a list with a first cell the nodes hold the lists
     pub splice_row : IsTable (set (set (set next (get_or prev (count + to) 0) f) (get_or prev (count + from) 0) (count + to)) (count + from) (count + from))
         (set (set (set prev f (get_or prev (count + to) 0)) (count + to) (get_or prev (count + from) 0)) (count + from) (count + from)) count lists
         (set (set table from []) to (row_at table to ++ row_at table from))
@@ -261,6 +262,7 @@ module _ (next prev : List ℕ) (count lists : ℕ) (table : List (List ℕ)) (h
       (set (set (set prev f (get_or prev (count + to) 0)) (count + to) (get_or prev (count + from) 0)) (count + from) (count + from)) count lists
       (set (set table from []) to (row_at table to ++ row_at table from))) (sym chain.0.0) (splice_row xs x is)
 
+  -- after the splice of a list that is not empty the nodes hold the lists
   pub splice_table : get_or next (count + from) 0 ≢ count + from
       → IsTable (set (set (set next (get_or prev (count + to) 0) (get_or next (count + from) 0)) (get_or prev (count + from) 0) (count + to)) (count + from) (count + from))
       (set (set (set prev (get_or next (count + from) 0) (get_or prev (count + to) 0)) (count + to) (get_or prev (count + from) 0)) (count + from) (count + from)) count lists

@@ -102,11 +102,13 @@ module _ (count lists : ℕ) (some : 1 ≤ lists) (limit : count + lists < 2 ^ 3
       let nothing : (lists - 1) * 0 ≡ 0 = omega arith in
       omega (arith, first, others, nothing, length-range_with_len 0 count)
 
+  -- the nodes that are made hold all cells in the first list and none in the others
   pub made_table : IsTable (map (next_at_start count) (range_with_len 0 (count + lists))) (map (prev_at_start count) (range_with_len 0 (count + lists))) count lists
       (range_with_len 0 count ∷ replicate (lists - 1) [])
   unfolding next prev table
   made_table = record { linked = linked; total = total; limit = limit }
 
+  -- each cell stands once in the lists that are made
   pub made_cells : HasCells (range_with_len 0 count ∷ replicate (lists - 1) []) count
   unfolding table
   made_cells = record {

@@ -13,7 +13,8 @@ cells_behind (suc more) count next node =
 
 -- each list: the cells that follow its head
 abbrev pub table_of : List ℕ → ℕ → ℕ → List (List ℕ)
-table_of next count lists = map (λ list. cells_behind count count next (count + list)) (range_with_len 0 lists)
+table_of next count lists =
+    map (λ list. cells_behind count count next (count + list)) (range_with_len 0 lists)
 
 -- one node follows another
 abbrev pub IsLink : List ℕ → List ℕ → ℕ → ℕ → Type 0

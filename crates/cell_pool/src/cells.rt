@@ -80,14 +80,16 @@ fn prev_of(cells: u32, node: u32) -> u32
 
 /// What follows each node when all cells stand in list 0.
 fn all_next(alloc: Global, cells: u32, nodes: u32) -> Result<Vec<u32>, AllocError>
-    ensures { IfOk result (λ next. next.items ≡ map (next_at_start cells) (range_with_len 0 nodes)) }
+    ensures { IfOk result
+        (λ next. next.items ≡ map (next_at_start cells) (range_with_len 0 nodes)) }
 {
     (0..nodes).map(|node| next_of(cells, node)).collect(alloc)
 }
 
 /// What each node follows when all cells stand in list 0.
 fn all_prev(alloc: Global, cells: u32, nodes: u32) -> Result<Vec<u32>, AllocError>
-    ensures { IfOk result (λ prev. prev.items ≡ map (prev_at_start cells) (range_with_len 0 nodes)) }
+    ensures { IfOk result
+        (λ prev. prev.items ≡ map (prev_at_start cells) (range_with_len 0 nodes)) }
 {
     (0..nodes).map(|node| prev_of(cells, node)).collect(alloc)
 }
@@ -97,7 +99,8 @@ impl Cells {
     /// `AllocError` comes where there is not enough, and where cells and lists together are 2^32 or more.
     pub fn make(alloc: Global, cells: u32, lists: u32) -> Result<Cells, AllocError>
         requires { 1 ≤ lists }
-        ensures lists { IfOk result (λ made. made ≡ range_with_len 0 cells ∷ replicate (lists - 1) []) }
+        ensures lists { IfOk result
+            (λ made. made ≡ range_with_len 0 cells ∷ replicate (lists - 1) []) }
         ensures cells { IfOk result (λ made. HasCells made cells) }
     {
         let Some(nodes) = cells.checked_add(lists) else {
