@@ -25,9 +25,11 @@ pub record Builds (rules : List Rule) (line : List ℕ) (Holds : List ℕ → Ty
 abbrev pub IsLineRefused : PatternsState → PatternsState → List Rule → ℕ → List ℕ → RuleError → Type 0
 IsLineRefused old new rules number line refused.Memory = Unit {0}
 IsLineRefused old new rules number line (refused.Syntax at) =
-    (at ≡ number) × ((rule_at rules (number, line) ≡ Err (refused.Syntax number)) ⊎ Builds rules line NestsTooDeep)
+    (at ≡ number)
+    × ((rule_at rules (number, line) ≡ Err (refused.Syntax number)) ⊎ Builds rules line NestsTooDeep)
 IsLineRefused old new rules number line (refused.TooLarge at) =
-    (at ≡ number) × Rose old.refusals new.refusals × Builds rules line (λ pattern. IsTrue (old.may_refuse pattern))
+    (at ≡ number) × Rose old.refusals new.refusals
+    × Builds rules line (λ pattern. IsTrue (old.may_refuse pattern))
 IsLineRefused old new rules number line refused.TooLong = ⊥
 IsLineRefused old new rules number line refused.NoEvent = ⊥
 IsLineRefused old new rules number line plain = rule_at rules (number, line) ≡ Err plain
@@ -35,7 +37,9 @@ IsLineRefused old new rules number line plain = rule_at rules (number, line) ≡
 -- a line with its number leaves the rules if it is skipped, and adds its rule if not
 abbrev pub AddsLine : ℕ → List ℕ → List Rule → List Rule → Type 0
 AddsLine number line rules new =
-    (IsTrue (is_skipped line) × (new ≡ rules)) ⊎ (IsFalse (is_skipped line) × ((rule : Rule) × (new ≡ rules ++ rule ∷ []) × IsRuleOf rules number line rule))
+    (IsTrue (is_skipped line) × (new ≡ rules))
+    ⊎ (IsFalse (is_skipped line)
+    × ((rule : Rule) × (new ≡ rules ++ rule ∷ []) × IsRuleOf rules number line rule))
 
 -- the rules are those of all lines, up to what a search tells apart
 pub record AreRulesOf (bytes : List ℕ) (rules : List Rule) : Type 0 where
@@ -52,7 +56,8 @@ pub record BuildsAt (bytes : List ℕ) (number : ℕ) (Holds : List ℕ → Type
 -- why one of the lines is refused so
 abbrev pub AreLinesRefused : List ℕ → PatternsState → PatternsState → RuleError → Type 0
 AreLinesRefused bytes old new refused.Memory = Unit {0}
-AreLinesRefused bytes old new (refused.Syntax at) = (rules_from [] (rule_lines bytes) ≡ Err (refused.Syntax at)) ⊎ BuildsAt bytes at NestsTooDeep
+AreLinesRefused bytes old new (refused.Syntax at) =
+    (rules_from [] (rule_lines bytes) ≡ Err (refused.Syntax at)) ⊎ BuildsAt bytes at NestsTooDeep
 AreLinesRefused bytes old new (refused.TooLarge at) = Rose old.refusals new.refusals
     × BuildsAt bytes at (λ pattern. IsTrue (old.may_refuse pattern))
 AreLinesRefused bytes old new refused.TooLong = ⊥

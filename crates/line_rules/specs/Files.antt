@@ -30,7 +30,8 @@ form_of_word word =
 -- the form and the pattern of a line that has one of the four forms: a word, one space, and a pattern that is not empty
 abbrev pub spelled_by : List ℕ → Option (RuleForm × List ℕ)
 spelled_by line =
-    if is_utf8 line && nat_lt 0 (length (after_first is_space line)) then option_map (λ form. (form, after_first is_space line)) (form_of_word (before_first is_space line))
+    if is_utf8 line && nat_lt 0 (length (after_first is_space line))
+    then option_map (λ form. (form, after_first is_space line)) (form_of_word (before_first is_space line))
     else None
 
 -- a line without bytes, or one that begins with `#`
@@ -40,7 +41,9 @@ is_skipped line = length line == 0 || slice_index line 0 == 35
 -- the lines of the pieces that are not skipped, with their numbers, where the first piece has the number `number`
 abbrev pub numbered : ℕ → List (List ℕ) → List (ℕ × List ℕ)
 numbered number [] = []
-numbered number (piece ∷ pieces) = if is_skipped (line_of piece) then numbered (number + 1) pieces else (number, line_of piece) ∷ numbered (number + 1) pieces
+numbered number (piece ∷ pieces) =
+    if is_skipped (line_of piece) then numbered (number + 1) pieces
+    else (number, line_of piece) ∷ numbered (number + 1) pieces
 
 -- the lines of an expressions file that are to be rules, with their numbers
 abbrev pub rule_lines : List ℕ → List (ℕ × List ℕ)
@@ -86,26 +89,33 @@ mixes_time rules rule = is_event rule.form
 -- the rule that the grammar reads for a line, after these rules, or the refusal
 abbrev pub rule_read : List Rule → ℕ → Option Rule → Result Rule RuleError
 rule_read rules number None = Err (refused.Syntax number)
-rule_read rules number (Some rule) = if lacks_type rule then Err (refused.NoType number) else if mixes_time rules rule then Err (refused.MixedTime number) else Ok rule
+rule_read rules number (Some rule) =
+    if lacks_type rule then Err (refused.NoType number)
+    else if mixes_time rules rule then Err (refused.MixedTime number)
+    else Ok rule
 
 -- the rule of a line that is spelled so, after these rules, or its first refusal
 abbrev pub rule_spelled : List Rule → ℕ → Option (RuleForm × List ℕ) → Result Rule RuleError
 rule_spelled rules number None = Err (refused.BadLine number)
-rule_spelled rules number (Some spelled) = if nat_le MAX_RULES (length rules) then Err (refused.TooMany number) else rule_read rules number (rule_of spelled.0 spelled.1)
+rule_spelled rules number (Some spelled) =
+    if nat_le MAX_RULES (length rules) then Err (refused.TooMany number)
+    else rule_read rules number (rule_of spelled.0 spelled.1)
 
 -- the rule of a line with its number, after these rules, or its first refusal
 abbrev pub rule_at : List Rule → ℕ × List ℕ → Result Rule RuleError
 rule_at rules line = rule_spelled rules line.0 (spelled_by line.1)
 
 -- what comes after a rule, or its refusal
-abbrev pub with_rule : Result Rule RuleError → (Rule → Result (List Rule) RuleError) → Result (List Rule) RuleError
+abbrev pub with_rule : Result Rule RuleError → (Rule → Result (List Rule) RuleError)
+    → Result (List Rule) RuleError
 with_rule (Ok rule) next = next rule
 with_rule (Err e) next = Err e
 
 -- the rules of some lines after those that stand, or the first refusal
 abbrev pub rules_from : List Rule → List (ℕ × List ℕ) → Result (List Rule) RuleError
 rules_from rules [] = Ok rules
-rules_from rules (line ∷ lines) = with_rule (rule_at rules line) (λ rule. rules_from (rules ++ rule ∷ []) lines)
+rules_from rules (line ∷ lines) =
+    with_rule (rule_at rules line) (λ rule. rules_from (rules ++ rule ∷ []) lines)
 
 -- the rules, where one of them is an event rule
 abbrev pub with_event : Result (List Rule) RuleError → Result (List Rule) RuleError
@@ -114,7 +124,9 @@ with_event (Err e) = Err e
 
 -- the rules of an expressions file as the grammar reads them, or the plain refusal
 abbrev pub rules_of : List ℕ → Result (List Rule) RuleError
-rules_of bytes = if nat_lt MAX_RULES_BYTES (length bytes) then Err refused.TooLong else with_event (rules_from [] (rule_lines bytes))
+rules_of bytes =
+    if nat_lt MAX_RULES_BYTES (length bytes) then Err refused.TooLong
+    else with_event (rules_from [] (rule_lines bytes))
 
 -- The pattern of the line with this number is built: the file is short enough, each line before this one is a rule, and this one spells one, at most the 32nd.
 pub record IsBuilt (bytes : List ℕ) (number : ℕ) (pattern : List ℕ) : Type 0 where
@@ -137,7 +149,8 @@ AreRead bytes rules = (plain : List Rule) × (rules_of bytes ≡ Ok plain) × Ar
 abbrev pub IsRefused : List ℕ → PatternsState → PatternsState → RuleError → Type 0
 IsRefused bytes old new refused.Memory = Unit {0}
 IsRefused bytes old new (refused.Syntax number) =
-    (rules_of bytes ≡ Err (refused.Syntax number)) ⊎ ((pattern : List ℕ) × IsBuilt bytes number pattern × NestsTooDeep pattern)
+    (rules_of bytes ≡ Err (refused.Syntax number))
+    ⊎ ((pattern : List ℕ) × IsBuilt bytes number pattern × NestsTooDeep pattern)
 IsRefused bytes old new (refused.TooLarge number) =
     Rose old.refusals new.refusals
     × ((pattern : List ℕ) × IsBuilt bytes number pattern × IsTrue (old.may_refuse pattern))

@@ -56,10 +56,12 @@ RefusesNext s = Contains s.failing (next_build s.builds)
 
 -- one more build, which leaves this count of refusals
 abbrev pub after_build : ListedState → ℕ → ListedState
-after_build old refusals = record { refusals = refusals; failing = old.failing; builds = next_build old.builds }
+after_build old refusals =
+    record { refusals = refusals; failing = old.failing; builds = next_build old.builds }
 
 -- what `build(text)` leaves where the build is listed, and where it is not
-pub record ListedGives (old : ListedState) (text : List ℕ) (answer : Result Regex BuildFault) (new : ListedState) : Type 0 where
+pub record ListedGives (old : ListedState) (text : List ℕ) (answer : Result Regex BuildFault)
+    (new : ListedState) : Type 0 where
   pub listed : RefusesNext old → (answer ≡ Err TooLarge) × (new ≡ after_build old (raised old.refusals))
   pub other : ¬ RefusesNext old → RegexGives old.refusals text answer new.refusals
       × (new ≡ after_build old new.refusals)

@@ -65,7 +65,8 @@ time_by (Some group) line s = time_at line s
 
 -- the time of an event that a match of the rule gives
 abbrev pub time_in : Rule → List ℕ → Match → Option ℕ
-time_in rule line m = time_by (group_named rule.names (codes "TIME")) line (span_of_name rule (codes "TIME") m)
+time_in rule line m =
+    time_by (group_named rule.names (codes "TIME")) line (span_of_name rule (codes "TIME") m)
 
 -- an event, whose trace text is empty where its group is absent or took no part; a bad time where it has none
 abbrev pub event : Option (ℕ × ℕ) → Named → Option ℕ → Result Decision DecideError
@@ -74,21 +75,27 @@ event None name (Some time) = Ok (decision.Event name 0 0 time)
 event (Some s) name (Some time) = Ok (decision.Event name s.0 s.1 time)
 
 -- what a rule with this number decides where the groups TYPE and TRACE of its match have these spans, and its time is this
-abbrev pub decided_at : ℕ → RuleForm → (typ trace : Option (ℕ × ℕ)) → Option ℕ → Option (Result Decision DecideError)
+abbrev pub decided_at : ℕ → RuleForm → (typ trace : Option (ℕ × ℕ)) → Option ℕ
+    → Option (Result Decision DecideError)
 decided_at number Skip typ trace time = Some (Ok decision.Skip)
 decided_at number Separator typ trace time = Some (Ok decision.Separator)
-decided_at number Event typ trace time = option_map (λ s. event trace (named.Part s.0 s.1) time) (not_empty typ)
+decided_at number Event typ trace time =
+    option_map (λ s. event trace (named.Part s.0 s.1) time) (not_empty typ)
 decided_at number (EventOf name) typ trace time = Some (event trace (named.Fixed number) time)
 
 -- what a rule with this number decides of a line, if it does
 abbrev pub decided_by : ℕ → Rule → List ℕ → Option (Result Decision DecideError)
 decided_by number rule line =
-    option_and_then (λ m. decided_at number rule.form (span_of_name rule (codes "TYPE") m) (span_of_name rule (codes "TRACE") m) (time_in rule line m)) (find_str rule.re line 0)
+    option_and_then
+    (λ m. decided_at number rule.form (span_of_name rule (codes "TYPE") m)
+    (span_of_name rule (codes "TRACE") m) (time_in rule line m))
+    (find_str rule.re line 0)
 
 -- The decision of the first rule that decides the line, where the rules are numbered from `number`. A bad time is one: no later rule is tried.
 abbrev pub decision_from : ℕ → List Rule → List ℕ → Result Decision DecideError
 decision_from number [] line = Ok decision.Undecided
-decision_from number (rule ∷ rules) line = unwrap_or (decided_by number rule line) (decision_from (number + 1) rules line)
+decision_from number (rule ∷ rules) line =
+    unwrap_or (decided_by number rule line) (decision_from (number + 1) rules line)
 
 -- the decision of a line, or its bad time
 abbrev pub decision_of : List Rule → List ℕ → Result Decision DecideError
@@ -124,14 +131,17 @@ IsNamePart rules line (named.Part from to) = IsSpanOf line (from, to) × (from <
 
 -- the parts that the decision names are parts of the line, and a rule that it names has a name
 abbrev pub HasParts : List Rule → List ℕ → Decision → Type 0
-HasParts rules line (decision.Event name from to time) = IsNamePart rules line name × IsSpanOf line (from, to)
+HasParts rules line (decision.Event name from to time) =
+    IsNamePart rules line name × IsSpanOf line (from, to)
 HasParts rules line decision.Skip = Unit {0}
 HasParts rules line decision.Separator = Unit {0}
 HasParts rules line decision.Undecided = Unit {0}
 
 -- the rule that the grammar reads from the text of a pattern, if it reads one
 abbrev pub rule_of : RuleForm → List ℕ → Option Rule
-rule_of form text = option_map (λ (tree, names). record { form = form; re = tree.value; names = names }) (read default_config (chars text))
+rule_of form text =
+    option_map (λ (tree, names). record { form = form; re = tree.value; names = names })
+    (read default_config (chars text))
 
 -- the rules have one form and one list of names, and a search gives the same by both
 pub record Alike (r s : Rule) : Type 0 where

@@ -22,10 +22,12 @@ whole_time text = if are_digits 18 text then Some (digits_value 10 text * 10 ^ 9
 -- the billionths of a whole number and a fraction
 abbrev pub fractional_time : List ℕ → List ℕ → Option ℕ
 fractional_time whole fraction =
-    if are_digits 18 whole
-    && are_digits 9 fraction then Some (digits_value 10 whole * 10 ^ 9 + digits_value 10 fraction * 10 ^ (9 - length fraction))
+    if are_digits 18 whole && are_digits 9 fraction
+    then Some (digits_value 10 whole * 10 ^ 9 + digits_value 10 fraction * 10 ^ (9 - length fraction))
     else None
 
 -- The time that a text says, in billionths: 1 to 18 digits, which a point and 1 to 9 digits may follow.
 abbrev pub time_of : List ℕ → Option ℕ
-time_of text = if list_any is_point text then fractional_time (before_first is_point text) (after_first is_point text) else whole_time text
+time_of text =
+    if list_any is_point text then fractional_time (before_first is_point text) (after_first is_point text)
+    else whole_time text

@@ -16,7 +16,8 @@ use std::alloc::Global;
 
 /// Builds a rule from the text of its pattern.
 fn build_rule<P: Patterns>(patterns: &mut P, form: RuleForm, text: &str) -> Result<Rule, BuildFault>
-    ensures rule { IfOk result (λ r. IsSomeAnd (rule_of (form_view form) text.now) (Alike (rule_view r))) }
+    ensures rule { IfOk result
+        (λ r. IsSomeAnd (rule_of (form_view form) text.now) (Alike (rule_view r))) }
     ensures syntax { result ≡ Err BuildFault.Syntax → IsNoPattern text.now ⊎ NestsTooDeep text.now }
     ensures stays { Stays (P.state patterns.old) (P.state patterns.new) }
     ensures count { KeepsCount (P.state patterns.old) result (P.state patterns.new) }
@@ -69,7 +70,8 @@ pub(crate) fn rule_of_line<P: Patterns>(
     ensures stays { Stays (P.state patterns.old) (P.state patterns.new) }
     ensures count { KeepsRefusals (P.state patterns.old) result (P.state patterns.new) }
     ensures few { IfOk result (λ _. length rules.now < MAX_RULES) }
-    ensures ok { IfOk result (λ rule. IsRuleOf (map rule_view rules.now) number line.now (rule_view rule)) }
+    ensures ok { IfOk result
+        (λ rule. IsRuleOf (map rule_view rules.now) number line.now (rule_view rule)) }
     ensures err { IfErr result (IsLineRefused (P.state patterns.old) (P.state patterns.new)
         (map rule_view rules.now) number line.now) }
 {

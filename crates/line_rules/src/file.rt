@@ -27,6 +27,8 @@ fn add_line<P: Patterns>(
     ensures stays { Stays (P.state patterns.old) (P.state patterns.new) }
     ensures count { KeepsRefusals (P.state patterns.old) result (P.state patterns.new) }
     ensures few { vec_len rules.new ≤ MAX_RULES }
+
+    // What the line adds, and why it is refused.
     ensures ok { OnOk result (AddsLine number line.now
         (map rule_view rules.old.items) (map rule_view rules.new.items)) }
     ensures not_skipped { OnErr result (IsFalse (is_skipped line.now)) }
@@ -57,7 +59,8 @@ pub(crate) fn read_rules<P: Patterns>(
     ensures count { KeepsRefusals (P.state patterns.old) result (P.state patterns.new) }
     ensures few { IfOk result (λ rules. vec_len rules ≤ MAX_RULES) }
     ensures ok { IfOk result (λ rules. AreRulesOf bytes.now (map rule_view rules.items)) }
-    ensures err { IfErr result (AreLinesRefused bytes.now (P.state patterns.old) (P.state patterns.new)) }
+    ensures err { IfErr result
+        (AreLinesRefused bytes.now (P.state patterns.old) (P.state patterns.new)) }
 {
     let mut rules = Vec::new(alloc);
     let mut rest = bytes;

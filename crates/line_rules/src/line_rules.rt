@@ -71,7 +71,8 @@ impl LineRules {
         ensures stays { Stays (P.state patterns.old) (P.state patterns.new) }
         ensures count { KeepsRefusals (P.state patterns.old) result (P.state patterns.new) }
         ensures ok { IfOk result (λ rules. AreRead bytes.now (rules_in rules)) }
-        ensures err { IfErr result (IsRefused bytes.now (P.state patterns.old) (P.state patterns.new)) }
+        ensures err { IfErr result
+            (IsRefused bytes.now (P.state patterns.old) (P.state patterns.new)) }
     {
         if bytes.len() > MAX_RULES_BYTES {
             return Err(RuleError::TooLong);
@@ -93,7 +94,8 @@ impl LineRules {
     /// a group TIME, and the group took no part or says no time. What searches is made within the call, and
     /// `Memory` comes only for it: the rules may be used again. For many lines see [`LineRules::matchers`].
     pub fn decide(&self, line: &str) -> Result<Decision, DecideError>
-        ensures value { result ≢ Err DecideError.Memory → result ≡ decision_of (rules_in self.now) line.now }
+        ensures value { result ≢ Err DecideError.Memory
+            → result ≡ decision_of (rules_in self.now) line.now }
         ensures parts { IfOk result (HasParts (rules_in self.now) line.now) }
     {
         match self.matchers() {

@@ -27,7 +27,8 @@ fn span_of_group(captures: &Captures<'_, '_>, group: Option<usize>) -> Option<(u
 
 /// What the groups that the rule looks at span in the first match.
 pub(crate) fn spans_in(rule: &Rule, matcher: &mut Matcher<'_>, line: &str) -> Option<Spans>
-    ensures found { result ≡ option_map (spans_of rule.now) (find_str (matcher_pattern matcher.old) line.now 0) }
+    ensures found { result ≡ option_map (spans_of rule.now)
+        (find_str (matcher_pattern matcher.old) line.now 0) }
     ensures within { IfSome result (λ s. IfSome s.typ (IsSpanOf line.now)
         × IfSome s.trace (IsSpanOf line.now)
         × IfSome s.time (IsSpanOf line.now)) }
