@@ -15,7 +15,7 @@ position-miss b bytes other = cond-true _ _ _ (not_from_false _ other) ∙ omega
 same : (n : ℕ) → suc (n + 1) ≡ suc n + 1
 same n = omega arith
 
--- with a line feed
+-- bytes with a line feed: the first piece stands before it, and the others are those of what stands behind it
 pub pieces-cut : (bytes : List ℕ) (n : ℕ) → n ≡ position_or_len is_feed bytes → n < length bytes → pieces bytes ≡ take n bytes ∷ pieces (drop (n + 1) bytes)
 pieces-cut [] n at inside = absurd (omega arith)
 pieces-cut (b ∷ bytes) zero at inside = ⊎_elim
@@ -27,7 +27,7 @@ pieces-cut (b ∷ bytes) (suc n) at inside = ⊎_elim
     (λ other. cond-false _ _ _ other ∙ (ap (on_first b) (pieces-cut bytes n (omega (arith, position-miss b bytes other)) (omega arith)) ∙ ap (λ k. (b ∷ take n bytes) ∷ pieces (drop k (b ∷ bytes))) (same n)))
     (cases_Bool (b == 10))
 
--- with none
+-- bytes with none are one piece
 pub pieces-last : (bytes : List ℕ) → length bytes ≤ position_or_len is_feed bytes → 0 < length bytes → pieces bytes ≡ bytes ∷ []
 pieces-last [] past some = absurd (omega arith)
 pieces-last (b ∷ []) past some = ⊎_elim
