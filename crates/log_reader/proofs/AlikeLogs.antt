@@ -92,7 +92,7 @@ pub alike-refusal : (rs ss : List Rule) (ignore join : Bool) (files : List (List
     → first_refusal (setting (Rules rs) ignore join) files ≡ first_refusal (setting (Rules ss) ignore join) files
 alike-refusal rs ss ignore join files alike = same-files_refusal (Rules rs) (Rules ss) (same-piece rs ss alike) ignore join 0 0 [] MAX_INPUT_BYTES files
 
--- and the same events
+-- rules that are alike find the same events
 pub alike-events : (rs ss : List Rule) (ignore join : Bool) (files : List (List ℕ)) → AreAlike rs ss
     → events_of (setting (Rules rs) ignore join) files ≡ events_of (setting (Rules ss) ignore join) files
 alike-events rs ss ignore join files alike = same-file_events (Rules rs) (Rules ss) (same-piece rs ss alike) ignore join 0 0 files

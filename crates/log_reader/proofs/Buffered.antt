@@ -168,8 +168,6 @@ searches-on first now next before mid after searched n some way stays mark opens
       reached = omega (arith, ap (position_or_len is_feed) bytes, reached-more now.buffered more.got none);
     }
 
--- why a piece is refused
-
 past : (a b : ℕ) → a < b → nat_lt a b ≡ true
 past a b over = grind (arith, nat_tests)
 
@@ -187,6 +185,7 @@ refused-long : (cut : Bool) (n : ℕ) (ps : List (List ℕ)) → MAX_LINE_BYTES 
 refused-long cut n ps over first =
     ap (first_piece_refusal cut) first.is ∙ cond-true (nat_lt MAX_LINE_BYTES (length first.piece)) _ _ (past MAX_LINE_BYTES (length first.piece) (omega (arith, first.long)))
 
+-- a piece that is longer than a line may be is refused as too long
 too-long : (bytes more : List ℕ) (taken n : ℕ) → taken + length bytes ≤ MAX_INPUT_BYTES + 1 → n ≡ position_or_len is_feed bytes → n ≤ length bytes → MAX_LINE_BYTES < n
     → refusal_to_come taken (bytes ++ more) ≡ Some TooLong
 too-long bytes more taken n within first inside over =
@@ -214,6 +213,7 @@ last-piece bytes n false first whole some =
     let none : list_any is_feed bytes ≡ false = subst (λ bs. list_any is_feed bs ≡ false) all (none-before bytes n (omega arith)) in
     piece-alone bytes none some ∙ ap (λ bs. bs ∷ []) (sym all)
 
+-- a piece with the byte past the limit on all input is refused for the limit
 past-limit : (bytes more : List ℕ) (taken n : ℕ) (fed : Bool) → taken ≤ MAX_INPUT_BYTES → taken + length bytes ≤ MAX_INPUT_BYTES + 1 → n ≡ position_or_len is_feed bytes → n + feed_bytes fed ≤ length bytes
     → n ≤ MAX_LINE_BYTES → MAX_INPUT_BYTES < taken + n + feed_bytes fed → refusal_to_come taken (bytes ++ more) ≡ Some InputLimit
 past-limit bytes more taken n fed limit within first inside short over =

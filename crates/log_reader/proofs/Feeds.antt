@@ -12,8 +12,6 @@ hit b bytes feed = cond-false _ _ _ (not_from_true _ feed)
 miss : (b : ℕ) (bytes : List ℕ) → is_feed b ≡ false → position_or_len is_feed (b ∷ bytes) ≡ position_or_len is_feed bytes + 1
 miss b bytes other = cond-true _ _ _ (not_from_false _ other) ∙ omega arith
 
--- a search from a place on, before which no line feed stands
-
 skipped : (n : ℕ) (bytes : List ℕ) → n ≤ length bytes → n ≤ position_or_len is_feed bytes → position_or_len is_feed bytes ≡ n + position_or_len is_feed (drop n bytes)
 skipped zero bytes inside before = omega arith
 skipped (suc n) [] inside before = absurd (omega arith)
@@ -30,19 +28,19 @@ found-none : (bytes : List ℕ) → IsFirstByte (is_byte 10) bytes None → posi
 found-none bytes none =
     position_or_len_is is_feed bytes (length bytes) 0 (omega arith) (λ k below. false_from_ne_true _ (none k (omega arith) below)) (λ inside. absurd (omega arith))
 
+-- where a search behind bytes without a line feed finds one, that is the first line feed of all
 pub search-found : (searched n : ℕ) (bytes : List ℕ) → searched ≤ length bytes → searched ≤ position_or_len is_feed bytes
     → IsFirstByte (is_byte 10) (take (length bytes - searched) (drop searched bytes)) (Some n) → searched + n ≡ position_or_len is_feed bytes
 search-found searched n bytes inside before first =
     let rest : take (length bytes - searched) (drop searched bytes) ≡ drop searched bytes = take_all _ _ (omega (arith, length-drop searched bytes)) in
     omega (arith, skipped searched bytes inside before, found-at (drop searched bytes) n (subst (λ bs. IsFirstByte (is_byte 10) bs (Some n)) rest first))
 
+-- where a search behind bytes without a line feed finds none, the bytes have none
 pub search-none : (searched : ℕ) (bytes : List ℕ) → searched ≤ length bytes → searched ≤ position_or_len is_feed bytes
     → IsFirstByte (is_byte 10) (take (length bytes - searched) (drop searched bytes)) None → position_or_len is_feed bytes ≡ length bytes
 search-none searched bytes inside before none =
     let rest : take (length bytes - searched) (drop searched bytes) ≡ drop searched bytes = take_all _ _ (omega (arith, length-drop searched bytes)) in
     omega (arith, skipped searched bytes inside before, found-none (drop searched bytes) (subst (λ bs. IsFirstByte (is_byte 10) bs None) rest none), length-drop searched bytes)
-
--- the first piece, by the place of the first line feed
 
 -- before the first line feed there is none
 pub none-before : (bytes : List ℕ) (n : ℕ) → n ≤ position_or_len is_feed bytes → list_any is_feed (take n bytes) ≡ false
@@ -56,7 +54,7 @@ none-before (b ∷ bytes) (suc n) before = ⊎_elim
 same : (n : ℕ) → suc (n + 1) ≡ suc n + 1
 same n = omega arith
 
--- at it stands one
+-- at the place of the first line feed stands one
 pub feed-at : (bytes : List ℕ) (n : ℕ) → n ≡ position_or_len is_feed bytes → n < length bytes → drop n bytes ≡ 10 ∷ drop (n + 1) bytes
 feed-at [] n at inside = absurd (omega arith)
 feed-at (b ∷ bytes) zero at inside = ⊎_elim

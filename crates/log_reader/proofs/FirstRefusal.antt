@@ -9,7 +9,7 @@ use Rattle.lines.specs.Lines.{pieces}
 use Rattle.traces.specs.Words.{Event as KeyedEvent}
 use Rattle.log_reader.specs.Inputs.{file_past}
 use Rattle.log_reader.specs.Reading as spec
-use Rattle.log_reader.specs.Reading.{Form, Setting, Decided, decided_piece, section_after, section_at_end, next_section, piece_events, key_file, at_line, line_events, first_of, piece_refusal, line_refusal, limit_refusal, pieces_refusal, bytes_refusal, files_refusal, first_refusal}
+use Rattle.log_reader.specs.Reading.{Form, Setting, Decided, decided_piece, section_after, section_at_end, next_section, piece_events, key_file, at_line, line_events, first_of, piece_refusal, line_refusal, limit_refusal, pieces_refusal, files_refusal, first_refusal}
 use Rattle.log_reader.specs.LogLines.{Line, lines_of, own_events, events_at, AreTaken, IsTaken, AllTaken, TellsRefusal, TellsPast, total_bytes, up_to}
 use Rattle.log_reader.specs.declared.refusal.At.{At}
 use Rattle.log_reader.specs.declared.refusal.ReadError.{ReadError}
@@ -27,8 +27,7 @@ many-lines : (form : Form) (number section line : ℕ) (ps : List (List ℕ)) �
 many-lines form number section line [] = refl
 many-lines form number section line (p ∷ ps) = ap (λ n. suc n) (many-lines form number (section_after section (decided_piece form p)) (line + 1) ps)
 
--- the file that the limit cuts
-
+-- the refusal of a file that the limit cuts is that of its lines
 cut-file : (s : Setting) (number section : ℕ) (before : List KeyedEvent) (line : ℕ) (ps : List (List ℕ))
     → pieces_refusal s number true section before line ps ≡ lines_refusal s true before (piece_lines s.form number section line ps)
 cut-file s number section before line [] = refl
@@ -51,8 +50,6 @@ settled s before (l ∷ m ∷ ls) next some =
     settled-one (true && length (m ∷ ls) == 0) (limit_refusal l.at l.piece) (piece_refusal s l.at before l.piece) (lines_refusal s true (before ++ own_events s l) (m ∷ ls)) next
     (settled s (before ++ own_events s l) (m ∷ ls) next (omega arith))
 
--- a file before that one
-
 first-assoc : (x y z : Option ReadError) → first_of (first_of x y) z ≡ first_of x (first_of y z)
 first-assoc None y z = refl
 first-assoc (Some e) y z = refl
@@ -61,6 +58,7 @@ not-last : (over : Bool) (n : ℕ) → (over ≡ true → 0 < n) → (over && n 
 not-last false n some = refl
 not-last true n some = let more : 0 < n = some refl in grind (arith, nat_tests)
 
+-- the refusal of a file that the limit does not cut, and then of what follows, is that of the lines of both
 whole-file : (s : Setting) (over : Bool) (number section : ℕ) (before : List KeyedEvent) (line : ℕ) (ps : List (List ℕ)) (rest : List Line) → (over ≡ true → 0 < length rest)
     → first_of (pieces_refusal s number false section before line ps) (lines_refusal s over (before ++ piece_events s.form (key_file s number) section ps) rest)
     ≡ lines_refusal s over before (piece_lines s.form number section line ps ++ rest)
@@ -77,8 +75,6 @@ whole-file s over number section before line (p ∷ ps) rest some =
     ∙ (ap (λ es. first_of here (first_of next (lines_refusal s over es rest))) (sym (append_assoc before more (piece_events s.form (key_file s number) later ps)))
     ∙ (ap (first_of here) (whole-file s over number later (before ++ more) (line + 1) ps rest some)
     ∙ sym (cond-false (over && length behind == 0) (Some (limit_refusal (at_line number line) p)) (first_of here (lines_refusal s over (before ++ more) behind)) (not-last over (length behind) long))))
-
--- all files
 
 some-of-file : (form : Form) (number section line : ℕ) (bytes : List ℕ) → 0 < length bytes → 0 < length (piece_lines form number section line (pieces bytes))
 some-of-file form number section line bytes some = omega (arith, many-lines form number section line (pieces bytes), some-pieces bytes some)
@@ -129,6 +125,7 @@ some-lines s number section room (bytes ∷ files) over = ⊎_elim
     (omega (arith, length-append ls rest, some-lines s (number + 1) later (room - length bytes) files (sym (same-total room bytes files fits) ∙ over))))
     (cases_lt room (length bytes))
 
+-- the refusal of all files is that of their lines up to the limit
 all-refused : (s : Setting) (number section : ℕ) (before : List KeyedEvent) (room : ℕ) (files : List (List ℕ))
     → files_refusal s number section before room files ≡ lines_refusal s (nat_lt room (total_bytes files)) before (files_lines s number section (up_to room files))
 all-refused s number section before room [] = refl
@@ -156,8 +153,6 @@ all-refused s number section before room (bytes ∷ files) =
     ∙ ap₂ (λ (b : Bool) (xs : List Line). lines_refusal s b before xs) (sym (same-total room bytes files fits))
     (sym (ap (files_lines s number section) (cut-later room bytes files fits))))))
     (cases_lt room (length bytes))
-
--- what the first refusal of lines says of each
 
 abbrev AreTakenAfter : Setting → List KeyedEvent → List Line → Type 0
 AreTakenAfter s before lines = (front : List Line) (l : Line) (rest : List Line) → lines ≡ front ++ l ∷ rest → piece_refusal s l.at (before ++ events_at s front) l.piece ≡ None
@@ -191,6 +186,7 @@ none-here true e here next is = absurd (none-some e (sym is))
 none-here false e None next is = (refl, is)
 none-here false e (Some x) next is = absurd (none-some x (sym is))
 
+-- where lines are not refused, each of them is taken
 none-taken : (s : Setting) (over : Bool) (before : List KeyedEvent) (lines : List Line) → lines_refusal s over before lines ≡ None → AreTakenAfter s before lines
 none-taken s over before [] is = taken-nil s before
 none-taken s over before (x ∷ xs) is =
@@ -230,12 +226,11 @@ first-step s over before x xs e false None test own is later = first-later s ove
 first-step s over before x xs e false (Some y) test own is later =
     first-here s over before x xs e (cond-false (over && length xs == 0) (Some (limit_refusal x.at x.piece)) (piece_refusal s x.at before x.piece) test ∙ (own ∙ is))
 
+-- the first refusal of lines is that of a line, and no line before it is refused
 some-first : (s : Setting) (over : Bool) (before : List KeyedEvent) (lines : List Line) (e : ReadError) → lines_refusal s over before lines ≡ Some e → First s over before lines e
 some-first s over before [] e is = absurd (none-some e is)
 some-first s over before (x ∷ xs) e is =
     first-step s over before x xs e (over && length xs == 0) (piece_refusal s x.at before x.piece) refl refl is (some-first s over (before ++ own_events s x) xs e)
-
--- the law
 
 up_to-all : (room : ℕ) (files : List (List ℕ)) → total_bytes files ≤ room → up_to room files ≡ files
 up_to-all room [] within = refl
@@ -243,6 +238,7 @@ up_to-all room (bytes ∷ files) within =
     let fits : length bytes ≤ room = omega (arith, total-cons bytes files) in
     cut-later room bytes files fits ∙ ap (λ (fs : List (List ℕ)). bytes ∷ fs) (up_to-all (room - length bytes) files (omega (arith, total-cons bytes files)))
 
+-- the first refusal of a log is that of its lines up to the limit
 refusal-is : (s : Setting) (files : List (List ℕ)) → first_refusal s files ≡ lines_refusal s (nat_lt MAX_INPUT_BYTES (total_bytes files)) [] (lines_of s (up_to MAX_INPUT_BYTES files))
 refusal-is s files =
     all-refused s 0 0 [] MAX_INPUT_BYTES files ∙ ap (lines_refusal s (nat_lt MAX_INPUT_BYTES (total_bytes files)) []) (met-lines s (up_to MAX_INPUT_BYTES files))
@@ -270,8 +266,6 @@ tells-of s files (Some e) is =
 pub tells-refusal : (s : Setting) (files : List (List ℕ)) → TellsRefusal s files (first_refusal s files)
 tells-refusal s files = tells-of s files (first_refusal s files) (sym (refusal-is s files))
 
--- each line of a log that is not refused is decided or skipped
-
 none-else : (b : Bool) (e : ReadError) (o : Option ReadError) → cond b (Some e) o ≡ None → o ≡ None
 none-else true e o is = absurd (none-some e (sym is))
 none-else false e o is = is
@@ -284,15 +278,14 @@ line-taken true at before spec.Undecided is = refl
 line-taken false at before spec.Undecided is = absurd (none-some (refused.Undecided at) (sym is))
 line-taken ignore at before spec.BadTime is = absurd (none-some (refused.BadTime at) (sym is))
 
--- so it is of a whole log
+-- where a log is not refused, each of its lines is decided or skipped
 pub all-taken : (s : Setting) (files : List (List ℕ)) → AllTaken s files
 all-taken s files none front l rest is =
     let taken : TellsRefusal s files None = subst (TellsRefusal s files) none (tells-refusal s files) in
     line-taken s.ignore l.at (events_at s front) (decided_piece s.form l.piece)
     (none-else (nat_lt MAX_LINE_BYTES (length l.piece)) (refused.LineTooLong l.at) (line_refusal s.ignore l.at (events_at s front) (decided_piece s.form l.piece)) (taken.1 front l rest is))
 
--- the file with the byte past the limit
-
+-- the file with the first byte past so many is counted on over a file before it
 past-more : (room : ℕ) (bytes : List ℕ) (files : List (List ℕ)) → length bytes ≤ room → (o : Option ℕ) → TellsPast (room - length bytes) files o
     → TellsPast room (bytes ∷ files) (option_map (λ number. number + 1) o)
 past-more room bytes files fits None tells = omega (arith, total-cons bytes files, tells)

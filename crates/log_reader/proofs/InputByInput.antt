@@ -56,8 +56,6 @@ at-end : (names : List (List ℕ)) → drop (length names) names ≡ []
 at-end [] = refl
 at-end (x ∷ names) = at-end names
 
--- before the first input
-
 plus-zero : (o : Option ℕ) → option_map (λ n. n + 0) o ≡ o
 plus-zero None = refl
 plus-zero (Some n) = ap (λ (k : ℕ). Some k) (omega arith)
@@ -66,7 +64,7 @@ contents-none : (told : Option Files) (names : List (List ℕ)) → HasContents 
 contents-none None names = tt
 contents-none (Some files) names = (refl, sym (plus-zero (first_lacking files names)))
 
--- before the first input
+-- before the first input none was read
 pub up-to-none : (s : Setting) (names : List (List ℕ)) (old : InputState) (reader : LogReader) → IsReady reader → setting_of reader ≡ s → reader.log.section ≡ 0 → reader.log.builder ≡ gathered_of []
     → IsUpTo s names 0 old old reader MAX_INPUT_BYTES
 up-to-none s names old reader ready setting section log = record {
@@ -87,8 +85,6 @@ up-to-none s names old reader ready setting section log = record {
   refusal = λ rest. ap (λ n. files_refusal s 0 n [] MAX_INPUT_BYTES rest) (sym section);
   parts = λ rest. ap (λ n. file_events s 0 n rest) (sym section);
 }
-
--- one input more
 
 plus-one : (k : ℕ) (o : Option ℕ) → option_map (λ n. n + k) (option_map (λ n. n + 1) o) ≡ option_map (λ n. n + (k + 1)) o
 plus-one k None = refl
@@ -117,7 +113,7 @@ pub opened-so : (a b k : ℕ) → (k ≡ 0 → b ≡ a) → (0 < k → b ≡ min
 opened-so a b zero none some = none refl
 opened-so a b (suc k) none some = some (omega arith)
 
--- and one more
+-- so many inputs and one more were opened
 pub opened-next : (a b c k : ℕ) → (k ≡ 0 → b ≡ a) → (0 < k → b ≡ min (a + k) (2 ^ 64 - 1)) → c ≡ next_call b → c ≡ opens_after a (k + 1)
 opened-next a b c k none some next =
     let one : suc k ≡ k + 1 = omega arith in
@@ -172,8 +168,6 @@ up-to-more s names k old before after reader new room left name so_far at stays 
           ∙ (so_far.parts (content ∷ rest)
           ∙ (ap (λ n. events ++ (more ++ file_events s (k + 1) n rest)) (sym next) ∙ sym (append_assoc events more (file_events s (k + 1) new.log.section rest))));
     }
-
--- after the last input
 
 some-all : (told : Option Files) (names contents : List (List ℕ)) (P : List (List ℕ) → Type 0) → length contents ≡ length names → HasContents told names (length names) contents → P contents → SomeContents told names P
 some-all None names contents P many has holds = (contents, omega arith, holds)

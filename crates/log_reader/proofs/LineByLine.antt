@@ -25,8 +25,6 @@ use Rattle.log_reader.specs.declared.refusal.ReadError.TheVariants as refused
 use Rattle.log_reader.proofs.Feeds.{piece-first, piece-alone}
 use Rattle.log_reader.proofs.PieceByPiece.{IsPartWay, way-more, way-refused, reads-piece, piece-in, few-more, some-pieces}
 
--- pieces in a row
-
 -- pieces with their line feeds stand before those of what follows
 front-pieces : (front : List (List ℕ)) (rest : List ℕ) → HaveNoFeed front → pieces (with_feeds front ++ rest) ≡ front ++ pieces rest
 front-pieces [] rest none = refl
@@ -56,8 +54,6 @@ and-no false b rule = refl
 -- where a piece is left, it is not the last that a cut file has behind it
 more-left : (cut : Bool) (piece : List ℕ) (rest : List (List ℕ)) → (cut && length (piece ∷ rest) == 0) ≡ false
 more-left cut piece rest = and-no cut (length (piece ∷ rest) == 0) (λ is. no-length (length (piece ∷ rest)) (omega arith))
-
--- an input that is read up to a line
 
 -- the lines before the next one were taken in
 pub record IsReading (number : ℕ) (start now : InputState) (first lines : SeenLines) (old reader : LogReader) : Type 0 where
@@ -123,8 +119,6 @@ way-further number front old reader new line next piece is way reads cut rest un
     subst (λ n. IsPartWay number cut ((front ++ piece ∷ []) ++ rest) old new n rest) (sym is)
     (subst (λ all. IsPartWay number cut all old new (line + 1) rest) (sym (append_assoc front (piece ∷ []) rest))
     (way-more number cut (front ++ piece ∷ rest) old reader new line piece (piece ∷ rest) rest (way cut (piece ∷ rest) (more-left cut piece rest)) refl uncut reads))
-
--- what a given line takes of the bytes to come
 
 -- all that was read, with the bytes of the line behind those before it
 line-read : (start before after : InputState) (front : List (List ℕ)) (held got taken : List ℕ)
@@ -254,8 +248,6 @@ reading-ends-in-line number start before after first lines next old reader new b
           (all-read number old new (lines.number + 1 + 1) all (way-further number way.front old reader new (lines.number + 1) (lines.number + 1 + 1) piece refl way.way as_piece false [] refl));
     }
 
--- what is refused
-
 -- the pieces up to the limit, behind those that were taken in
 cut-front : (front : List (List ℕ)) (room left : ℕ) (rest : List ℕ) → HaveNoFeed front → length (with_feeds front) + left ≡ room
     → pieces (take (room + 1) (with_feeds front ++ rest)) ≡ front ++ pieces (take (left + 1) rest)
@@ -352,6 +344,7 @@ pub record StandsFirst (left : ℕ) (piece bytes : List ℕ) : Type 0 where
   pub are : pieces (take (left + 1) bytes) ≡ piece ∷ after
   pub uncut : (nat_lt left (length bytes) && length after == 0) ≡ false
 
+-- a piece that fits the limit with its line feed stands so, whatever stands behind it
 pub stands-first : (left : ℕ) (piece rest : List ℕ) (fed : Bool) → list_any is_feed piece ≡ false → length piece + feed_bytes fed ≤ left → (fed ≡ false → (0 < length piece) × (rest ≡ []))
     → StandsFirst left piece (piece ++ (feed_if fed ++ rest))
 stands-first left piece rest true none fits last =
@@ -431,8 +424,6 @@ reading-fails number start before after first lines last old reader e way fails 
       );
     }
 
--- what a call tells of an input whose rest is told
-
 left-of : (before after : Option (List ℕ)) (rest got : List ℕ) → before ≡ Some rest → Consumes before after got → (left : List ℕ) × (after ≡ Some left) × (rest ≡ got ++ left)
 left-of before after rest got told read = by after (subst (λ o. Consumes o after got) told read)
   where
@@ -459,6 +450,7 @@ feed-length false = refl
 end-is : (rest left : List ℕ) (after : Option (List ℕ)) → after ≡ Some left → IsAtEnd after → left ≡ []
 end-is rest left after is at_end = subst IsAtEnd is at_end
 
+-- a line that is given is the first of the bytes to come, and those behind it are still to come
 pub tells-line : (old new : SeenLines) (before after : InputState) (rest : List ℕ) → before.rest ≡ Some rest → GivesLine old new before after → TellsLine old new rest after.rest
 tells-line old new before after rest told gives =
     let piece = gives.piece in
@@ -482,11 +474,13 @@ tells-line old new before after rest told gives =
           (stands-first (MAX_INPUT_BYTES - old.taken) piece behind new.fed gives.no_feed (omega (arith, gives.taken, gives.within)) last);
     }
 
+-- where no line is given no byte is to come
 pub tells-none : (old new : SeenLines) (before after : InputState) (rest : List ℕ) → before.rest ≡ Some rest → GivesNone old new before after → old.buffered ++ rest ≡ []
 tells-none old new before after rest told none =
     let parts = left-of before.rest after.rest rest [] told none.read in
     ap₂ (λ (xs ys : List ℕ). xs ++ ys) none.nothing (parts.2 ∙ end-is rest parts.0 after.rest parts.1 none.at_end)
 
+-- a refusal is the first in the bytes to come
 pub tells-refusal : (old new : SeenLines) (before after : InputState) (rest : List ℕ) (e : LineError) → before.rest ≡ Some rest → RefusesPiece old new before after e
     → refusal_to_come old.taken (old.buffered ++ rest) ≡ Some e
 tells-refusal old new before after rest e told refuses =

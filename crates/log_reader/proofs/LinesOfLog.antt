@@ -22,8 +22,6 @@ files_lines s number section [] = []
 files_lines s number section (bytes ∷ files) =
     piece_lines s.form number section 1 (pieces bytes) ++ files_lines s (number + 1) (next_section s (section_at_end s.form section (pieces bytes))) files
 
--- sections are counted by their separators
-
 after-one : (section : ℕ) (d : Decided) → section_after section d ≡ section + cond (is_separator d) 1 0
 after-one section (spec.Event typ trace time) = omega arith
 after-one section spec.Skip = omega arith
@@ -41,12 +39,11 @@ separators-more form base section front p is =
     let sum = sum_by-append (λ q. cond (is_separator (decided_piece form q)) 1 0) front (p ∷ []) in
     omega (arith, is, one, sum)
 
+-- sections are counted by their separators
 at-end : (form : Form) (section : ℕ) (ps : List (List ℕ)) → section_at_end form section ps ≡ section + separators form ps
 at-end form section [] = omega arith
 at-end form section (p ∷ ps) =
     omega (arith, at-end form (section_after section (decided_piece form p)) ps, after-one section (decided_piece form p), separators-cons form p ps)
-
--- the lines of one file
 
 module _ (form : Form) (number base : ℕ) (all : List (List ℕ)) where
   -- a line by its place in the file
@@ -63,11 +60,10 @@ module _ (form : Form) (number base : ℕ) (all : List (List ℕ)) where
       let rest = lines-placed (front ++ p ∷ []) ps (n + 1) (section_after section (decided_piece form p)) (is ∙ sym (append_assoc front (p ∷ []) ps)) more (separators-more form base section front p sum) in
       ap₂ (λ (sec : ℕ) (ls : List Line). record { at = at_line number (n + 1); section = sec; piece = p } ∷ ls) here rest
 
+-- the lines of one file, as a reader meets them
 one-file : (s : Setting) (before : List (List ℕ)) (number section : ℕ) (ps : List (List ℕ)) → section ≡ separators_before s before
     → piece_lines s.form number section 1 ps ≡ file_lines s before number ps
 one-file s before number section ps is = lines-placed s.form number (separators_before s before) ps [] ps 0 section refl refl (omega (arith, is))
-
--- the lines of all files
 
 next-base : (join : Bool) (form : Form) (section : ℕ) (front : List (List ℕ)) (bytes : List ℕ) → section ≡ cond join (separators_in form front) 0
     → cond join (section_at_end form section (pieces bytes)) 0 ≡ cond join (separators_in form (front ++ bytes ∷ [])) 0
@@ -95,8 +91,6 @@ none-before false form = refl
 pub met-lines : (s : Setting) (files : List (List ℕ)) → files_lines s 0 0 files ≡ lines_of s files
 met-lines s files = all-files s files [] files 0 0 refl refl (none-before s.join s.form)
 
--- the events of a log are those of its lines
-
 piece-own : (s : Setting) (number section line : ℕ) (ps : List (List ℕ)) → piece_events s.form (key_file s number) section ps ≡ events_at s (piece_lines s.form number section line ps)
 piece-own s number section line [] = refl
 piece-own s number section line (p ∷ ps) =
@@ -110,6 +104,6 @@ file-own s number section (bytes ∷ files) =
     ap₂ (λ (xs ys : List KeyedEvent). xs ++ ys) (piece-own s number section 1 (pieces bytes)) (file-own s (number + 1) (next_section s (section_at_end s.form section (pieces bytes))) files)
     ∙ sym (flat_map-append (own_events s) here later)
 
--- so the key of each names its file and the separators before it
+-- the events of a log are those of its lines
 pub events-own : (s : Setting) (files : List (List ℕ)) → events_of s files ≡ events_at s (lines_of s files)
 events-own s files = file-own s 0 0 files ∙ ap (events_at s) (met-lines s files)

@@ -19,8 +19,6 @@ use Rattle.log_reader.specs.declared.refusal.ReadError.TheVariants as refused
 use Rattle.log_reader.specs.declared.reader.LogReader.{LogReader}
 use Rattle.log_reader.specs.SoFar.{decided_line, decider_view, setting_of, IsGatheredOf, IsReady, IsRefusal, TakesLine, refusal_in, piece_refusal_in, ReadsText, ReadsPiece, IsPiecesRefusal}
 
--- one piece
-
 short : (n : ℕ) → n ≤ MAX_LINE_BYTES → nat_lt MAX_LINE_BYTES n ≡ false
 short n h = grind (arith, nat_tests)
 
@@ -47,8 +45,7 @@ reads-piece at piece old new d few is reads = record {
   reads = subst (λ d. ReadsText at d old new) is reads;
 }
 
--- the refusals of a line after some events, by what was gathered of them
-
+-- the refusal of a line after some events, by what was gathered of them
 same-refusal : (ignore : Bool) (at : At) (log : Gathering) (events : List KeyedEvent) → IsGatheredOf log events → (d : Decided) → line_refusal ignore at events d ≡ refusal_in ignore at log d
 same-refusal ignore at log events so_far (spec.Event typ trace time) =
     ap₂ (λ types count. event_refusal at types count typ trace)
@@ -70,8 +67,6 @@ section-few section spec.Separator = omega arith
 section-few section spec.Undecided = omega arith
 section-few section spec.BadTime = omega arith
 
--- a piece stands wherever a byte does
-
 some-first : (b : ℕ) (ps : List (List ℕ)) → 0 < length (on_first b ps)
 some-first b [] = omega arith
 some-first b (p ∷ ps) = omega arith
@@ -83,8 +78,6 @@ some-pieces (b ∷ bytes) some = ⊎_elim
     (λ feed. subst (λ ps. 0 < length ps) (sym (cond-true (b == 10) ([] ∷ pieces bytes) (on_first b (pieces bytes)) feed)) (omega arith))
     (λ other. subst (λ ps. 0 < length ps) (sym (cond-false (b == 10) ([] ∷ pieces bytes) (on_first b (pieces bytes)) other)) (some-first b (pieces bytes)))
     (cases_Bool (b == 10))
-
--- a file that is read up to a piece
 
 -- the pieces up to these were taken in, after these events
 pub record IsPart (s : Setting) (number : ℕ) (cut : Bool) (first : ℕ) (all : List (List ℕ)) (events : List KeyedEvent) (section : ℕ) (log : Gathering) (line : ℕ) (rest : List (List ℕ)) : Type 0 where

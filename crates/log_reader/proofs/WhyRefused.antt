@@ -12,7 +12,7 @@ use Rattle.limits.specs.declared.TheConstants.{MAX_EVENTS, MAX_INPUT_BYTES, MAX_
 use Rattle.lines.specs.Lines.{pieces}
 use Rattle.traces.specs.Words.{Event as KeyedEvent, types_of}
 use Rattle.log_reader.specs.Reading as spec
-use Rattle.log_reader.specs.Reading.{Setting, Decided, decided_piece, line_events, piece_events, section_after, section_at_end, key_file, next_section, at_line, first_of, event_refusal, line_refusal, piece_refusal, limit_refusal, bytes_refusal, pieces_refusal, files_refusal, first_refusal}
+use Rattle.log_reader.specs.Reading.{Setting, Decided, decided_piece, line_events, piece_events, section_after, section_at_end, key_file, next_section, at_line, first_of, event_refusal, line_refusal, piece_refusal, bytes_refusal, pieces_refusal, files_refusal, first_refusal}
 use Rattle.log_reader.specs.Inputs.{with_content, told_contents, lacking, first_lacking, file_past, SomeContents, refused_input, IsRefusedAt, RefusesLog, IsLacking, StopsBefore, StopsWithin, Fails, IsMissing, HasReadCause}
 use Rattle.log_reader.specs.Files.{HasContent, RefusesFile, IsUnread, HasFileCause}
 use Rattle.log_reader.specs.declared.reader.LogReader.{LogReader}
@@ -21,8 +21,7 @@ use Rattle.log_reader.specs.declared.refusal.ReadError.{ReadError}
 use Rattle.log_reader.specs.declared.refusal.ReadError.TheVariants as refused
 use Rattle.log_reader.proofs.InputByInput.{HasContents, IsUpTo, next-name, opens-next, opened-so, opened-next}
 
--- each refusal of a file's lines names a line of that file, or is the limit on all input, where that cuts the file
-
+-- a refusal names a line of this file, or is the limit on all input, where that cuts the file
 abbrev IsOfFile : ℕ → Bool → Option ReadError → Type 0
 IsOfFile number cut None = Unit {0}
 IsOfFile number cut (Some (refused.LineTooLong at)) = at.file ≡ number
@@ -68,6 +67,7 @@ of-decided ignore at cut before spec.Separator = tt
 of-decided ignore at cut before spec.Undecided = of-cond at.file cut ignore None (Some (refused.Undecided at)) tt refl
 of-decided ignore at cut before spec.BadTime = refl
 
+-- each refusal of a file's lines is one of that file
 of-pieces : (s : Setting) (number : ℕ) (cut : Bool) (section : ℕ) (before : List KeyedEvent) (line : ℕ) (ps : List (List ℕ)) → IsOfFile number cut (pieces_refusal s number cut section before line ps)
 of-pieces s number cut section before line [] = tt
 of-pieces s number cut section before line (p ∷ ps) =
@@ -99,11 +99,10 @@ never-fault : (s : Setting) (told : Option Files) (names : List (List ℕ)) (n n
 never-fault s None names n number some = none-some number some.2.1
 never-fault s (Some files) names n number some = none-some number some.1
 
--- the three causes of an answer
-
 IsUnreadable : Setting → List (List ℕ) → InputState → InputState → ReadError → Type 0
 IsUnreadable s names old new e = (number : ℕ) × (e ≡ refused.ReadFault number) × (Fails names old new number ⊎ IsMissing s names old new number)
 
+-- the three causes of an answer
 Causes : Setting → List (List ℕ) → InputState → InputState → ReadError → Type 0
 unfolding IsUnreadable
 Causes s names old new e = (e ≡ refused.Memory) ⊎ (IsUnreadable s names old new e ⊎ RefusesLog s names old new e)
@@ -135,8 +134,6 @@ cause-of s names old new (refused.EventLimit at) causes = of-lines s names old n
 cause-of s names old new refused.InputLimit causes = of-lines s names old new refused.InputLimit (λ is. cc) (λ n is. cc) causes
 cause-of s names old new refused.Memory causes = tt
 
--- an input that could not be read
-
 lacking-at : (s : Setting) (told : Option Files) (names : List (List ℕ)) (k : ℕ) (contents : List (List ℕ)) (name : List ℕ) → slice_get names k ≡ Some name
     → HasContents told names k contents → Lacks told name → first_refusal s contents ≡ None → IsLacking s told names k
 lacking-at s None names k contents name at has lacks none = absurd lacks
@@ -165,6 +162,7 @@ stopped s names k old before after reader room name so_far at = ⊎_elim
           (subst (λ f. IfTold f name (λ content. LosesFront (Some content) after.rest room)) so_far.stays.files named.left);
     })))
 
+-- an input that could not be read is a cause of the log's answer
 unreadable : (s : Setting) (names : List (List ℕ)) (k : ℕ) (old before after : InputState) (reader : LogReader) (room : ℕ) (name : List ℕ) (e : ReadError)
     → IsUpTo s names k old before reader room → slice_get names k ≡ Some name → IsUnread before after name k room e → IsUnreadable s names old after e
 unfolding IsUnreadable
@@ -188,8 +186,6 @@ unreadable s names k old before after reader room name e so_far at unread = (
       unread.cause,
 )
 
--- an input that is refused
-
 below-at : (names : List (List ℕ)) (k : ℕ) (name : List ℕ) → slice_get names k ≡ Some name → k < length names
 below-at [] k name at = absurd (none-some name at)
 below-at (x ∷ names) zero name at = omega arith
@@ -203,6 +199,7 @@ some-refused (Some files) names k contents name content P at many has told each 
     let later = drop (k + 1) names in
     subst P (sym (has.0 ∙ (ap (λ ns. contents ++ told_contents files ns) (next-name names k name at) ∙ ap (λ o. contents ++ with_content o (told_contents files later)) told))) (each (told_contents files later))
 
+-- the first refusal of an input is that of the log
 refused-log : (s : Setting) (names : List (List ℕ)) (k : ℕ) (old before after : InputState) (reader : LogReader) (room : ℕ) (name : List ℕ) (e : ReadError)
     → IsUpTo s names k old before reader room → slice_get names k ≡ Some name → RefusesFile before after name k room reader e → RefusesLog s names old after e
 refused-log s names k old before after reader room name e so_far at refuses =

@@ -39,12 +39,14 @@ pub record IsSound (buf : List ℕ) (from to : ℕ) (line : Option Part) (number
   pub within : taken + (to - from) ≤ MAX_INPUT_BYTES + 1
 
 -- what a read into a buffer behind so many bytes leaves
-abbrev pub ReadsBehind : {E : Type 0} → InputState → ℕ → ℕ → List ℕ → Result ℕ E → List ℕ → InputState → Type 0
+abbrev pub ReadsBehind : {E : Type 0} → InputState → ℕ → ℕ → List ℕ → Result ℕ E → List ℕ → InputState
+    → Type 0
 ReadsBehind before held room old (Ok n) new after =
     (n ≤ room) × (take held new ≡ take held old) × Consumes before.rest after.rest (take n (drop held new))
     × (n ≡ 0 → IsAtEnd after.rest) × (after.faults ≡ before.faults)
 ReadsBehind before held room old (Err e) new after =
-    (take held new ≡ take held old) × Keeps before.rest after.rest × Rose before.faults after.faults × IsTrue before.mark
+    (take held new ≡ take held old) × Keeps before.rest after.rest
+    × Rose before.faults after.faults × IsTrue before.mark
 
 -- bytes were read behind those that are buffered: some, or none at the end
 pub record ReadsMore (old new : SeenLines) (before after : InputState) (more : Bool) : Type 0 where

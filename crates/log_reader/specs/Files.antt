@@ -49,7 +49,8 @@ known_rest None = []
 known_rest (Some rest) = rest
 
 -- the open input, which has this number, was read to its end and is not refused, and its lines are taken in
-pub record ReadsLines (before after : InputState) (number : ℕ) (first last : SeenLines) (old new : LogReader) : Type 0 where
+pub record ReadsLines (before after : InputState) (number : ℕ) (first last : SeenLines)
+    (old new : LogReader) : Type 0 where
   pub bytes : List ℕ
   pub read : Consumes before.rest after.rest bytes
   pub at_end : IsAtEnd after.rest
@@ -58,12 +59,14 @@ pub record ReadsLines (before after : InputState) (number : ℕ) (first last : S
   pub refused : last.refused ≡ false
   pub taken : last.taken ≡ first.taken + length bytes
   pub within : last.taken ≤ MAX_INPUT_BYTES
-  pub few : new.log.section + (MAX_INPUT_BYTES - last.taken) ≤ old.log.section + (MAX_INPUT_BYTES - first.taken)
+  pub few : new.log.section + (MAX_INPUT_BYTES - last.taken)
+      ≤ old.log.section + (MAX_INPUT_BYTES - first.taken)
   pub pieces : ReadsPieces number false (pieces bytes) old new
 
 -- the open input, which has this number, has this first refusal, or memory was wanted, after the events that the reader
 -- has gathered
-pub record RefusesLines (before after : InputState) (number : ℕ) (first : SeenLines) (old : LogReader) (e : ReadError) : Type 0 where
+pub record RefusesLines (before after : InputState) (number : ℕ) (first : SeenLines) (old : LogReader)
+    (e : ReadError) : Type 0 where
   pub bytes : List ℕ
   pub read : Consumes before.rest after.rest bytes
   pub faults : after.faults ≡ before.faults
@@ -73,7 +76,8 @@ pub record RefusesLines (before after : InputState) (number : ℕ) (first : Seen
       IsPiecesRefusal number (nat_lt room (length content)) (pieces (take (room + 1) content)) old e
 
 -- a read of the open input, which has this number, failed behind some front of it
-pub record FailsWithin (before after : InputState) (number : ℕ) (first : SeenLines) (e : ReadError) : Type 0 where
+pub record FailsWithin (before after : InputState) (number : ℕ) (first : SeenLines)
+    (e : ReadError) : Type 0 where
   pub answer : e ≡ refused.ReadFault number
   pub rose : Rose before.faults after.faults
   pub mark : IsTrue before.mark
@@ -101,11 +105,13 @@ pub record RefusesFile (before after : InputState) (name : List ℕ) (number roo
       → bytes_refusal (setting_of old) number old.log.section events room content ≡ Some e
 
 -- the input with this number could not be read: it failed, or files are told and the name is not among them
-pub record IsUnread (before after : InputState) (name : List ℕ) (number room : ℕ) (e : ReadError) : Type 0 where
+pub record IsUnread (before after : InputState) (name : List ℕ) (number room : ℕ)
+    (e : ReadError) : Type 0 where
   pub answer : e ≡ refused.ReadFault number
   pub cause : InputGives before name room (Err Fault) after ⊎ InputGives before name room (Err Missing) after
 
 -- why the input with this number is refused so
 abbrev pub HasFileCause : InputState → InputState → List ℕ → ℕ → ℕ → LogReader → ReadError → Type 0
 HasFileCause before after name number room old e =
-    (e ≡ refused.Memory) ⊎ (IsUnread before after name number room e ⊎ RefusesFile before after name number room old e)
+    (e ≡ refused.Memory)
+    ⊎ (IsUnread before after name number room e ⊎ RefusesFile before after name number room old e)

@@ -55,7 +55,8 @@ opens_after opens (suc count) = min (opens + suc count) (2 ^ 64 - 1)
 -- the log is that of the inputs: each was read to its end, and nothing in them is refused
 pub record ReadsLog (s : Setting) (names : List (List ℕ)) (old new : InputState) (log : Log) : Type 0 where
   pub words : SomeContents old.files names (λ contents.
-      (length contents ≡ length names) × (first_refusal s contents ≡ None) × (log ≡ log_of (events_of s contents)))
+      (length contents ≡ length names) × (first_refusal s contents ≡ None)
+      × (log ≡ log_of (events_of s contents)))
   pub opened : Opened (length names) old new
   pub at_end : IsAtEnd new.rest
 
@@ -82,10 +83,12 @@ refused_input refused.Memory contents = None
 
 -- this is the first refusal, and reading stops at the input with this number
 abbrev pub IsRefusedAt : Setting → ReadError → ℕ → List (List ℕ) → Type 0
-IsRefusedAt s e number contents = (first_refusal s contents ≡ Some e) × (refused_input e contents ≡ Some number)
+IsRefusedAt s e number contents =
+    (first_refusal s contents ≡ Some e) × (refused_input e contents ≡ Some number)
 
 -- the inputs have this first refusal, and those up to the one at which reading stops were opened, and no others
-pub record RefusesLog (s : Setting) (names : List (List ℕ)) (old new : InputState) (e : ReadError) : Type 0 where
+pub record RefusesLog (s : Setting) (names : List (List ℕ)) (old new : InputState)
+    (e : ReadError) : Type 0 where
   pub number : ℕ
   pub few : number < length names
   pub refusal : SomeContents old.files names (IsRefusedAt s e number)
@@ -127,6 +130,7 @@ IsMissing s names old new number =
 
 -- why a log is refused so, and what was opened
 abbrev pub HasReadCause : Setting → List (List ℕ) → InputState → InputState → ReadError → Type 0
-HasReadCause s names old new (refused.ReadFault number) = Fails names old new number ⊎ IsMissing s names old new number
+HasReadCause s names old new (refused.ReadFault number) =
+    Fails names old new number ⊎ IsMissing s names old new number
 HasReadCause s names old new refused.Memory = Unit {0}
 HasReadCause s names old new e = RefusesLog s names old new e

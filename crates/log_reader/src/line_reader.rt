@@ -153,8 +153,11 @@ fn read_behind<I: Inputs>(
     ensures stays { Stays (I.state inputs.old) (I.state inputs.new) }
     ensures mark { (I.state inputs.new).mark ≡ (I.state inputs.old).mark }
     ensures opens { (I.state inputs.new).opens ≡ (I.state inputs.old).opens }
+
+    // The bytes that are read, and where they are put.
     ensures size { length buf.new ≡ length buf.old }
-    ensures gives { ReadsBehind (I.state inputs.old) held room buf.old result buf.new (I.state inputs.new) }
+    ensures gives { ReadsBehind (I.state inputs.old) held room buf.old result
+        buf.new (I.state inputs.new) }
 {
     inputs.read(&mut buf[held..held + room])
 }
@@ -227,10 +230,13 @@ impl Lines {
         requires line { self.old ≡ without_line self.old }
         requires short { length (self.old).buffered ≤ MAX_LINE_BYTES }
         requires within { (self.old).taken + length (self.old).buffered ≤ MAX_INPUT_BYTES }
+
+        // What stays of the inputs, and what is read.
         ensures stays { Stays (I.state inputs.old) (I.state inputs.new) }
         ensures mark { (I.state inputs.new).mark ≡ (I.state inputs.old).mark }
         ensures opens { (I.state inputs.new).opens ≡ (I.state inputs.old).opens }
-        ensures gives { FillGives self.old (I.state inputs.old) result self.new (I.state inputs.new) }
+        ensures gives { FillGives self.old (I.state inputs.old) result
+            self.new (I.state inputs.new) }
     {
         let held = self.to - self.from;
         to_front(&mut self.buf, self.from, self.to);
@@ -252,8 +258,10 @@ impl Lines {
         ensures stays { Stays (I.state inputs.old) (I.state inputs.new) }
         ensures mark { (I.state inputs.new).mark ≡ (I.state inputs.old).mark }
         ensures opens { (I.state inputs.new).opens ≡ (I.state inputs.old).opens }
-        ensures ok { IfOk result (FindsEnd self.old self.new (I.state inputs.old) (I.state inputs.new)) }
-        ensures err { IfErr result (λ e. MissesEnd self.old (I.state inputs.old) e self.new (I.state inputs.new)) }
+        ensures ok { IfOk result
+            (FindsEnd self.old self.new (I.state inputs.old) (I.state inputs.new)) }
+        ensures err { IfErr result
+            (λ e. MissesEnd self.old (I.state inputs.old) e self.new (I.state inputs.new)) }
     {
         let mut searched = 0;
         loop {
@@ -320,7 +328,10 @@ impl Lines {
         ensures stays { Stays (I.state inputs.old) (I.state inputs.new) }
         ensures mark { (I.state inputs.new).mark ≡ (I.state inputs.old).mark }
         ensures opens { (I.state inputs.new).opens ≡ (I.state inputs.old).opens }
-        ensures gives { NextGives self.old (I.state inputs.old) result self.new (I.state inputs.new) }
+
+        // The line that is given, and what is counted.
+        ensures gives { NextGives self.old (I.state inputs.old) result
+            self.new (I.state inputs.new) }
         ensures number { (self.new).number ≤ (self.new).taken }
         ensures taken { (self.new).taken ≤ MAX_INPUT_BYTES }
     {

@@ -40,9 +40,13 @@ fn read_lines<I: Inputs>(
     requires between { IsBetween lines.old }
     requires first { (lines.old).number ≡ 0 }
     requires few { reader.old.log.section ≤ (lines.old).taken }
+
+    // What stays of the inputs.
     ensures stays { Stays (I.state inputs.old) (I.state inputs.new) }
     ensures mark { (I.state inputs.new).mark ≡ (I.state inputs.old).mark }
     ensures opens { (I.state inputs.new).opens ≡ (I.state inputs.old).opens }
+
+    // The lines that are taken in, and each error with its cause.
     ensures ok { OnOk result (ReadsLines (I.state inputs.old) (I.state inputs.new) number
         lines.old lines.new reader.old reader.new) }
     ensures err { IfErr result
@@ -87,11 +91,15 @@ fn read_file<I: Inputs>(
     requires ready { IsReady reader.old }
     requires between { IsBetween lines.old }
     requires few { reader.old.log.section ≤ (lines.old).taken }
+
+    // What stays of the inputs, and the lines that are taken in.
     ensures stays { Stays (I.state inputs.old) (I.state inputs.new) }
     ensures ok { OnOk result (ReadsFile (I.state inputs.old) (I.state inputs.new) name.now number
         (MAX_INPUT_BYTES - (lines.old).taken) (MAX_INPUT_BYTES - (lines.new).taken)
         reader.old reader.new) }
     ensures between { OnOk result (IsBetween lines.new) }
+
+    // Each error has its cause, and one input is opened at most.
     ensures err { IfErr result (HasFileCause (I.state inputs.old) (I.state inputs.new) name.now
         number (MAX_INPUT_BYTES - (lines.old).taken) reader.old) }
     ensures memory { result ≡ Err ReadError.Memory

@@ -98,6 +98,8 @@ impl LogSoFar {
         requires within { IsWithin self.old.builder }
         requires matchers { matched_rules kept.old.matchers ≡ rules_in kept.old.rules.now }
         requires room { self.old.section < 2 ^ 32 - 1 }
+
+        // The line is taken in or refused, and the rules stay.
         ensures ok { OnOk result
             (TakesLine at (decided (spec.Rules (rules_in kept.old.rules.now)) text.now)
             self.old self.new) }
