@@ -23,23 +23,25 @@ at-none i all = omega arith
 at-one : (i : ℕ) → i < most_draws → most_draws - i ≡ suc (most_draws - (i + 1))
 at-one i inside = omega arith
 
--- a draw is one number
+-- a draw that is no call is the last
 drawn-last : (x y d : ℕ) → y ≡ next_state x → d ≡ draw_of y → d ≡ no_call → eqb (draw_of (next_state x)) no_call ≡ true
 drawn-last x y d next drawn last = eq-eqb (draw_of (next_state x)) no_call (cc)
 
+-- a draw that is a call is not the last
 drawn-other : (x y d : ℕ) → y ≡ next_state x → d ≡ draw_of y → d ≢ no_call → eqb (draw_of (next_state x)) no_call ≡ false
 drawn-other x y d next drawn other = let e : draw_of (next_state x) ≡ d = cc in grind (arith, nat_tests)
 
--- all draws are made
+-- where all draws are made, no call is left
 pub calls-none : (i x : ℕ) → most_draws ≤ i → calls_within (most_draws - i) x ≡ []
 unfolding calls_within
 calls-none i x all = ap (λ n. calls_within n x) (at-none i all)
 
+-- where all draws are made, the state stays
 pub state-none : (i x : ℕ) → most_draws ≤ i → state_within (most_draws - i) x ≡ x
 unfolding state_within
 state-none i x all = ap (λ n. state_within n x) (at-none i all)
 
--- this draw is the last
+-- where this draw gives no call, no call is left
 pub calls-last : (i x y d : ℕ) → i < most_draws → y ≡ next_state x → d ≡ draw_of y → d ≡ no_call → calls_within (most_draws - i) x ≡ []
 unfolding calls_within
 calls-last i x y d inside next drawn last =
@@ -55,11 +57,12 @@ state-end : (n x : ℕ) → giving (suc n) x ≡ [] → state_within (suc n) x �
 unfolding state_within
 state-end n x none = rw none (ap (λ m. iterate next_state m x) (min-one n))
 
+-- where this draw gives no call, the state that is left is this draw's
 pub state-last : (i x y d : ℕ) → i < most_draws → y ≡ next_state x → d ≡ draw_of y → d ≡ no_call → state_within (most_draws - i) x ≡ y
 state-last i x y d inside next drawn last =
     ap (λ n. state_within n x) (at-one i inside) ∙ (state-end (most_draws - (i + 1)) x (giving-end (most_draws - (i + 1)) x (drawn-last x y d next drawn last)) ∙ sym next)
 
--- this draw gives a call
+-- where this draw gives a call, it comes first, and the calls of the draws after it follow
 pub calls-next : (i x y d : ℕ) → i < most_draws → y ≡ next_state x → d ≡ draw_of y → d ≢ no_call
     → calls_within (most_draws - i) x ≡ call_of d ∷ calls_within (most_draws - (i + 1)) y
 unfolding calls_within
@@ -74,6 +77,7 @@ state-more n x more =
     ap (λ (draws : List ℕ). iterate next_state (min (suc n) (length draws + 1)) x) more
     ∙ ap (λ m. iterate next_state m x) (min-more n (length (giving n (next_state x))))
 
+-- where this draw gives a call, the state is that which the draws after it leave
 pub state-next : (i x y d : ℕ) → i < most_draws → y ≡ next_state x → d ≡ draw_of y → d ≢ no_call
     → state_within (most_draws - i) x ≡ state_within (most_draws - (i + 1)) y
 state-next i x y d inside next drawn other =

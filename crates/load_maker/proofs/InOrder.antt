@@ -35,6 +35,7 @@ state-more : (n : ℕ) → state_after (n + 1) ≡ session_end (state_after n)
 unfolding state_after
 state-more n = ap (λ m. iterate session_end m first_state) (add-one n) ∙ iterate-more session_end n first_state
 
+-- the sessions stand one after the other, from an empty text and the first state on
 pub in-order : SessionsStandInOrder
 in-order = record { none = text-none; more = text-more; first = state-none; next = state-more }
 
