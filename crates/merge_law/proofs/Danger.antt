@@ -13,6 +13,7 @@ IsNearer AF s t = s ≡ 1 → t ≡ 1
 IsNearer NF s t = s ≤ t
 IsNearer AP s t = (s ≡ 1) ⊎ (s ≡ t) ⊎ (t ≡ 2)
 
+-- a state is as near as itself
 pub nearer-self : (k : Kind) (s : ℕ) → IsNearer k s s
 nearer-self AF s = λ e. e
 nearer-self NF s = omega arith
@@ -49,13 +50,14 @@ nf-tests true e (suc s) (suc t) l = rw (positive s, positive t) (omega arith)
 nf-tests false true (suc s) (suc t) l = rw (not-zero s, not-zero t) l
 nf-tests false false (suc s) (suc t) l = l
 
--- after a state from which nothing bad comes, and before the bad state, all is well
+-- any state is as near as one from which nothing bad comes, which stays
 ap-one : (f e : Bool) (t : ℕ) → IsNearer AP (cond (f && false) 2 (cond (e && false) 1 1)) t
 ap-one true true t = inl refl
 ap-one true false t = inl refl
 ap-one false true t = inl refl
 ap-one false false t = inl refl
 
+-- the bad state stays, and is as near as any
 ap-two : (f e : Bool) (s : ℕ) → IsNearer AP s (cond (f && false) 2 (cond (e && false) 1 2))
 ap-two true true s = inr (inr refl)
 ap-two true false s = inr (inr refl)
@@ -67,6 +69,7 @@ ap-step a b x s t (inl e) = rw e (ap-one (x == b) (x == a) (step_of AP a b t x))
 ap-step a b x s t (inr (inl e)) = rw e (inr (inl refl))
 ap-step a b x s t (inr (inr e)) = rw e (ap-two (x == b) (x == a) (step_of AP a b s x))
 
+-- a step keeps which of two states is at least as near
 pub nearer-step : (k : Kind) (a b x s t : ℕ) → IsNearer k s t → IsNearer k (step_of k a b s x) (step_of k a b t x)
 nearer-step AF a b x s t n = af-step a b x s t n
 nearer-step NF a b x s t n = nf-tests (x == b) (x == a) s t n
@@ -82,6 +85,7 @@ IsLost AP t = t ≡ 2
 abbrev pub IsSafe : Kind → ℕ → Type 0
 IsSafe k t = (s u : ℕ) → IsNearer k s t → s ≤ 2 → IsNearer k s u
 
+-- a state is safe, critical or lost
 pub three : (k : Kind) (t : ℕ) → t ≤ 2 → IsSafe k t ⊎ ((t ≡ critical_of k) ⊎ IsLost k t)
 three AF zero l = inl (λ s u n m e. absurd (let z : zero ≡ suc zero = n e in cc))
 three AF (suc zero) l = inr (inl refl)
@@ -106,6 +110,7 @@ ap-two-is true false = refl
 ap-two-is false true = refl
 ap-two-is false false = refl
 
+-- from a lost state each word ends in the bad state
 pub lost-run : (k : Kind) (a b t : ℕ) (w : List ℕ) → IsLost k t → run_of k a b t w ≡ bad_of k
 lost-run AF a b t w l = absurd l
 lost-run NF a b t [] l = l
@@ -113,10 +118,12 @@ lost-run NF a b t (x ∷ xs) l = lost-run NF a b (step_of NF a b t x) xs (rw l (
 lost-run AP a b t [] l = l
 lost-run AP a b t (x ∷ xs) l = lost-run AP a b (step_of AP a b t x) xs (rw l (ap-two-is (x == b) (x == a)))
 
+-- a word leads from one of the three states to one of them
 pub run-le : (k : Kind) (a b s : ℕ) (w : List ℕ) → s ≤ 2 → run_of k a b s w ≤ 2
 run-le k a b s [] l = l
 run-le k a b s (x ∷ xs) l = run-le k a b (step_of k a b s x) xs (step-le k a b s x l)
 
+-- the critical state is one of the three
 pub critical-le : (k : Kind) → critical_of k ≤ 2
 critical-le AF = omega arith
 critical-le NF = omega arith
@@ -147,6 +154,7 @@ nearer-critical AP t l (inl e) = absurd (let z : zero ≡ suc zero = e in cc)
 nearer-critical AP t l (inr (inl e)) = inl (sym e)
 nearer-critical AP t l (inr (inr e)) = inr e
 
+-- a word keeps which of two states is at least as near
 pub nearer-run : (k : Kind) (a b s t : ℕ) (w : List ℕ) → IsNearer k s t → IsNearer k (run_of k a b s w) (run_of k a b t w)
 nearer-run k a b s t [] n = n
 nearer-run k a b s t (x ∷ xs) n = nearer-run k a b (step_of k a b s x) (step_of k a b t x) xs (nearer-step k a b x s t n)
@@ -178,10 +186,12 @@ lost-is AF t l = absurd l
 lost-is NF t l = (l, λ e. absurd (omega arith))
 lost-is AP t l = (l, λ e. absurd (omega arith))
 
+-- the bad state is lost, where it is another than the critical one
 pub is-lost : (k : Kind) (t : ℕ) → t ≡ bad_of k → bad_of k ≢ critical_of k → IsLost k t
 is-lost AF t e n = n refl
 is-lost NF t e n = e
 is-lost AP t e n = e
 
+-- where the test finds them equal, the critical state is the bad one
 pub bad-critical : (k : Kind) → (critical_of k == bad_of k) ≡ true → critical_of k ≡ bad_of k
 bad-critical k e = eqb-true (critical_of k) (bad_of k) e

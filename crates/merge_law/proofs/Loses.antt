@@ -24,6 +24,7 @@ which p q x w y z (inr a) (inr b) = inl (a.1 ∙ sym b.1)
 abbrev pub IsMet : Graph → Invariant → ℕ → ℕ → ℕ → Type 0
 IsMet g inv p q z = (y : ℕ) × AreTwins p q y z × Fore inv g y
 
+-- that its twin is met goes over from one of the two to the other
 pub met-turns : (g : Graph) (inv : Invariant) (p q : ℕ) → IsTurning g inv p q (IsMet g inv p q)
 met-turns g inv p q =
     record {
@@ -34,6 +35,7 @@ met-turns g inv p q =
       ];
     }
 
+-- where one whose twin is met has the bad end ahead, the two clash
 pub clash : (g : Graph) (inv : Invariant) (p q : ℕ) → Ends g inv (IsMet g inv p q) → Clash inv g p q
 clash g inv p q e = case e.1.1
   where
@@ -75,9 +77,11 @@ crossing g inv p q y z l m t e f b =
           (ap (is_bad inv) c ∙ b.2),
     )
 
+-- the two have one image in the merged graph
 pub one-image : (p q : ℕ) → p < q → onto p q p ≡ onto p q q
 one-image p q m = onto_other p q p (λ e. absurd (omega arith)) ∙ sym (onto_is p q q refl)
 
+-- a merge loses an invariant exactly where the two clash
 pub merge_loses : MergeLoses
 merge_loses g inv p q l m t a b s = (
   λ o. broken-clash g inv p q o.0 (record { low = l; order = m; types = t; one = a; other = b; satisfied = s }) o.1,
@@ -87,6 +91,7 @@ merge_loses g inv p q l m t a b s = (
   ],
 )
 
+-- a merge keeps an invariant exactly where the two do not clash
 pub merge_keeps : MergeKeeps
 merge_keeps g inv p q l m t a b s = (
   λ k c. let o : (path : List ℕ) × Breaks (Merged g p q) inv path = (merge_loses g inv p q l m t a b s).1 c in o.1.1 (k o.0 o.1.0),

@@ -18,7 +18,7 @@ use Rattle.merge_law.proofs.Walks.{walk_join, run_join, none_bad, all_on_paths}
 use Rattle.merge_law.proofs.Standing.{lost-end}
 use Rattle.merge_law.proofs.Loses.{merge_keeps}
 
--- a merge of partitions
+-- a merge of two partitions keeps an invariant exactly where they do not clash
 one-keeps : (h : Assignment) (p q : ℕ) (inv : Invariant) → IsTyped h → IsPair (G h) p q → Satisfies (G h) inv → Satisfies (G (merge p q h)) inv ↔ (Clash inv (G h) p q → ⊥)
 one-keeps h p q inv t i s =
     let l : 2 ≤ p = i.low in
@@ -29,6 +29,7 @@ one-keeps h p q inv t i s =
       λ c. satisfies_maps (λ x. x) (G (merge p q h)) (Merged (G h) p q) (merge_to_merged h p q t i) inv (k.1 c),
     )
 
+-- a merge of two partitions keeps every invariant of a list exactly where they clash in none
 pub pair_keeps : PairKeeps
 pair_keeps h p q [] t i s = (λ a. tt, λ c. tt)
 pair_keeps h p q (inv ∷ invs) t i s =
@@ -36,7 +37,7 @@ pair_keeps h p q (inv ∷ invs) t i s =
     let r : SatisfiesAll (G (merge p q h)) invs ↔ AllByRecursion (λ v. Clash v (G h) p q → ⊥) invs = pair_keeps h p q invs t i s.1 in
     (λ a. (o.0 a.0, r.0 a.1), λ c. (o.1 c.0, r.1 c.1))
 
--- what is met
+-- an id is met where the step to it is at least as near as the critical state
 comes : (g : Graph) (inv : Invariant) (u v : ℕ) (xs : List ℕ) → Satisfies g inv → Walk g 0 xs u → IsOnPath g v → g.edge u v ≡ true
     → IsNearer inv.kind (critical inv) (step inv (run inv 0 (word g (0 ∷ xs))) (g.typ v)) → Fore inv g v
 comes g inv u v xs s w o e n =
@@ -48,6 +49,7 @@ comes g inv u v xs s w o e n =
       | inr d ↦ absurd (none_bad g inv ((xs ++ v ∷ []) ++ o.1) s (walk_join g 0 (xs ++ v ∷ []) v o.1 1 y o.3) (lost-end g inv 0 (0 ∷ (xs ++ v ∷ [])) o.1 d))
     ]
 
+-- an edge leads to an id that is met, where the step to it enters, or stays from one that is met
 fore-along : (g : Graph) (inv : Invariant) (u v : ℕ) → Satisfies g inv → IsOnPath g u → IsOnPath g v → g.edge u v ≡ true
     → Enters inv (g.typ v) ⊎ (Stays inv (g.typ v) × Fore inv g u) → Fore inv g v
 fore-along g inv u v s a b e (inl c) =
@@ -57,12 +59,14 @@ fore-along g inv u v s a b e (inl c) =
 fore-along g inv u v s a b e (inr c) =
     (c.1.0 ++ v ∷ [], walk_more g 0 c.1.0 u v c.1.1 e, run_more inv g 0 (0 ∷ c.1.0) v ∙ ap (λ (t : ℕ). step inv t (g.typ v)) c.1.2 ∙ c.0)
 
+-- what is met follows by rules along edges
 pub fore_follows : ForeFollows
 fore_follows g inv s = (λ e. ([], refl, e), λ u v a b e c. fore-along g inv u v s a b e c)
 
 abbrev ForeClosed : Graph → Invariant → (ℕ → Bool) → Type 0
 ForeClosed g inv found = (u v : ℕ) → g.edge u v ≡ true → Enters inv (g.typ v) ⊎ (Stays inv (g.typ v) × (found u ≡ true)) → found v ≡ true
 
+-- what is closed under these rules has the end of each walk that ends in the critical state
 closed-along : (g : Graph) (inv : Invariant) (found : ℕ → Bool) → ForeClosed g inv found → (u : ℕ) (xs : List ℕ) (p s : ℕ) → s ≤ 2 → (s ≡ critical inv → found u ≡ true)
     → Walk g u xs p → run inv s (word g xs) ≡ critical inv → found p ≡ true
 closed-along g inv found k u [] p s l f w e = subst (λ (x : ℕ). found x ≡ true) w (f e)
@@ -74,11 +78,12 @@ closed-along g inv found k u (v ∷ xs) p s l f w e =
     ])
     w.1 e
 
+-- whatever is closed under these rules has all that is met
 pub fore_is_least : ForeIsLeast
 fore_is_least g inv found z k p f =
     closed-along g inv found k 0 f.0 p (step inv 0 (g.typ 0)) (step-le inv.kind inv.a inv.b 0 (g.typ 0) (omega arith)) z f.1 f.2
 
--- what is ahead
+-- the bad end is ahead of an id where the step along an edge falls, or stays and it is ahead there
 back-along : (g : Graph) (inv : Invariant) (u v : ℕ) → IsOnPath g v → g.edge u v ≡ true → Falls inv (g.typ v) ⊎ (Stays inv (g.typ v) × Back inv g v) → Back inv g u
 back-along g inv u v o e (inl c) =
     let l : IsLost inv.kind (step inv (critical inv) (g.typ v)) = is-lost inv.kind (step inv (critical inv) (g.typ v)) c.0 c.1 in
@@ -86,6 +91,7 @@ back-along g inv u v o e (inl c) =
     (v ∷ o.1, (e, o.3), eq-eqb (run inv (step inv (critical inv) (g.typ v)) (word g o.1)) (bad_of inv.kind) d)
 back-along g inv u v o e (inr c) = (v ∷ c.1.0, (e, c.1.1), ap (λ (t : ℕ). is_bad inv (run inv t (word g c.1.0))) c.0 ∙ c.1.2)
 
+-- where the bad end is ahead follows by rules against edges
 pub back_follows : BackFollows
 back_follows g inv = (
   λ e. ([], refl, eq-eqb (critical inv) (bad_of inv.kind) e),
@@ -121,5 +127,6 @@ closed-back g inv found s z k before u (v ∷ xs) y w b =
       ]
     ]
 
+-- whatever is closed under these rules has all ids on paths where the bad end is ahead
 pub back_is_least : BackIsLeast
 back_is_least g inv found s z k p o b = closed-back g inv found s z k o.0 p b.0 o.2 b.1 b.2

@@ -39,6 +39,7 @@ pub record Crosses (g : Graph) (inv : Invariant) (K : ℕ → Type 0) (x s : ℕ
   pub along : Walk g z walk x
   pub nearer : IsNearer inv.kind s (run inv (critical inv) (word g walk))
 
+-- a walk comes to x from the start, or crosses to it from one of the two
 abbrev pub Stands : Graph → Invariant → (ℕ → Type 0) → ℕ → ℕ → Type 0
 Stands g inv K x s = Comes g inv x s ⊎ Crosses g inv K x s
 
@@ -51,15 +52,17 @@ pub record IsTurning (g : Graph) (inv : Invariant) (p q : ℕ) (K : ℕ → Type
 abbrev pub Ends : Graph → Invariant → (ℕ → Type 0) → Type 0
 Ends g inv K = (z : ℕ) × K z × Back inv g z
 
--- twins
+-- each of the two is on a path
 pub on-path : (g : Graph) (inv : Invariant) (p q x w : ℕ) → IsSetting g inv p q → AreTwins p q x w → IsOnPath g x
 on-path g inv p q x w k (inl e) = subst (λ (u : ℕ). IsOnPath g u) (sym e.0) k.one
 on-path g inv p q x w k (inr e) = subst (λ (u : ℕ). IsOnPath g u) (sym e.0) k.other
 
+-- twins are twins the other way round
 pub flip : (p q x w : ℕ) → AreTwins p q x w → AreTwins p q w x
 flip p q x w (inl e) = inr (e.1, e.0)
 flip p q x w (inr e) = inl (e.1, e.0)
 
+-- two ids with one image are one id, or twins
 pub same-image : (p q x w : ℕ) → onto p q x ≡ onto p q w → (x ≡ w) ⊎ AreTwins p q x w
 same-image p q x w e =
     elim (cases_eq x q) [
@@ -73,7 +76,7 @@ same-image p q x w e =
       ]
     ]
 
--- along an edge
+-- a walk that stands at an id stands one step on along an edge
 pub goes : (g : Graph) (inv : Invariant) (K : ℕ → Type 0) (x s v : ℕ) → Stands g inv K x s → g.edge x v ≡ true → Stands g inv K v (step inv s (g.typ v))
 goes g inv K x s v (inl c) e =
     inl (record {

@@ -79,6 +79,7 @@ ahead g inv p q k b =
           inr (record { z = p; known = inl refl; walk = []; along = refl; nearer = nearer-self inv.kind (critical inv) }),
         )
 
+-- the merged id is met, or has the bad end ahead, exactly where one of the two is, or has
 pub merged_is_union : MergedIsUnion
 merged_is_union g inv p q l m t a b s =
     let k : IsSetting g inv p q = record { low = l; order = m; types = t; one = a; other = b; satisfied = merged_keeps g p q l m t inv s } in

@@ -15,10 +15,12 @@ use Rattle.partition_model.proofs.Passes.{live-member}
 use Rattle.merge_law.specs.Critical.{critical}
 use Rattle.merge_law.specs.Laws.{AllOnPaths, MergedHasMore}
 
+-- two walks, the second from where the first ends, are one walk
 pub walk_join : (g : Graph) (p : ℕ) (xs : List ℕ) (q : ℕ) (ys : List ℕ) (r : ℕ) → Walk g p xs q → Walk g q ys r → Walk g p (xs ++ ys) r
 walk_join g p [] q ys r v w = subst (λ (x : ℕ). Walk g x ys r) (sym v) w
 walk_join g p (x ∷ xs) q ys r v w = (v.0, walk_join g x xs q ys r v.1 w)
 
+-- the run of two walks joined is that of the second from where the first leaves it
 pub run_join : (inv : Invariant) (g : Graph) (s : ℕ) (xs ys : List ℕ) → run inv s (word g (xs ++ ys)) ≡ run inv (run inv s (word g xs)) (word g ys)
 run_join inv g s [] ys = refl
 run_join inv g s (x ∷ xs) ys = run_join inv g (step inv s (g.typ x)) xs ys
@@ -30,6 +32,7 @@ none_bad g inv walk sat w b =
     let z : true ≡ false = sym b ∙ f in
     cc
 
+-- a walk from 0 to 1 that ends in the bad state breaks the invariant
 pub bad_breaks : (g : Graph) (inv : Invariant) (walk : List ℕ) → Walk g 0 walk 1 → is_bad inv (run inv 0 (word g (0 ∷ walk))) ≡ true → Breaks g inv (0 ∷ walk)
 bad_breaks g inv walk w b = (
   (refl, w),
@@ -39,7 +42,7 @@ bad_breaks g inv walk w b = (
       cc,
 )
 
--- the types of the merged graph
+-- an id and its image have one type
 pub onto-typed : (g : Graph) (p q x : ℕ) → g.typ p ≡ g.typ q → g.typ (onto p q x) ≡ g.typ x
 onto-typed g p q x t =
     elim (cases_eq x q) [
@@ -51,20 +54,23 @@ onto-word : (g : Graph) (p q : ℕ) (xs : List ℕ) → g.typ p ≡ g.typ q → 
 onto-word g p q [] t = refl
 onto-word g p q (x ∷ xs) t = ap₂ (λ (y : ℕ) (z : List ℕ). y ∷ z) (onto-typed g p q x t) (onto-word g p q xs t)
 
--- the walks of g in the merged graph
+-- a walk and its image in the merged graph run alike
 pub moved_run : (g : Graph) (inv : Invariant) (p q s : ℕ) (xs : List ℕ) → g.typ p ≡ g.typ q → run inv s (word g (map (onto p q) xs)) ≡ run inv s (word g xs)
 moved_run g inv p q s xs t = ap (λ (z : List ℕ). run inv s z) (onto-word g p q xs t)
 
+-- a walk to 1 has an image in the merged graph
 pub moved_to : (g : Graph) (p q u : ℕ) (xs : List ℕ) → 2 ≤ p → p < q → g.typ p ≡ g.typ q → Walk g u xs 1 → Walk (Merged g p q) (onto p q u) (map (onto p q) xs) 1
 moved_to g p q u xs l m t w =
     subst (λ (z : ℕ). Walk (Merged g p q) (onto p q u) (map (onto p q) xs) z) (onto_other p q 1 (λ e. absurd (omega arith)))
     (walk_maps (onto p q) g (Merged g p q) (merged_maps g p q l m t) u xs 1 w)
 
+-- a walk from 0 has an image in the merged graph
 pub moved_from : (g : Graph) (p q u : ℕ) (xs : List ℕ) → 2 ≤ p → p < q → g.typ p ≡ g.typ q → Walk g 0 xs u → Walk (Merged g p q) 0 (map (onto p q) xs) (onto p q u)
 moved_from g p q u xs l m t w =
     subst (λ (z : ℕ). Walk (Merged g p q) z (map (onto p q) xs) (onto p q u)) (onto_other p q 0 (λ e. absurd (omega arith)))
     (walk_maps (onto p q) g (Merged g p q) (merged_maps g p q l m t) 0 xs u w)
 
+-- what is met, ahead or on a path in the graph is so in the merged graph
 pub merged_has_more : MergedHasMore
 merged_has_more g inv p q u l m t = (
   λ f. (map (onto p q) f.0, moved_from g p q u f.0 l m t f.1, moved_run g inv p q (step inv 0 (g.typ 0)) f.0 t ∙ f.2),
@@ -72,10 +78,11 @@ merged_has_more g inv p q u l m t = (
   λ o. (map (onto p q) o.0, map (onto p q) o.1, moved_from g p q u o.0 l m t o.2, moved_to g p q u o.1 l m t o.3),
 )
 
--- partitions are on the paths of traces
+-- walks lead from x to y and from y to z
 abbrev pub Between : Graph → ℕ → ℕ → ℕ → Type 0
 Between g x y z = (before after : List ℕ) × Walk g x before y × Walk g y after z
 
+-- a walk leads through each id on it
 pub through : (g : Graph) (x : ℕ) (xs : List ℕ) (z y : ℕ) → Walk g x xs z → In y (x ∷ xs) → Between g x y z
 through g x xs z y w (inl e) = ([], xs, e, subst (λ (u : ℕ). Walk g u xs z) e w)
 through g x [] z y w (inr i) = absurd i
@@ -84,6 +91,7 @@ through g x (r ∷ rs) z y w (inr i) = let o : Between g r y z = through g r rs 
 in-ids : (e : Event) (trace : List Event) → In e trace → In e.id (id_list trace)
 in-ids e trace i = inr (In-append_left e.id (ids_of trace) (1 ∷ []) (map-In (λ e. e.id) e trace i))
 
+-- each partition of the graph of an assignment is on a path
 pub all_on_paths : AllOnPaths
 all_on_paths h p t l k =
     let m : (e : Event) × In e (events h) × (e.id ≡ p) = live-member h p l k in
