@@ -10,6 +10,7 @@ use Rattle.shard_law.specs.Laws.{TwoLogsJoin, ShardsJoin}
 use Rattle.shard_law.proofs.Lists.{All-members}
 use Rattle.shard_law.proofs.Showing.{OfEvery, every_shows}
 
+-- a candidate is mined of two logs together exactly where each shows it or lacks what it speaks of
 pub two_logs_join : TwoLogsJoin
 two_logs_join count first second inv = (
   λ m.
@@ -36,6 +37,7 @@ every_of_shards whole shards cut inv = (
       All-contains (λ w. Holds inv w) o.0 word (each o.0 o.1) o.2),
 )
 
+-- a candidate is mined of the whole exactly where each shard shows it or lacks what it speaks of
 pub shards_join : ShardsJoin
 shards_join count whole shards cut inv = (
   λ m.

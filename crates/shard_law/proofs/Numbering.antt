@@ -140,6 +140,7 @@ own_form count shard numbered inv first second (inr h) = inr (record {
   b_high = second.below;
 })
 
+-- a shard lists, in its own numbers, exactly the candidates of the whole that it shows
 pub own_reports : OwnReports
 own_reports count shard numbered inv candidate = (
   λ h. subst (λ (i : Invariant). IsShown i (words_of shard)) h.2 (own_shown shard numbered h.0 h.1),
@@ -160,6 +161,7 @@ own_reports count shard numbered inv candidate = (
         (Contains-map (λ v. map shard.number v) shard.words word c))) in
         (own, (mined_tells shard.count shard.words own).1 (record { candidate = (candidates_tell shard.count own).1 form; of_every = all }), same)
 
+-- a candidate is mined of the whole exactly where each shard lists it or lacks what it speaks of
 pub reports_join : ReportsJoin
 reports_join count whole shards numbered cut inv = (
   λ m.
@@ -187,6 +189,7 @@ some_word : (words : List (List ℕ)) → All IsWord words → 0 < length words 
 some_word [] h lt = absurd (omega arith)
 some_word (word ∷ words) h lt = (word, Contains-first word words, starts word (All-contains IsWord (word ∷ words) word h (Contains-first word words)))
 
+-- which types occur in a shard is told by its list of types, and that it has a trace by its words
 pub types_tell : TypesTell
 types_tell shard numbered = (
   (

@@ -12,11 +12,12 @@ use Rattle.shard_law.specs.Shards.{Occurs, IsShown, LacksAs, Lacks}
 use Rattle.shard_law.specs.Laws.{ShownIsThere}
 use Rattle.shard_law.proofs.Lists.{Contains-first, Contains-later, Contains-cases, Contains-nil, All-members}
 
--- whether a type occurs is decided
+-- a type at a place of a word is its first, or is in the rest
 type_cases : (x y : ℕ) (word : List ℕ) (i : ℕ) → At (y ∷ word) i x → (y ≡ x) ⊎ HasType x word
 type_cases x y word zero h = inl h
 type_cases x y word (suc i) h = inr (i, h)
 
+-- whether a word has a type is decided
 has_type : (x : ℕ) (word : List ℕ) → HasType x word ⊎ (HasType x word → ⊥)
 has_type x [] = inr (λ h. h.1)
 has_type x (y ∷ word) =
@@ -31,6 +32,7 @@ has_type x (y ∷ word) =
 has_same : (x : ℕ) (word other : List ℕ) → word ≡ other → HasType x other → HasType x word
 has_same x word other e h = subst (λ (w : List ℕ). HasType x w) (sym e) h
 
+-- whether a type occurs in the words is decided
 pub occurs : (x : ℕ) (words : List (List ℕ)) → Occurs x words ⊎ (Occurs x words → ⊥)
 occurs x [] = inr (λ h. Contains-nil h.0 h.1)
 occurs x (word ∷ words) =
@@ -86,6 +88,7 @@ lacking AF a b words n = All-members (λ word. Holds (invariant AF a b) word) wo
 lacking NF a b words n = All-members (λ word. Holds (invariant NF a b) word) words (λ word c i at j lt later. n (word, c, (i, at)) (word, c, (j, later)))
 lacking AP a b words n = All-members (λ word. Holds (invariant AP a b) word) words (λ word c j at. absurd (n (word, c, (j, at))))
 
+-- an invariant holds of each word exactly where the words show it or lack what it speaks of
 pub every_shows : (inv : Invariant) (words : List (List ℕ)) → OfEvery inv words ↔ (IsShown inv words ⊎ Lacks inv words)
 every_shows inv words = (
   λ all. shows inv.kind inv.a inv.b words all,
@@ -97,5 +100,6 @@ there AF a b words first second lacks = lacks first
 there NF a b words first second lacks = lacks first second
 there AP a b words first second lacks = lacks second
 
+-- no words show an invariant and lack what it speaks of
 pub shown_is_there : ShownIsThere
 shown_is_there inv words h lacks = there inv.kind inv.a inv.b words h.first h.second lacks

@@ -15,12 +15,15 @@ abbrev pub TwoLogsJoin : Type 0
 TwoLogsJoin =
     (count : ℕ) (first second : List (List ℕ)) (inv : Invariant)
     → Contains (mined count (first ++ second)) inv
-    ↔ (Contains (candidates count) inv × (IsShown inv first ⊎ Lacks inv first) × (IsShown inv second ⊎ Lacks inv second))
+    ↔ (Contains (candidates count) inv
+    × (IsShown inv first ⊎ Lacks inv first)
+    × (IsShown inv second ⊎ Lacks inv second))
 
 -- of any number of shards
 abbrev pub ShardsJoin : Type 0
 ShardsJoin =
-    (count : ℕ) (whole : List (List ℕ)) (shards : List (List (List ℕ))) → IsCutInto whole shards → (inv : Invariant)
+    (count : ℕ) (whole : List (List ℕ)) (shards : List (List (List ℕ)))
+    → IsCutInto whole shards → (inv : Invariant)
     → Contains (mined count whole) inv
     ↔ (Contains (candidates count) inv × All (λ words. IsShown inv words ⊎ Lacks inv words) shards)
 
@@ -43,4 +46,6 @@ abbrev pub TypesTell : Type 0
 TypesTell =
     (shard : Shard) → IsNumbered shard
     → (Occurs INITIAL (words_of shard) ↔ (0 < length shard.words))
-    × ((y : ℕ) → FIRST_TYPE ≤ y → Occurs y (words_of shard) ↔ ((x : ℕ) × (FIRST_TYPE ≤ x) × (x < shard.count + FIRST_TYPE) × (shard.number x ≡ y)))
+    × ((y : ℕ) → FIRST_TYPE ≤ y
+    → Occurs y (words_of shard)
+    ↔ ((x : ℕ) × (FIRST_TYPE ≤ x) × (x < shard.count + FIRST_TYPE) × (shard.number x ≡ y)))

@@ -32,7 +32,9 @@ Lacks inv words = LacksAs inv.kind inv.a inv.b words
 
 -- the words of the whole are those of the shards, in any order
 abbrev pub IsCutInto : List (List ℕ) → List (List (List ℕ)) → Type 0
-IsCutInto whole shards = (word : List ℕ) → Contains whole word ↔ ((words : List (List ℕ)) × Contains shards words × Contains words word)
+IsCutInto whole shards =
+    (word : List ℕ)
+    → Contains whole word ↔ ((words : List (List ℕ)) × Contains shards words × Contains words word)
 
 -- a shard with numbers of its own: how many types it has, the number that each has in the whole, and its words in its own numbers
 pub record Shard : Type 0 where
@@ -47,7 +49,8 @@ pub record IsNumbered (shard : Shard) : Type 0 where
   pub occur : (x : ℕ) → FIRST_TYPE ≤ x → x < shard.count + FIRST_TYPE → Occurs x shard.words
   pub start : shard.number INITIAL ≡ INITIAL
   pub end : shard.number TERMINAL ≡ TERMINAL
-  pub apart : (x y : ℕ) → x < shard.count + FIRST_TYPE → y < shard.count + FIRST_TYPE → shard.number x ≡ shard.number y → x ≡ y
+  pub apart : (x y : ℕ) → x < shard.count + FIRST_TYPE → y < shard.count + FIRST_TYPE
+      → shard.number x ≡ shard.number y → x ≡ y
 
 -- its words in the numbers of the whole
 abbrev pub words_of : Shard → List (List ℕ)
@@ -59,4 +62,5 @@ in_whole shard inv = invariant inv.kind (shard.number inv.a) (shard.number inv.b
 
 -- the shard's own list has the invariant of the whole
 abbrev pub Lists : Shard → Invariant → Type 0
-Lists shard inv = (own : Invariant) × Contains (mined shard.count shard.words) own × (in_whole shard own ≡ inv)
+Lists shard inv =
+    (own : Invariant) × Contains (mined shard.count shard.words) own × (in_whole shard own ≡ inv)
