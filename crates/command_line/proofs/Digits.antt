@@ -19,6 +19,7 @@ pub record AreDigits (ds : List ℕ) : Type 0 where
   pub few : length ds ≤ 5
   pub digits : list_all is_digit ds ≡ true
 
+-- a text that passes the test is 1 to 5 digits
 pub digits-parts : (ds : List ℕ) → are_digits ds ≡ true → AreDigits ds
 digits-parts ds are =
     let one = and_parts (nat_le 1 (length ds)) (nat_le (length ds) 5 && list_all is_digit ds) are in
@@ -41,6 +42,7 @@ pub record ReadsOn (ds bytes : List ℕ) (i n : ℕ) : Type 0 where
   pub value : n * 10 + (get_or bytes i 0 - 48) ≡ digits_value 10 (take (i + 1) ds)
   pub small : n * 10 + (get_or bytes i 0 - 48) < 10 ^ 5
 
+-- one digit more is read among the bytes, and the number stays small
 pub reads-on : (ds bytes : List ℕ) (i n : ℕ) → are_digits ds ≡ true → bytes ≡ ds → i < length bytes → n ≡ digits_value 10 (take i ds) → ReadsOn ds bytes i n
 reads-on ds bytes i n are same inside so_far =
     let within : i < length ds = subst (λ (xs : List ℕ). i < length xs) same inside in

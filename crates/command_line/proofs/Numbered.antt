@@ -85,5 +85,6 @@ from-word : (u : Use) (o : Option Text) (task : Task)
 from-word u None task is = cc
 from-word u (Some word) task is = from-row u (row_of word (has_model u)) (rows-need word (has_model u)) task is
 
+-- a task that asks for a made log has the number of its sessions
 pub has-sessions : (u : Use) (task : Task) → task_of_use u ≡ Some task → HasSessions task
 has-sessions u task is = from-word u u.command task is

@@ -232,6 +232,7 @@ check_ok s rows has free e =
     (and _ _ (sub_ok has s.subcommand_required y.0) (and _ _ free
     (spared_ok (s.subcommand_negates_reqs && has) _ _ (required_all rows s.rules) z.0)))
 
+-- words without a fault pass at their level
 pub level_ok : (s : Shape) (names : Names) (h : Held) (words : List Text) (has : Bool) → list_all default_passes s.rules ≡ true → list_all (λ a. a.is_free) s.rules ≡ true
     → level_fault s names h words has [] ≡ [] → level_passes s names h words has ≡ true
 level_ok s names h words has defaults free e =
@@ -253,6 +254,7 @@ free : list_all (λ a. a.is_free) (built app).top.rules ≡ true
 unfolding app clap_on_literals
 free = refl
 
+-- clap takes the words in which it finds no fault
 pub app_takes : (words : List Text) → fault_of app words ≡ [] → takes app words ≡ true
 app_takes words none =
     and _ _ is_simple-app (leaf_takes (built app) nothing_held (argument_words app words) no_subs

@@ -7,7 +7,8 @@ use Rattle.clap.specs.declared.builder.action.ArgAction.TheVariants.{Set, SetTru
 -- a command line without arguments: no word stands for the program, and neither help nor a version is offered
 abbrev pub bare : App
 bare =
-    on_top (λ s. record s { no_binary_name = true; disable_help_flag = true; disable_version_flag = true }) (new_app (codes "synoptic"))
+    on_top (λ s. record s { no_binary_name = true; disable_help_flag = true; disable_version_flag = true })
+    (new_app (codes "synoptic"))
 
 -- an option with a value
 abbrev pub value_rule : Text → ℕ → Rule

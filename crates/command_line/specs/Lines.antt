@@ -18,23 +18,27 @@ asks command form model ignore join files =
       files = files;
     })
 
--- the invariants of a log, its graph, and the graph of the model in a file; the model of a log, the check of a
--- file's model against a log, and the paths of a log
+-- the invariants of a log
 abbrev pub invariants_of : LineForm → Bool → Bool → List Text → Option Task
 invariants_of form ignore join files = asks commands.Invariants (Some form) None ignore join files
 
+-- the graph of a log
 abbrev pub graph_of : LineForm → Bool → Bool → List Text → Option Task
 graph_of form ignore join files = asks commands.Graph (Some form) None ignore join files
 
+-- the graph of the model in a file
 abbrev pub graph_of_model : Text → Option Task
 graph_of_model name = asks commands.GraphOfModel None (Some name) false false []
 
+-- the model of a log
 abbrev pub model_of : LineForm → Bool → Bool → List Text → Option Task
 model_of form ignore join files = asks commands.Infer (Some form) None ignore join files
 
+-- the check of a file's model against a log
 abbrev pub check_of : Text → LineForm → Bool → Bool → List Text → Option Task
 check_of name form ignore join files = asks commands.Check (Some form) (Some name) ignore join files
 
+-- the paths of a log
 abbrev pub paths_of : LineForm → Bool → Bool → List Text → Option Task
 paths_of form ignore join files = asks commands.Paths (Some form) None ignore join files
 
@@ -54,16 +58,22 @@ bench_of sessions =
 -- lines that ask for something
 pub record TakesLines : Type 0 where
   pub plain : task_of (codes "invariants" ∷ codes "-p" ∷ []) ≡ invariants_of Plain false false []
-  pub rules : task_of (codes "invariants" ∷ codes "-e" ∷ codes "x" ∷ []) ≡ invariants_of (Rules (codes "x")) false false []
-  pub attached : task_of (codes "invariants" ∷ codes "-e=x" ∷ []) ≡ invariants_of (Rules (codes "x")) false false []
+  pub rules : task_of (codes "invariants" ∷ codes "-e" ∷ codes "x" ∷ [])
+      ≡ invariants_of (Rules (codes "x")) false false []
+  pub attached : task_of (codes "invariants" ∷ codes "-e=x" ∷ [])
+      ≡ invariants_of (Rules (codes "x")) false false []
   pub option_first : task_of (codes "-p" ∷ codes "invariants" ∷ []) ≡ invariants_of Plain false false []
   pub bundle : task_of (codes "invariants" ∷ codes "-pij" ∷ codes "a" ∷ codes "b" ∷ [])
       ≡ invariants_of Plain true true (codes "a" ∷ codes "b" ∷ [])
-  pub ends_options : task_of (codes "invariants" ∷ codes "-ie" ∷ codes "x" ∷ codes "a" ∷ codes "-j" ∷ codes "--" ∷ codes "-p" ∷ [])
+  pub ends_options :
+      task_of (codes "invariants" ∷ codes "-ie" ∷ codes "x" ∷ codes "a" ∷ codes "-j"
+      ∷ codes "--" ∷ codes "-p" ∷ [])
       ≡ invariants_of (Rules (codes "x")) true true (codes "a" ∷ codes "-p" ∷ [])
-  pub hyphen : task_of (codes "invariants" ∷ codes "-p" ∷ codes "-" ∷ []) ≡ invariants_of Plain false false (codes "-" ∷ [])
+  pub hyphen : task_of (codes "invariants" ∷ codes "-p" ∷ codes "-" ∷ [])
+      ≡ invariants_of Plain false false (codes "-" ∷ [])
   pub graph : task_of (codes "graph" ∷ codes "-p" ∷ []) ≡ graph_of Plain false false []
-  pub graph_of_files : task_of (codes "-ij" ∷ codes "graph" ∷ codes "-e" ∷ codes "x" ∷ codes "a" ∷ codes "b" ∷ [])
+  pub graph_of_files :
+      task_of (codes "-ij" ∷ codes "graph" ∷ codes "-e" ∷ codes "x" ∷ codes "a" ∷ codes "b" ∷ [])
       ≡ graph_of (Rules (codes "x")) true true (codes "a" ∷ codes "b" ∷ [])
   pub graph_model : task_of (codes "graph" ∷ codes "-m" ∷ codes "m" ∷ []) ≡ graph_of_model (codes "m")
   pub infer : task_of (codes "infer" ∷ codes "-p" ∷ []) ≡ model_of Plain false false []

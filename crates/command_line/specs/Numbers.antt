@@ -18,4 +18,5 @@ is_number n = nat_le 1 n && nat_le n MAX_SESSIONS
 
 -- the number that a text says: 1 to 5 digits that write 1 to the limit
 abbrev pub number_of : List ℕ → Option ℕ
-number_of text = if are_digits text && is_number (digits_value 10 text) then Some (digits_value 10 text) else None
+number_of text =
+    if are_digits text && is_number (digits_value 10 text) then Some (digits_value 10 text) else None

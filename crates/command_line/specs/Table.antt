@@ -18,22 +18,50 @@ use Rattle.command_line.specs.declared.table.Row.{Row}
 -- a command that reads a log, and takes nothing else
 abbrev pub log_row : Command → Row
 log_row command =
-    record { command = command; form = wants_form.One; flags = May; files = May; model = Never; number = Never }
+    record {
+      command = command;
+      form = wants_form.One;
+      flags = May;
+      files = May;
+      model = Never;
+      number = Never;
+    }
 
 -- a command that reads a log and a model's file, and takes nothing else
 abbrev pub log_and_model_row : Command → Row
 log_and_model_row command =
-    record { command = command; form = wants_form.One; flags = May; files = May; model = Needs; number = Never }
+    record {
+      command = command;
+      form = wants_form.One;
+      flags = May;
+      files = May;
+      model = Needs;
+      number = Never;
+    }
 
 -- a command that reads a model's file, and takes nothing else
 abbrev pub model_row : Command → Row
 model_row command =
-    record { command = command; form = wants_form.Never; flags = Never; files = Never; model = Needs; number = Never }
+    record {
+      command = command;
+      form = wants_form.Never;
+      flags = Never;
+      files = Never;
+      model = Needs;
+      number = Never;
+    }
 
 -- a command that is given a number, and takes nothing else
 abbrev pub number_row : Command → Row
 number_row command =
-    record { command = command; form = wants_form.Never; flags = Never; files = Never; model = Never; number = Needs }
+    record {
+      command = command;
+      form = wants_form.Never;
+      flags = Never;
+      files = Never;
+      model = Never;
+      number = Needs;
+    }
 
 -- the row of `graph`: with a model's file it is a command of its own
 abbrev pub graph_row : Bool → Row

@@ -104,8 +104,10 @@ fn is_for_memory(error: &Error) -> bool
 /// What `clap` makes of the words; each of its faults but want of memory is answered by `Usage`.
 fn matches_of<'a>(alloc: Global, words: &'a [String]) -> Result<ArgMatches<'a>, ParseError>
     ensures taken { IfOk result (λ m. is_taken (map string_bytes words.entry.now) ≡ true) }
-    ensures rows { IfOk result (λ m. rows_of (found_of m) ≡ rows_for (map string_bytes words.entry.now)) }
-    ensures usage { result ≡ Err ParseError.Usage → is_taken (map string_bytes words.entry.now) ≡ false }
+    ensures rows { IfOk result (λ m. rows_of (found_of m)
+        ≡ rows_for (map string_bytes words.entry.now)) }
+    ensures usage { result ≡ Err ParseError.Usage
+        → is_taken (map string_bytes words.entry.now) ≡ false }
 {
     let Ok(command) = command(alloc) else {
         return Err(ParseError::Memory);
@@ -125,8 +127,10 @@ fn matches_of<'a>(alloc: Global, words: &'a [String]) -> Result<ArgMatches<'a>, 
 /// What the words give, where `clap` takes them; `Usage` exactly where it does not, want of memory aside.
 pub fn read<'a>(alloc: Global, words: &'a [String]) -> Result<Given<'a>, ParseError>
     ensures taken { IfOk result (λ g. is_taken (map string_bytes words.entry.now) ≡ true) }
-    ensures given { IfOk result (λ g. given_held g ≡ use_of (rows_for (map string_bytes words.entry.now))) }
-    ensures usage { result ≡ Err ParseError.Usage → is_taken (map string_bytes words.entry.now) ≡ false }
+    ensures given { IfOk result (λ g. given_held g
+        ≡ use_of (rows_for (map string_bytes words.entry.now))) }
+    ensures usage { result ≡ Err ParseError.Usage
+        → is_taken (map string_bytes words.entry.now) ≡ false }
 {
     let matches = matches_of(alloc, words)?;
     match given_of(alloc, &matches) {

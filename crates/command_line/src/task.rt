@@ -90,9 +90,11 @@ fn by_table<'a>(given: Given<'a>) -> Option<Task<'a>>
 /// A task comes only where they ask for it, and `Usage` only where they ask for none. In the place of either `Memory` may
 /// come, where memory was wanted. A task that asks for a made log has the number of its sessions, from 1 to `MAX_SESSIONS`.
 pub fn parse<'a>(alloc: Global, words: &'a [String]) -> Result<Task<'a>, ParseError>
-    ensures ok { IfOk result (λ t. task_of (map string_bytes words.entry.now) ≡ Some (task_held t)) }
+    ensures ok { IfOk result (λ t. task_of (map string_bytes words.entry.now)
+        ≡ Some (task_held t)) }
     ensures sessions { IfOk result (λ t. HasSessions (task_held t)) }
-    ensures usage { result ≡ Err ParseError.Usage → task_of (map string_bytes words.entry.now) ≡ None }
+    ensures usage { result ≡ Err ParseError.Usage
+        → task_of (map string_bytes words.entry.now) ≡ None }
 {
     match by_table(read(alloc, words)?) {
         Some(task) => Ok(task),
