@@ -25,17 +25,15 @@ pub all-by : {X : Type 0} (p : X → Bool) (Q : X → Type 0) → ((x : X) → p
 all-by p Q give [] h = tt
 all-by p Q give (x ∷ xs) h = let e = and_parts (p x) (list_all p xs) h in (give x e.0, all-by p Q give xs e.1)
 
+-- what follows for each element follows for all
 pub all-weaker : {X : Type 0} (P Q : X → Type 0) → ((x : X) → P x → Q x) → (xs : List X) → AllByRecursion P xs → AllByRecursion Q xs
 all-weaker P Q give [] h = tt
 all-weaker P Q give (x ∷ xs) h = (give x h.0, all-weaker P Q give xs h.1)
 
--- ---- types
-
+-- types that pass are at most 128
 pub few-types : (ts : List (List ℕ)) → types_hold ts ≡ true → length ts ≤ 128
 unfolding types_hold
 few-types ts h = leb-true _ _ (and_parts _ _ h).0
-
--- ---- partitions
 
 -- an id of at most 1,023, the number of a type, and a count that fits
 pub record IsNumbered (types : ℕ) (p : Partition) : Type 0 where
@@ -53,6 +51,7 @@ numbered-other types p h =
     let typ : p.typ < types + 2 = ltb-true _ _ c.0 in
     record { id = omega (arith, id); typ = omega (arith, typ); count = leb-true _ _ d.1 }
 
+-- where the partitions pass, each is numbered so
 pub numbered : (types : ℕ) (ps : List Partition) → partitions_hold types ps ≡ true → AllByRecursion (IsNumbered types) ps
 unfolding partitions_hold
 numbered types [] h = absurd (false≢true h)
@@ -77,17 +76,16 @@ numbered types (p ∷ q ∷ ps) h =
       ),
     )
 
+-- partitions that pass fit their fields
 pub fits-partitions : (types : ℕ) (ps : List Partition) → types ≤ 128 → partitions_hold types ps ≡ true → AllByRecursion FitsPartition ps
 fits-partitions types ps few h =
     all-weaker (IsNumbered types) FitsPartition (λ p n. record { id = omega (arith, n.id); typ = omega (arith, n.typ, few); count = omega (arith, n.count) }) ps (numbered types ps h)
-
--- ---- edges
 
 found-small : (b : Bool) (p : Partition) (o : Option Partition) → b ≡ false → is_some (option_map (λ (q : Partition). q.typ) (cond b (Some p) o)) ≡ true → is_some (option_map (λ (q : Partition). q.typ) o) ≡ true
 found-small true p o e h = absurd (false≢true (sym e))
 found-small false p o e h = h
 
--- the id of a listed partition
+-- the id of a listed partition is at most 1,023
 pub listed-small : (types : ℕ) (ps : List Partition) (id : ℕ) → AllByRecursion (IsNumbered types) ps → is_some (type_of ps id) ≡ true → id ≤ 1023
 listed-small types [] id h some = absurd (false≢true some)
 listed-small types (p ∷ ps) id h some =
@@ -96,6 +94,7 @@ listed-small types (p ∷ ps) id h some =
       | inr other ↦ listed-small types ps id h.1 (found-small (eqb p.id id) p (find (λ (q : Partition). eqb q.id id) ps) other some)
     ]
 
+-- of six tests that all pass, the first two and the last
 pub six : (a b c d e f : Bool) → (a && (b && (c && (d && (e && f))))) ≡ true → (a ≡ true) × (b ≡ true) × (f ≡ true)
 six true true true true true true h = (refl, refl, refl)
 six true true true true true false h = absurd (false≢true h)
@@ -113,12 +112,12 @@ fits-edge types ps small e x =
     let to : e.to ≤ 1023 = listed-small types ps e.to small parts.1 in
     record { from = omega (arith, from); to = omega (arith, to); count = omega (arith, count) }
 
+-- edges that pass fit their fields
 pub fits-edges : (types : ℕ) (ps : List Partition) (es : List Edge) → partitions_hold types ps ≡ true → edges_hold (type_of ps) es ≡ true → AllByRecursion FitsEdge es
 unfolding edges_hold
 fits-edges types ps es parts h = all-by (edge_holds (type_of ps)) FitsEdge (fits-edge types ps (numbered types ps parts)) es (and_parts (list_all (edge_holds (type_of ps)) es) _ h).0
 
--- ---- merges
-
+-- merges that pass fit their fields
 pub fits-merges : (ms : List Merge) → merges_hold ms ≡ true → AllByRecursion FitsMerge ms
 unfolding merges_hold
 fits-merges ms h =
@@ -128,13 +127,11 @@ fits-merges ms h =
     let high : m.q < 1024 = ltb-true _ _ a.1 in
     record { p = omega (arith, less, high); q = omega (arith, high) }) ms (and_parts _ _ h).1
 
--- ---- paths
-
+-- the ids of a path that passes fit 32 bits
 pub small-path : (path : List ℕ) → path_holds path ≡ true → AllByRecursion IsSmall path
 small-path path h = all-by (λ id. ltb id 1024) IsSmall (λ id x. let high : id < 1024 = ltb-true _ _ x in omega (arith, high)) path h
 
--- ---- invariants
-
+-- an option that is not empty has a value
 pub some-place : (o : Option ℕ) → is_some o ≡ true → (k : ℕ) × (o ≡ Some k)
 some-place None h = absurd (false≢true h)
 some-place (Some k) h = (k, refl)
@@ -167,6 +164,7 @@ placed types i k h =
     let shape = between types i (candidate-shape types k i found) in
     record { inside = omega (arith, inside, length-candidates types); a = shape.a; b = shape.b }
 
+-- an invariant that is found stands at its place among the candidates
 pub place-known : (types : ℕ) (i : Invariant) → is_some (place_of types i) ≡ true → IsPlaced types i (unwrap_or (place_of types i) 0)
 place-known types i h = let k = some-place (place_of types i) h in subst (λ o. IsPlaced types i (unwrap_or o 0)) (sym k.1) (placed types i k.0 k.1)
 
@@ -187,6 +185,7 @@ few-ascend n (k ∷ ks) before small room h =
     let rest : length ks + (k + 1) ≤ n = few-ascend n ks (Some k) small.1 (omega (arith, small.0)) e.1 in
     omega (arith, low, rest)
 
+-- what the image of each element has, all images have
 pub all-map : {X Y : Type 0} (f : X → Y) (P : Y → Type 0) (xs : List X) → AllByRecursion (λ x. P (f x)) xs → AllByRecursion P (map f xs)
 all-map f P [] h = tt
 all-map f P (x ∷ xs) h = (h.0, all-map f P xs h.1)
@@ -194,6 +193,7 @@ all-map f P (x ∷ xs) h = (h.0, all-map f P xs h.1)
 few-candidates : (types : ℕ) → types ≤ 128 → types + 3 * (types * types) ≤ 49280
 few-candidates types few = omega (arith, mul-le-mul few few)
 
+-- listed invariants that pass are at most 49,280
 pub few-invariants : (types partitions : ℕ) (ls : List Listed) → types ≤ 128 → invariants_hold types partitions ls ≡ true → length ls ≤ 49280
 unfolding invariants_hold
 few-invariants types partitions ls few h =
@@ -204,6 +204,7 @@ few-invariants types partitions ls few h =
     let count = few-ascend n (map place ls) None (all-map place (λ k. k < n) ls small) (omega arith) e.1 in
     omega (arith, count, length-map ls place, few-candidates types few)
 
+-- listed invariants that pass fit their fields
 pub fits-invariants : (types partitions : ℕ) (ls : List Listed) → types ≤ 128 → invariants_hold types partitions ls ≡ true → AllByRecursion FitsListed ls
 unfolding invariants_hold
 fits-invariants types partitions ls few h =
@@ -212,8 +213,6 @@ fits-invariants types partitions ls few h =
     let b = and_parts _ _ a.1 in
     let at = place-known types l.inv a.0 in
     record { a = omega (arith, at.a, few); b = omega (arith, at.b, few); labels = all-by (λ label. leb label 7) (λ label. label ≤ 7) (λ label y. leb-true _ _ y) l.labels b.1 }) ls (and_parts _ _ h).0
-
--- ---- splits
 
 split-list : (invariants n : ℕ) (ss : List Split) → invariants ≤ 49280 → n ≤ 4000000 → list_all (split_holds invariants) ss ≡ true → split_numbers ss ≤ n → AllByRecursion FitsSplit ss
 split-list invariants n [] few long h room = tt
@@ -226,17 +225,18 @@ split-list invariants n (s ∷ ss) few long h room =
     let sum = sum_by-cons (λ (t : Split). length t.path) s ss in
     (record { inv = omega (arith, inv, few); place = omega (arith, place, room, long, sum); path = small-path s.path b.1 }, split-list invariants n ss few long e.1 (omega (arith, room, sum)))
 
+-- splits that pass fit their fields
 pub fits-splits : (invariants : ℕ) (ss : List Split) → invariants ≤ 49280 → splits_hold invariants ss ≡ true → AllByRecursion FitsSplit ss
 unfolding splits_hold
 fits-splits invariants ss few h = let e = and_parts _ _ (and_parts _ _ h).1 in split-list invariants (split_numbers ss) ss few (leb-true _ _ e.1) e.0 (omega arith)
 
--- ---- blocks
-
+-- two values that are one are both there
 pub both-some : (s t : Option ℕ) → are_one s t ≡ true → (is_some s ≡ true) × (is_some t ≡ true)
 both-some None t h = absurd (false≢true h)
 both-some (Some x) None h = absurd (false≢true h)
 both-some (Some x) (Some y) h = (refl, refl)
 
+-- blocks that pass fit their fields
 pub fits-blocks : (types invariants : ℕ) (ps : List Partition) (ss : List Split) (bs : List Block) → partitions_hold types ps ≡ true → invariants ≤ 49280 → blocks_hold (type_of ps) invariants ss bs ≡ true → AllByRecursion FitsBlock bs
 unfolding blocks_hold
 fits-blocks types invariants ps ss bs parts few h =

@@ -21,6 +21,7 @@ use Rattle.model_file.specs.Entries.{◌>>=◌, number_below, number_in, type_in
 some : {A : Type 0} → A → Option A
 some x = Some x
 
+-- two options that are the same have the same value
 pub some-is : {A : Type 0} (x y : A) → Some x ≡ Some y → x ≡ y
 some-is x y e = cc
 
@@ -44,6 +45,7 @@ number-forth limit n (string s) e = absurd cc
 number-forth limit n (array ds) e = absurd cc
 number-forth limit n (object ms) e = absurd cc
 
+-- a value that is read as a text is the value of this text
 pub text-forth : (d : Data) (s : List ℕ) → as_str d ≡ Some s → d ≡ string s
 text-forth null s e = absurd cc
 text-forth (boolean b) s e = absurd cc
@@ -59,6 +61,7 @@ each-forth f g forth (item d ds) xs e =
     let second = bind-some (each f ds) (λ rest. Some (first.0 ∷ rest)) xs first.2 in
     ap₂ item (forth d first.0 first.1) (each-forth f g forth ds second.0 second.1) ∙ ap (λ ys. items_of (map g ys)) (some-is (first.0 ∷ second.0) xs second.2)
 
+-- where each value that is read is that of its entry, an array that is read is that of its list
 pub list-forth : {A : Type 0} (f : Data → Option A) (g : A → Data) → ((d : Data) (a : A) → f d ≡ Some a → d ≡ g a) → (d : Data) (xs : List A) → list_in f d ≡ Some xs → d ≡ array_of (map g xs)
 unfolding list_in
 list-forth f g forth null xs e = absurd cc
@@ -173,6 +176,7 @@ path-forth : (d : Data) (path : List ℕ) → path_in d ≡ Some path → d ≡ 
 unfolding path_in
 path-forth d path e = list-forth number_in number_data (λ x n h. number-forth (2 ^ 32) n x h) d path e
 
+-- a value that is read as a partition is the value of this partition
 pub partition-forth : (d : Data) (x : Partition) → partition_in d ≡ Some x → d ≡ partition_data x
 unfolding partition_in
 partition-forth d x e =
@@ -183,6 +187,7 @@ partition-forth d x e =
     let made : Partition = record { id = id.0; typ = typ.0; count = count.0 } in
     three-forth d row.0 row.1 ∙ (array-three (number-forth (2 ^ 32) id.0 row.0.0 id.1) (number-forth (2 ^ 16) typ.0 row.0.1 typ.1) (number-forth (2 ^ 32) count.0 row.0.2 count.1) ∙ ap partition_data (some-is made x count.2))
 
+-- a value that is read as an edge is the value of this edge
 pub edge-forth : (d : Data) (x : Edge) → edge_in d ≡ Some x → d ≡ edge_data x
 unfolding edge_in
 edge-forth d x e =
@@ -193,6 +198,7 @@ edge-forth d x e =
     let made : Edge = record { from = from.0; to = to.0; count = count.0 } in
     three-forth d row.0 row.1 ∙ (array-three (number-forth (2 ^ 32) from.0 row.0.0 from.1) (number-forth (2 ^ 32) to.0 row.0.1 to.1) (number-forth (2 ^ 32) count.0 row.0.2 count.1) ∙ ap edge_data (some-is made x count.2))
 
+-- a value that is read as a merge is the value of this merge
 pub merge-forth : (d : Data) (x : Merge) → merge_in d ≡ Some x → d ≡ merge_data x
 unfolding merge_in
 merge-forth d x e =
@@ -202,6 +208,7 @@ merge-forth d x e =
     let made : Merge = record { p = p.0; q = q.0 } in
     two-forth d row.0 row.1 ∙ (array-two (number-forth (2 ^ 32) p.0 row.0.0 p.1) (number-forth (2 ^ 32) q.0 row.0.1 q.1) ∙ ap merge_data (some-is made x q.2))
 
+-- a value that is read as a split is the value of this split
 pub split-forth : (d : Data) (x : Split) → split_in d ≡ Some x → d ≡ split_data x
 unfolding split_in
 split-forth d x e =
@@ -212,6 +219,7 @@ split-forth d x e =
     let made : Split = record { inv = inv.0; place = place.0; path = path.0 } in
     three-forth d row.0 row.1 ∙ (array-three (number-forth (2 ^ 32) inv.0 row.0.0 inv.1) (number-forth (2 ^ 32) place.0 row.0.1 place.1) (path-forth row.0.2 path.0 path.1) ∙ ap split_data (some-is made x path.2))
 
+-- a value that is read as a block is the value of this block
 pub block-forth : (d : Data) (x : Block) → block_in d ≡ Some x → d ≡ block_data x
 unfolding block_in
 block-forth d x e =
@@ -238,6 +246,7 @@ invariant-forth name first second i e =
     let read : IsInvariant made name first second = record { kind = kind-forth name kind.0 kind.1; a = number-forth (2 ^ 16) a.0 first a.1; b = number-forth (2 ^ 16) b.0 second b.1 } in
     subst (λ j. IsInvariant j name first second) (some-is made i b.2) read
 
+-- a value that is read as a listed invariant is the value of this invariant
 pub listed-forth : (d : Data) (x : Listed) → listed_in d ≡ Some x → d ≡ listed_data x
 unfolding listed_in
 listed-forth d x e =

@@ -7,7 +7,6 @@ pub mod Shapes
 pub mod Texts
 pub mod Trees
 pub mod Tokens
-pub mod Room
 pub mod Places
 pub mod Fails
 pub mod PartByPart

@@ -154,13 +154,6 @@ pairs-few (k ∷ ks) before low h room e =
 
 -- ---- the entries of a well-shaped model
 
-less-pair : (a b : ℕ) → a ≤ 1023 → b ≤ 1023 → IsLow (a, b)
-less-pair a b p q = (p, q)
-
-all-both : {X : Type 0} (P Q R : X → Type 0) → ((x : X) → P x → Q x → R x) → (xs : List X) → AllByRecursion P xs → AllByRecursion Q xs → AllByRecursion R xs
-all-both P Q R give [] p q = tt
-all-both P Q R give (x ∷ xs) p q = (give x p.0 q.0, all-both P Q R give xs p.1 q.1)
-
 -- ---- types
 
 text-short : (s : List ℕ) → type_holds s ≡ true → length (compact_text (string s)) + 1 ≤ 1539
@@ -398,6 +391,7 @@ member-short later k d ms =
       length-append (compact_text d) (members_text true ms),
     )
 
+-- the text of a model that passes the rules is within the limit of a model file
 pub texts-are-short : (m : Model) → PassesRules m → length (file_text m) ≤ MAX_MODEL_BYTES
 unfolding tree_of
 texts-are-short m h =
@@ -422,5 +416,6 @@ texts-are-short m h =
     let g = blocks-short (length m.types) (length m.invariants) m.partitions m.splits m.blocks h.partitions listed h.blocks in
     omega (arith, blocks, edges, invariants, merges, partitions, splits, types, version, one, a, b, c, d, e, f, g)
 
+-- the text of a model that passes the rules is read back as this model, where its types are UTF-8
 pub written-reads-back : (m : Model) → PassesRules m → All IsUtf8 m.types → reads (file_text m) ≡ Ok m
 written-reads-back m h texts = text-reads-back m h (IsUtf8-file_text m h texts) (texts-are-short m h)

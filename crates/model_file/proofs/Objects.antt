@@ -168,6 +168,7 @@ same-keys ms m h each key =
       | inr other ↦ no-other key ms other h ∙ sym (no-other key (members_in m) other (own-keys m))
     ]
 
+-- a value that is read as a model is an object which has just the keys of the model's value, each with the same value
 pub model-is-tree : (d : Data) (m : Model) → model_in d ≡ Ok m → (ms : Members) × (d ≡ object ms) × ((key : List ℕ) → Same ms m key)
 unfolding model_in parts_in head_in
 model-is-tree d m e =
@@ -208,6 +209,7 @@ value-is : (o : Option Data) (d : Data) → or_not_json o ≡ Ok d → o ≡ Som
 value-is None d e = absurd cc
 value-is (Some x) d e = ap Some (ok-is x d e)
 
+-- so is the value of the bytes that are read as a model
 pub read-is-tree : ReadIsTree
 unfolding reads
 read-is-tree bytes m e =

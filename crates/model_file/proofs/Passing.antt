@@ -10,27 +10,29 @@ use Rattle.model_shape.specs.Shapes.{IsTypeText, AreTypes, end_of, IsEventPartit
 use Rattle.model_file.specs.Rules.{comes_after, ascends_from, pair_less, are_distinct, type_holds, types_hold, ends_hold, partition_holds, partitions_hold}
 use Rattle.model_file.proofs.Bounds.{all-by}
 
--- ---- tests and facts
-
+-- where each element with the property passes, a list of such elements passes
 pub all-of : {X : Type 0} (p : X → Bool) (Q : X → Type 0) → ((x : X) → Q x → p x ≡ true) → (xs : List X) → AllByRecursion Q xs → list_all p xs ≡ true
 all-of p Q give [] h = refl
 all-of p Q give (x ∷ xs) h = and_from (p x) (list_all p xs) (give x h.0) (all-of p Q give xs h.1)
 
+-- a test whose contrary passes fails
 pub not-true : (b : Bool) → not b ≡ true → b ≡ false
 not-true true h = absurd (false≢true h)
 not-true false h = refl
 
+-- the contrary of a test that fails passes
 pub not-false : (b : Bool) → b ≡ false → not b ≡ true
 not-false b h = ap not h
 
+-- two numbers that pass as different differ
 pub differs : (a b : ℕ) → not (eqb a b) ≡ true → a ≢ b
 differs a b h = λ e. false≢true (sym (not-true (eqb a b) h) ∙ eq-eqb a b e)
 
+-- two numbers that differ pass as different
 pub differ : (a b : ℕ) → a ≢ b → not (eqb a b) ≡ true
 differ a b n = not-false (eqb a b) (ne_eqb a b n)
 
--- ---- lists that ascend
-
+-- each element has a property that asks nothing
 pub any : {X : Type 0} (xs : List X) → AllByRecursion (λ _. Unit {0}) xs
 any [] = tt
 any (x ∷ xs) = (tt, any xs)
@@ -39,11 +41,13 @@ any (x ∷ xs) = (tt, any xs)
 abbrev pub Gives : {X K : Type 0} → (K → K → Bool) → (X → K) → (X → X → Type 0) → (X → Type 0) → Type 0
 Gives {X} {K} less key Before P = (x y : X) → P x → P y → less (key x) (key y) ≡ true → Before x y
 
+-- where the keys ascend from an element on, it leads to the rest
 pub leads : {X K : Type 0} (less : K → K → Bool) (key : X → K) (Before : X → X → Type 0) (P : X → Type 0) → Gives less key Before P
     → (x : X) (xs : List X) → P x → AllByRecursion P xs → ascends_from less (Some (key x)) (map key xs) ≡ true → LeadsTo Before x xs
 leads less key Before P give x [] p ps h = tt
 leads less key Before P give x (y ∷ ys) p ps h = give x y p ps.0 (and_parts (less (key x) (key y)) (ascends_from less (Some (key y)) (map key ys)) h).0
 
+-- where the keys ascend, so do the entries
 pub ascends-tell : {X K : Type 0} (less : K → K → Bool) (key : X → K) (Before : X → X → Type 0) (P : X → Type 0) → Gives less key Before P
     → (xs : List X) (before : Option K) → AllByRecursion P xs → ascends_from less before (map key xs) ≡ true → Ascends Before xs
 ascends-tell less key Before P give [] before ps h = tt
@@ -55,18 +59,20 @@ ascends-tell less key Before P give (x ∷ xs) before ps h =
 abbrev pub Takes : {X K : Type 0} → (K → K → Bool) → (X → K) → (X → X → Type 0) → Type 0
 Takes {X} {K} less key Before = (x y : X) → Before x y → less (key x) (key y) ≡ true
 
+-- where the entries ascend from an element on, so do the keys
 pub ascends-after : {X K : Type 0} (less : K → K → Bool) (key : X → K) (Before : X → X → Type 0) → Takes less key Before
     → (x : X) (xs : List X) → LeadsTo Before x xs → Ascends Before xs → ascends_from less (Some (key x)) (map key xs) ≡ true
 ascends-after less key Before take x [] l a = refl
 ascends-after less key Before take x (y ∷ ys) l a =
     and_from (less (key x) (key y)) (ascends_from less (Some (key y)) (map key ys)) (take x y l) (ascends-after less key Before take y ys a.0 a.1)
 
+-- where the entries ascend, so do the keys
 pub ascends-told : {X K : Type 0} (less : K → K → Bool) (key : X → K) (Before : X → X → Type 0) → Takes less key Before
     → (xs : List X) → Ascends Before xs → ascends_from less None (map key xs) ≡ true
 ascends-told less key Before take [] a = refl
 ascends-told less key Before take (x ∷ xs) a = ascends-after less key Before take x xs a.0 a.1
 
--- pairs
+-- of pairs the smaller has the smaller first number, or the same and the smaller second
 pub pairs-give : (a b c d : ℕ) → pair_less (a, b) (c, d) ≡ true → (a < c) ⊎ ((a ≡ c) × (b < d))
 pairs-give a b c d h =
     elim (or_cases (nat_lt a c) (eqb a c && nat_lt b d) h) [
@@ -74,17 +80,18 @@ pairs-give a b c d h =
       | inr s ↦ let e = and_parts (eqb a c) (nat_lt b d) s in inr (eqb-true a c e.0, ltb-true b d e.1)
     ]
 
+-- a pair with the smaller first number, or the same and the smaller second, is the smaller
 pub pairs-take : (a b c d : ℕ) → (a < c) ⊎ ((a ≡ c) × (b < d)) → pair_less (a, b) (c, d) ≡ true
 pairs-take a b c d (inl l) = or_left (nat_lt a c) (eqb a c && nat_lt b d) (lt-ltb a c l)
 pairs-take a b c d (inr e) = or_right (nat_lt a c) (eqb a c && nat_lt b d) (and_from (eqb a c) (nat_lt b d) (eq-eqb a c e.0) (lt-ltb b d e.1))
 
--- ---- types
-
+-- a text that stands in a list is found there
 pub stands-at : (t : List ℕ) (ts : List (List ℕ)) (k : ℕ) (text : List ℕ) → slice_get ts k ≡ Some text → t ≡ text → list_any (bytes_eq t) ts ≡ true
 stands-at t [] k text g e = absurd cc
 stands-at t (x ∷ ts) zero text g e = let same : x ≡ text = cc in or_left (bytes_eq t x) (list_any (bytes_eq t) ts) ((bytes_eq-Decides t x).1 (e ∙ sym same))
 stands-at t (x ∷ ts) (suc k) text g e = or_right (bytes_eq t x) (list_any (bytes_eq t) ts) (stands-at t ts k text g e)
 
+-- a text that is found in a list stands there
 pub stands : (t : List ℕ) (ts : List (List ℕ)) → list_any (bytes_eq t) ts ≡ true → (k : ℕ) × (slice_get ts k ≡ Some t)
 stands t [] h = absurd (false≢true h)
 stands t (x ∷ ts) h =
@@ -93,9 +100,11 @@ stands t (x ∷ ts) h =
       | inr r ↦ let k = stands t ts r in (suc k.0, k.1)
     ]
 
+-- no text stands at two places
 abbrev pub AreApart : List (List ℕ) → Type 0
 AreApart ts = (j k : ℕ) (text : List ℕ) → slice_get ts j ≡ Some text → slice_get ts k ≡ Some text → j ≡ k
 
+-- where the test of a list finds no text twice, none stands at two places
 pub distinct-apart : (ts : List (List ℕ)) → are_distinct ts ≡ true → AreApart ts
 distinct-apart [] h j k text e f = absurd cc
 distinct-apart (t ∷ ts) h zero zero text e f = refl
@@ -109,6 +118,7 @@ distinct-apart (t ∷ ts) h (suc j) zero text e f =
     absurd (false≢true (sym (not-true (list_any (bytes_eq t) ts) a.0) ∙ stands-at t ts j text e same))
 distinct-apart (t ∷ ts) h (suc j) (suc k) text e f = ap suc (distinct-apart ts (and_parts (not (list_any (bytes_eq t) ts)) (are_distinct ts) h).1 j k text e f)
 
+-- where no text stands at two places, the test of the list finds none twice
 pub apart-distinct : (ts : List (List ℕ)) → AreApart ts → are_distinct ts ≡ true
 apart-distinct [] a = refl
 apart-distinct (t ∷ ts) a =
@@ -119,12 +129,15 @@ apart-distinct (t ∷ ts) a =
     ])
     (apart-distinct ts (λ j k text e f. let same : suc j ≡ suc k = a (suc j) (suc k) text e f in omega (arith, same)))
 
+-- a text that passes is a text of a type
 pub text-tells : (s : List ℕ) → type_holds s ≡ true → IsTypeText s
 text-tells s h = let a = and_parts (leb 1 (length s)) (leb (length s) 256) h in let low : 1 ≤ length s = leb-true 1 (length s) a.0 in record { some = omega (arith, low); short = leb-true (length s) 256 a.1 }
 
+-- a text of a type passes
 pub text-told : (s : List ℕ) → IsTypeText s → type_holds s ≡ true
 text-told s t = let low : 0 < length s = t.some in and_from (leb 1 (length s)) (leb (length s) 256) (le-leb 1 (length s) (omega (arith, low))) (le-leb (length s) 256 t.short)
 
+-- a list of texts passes exactly where they are the types of a well-shaped model
 pub types-tell : (ts : List (List ℕ)) → (types_hold ts ≡ true) ↔ AreTypes ts
 unfolding types_hold
 types-tell ts = (
@@ -137,8 +150,7 @@ types-tell ts = (
       (and_from (list_all type_holds ts) (are_distinct ts) (all-of type_holds IsTypeText text-told ts t.each) (apart-distinct ts t.apart)),
 )
 
--- ---- partitions
-
+-- a partition with the numbers of an end is this end
 pub end-is : (p : Partition) (id traces : ℕ) → p.id ≡ id → p.typ ≡ id → p.count ≡ traces → p ≡ end_of id traces
 end-is p id traces a b c =
     let x : p ≡ record p { id = id } = ap (λ z. record p { id = z }) a in
@@ -146,6 +158,7 @@ end-is p id traces a b c =
     let z : record { id = id; typ = id; count = p.count } ≡ end_of id traces = ap (λ w. record { id = id; typ = id; count = w }) c in
     x ∙ (y ∙ z)
 
+-- a partition that passes is one of events
 pub partition-tells : (types : ℕ) (p : Partition) → partition_holds types p ≡ true → IsEventPartition types p
 partition-tells types p h =
     let a = and_parts (ltb p.id 1024) (leb 2 p.typ && (ltb p.typ (types + 2) && (leb 1 p.count && leb p.count 1000000))) h in
@@ -155,6 +168,7 @@ partition-tells types p h =
     let low : 1 ≤ p.count = leb-true 1 p.count d.0 in
     record { id = ltb-true p.id 1024 a.0; type_low = leb-true 2 p.typ b.0; type_high = ltb-true p.typ (types + 2) c.0; some = omega (arith, low); few = leb-true p.count 1000000 d.1 }
 
+-- a partition of events passes
 pub partition-told : (types : ℕ) (p : Partition) → IsEventPartition types p → partition_holds types p ≡ true
 partition-told types p t =
     let low : 0 < p.count = t.some in
@@ -163,12 +177,15 @@ partition-told types p t =
     (and_from (ltb p.typ (types + 2)) (leb 1 p.count && leb p.count 1000000) (lt-ltb p.typ (types + 2) t.type_high)
     (and_from (leb 1 p.count) (leb p.count 1000000) (le-leb 1 p.count (omega (arith, low))) (le-leb p.count 1000000 t.few))))
 
+-- the partition with the smaller id comes before
 pub ids-give : Gives nat_lt (λ (p : Partition). p.id) PartitionBefore (λ _. Unit {0})
 ids-give x y p q h = ltb-true x.id y.id h
 
+-- the partition that comes before has the smaller id
 pub ids-take : Takes nat_lt (λ (p : Partition). p.id) PartitionBefore
 ids-take x y l = lt-ltb x.id y.id l
 
+-- partitions that pass are well shaped
 pub partitions-hold-tell : (types : ℕ) (ps : List Partition) → partitions_hold types ps ≡ true → AreShapedPartitions types ps
 unfolding partitions_hold
 partitions-hold-tell types [] h = absurd (false≢true h)
@@ -197,9 +214,11 @@ partitions-hold-tell types (p ∷ q ∷ ps) h =
       each = all-by (partition_holds types) (IsEventPartition types) (partition-tells types) ps i.0;
     }
 
+-- the two ends pass
 pub ends-stand : (traces : ℕ) (ps : List Partition) → traces ≤ 1000000 → ends_hold (end_of 0 traces ∷ end_of 1 traces ∷ ps) ≡ true
 ends-stand traces ps few = rw (le-leb traces 1000000 few, eq-eqb traces traces refl) refl
 
+-- the two ends and partitions of events that ascend pass
 pub made-hold : (types traces : ℕ) (ps : List Partition) → length ps + 2 ≤ 1024 → traces ≤ 1000000 → Ascends PartitionBefore (end_of 0 traces ∷ end_of 1 traces ∷ ps) → AllByRecursion (IsEventPartition types) ps
     → partitions_hold types (end_of 0 traces ∷ end_of 1 traces ∷ ps) ≡ true
 unfolding partitions_hold
@@ -209,6 +228,7 @@ made-hold types traces ps short few order each =
     (and_from _ _ (all-of (partition_holds types) (IsEventPartition types) (partition-told types) ps each)
     (ascends-told nat_lt (λ (x : Partition). x.id) PartitionBefore ids-take (end_of 0 traces ∷ end_of 1 traces ∷ ps) order)))
 
+-- partitions pass exactly where they are well shaped
 pub partitions-tell : (types : ℕ) (ps : List Partition) → (partitions_hold types ps ≡ true) ↔ AreShapedPartitions types ps
 partitions-tell types ps = (
   partitions-hold-tell types ps,

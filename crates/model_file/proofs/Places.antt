@@ -76,6 +76,7 @@ agrees types i None None to from e = refl
 agrees types i (Some k) None to from e = absurd (false≢true (subst (λ o. is_some o ≡ true) e (place-some i (candidates types) k (to k refl))))
 agrees types i r (Some k) to from e = from k (place-is i (candidates types) k e)
 
+-- an answer that is a place exactly where the invariant stands there is the invariant's place
 pub place-agrees : (types : ℕ) (i : Invariant) (r : Option ℕ) → ((k : ℕ) → (r ≡ Some k) ↔ (slice_get (candidates types) k ≡ Some i)) → r ≡ place_of types i
 unfolding place_of
 place-agrees types i r h = agrees types i r (place_in i (candidates types)) (λ k. (h k).0) (λ k. (h k).1) refl

@@ -22,6 +22,7 @@ use Rattle.limits.specs.declared.TheConstants.{MAX_MODEL_BYTES}
 abbrev done : {A : Type 0} → A → Result A FileError
 done x = Ok x
 
+-- two results that are the same have the same value
 pub ok-is : {A : Type 0} (x y : A) → done x ≡ done y → x ≡ y
 ok-is x y e = cc
 
@@ -42,10 +43,12 @@ rule-of field rule r y e =
     let t = tested-ok field (rule b.0) b.0 y b.2 in
     subst (λ x. rule x ≡ true) t.1 t.0
 
+-- types that are read pass their rule
 pub types-hold : (d : Data) (ts : List (List ℕ)) → types_in d ≡ Ok ts → types_hold ts ≡ true
 unfolding types_in
 types-hold d ts e = rule-of Types types_hold (part_in as_str (codes "types") Types d) ts e
 
+-- partitions that are read pass their rule
 pub partitions-hold : (types : ℕ) (d : Data) (ps : List Partition) → partitions_in types d ≡ Ok ps → partitions_hold types ps ≡ true
 unfolding partitions_in
 partitions-hold types d ps e = rule-of Partitions (partitions_hold types) (part_in partition_in (codes "partitions") Partitions d) ps e
@@ -70,6 +73,7 @@ blocks-hold : (type : ℕ → Option ℕ) (invariants : ℕ) (ss : List Split) (
 unfolding blocks_in
 blocks-hold type invariants ss d bs e = rule-of Blocks (blocks_hold type invariants ss) (part_in block_in (codes "blocks") Blocks d) bs e
 
+-- a model that is read from a value passes the rules
 pub model-passes : (d : Data) (m : Model) → model_in d ≡ Ok m → PassesRules m
 unfolding model_in parts_in
 model-passes d m e =
@@ -93,10 +97,12 @@ model-passes d m e =
     } in
     subst PassesRules (ok-is made m bs.2) shaped
 
+-- a model that comes past the test of the length comes without it
 pub too-long : (b : Bool) (r : Result Model FileError) (m : Model) → cond b (Err TooLong) r ≡ Ok m → r ≡ Ok m
 too-long true r m e = absurd cc
 too-long false r m e = e
 
+-- a model that is read from bytes passes the rules
 pub read-passes : (bytes : List ℕ) (m : Model) → reads bytes ≡ Ok m → PassesRules m
 unfolding reads
 read-passes bytes m e =

@@ -22,6 +22,7 @@ type_of-next ps p id =
     ∙ mapped-or (find (λ (q : Partition). q.id == id) ps) (find (λ (q : Partition). q.id == id) (p ∷ []))
     ∙ ap (option_or (type_of ps id)) (one-type (eqb p.id id) p)
 
+-- a table in which one more partition is noted has the types of one more
 pub types-more : (ps : List Partition) (i : ℕ) (d : Partition) (id : ℕ) (old new : Option ℕ) → i < length ps → old ≡ type_of (take i ps) id
     → new ≡ option_or old (if (get_or ps i d).id == id then Some (get_or ps i d).typ else None) → new ≡ type_of (take (i + 1) ps) id
 types-more ps i d id old new inside before noted =

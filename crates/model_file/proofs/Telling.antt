@@ -297,6 +297,7 @@ blocks-tell invariants ps ss bs =
 
 -- ---- all rules
 
+-- each test of the reader is passed exactly where the rule of a well-shaped model holds
 pub rules-tell : RulesTell
 rules-tell =
     record {
@@ -309,6 +310,7 @@ rules-tell =
       blocks = blocks-tell;
     }
 
+-- a well-shaped model passes the rules
 pub passes : (m : Model) → IsWellShaped m → PassesRules m
 passes m w =
     record {
@@ -321,6 +323,7 @@ passes m w =
       blocks = (blocks-tell (length m.invariants) m.partitions m.splits m.blocks).1 w.blocks;
     }
 
+-- a model that passes the rules is well shaped
 pub shaped : (m : Model) → PassesRules m → IsWellShaped m
 shaped m h =
     record {
@@ -333,6 +336,7 @@ shaped m h =
       blocks = (blocks-tell (length m.invariants) m.partitions m.splits m.blocks).0 h.blocks;
     }
 
+-- a model that is read is well shaped
 pub read-is-well-shaped : ReadIsWellShaped
 read-is-well-shaped bytes m e = shaped m (read-passes bytes m e)
 
@@ -341,9 +345,11 @@ read-is-well-shaped bytes m e = shaped m (read-passes bytes m e)
 no-rule : (P : Type 0) → (P → ⊥) → (false ≡ true) ↔ P
 no-rule P not_so = (λ t. absurd (false≢true t), λ p. absurd (not_so p))
 
+-- where the types fail, the model is not well shaped
 pub no-types : (m : Model) → types_hold m.types ≡ false → (false ≡ true) ↔ IsWellShaped m
 no-types m fails = no-rule (IsWellShaped m) (λ w. false≢true (sym fails ∙ (passes m w).types))
 
+-- where the partitions fail, the model is not well shaped
 pub no-partitions : (m : Model) → partitions_hold (length m.types) m.partitions ≡ false → (false ≡ true) ↔ IsWellShaped m
 no-partitions m fails = no-rule (IsWellShaped m) (λ w. false≢true (sym fails ∙ (passes m w).partitions))
 
@@ -362,6 +368,7 @@ others-pass m types partitions h =
 pass-others : (m : Model) → PassesRules m → others_hold (type_of m.partitions) m ≡ true
 pass-others m p = and_from _ _ p.edges (and_from _ _ p.invariants (and_from _ _ p.merges (and_from _ _ p.splits p.blocks)))
 
+-- where types and partitions pass, the other parts pass exactly where the model is well shaped
 pub others-tell : (m : Model) (type : ℕ → Option ℕ) (b : Bool) → types_hold m.types ≡ true → partitions_hold (length m.types) m.partitions ≡ true
     → ((id : ℕ) → type id ≡ type_of m.partitions id) → b ≡ others_hold type m → (b ≡ true) ↔ IsWellShaped m
 others-tell m type b types partitions agree is =

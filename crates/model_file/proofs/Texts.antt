@@ -9,14 +9,12 @@ use Rattle.json.specs.Tree as tree
 use Rattle.json.proofs.Printed.Tokens.{tokens-print}
 use Rattle.json.proofs.Printed.Trees.{value-json_tokens, ArePrintable-json_tokens}
 use Rattle.json.proofs.Printed.Decimals.{IsNumber-decimal}
-use Rattle.json.proofs.Printed.Utf8.{are_ascii, IsUtf8-are_ascii, IsUtf8-quoted}
+use Rattle.json.proofs.Printed.Utf8.{IsUtf8-are_ascii, IsUtf8-quoted}
 use Rattle.serde_json.specs.Data.{Num, unsigned, negative, float, Data, null, boolean, number, string, array, object, Items, no_items, item}
 use Rattle.serde_json.specs.Read.{of_json, of_items, read, max_depth}
 use Rattle.serde_json.specs.Written.{outline, items_outline, comma_if, compact_text, items_text}
 use Rattle.serde_json.proofs.Numbers.{number_of-decimal}
 use Rattle.serde_json.proofs.Texts.{print-outline}
-
--- ---- values of numbers, texts and arrays
 
 abbrev IsSmallNumber : Num → Type 0
 IsSmallNumber (unsigned n) = n < 2 ^ 64
@@ -24,6 +22,7 @@ IsSmallNumber (negative z) = ⊥
 IsSmallNumber (float x) = ⊥
 
 abbrev mutual
+  -- a number that fits 64 bits, a text, or an array of such values
   pub IsPlain : Data → Type 0
   IsPlain null = ⊥
   IsPlain (boolean b) = ⊥
@@ -32,11 +31,13 @@ abbrev mutual
   IsPlain (array ds) = ArePlain ds
   IsPlain (object ms) = ⊥
 
+  -- each of these items is such a value
   pub ArePlain : Items → Type 0
   ArePlain no_items = ⊤
   ArePlain (item d ds) = IsPlain d × ArePlain ds
 
 mutual
+  -- such a value is read back from its outline
   pub plain-back : (d : Data) → IsPlain d → of_json (outline d) ≡ Some d
   plain-back null h = absurd h
   plain-back (boolean b) h = absurd h
@@ -52,6 +53,7 @@ mutual
   plain-items-back (item d ds) h = rw (plain-back d h.0, plain-items-back ds h.1) refl
 
 mutual
+  -- the numbers in the outline of such a value are numbers of JSON
   pub plain-numbers : (d : Data) → IsPlain d → tree.HasNumbers (outline d)
   plain-numbers null h = absurd h
   plain-numbers (boolean b) h = absurd h
@@ -66,10 +68,8 @@ mutual
   plain-items-numbers no_items h = tt
   plain-items-numbers (item d ds) h = (plain-numbers d h.0, plain-items-numbers ds h.1)
 
--- ---- the text is UTF-8
-
--- the same, and each text is UTF-8
 abbrev mutual
+  -- such a value, in which each text is UTF-8
   pub IsSpelled : Data → Type 0
   IsSpelled null = ⊥
   IsSpelled (boolean b) = ⊥
@@ -78,12 +78,10 @@ abbrev mutual
   IsSpelled (array ds) = AreSpelled ds
   IsSpelled (object ms) = ⊥
 
+  -- each of these items is such a value, in which each text is UTF-8
   pub AreSpelled : Items → Type 0
   AreSpelled no_items = ⊤
   AreSpelled (item d ds) = IsSpelled d × AreSpelled ds
-
-ascii-one : (n : ℕ) → n < 10 → are_ascii ((48 + n) ∷ []) ≡ true
-ascii-one n h = let small : 48 + n < 128 = omega arith in rw (lt-ltb (48 + n) 128 small) refl
 
 IsUtf8-one : (x : ℕ) → x < 128 → IsUtf8 (x ∷ [])
 IsUtf8-one x h = IsUtf8-are_ascii (x ∷ []) (rw (lt-ltb x 128 h) refl)
@@ -91,11 +89,13 @@ IsUtf8-one x h = IsUtf8-are_ascii (x ∷ []) (rw (lt-ltb x 128 h) refl)
 IsUtf8-decimal : (n : ℕ) → n < 2 ^ 64 → IsUtf8 (decimal n)
 IsUtf8-decimal = decimal_by_steps (λ n ds. IsUtf8 ds) (λ n h. IsUtf8-one (48 + n) (omega arith)) (λ n ds h u. IsUtf8-append ds ((48 + n % 10) ∷ []) u (IsUtf8-one (48 + n % 10) (omega arith)))
 
+-- the comma between two items is UTF-8
 pub IsUtf8-comma : (b : Bool) → IsUtf8 (comma_if b)
 IsUtf8-comma true = IsUtf8-one 44 (omega arith)
 IsUtf8-comma false = IsUtf8-nil
 
 mutual
+  -- the text of such a value is UTF-8
   pub spelled-text : (d : Data) → IsSpelled d → IsUtf8 (compact_text d)
   spelled-text null h = absurd h
   spelled-text (boolean b) h = absurd h
@@ -112,8 +112,7 @@ mutual
       IsUtf8-append (comma_if later) (compact_text d ++ items_text true ds) (IsUtf8-comma later)
       (IsUtf8-append (compact_text d) (items_text true ds) (spelled-text d h.0) (spelled-items-text true ds h.1))
 
--- ---- the text of a value is read as that value
-
+-- the text of a value that does not nest too deep is read as this value
 pub read-text : (d : Data) → tree.HasNumbers (outline d) → tree.depth (outline d) ≤ 127 → of_json (outline d) ≡ Some d → read (compact_text d) ≡ Some d
 read-text d numbers shallow back =
     let j = outline d in

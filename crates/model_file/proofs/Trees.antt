@@ -87,6 +87,7 @@ blocks-back : (m : Model) (type : ℕ → Option ℕ) (invariants : ℕ) → All
 unfolding blocks_in part_in tree_of
 blocks-back m type invariants fit h = rw (list-back block_in block_data FitsBlock block-back m.blocks fit, h) refl
 
+-- the value of a model that passes the rules is read as this model
 pub tree-is-read : (m : Model) → PassesRules m → model_in (tree_of m) ≡ Ok m
 unfolding model_in parts_in
 tree-is-read m h =
@@ -102,6 +103,7 @@ tree-is-read m h =
       blocks-back m (type_of m.partitions) (length m.invariants) fit.blocks h.blocks,
     ) refl
 
+-- bytes of the value of a model that passes the rules are read as this model
 pub trees-are-read : (bytes : List ℕ) (m : Model) → length bytes ≤ MAX_MODEL_BYTES → value_of bytes ≡ Some (tree_of m) → PassesRules m → reads bytes ≡ Ok m
 unfolding reads
 trees-are-read bytes m short value h = rw (le-ltb MAX_MODEL_BYTES (length bytes) short, value) (tree-is-read m h)
@@ -129,6 +131,7 @@ path-spelled path h = spelled-map number_data (λ n. n < 2 ^ 32) (λ n small. om
 path-depth : (path : List ℕ) → tree.items_depth (items_outline (items_of (map number_data path))) ≤ 0
 path-depth path = depth-map number_data 0 (λ n. omega arith) path
 
+-- the digits of labels are UTF-8
 pub digits-ascii : (labels : List ℕ) → AllByRecursion (λ label. label ≤ 7) labels → IsUtf8 (map digit_of labels)
 digits-ascii [] h = IsUtf8-are_ascii [] refl
 digits-ascii (label ∷ labels) h =
@@ -257,31 +260,39 @@ member-text later k d ms key value rest =
     (IsUtf8-append (58 ∷ []) _ (IsUtf8-are_ascii (58 ∷ []) refl)
     (IsUtf8-append (compact_text d) (members_text true ms) (spelled-text d value) rest)))
 
--- the members from a key on
+-- the members from `version` on
 abbrev pub from_version : Model → Members
 from_version m = member (codes "version") (number_data 1) no_members
 
+-- the members from `types` on
 abbrev pub from_types : Model → Members
 from_types m = member (codes "types") (array_of (map string m.types)) (from_version m)
 
+-- the members from `splits` on
 abbrev pub from_splits : Model → Members
 from_splits m = member (codes "splits") (array_of (map split_data m.splits)) (from_types m)
 
+-- the members from `partitions` on
 abbrev pub from_partitions : Model → Members
 from_partitions m = member (codes "partitions") (array_of (map partition_data m.partitions)) (from_splits m)
 
+-- the members from `merges` on
 abbrev pub from_merges : Model → Members
 from_merges m = member (codes "merges") (array_of (map merge_data m.merges)) (from_partitions m)
 
+-- the members from `invariants` on
 abbrev pub from_invariants : Model → Members
 from_invariants m = member (codes "invariants") (array_of (map listed_data m.invariants)) (from_merges m)
 
+-- the members from `edges` on
 abbrev pub from_edges : Model → Members
 from_edges m = member (codes "edges") (array_of (map edge_data m.edges)) (from_invariants m)
 
+-- the members from `blocks` on, which are all
 abbrev pub from_blocks : Model → Members
 from_blocks m = member (codes "blocks") (array_of (map block_data m.blocks)) (from_edges m)
 
+-- the text of a model that passes the rules is UTF-8, where its types are
 pub IsUtf8-file_text : (m : Model) → PassesRules m → All IsUtf8 m.types → IsUtf8 (file_text m)
 unfolding tree_of
 IsUtf8-file_text m h texts =

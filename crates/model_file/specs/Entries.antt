@@ -83,7 +83,8 @@ four_in d = as_array d >>= four
 abbrev pub kind_named : List ℕ → Option Kind
 kind_named text =
     if bytes_eq text (codes "AF") then Some AF
-    else (if bytes_eq text (codes "NF") then Some NF else (if bytes_eq text (codes "AP") then Some AP else None))
+    else (if bytes_eq text (codes "NF") then Some NF
+    else (if bytes_eq text (codes "AP") then Some AP else None))
 
 -- the kind with the name that the value is
 unfoldable pub kind_in : Data → Option Kind

@@ -59,8 +59,8 @@ pub(crate) fn three(value: &Value) -> Option<(&Value, &Value, &Value)>
 /// The items of an array that has just four.
 #[tactic(auto, unfolding(crate::specs::Entries::four_in))]
 pub(crate) fn four(value: &Value) -> Option<(&Value, &Value, &Value, &Value)>
-    ensures { option_map (λ row. (view row.0.now, view row.1.now, view row.2.now, view row.3.now)) result
-        ≡ four_in (view value.now) }
+    ensures { option_map (λ row. (view row.0.now, view row.1.now, view row.2.now, view row.3.now))
+        result ≡ four_in (view value.now) }
 {
     let items = value.as_array()?;
     if items.len() != 4 {

@@ -25,7 +25,8 @@ fn note(table: &mut [Option<u16>], partition: Partition)
     requires { partition.id < length table.old }
     ensures { (id : ℕ)
         → type_at table.new id
-        ≡ option_or (type_at table.old id) (if partition.id == id then Some partition.typ else None) }
+        ≡ option_or (type_at table.old id)
+        (if partition.id == id then Some partition.typ else None) }
 {
     let id = partition.id as usize;
     if table[id].is_none() {
