@@ -64,8 +64,8 @@ fn is_satisfied(bad: Option<usize>, k: usize) -> bool
 /// `MAX_PATH_NUMBERS` numbers, those of the splits' paths, which they hold already, among them.
 ///
 /// `EvidenceLimit` comes exactly where the paths of the blocks have together with these more numbers than that. Then the
-/// log has the blocks before the one whose path did not fit. It counts one step for each block and one more where there
-/// is a pair, and takes no memory.
+/// log has the blocks before the one whose path did not fit. It counts at most two steps
+/// for each pair, and takes no memory.
 pub fn blocks<L: Ledger>(
     graph: &PartGraph,
     finder: &mut Finder,

@@ -45,8 +45,7 @@ fn merge_unless_lost(graph: &mut PartGraph, planes: &mut Planes, log: &mut RunLo
 /// Each is of the first pair, by its lower id and then by its higher one, whose merge loses none.
 ///
 /// The graph satisfies the invariants that the planes were made for. The log has no merges yet, and room for all that can
-/// come. It may count a step for each pair of one type that there is at the start; as no pair is searched for, it counts
-/// none. It takes no memory.
+/// come. It counts at most a step for each pair of one type that there is at the start, and takes no memory.
 pub fn coarsen<L: Ledger>(
     graph: &mut PartGraph,
     planes: &mut Planes,

@@ -43,7 +43,7 @@ pub record IsDecided (n : ℕ) : Type 0 where
   pub traces : keys_of (session_events n) ≡ map (λ k. session_key (k + 1)) (range_with_len 0 n)
   -- a session has at most 7 events
   pub few : length (session_events n) ≤ 7 * n
-  -- there are at most as many types as calls
+  -- there are at most as many types as kinds of calls
   pub types : length (types_of (session_events n)) ≤ 6
   -- a session has at most 84 bytes
   pub short : length (log_text n) ≤ 84 * n

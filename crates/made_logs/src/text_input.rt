@@ -1,5 +1,4 @@
 //! A text in memory as the one input of a log's reader.
-
 ghost use Rattle.std.specs.Prelude.{◌≡◌, ◌++◌, drop, length, min, take};
 ghost use Rattle.made_logs.specs.TextInputs.{text_state, unread};
 

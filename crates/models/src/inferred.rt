@@ -31,7 +31,7 @@ pub fn models_are_shaped()
     ensures { ModelsAreShaped }
 {}
 
-/// The graph of a well-shaped model lists both ends with their own types, its edges go between listed ids, none into INITIAL and none out of TERMINAL, and its ids are below 1,024.
+/// The graph of a well-shaped model lists both ends with their own types, its edges go between listed ids, none into INITIAL and none out of TERMINAL, and its ids are below `MAX_PARTITIONS`.
 pub fn shaped_are_formed()
     ensures { ShapedAreFormed }
 {}

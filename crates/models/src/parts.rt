@@ -1,4 +1,4 @@
-//! What fails first in a check of a model against a log. All numbers count from 0.
+//! What fails first in a check of a model against a log. Places count from 0; partitions are told by their ids.
 
 /// The part in which a model is not valid for a log.
 #[derive(Clone, Copy, Debug, PartialEq, Eq)]

@@ -34,7 +34,7 @@ fn push_line(
 /// The text of invariants, one a line in the order given, as `"a" AlwaysFollowedBy "b"`.
 ///
 /// A type is shown by its text as a JSON string, and the two ends as `INITIAL` and `TERMINAL`. The types are those
-/// with the numbers from 2 on; a number that names none of them is shown by no text. Each line ends with byte 10.
+/// with the numbers from `FIRST_TYPE` on; a number that names none of them is shown by no text. Each line ends with byte 10.
 pub fn invariant_report(
     alloc: Global,
     types: &Seq<Text>,

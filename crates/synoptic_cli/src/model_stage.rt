@@ -57,7 +57,7 @@ pub fn read_model_file<I: Inputs>(
     }
 }
 
-/// The status that it is answered by.
+/// The status that the halt is answered by.
 pub fn halt_status(halt: ModelHalt) -> Status
     ensures { result ≡ halt_status halt }
 {

@@ -30,7 +30,7 @@ fn write(alloc: Global, bench: &Workbench) -> Result<Answer, AllocError>
     })
 }
 
-/// The file of the log's model. It promises all that a valid model does, and passes both checks.
+/// The file of the log's model. It promises all that a valid model does, is valid for the log, and its steps are justified by it.
 pub fn answer(alloc: Global, material: Material) -> Result<Answer, NoAnswer>
     ensures { Gives (Answers material) result }
 {
