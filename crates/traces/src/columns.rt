@@ -44,6 +44,15 @@ impl Columns {
         }
     }
 
+    /// The place of the event that was added last, or else 0.
+    #[inline]
+    pub fn last_place(&self) -> usize {
+        match self.places.last() {
+            Some(place) => *place as usize,
+            None => 0,
+        }
+    }
+
     /// Makes room for one event more, with this time. What the columns hold stays.
     #[inline]
     pub fn reserve(&mut self, time: u128) -> Result<(), AllocError>

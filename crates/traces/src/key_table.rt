@@ -4,14 +4,13 @@ ghost use Rattle.std.specs.List.{position_or_len};
 ghost use Rattle.std.specs.Option.{option_map_or};
 ghost use Rattle.std.specs.BTreeMap.{Updates, insert_entry};
 ghost use Rattle.std.specs.Ordering.{nat_cmp};
-ghost use Rattle.traces.specs.Hashes.{hash_of};
 ghost use Rattle.traces.specs.Keys.{key_in};
 ghost use Rattle.traces.specs.PlaceMaps.{first_place, key_cmp, FindAlike};
 ghost use Rattle.traces.specs.Words.{same_key, with_new};
 
-use crate::hints::{Hints, hash_on};
-use crate::key::{Key, KeyParts};
-use invariants::Text;
+use crate::hints::Hints;
+use crate::key::KeyParts;
+use crate::known_key::{KnownKey, key_hash};
 use std::alloc::{AllocError, Global};
 use std::collections::BTreeMap;
 use std::marker::Model;
@@ -19,7 +18,7 @@ use std::marker::Model;
 /// Keys, and the place of each: of the first with its hash under that hash, of each other under the key.
 #[derive(Drop)]
 pub struct KeyTable {
-    keys: Vec<Key>,
+    keys: Vec<KnownKey>,
     firsts: BTreeMap<u64, usize>,
     others: BTreeMap<(u32, u32, String), usize>,
     hints: Hints,
@@ -37,44 +36,22 @@ impl Model for KeyTable {
     ghost invariant = { λ t. AreKeysPlaced t.firsts.entries t.others.entries t.keys.items };
 }
 
-/// A hash of the key with these parts.
-fn key_hash(key: &KeyParts<'_>) -> u64
-    ensures { result ≡ hash_of (key_in key.now) }
-{
-    hash_on(
-        u64::from(key.file) * 0x1_0000_0000 + u64::from(key.section),
-        key.text.as_bytes(),
-    )
-}
-
-/// Whether the key has these parts.
-fn has_parts(key: &Key, parts: &KeyParts<'_>) -> bool
-    ensures { result ≡ same_key (key_in parts.now) key.now }
-{
-    parts.file == key.file && parts.section == key.section && parts.text == key.text.as_str()
-}
-
 /// Whether the key with these parts stands at this place.
-fn is_key_at(keys: &[Key], place: usize, parts: &KeyParts<'_>) -> bool
+fn is_key_at(keys: &[KnownKey], place: usize, parts: &KeyParts<'_>) -> bool
     ensures key { result ≡ option_map_or (same_key (key_in parts.now)) (slice_get keys.now place) false }
     ensures within { result ≡ true → place < length keys.now }
 {
     match keys.get(place) {
-        Some(key) => has_parts(key, parts),
+        Some(key) => key.has_parts(parts),
         None => false,
     }
 }
 
 /// Notes where the last key stands, which has this hash.
-fn note_key(alloc: Global, hints: &mut Hints, keys: &[Key], hash: u64) {
+fn note_key(alloc: Global, hints: &mut Hints, keys: &[KnownKey], hash: u64) {
     if hints.grow(alloc, keys.len()) {
         for (place, key) in keys.iter().enumerate() {
-            let parts = KeyParts {
-                file: key.file,
-                section: key.section,
-                text: key.text.as_str(),
-            };
-            hints.note(key_hash(&parts), place);
+            hints.note(key_hash(&key.parts()), place);
         }
         return;
     }
@@ -83,24 +60,12 @@ fn note_key(alloc: Global, hints: &mut Hints, keys: &[Key], hash: u64) {
     }
 }
 
-/// A key with these parts and a text of its own.
-fn make_key(alloc: Global, parts: &KeyParts<'_>) -> Result<Key, AllocError>
-    ensures { IfOk result (λ key. key ≡ key_in parts.now) }
-{
-    let text = Text::from_string(String::from_str(alloc, parts.text)?);
-    Ok(Key {
-        file: parts.file,
-        section: parts.section,
-        text,
-    })
-}
-
 /// Puts a key at the end, and its place under its hash. Where a place is known under the hash, that place is the
 /// answer, and nothing is put.
 fn begin_first(
-    keys: &mut Vec<Key>,
+    keys: &mut Vec<KnownKey>,
     firsts: &mut BTreeMap<u64, usize>,
-    key: Key,
+    key: KnownKey,
     hash: u64,
 ) -> Result<Option<usize>, AllocError>
     ensures first { IfOk result (λ first. first ≡ first_place firsts.old.entries hash) }
@@ -127,9 +92,9 @@ fn begin_first(
 
 /// Puts a key at the end, and its place under it.
 fn begin_other(
-    keys: &mut Vec<Key>,
+    keys: &mut Vec<KnownKey>,
     others: &mut BTreeMap<(u32, u32, String), usize>,
-    key: Key,
+    key: KnownKey,
     known: (u32, u32, String),
 ) -> Result<(), AllocError>
     ensures keys { OnOk result (keys.new.items ≡ keys.old.items ++ key ∷ []) }
@@ -157,20 +122,29 @@ impl KeyTable {
         }
     }
 
-    /// Where the key with these parts stands. It is put at the end where it is new.
-    pub fn place_or_put(&mut self, alloc: Global, parts: &KeyParts<'_>) -> Result<usize, AllocError>
+    /// Where the key with these parts stands. It is put at the end where it is new. A place at which it may well stand
+    /// is looked at first.
+    pub fn place_or_put(
+        &mut self,
+        alloc: Global,
+        near: usize,
+        parts: &KeyParts<'_>,
+    ) -> Result<usize, AllocError>
         ensures place { IfOk result (λ place. place
             ≡ position_or_len (same_key (key_in parts.now)) self.old) }
         ensures ok { OnOk result (self.new ≡ with_new same_key self.old (key_in parts.now)) }
         ensures err { OnErr result (self.new ≡ self.old) }
     {
+        if is_key_at(&self.keys, near, parts) {
+            return Ok(near);
+        }
         let hash = key_hash(parts);
         let hint = self.hints.place(hash);
         if is_key_at(&self.keys, hint, parts) {
             return Ok(hint);
         }
         let end = self.keys.len();
-        let key = make_key(alloc, parts)?;
+        let key = KnownKey::make(alloc, parts)?;
         let begun = begin_first(&mut self.keys, &mut self.firsts, key, hash)?;
         let Some(first) = begun else {
             note_key(alloc, &mut self.hints, &self.keys, hash);
@@ -187,22 +161,25 @@ impl KeyTable {
             self.hints.note(hash, place);
             return Ok(place);
         }
-        let key = make_key(alloc, parts)?;
+        let key = KnownKey::make(alloc, parts)?;
         begin_other(&mut self.keys, &mut self.others, key, known)?;
         note_key(alloc, &mut self.hints, &self.keys, hash);
         Ok(end)
     }
 
     /// The keys alone.
-    pub fn into_keys(self) -> Vec<Key>
+    pub fn into_keys(self) -> Vec<KnownKey>
         ensures { result.items ≡ self }
     {
         let KeyTable {
             keys,
-            firsts: _,
-            others: _,
-            hints: _,
+            firsts,
+            others,
+            hints,
         } = self;
+        drop(firsts);
+        drop(others);
+        drop(hints);
         keys
     }
 }

@@ -66,6 +66,34 @@ fn gathers_events_in_the_order_first_met(rt: HostRuntime) -> Result<(), Fail> {
     Ok(())
 }
 
+/// Texts of 16 bytes and of 17, which are kept in two ways, alone and with one more byte at the end.
+#[test]
+fn tells_long_keys_apart(rt: HostRuntime) -> Result<(), Fail> {
+    let keys = [
+        (0, 0, "abcdefghijklmnop"),
+        (0, 0, "abcdefghijklmnopq"),
+        (0, 0, "abcdefghijklmnopqr"),
+        (0, 0, "abcdefghijklmnoq"),
+        (0, 1, "abcdefghijklmnopq"),
+        (0, 0, ""),
+    ];
+    let mut builder = Builder::new(rt.alloc());
+    for typ in ["x", "y"] {
+        for key in keys {
+            add(&rt, &mut builder, key, typ, 0)?;
+        }
+    }
+    let set = builder.finish()?;
+    assert!(rt; set.trace_count() == 6);
+    let mut t = 0;
+    for key in keys {
+        assert!(rt; t < set.trace_count());
+        assert_trace(&rt, &set, t, key, &[2, 3], &[0, 0]);
+        t += 1;
+    }
+    Ok(())
+}
+
 /// Types are numbered as they are first met, whatever their times.
 #[test]
 fn puts_events_in_the_order_of_their_times(rt: HostRuntime) -> Result<(), Fail> {

@@ -12,14 +12,26 @@ use Rattle.traces.proofs.key_table.KeyTable.place_or_put.Goals as goal
 pub returns-then-is_key_at-clause-place : goal.returns-then-is_key_at-clause-place
 returns-then-is_key_at-clause-place c =
     let key : Key = key_in c.args.parts.now in
-    (known-key c.args.self.now c.self.inside.keys.items c.deref.result.now c.place-hint.result key c.self.invariant.apart c.self.view_is c.deref.ensures.value
+    (known-key c.args.self.now c.self.inside.keys.items c.deref.result.now c.args.near key c.self.invariant.apart c.self.view_is c.deref.ensures.value
     (key-told _ key (sym c.is_key_at.ensures.key ∙ c.if-is_key_at.true))).0
 
 pub returns-then-is_key_at-clause-ok : goal.returns-then-is_key_at-clause-ok
 returns-then-is_key_at-clause-ok c =
     let key : Key = key_in c.args.parts.now in
-    sym c.self.view_is ∙ (known-key c.args.self.now c.self.inside.keys.items c.deref.result.now c.place-hint.result key c.self.invariant.apart c.self.view_is c.deref.ensures.value
+    sym c.self.view_is ∙ (known-key c.args.self.now c.self.inside.keys.items c.deref.result.now c.args.near key c.self.invariant.apart c.self.view_is c.deref.ensures.value
     (key-told _ key (sym c.is_key_at.ensures.key ∙ c.if-is_key_at.true))).1
+
+pub returns-then-is_key_at-2-clause-place : goal.returns-then-is_key_at-2-clause-place
+returns-then-is_key_at-2-clause-place c =
+    let key : Key = key_in c.args.parts.now in
+    (known-key c.args.self.now c.self.inside.keys.items c.deref-2.result.now c.place-hint.result key c.self.invariant.apart c.self.view_is c.deref-2.ensures.value
+    (key-told _ key (sym c.is_key_at-2.ensures.key ∙ c.if-is_key_at-2.true))).0
+
+pub returns-then-is_key_at-2-clause-ok : goal.returns-then-is_key_at-2-clause-ok
+returns-then-is_key_at-2-clause-ok c =
+    let key : Key = key_in c.args.parts.now in
+    sym c.self.view_is ∙ (known-key c.args.self.now c.self.inside.keys.items c.deref-2.result.now c.place-hint.result key c.self.invariant.apart c.self.view_is c.deref-2.ensures.value
+    (key-told _ key (sym c.is_key_at-2.ensures.key ∙ c.if-is_key_at-2.true))).1
 
 pub invariant_of-self-in_default : goal.invariant_of-self-in_default
 invariant_of-self-in_default c =
@@ -49,19 +61,19 @@ returns-in_default-clause-ok c =
     (new-key c.args.self.now c.self.inside.keys.items c.begin_first.new.keys.items c.len-end.result key c.self.view_is none
     (c.begin_first.ensures.keys begun ∙ ap (λ (k : Key). c.self.inside.keys.items ++ k ∷ []) c.in_ok-key.ensures) (omega arith)).1
 
-pub returns-then-is_key_at-2-clause-place : goal.returns-then-is_key_at-2-clause-place
-returns-then-is_key_at-2-clause-place c =
+pub returns-then-is_key_at-3-clause-place : goal.returns-then-is_key_at-3-clause-place
+returns-then-is_key_at-3-clause-place c =
     let key : Key = key_in c.args.parts.now in
     let same = c.begin_first.ensures.taken (is-taken c.begin_first.result c.in_ok-begun.begun c.in-Some.first c.in_ok-begun.was c.in-Some.is) in
-    (known-key c.args.self.now c.self.inside.keys.items c.deref-2.result.now c.in-Some.first key c.self.invariant.apart c.self.view_is (c.deref-2.ensures.value ∙ same)
-    (key-told _ key (sym c.is_key_at-2.ensures.key ∙ c.if-is_key_at-2.true))).0
+    (known-key c.args.self.now c.self.inside.keys.items c.deref-3.result.now c.in-Some.first key c.self.invariant.apart c.self.view_is (c.deref-3.ensures.value ∙ same)
+    (key-told _ key (sym c.is_key_at-3.ensures.key ∙ c.if-is_key_at-3.true))).0
 
-pub returns-then-is_key_at-2-clause-ok : goal.returns-then-is_key_at-2-clause-ok
-returns-then-is_key_at-2-clause-ok c =
+pub returns-then-is_key_at-3-clause-ok : goal.returns-then-is_key_at-3-clause-ok
+returns-then-is_key_at-3-clause-ok c =
     let key : Key = key_in c.args.parts.now in
     let same = c.begin_first.ensures.taken (is-taken c.begin_first.result c.in_ok-begun.begun c.in-Some.first c.in_ok-begun.was c.in-Some.is) in
-    same ∙ (known-key c.args.self.now c.self.inside.keys.items c.deref-2.result.now c.in-Some.first key c.self.invariant.apart c.self.view_is (c.deref-2.ensures.value ∙ same)
-    (key-told _ key (sym c.is_key_at-2.ensures.key ∙ c.if-is_key_at-2.true))).1
+    same ∙ (known-key c.args.self.now c.self.inside.keys.items c.deref-3.result.now c.in-Some.first key c.self.invariant.apart c.self.view_is (c.deref-3.ensures.value ∙ same)
+    (key-told _ key (sym c.is_key_at-3.ensures.key ∙ c.if-is_key_at-3.true))).1
 
 pub returns-in-Some-get-clause-place : goal.returns-in-Some-get-clause-place
 returns-in-Some-get-clause-place c =
@@ -70,10 +82,10 @@ returns-in-Some-get-clause-place c =
     let known : ℕ × ℕ × String Global = (c.args.parts.now.file, c.args.parts.now.section, c.in_ok-text.text) in
     let at : IsBehind c.begin_first.new.firsts.entries c.self.inside.others.entries c.self.inside.keys.items keys known key c.in-Some.first =
     is-behind c.begin_first.result c.in_ok-begun.begun c.in-Some.first c.key_hash-hash.result c.self.inside.firsts.entries c.begin_first.new.firsts.entries c.self.inside.others.entries
-    c.self.inside.keys.items keys c.deref-2.result.now known key c.is_key_at-2.result
+    c.self.inside.keys.items keys c.deref-3.result.now known key c.is_key_at-3.result
     c.self.invariant c.begin_first.ensures.taken c.begin_first.ensures.stays c.in_ok-begun.ensures.first c.in_ok-begun.was c.in-Some.is
     c.key_hash-hash.ensures (ap (λ t. record { file = c.args.parts.now.file; section = c.args.parts.now.section; text = t }) c.in_ok-text.ensures.ok)
-    c.deref-2.ensures.value c.is_key_at-2.ensures.key c.if-is_key_at-2.false in
+    c.deref-3.ensures.value c.is_key_at-3.ensures.key c.if-is_key_at-3.false in
     (found-key c.args.self.now keys c.in-Some-get.found.now key (at.same ∙ c.self.view_is)
     (key-found c.begin_first.new.firsts.entries c.self.inside.others.entries keys c.in-Some-get.found.now c.in-Some.first known key at.is at.placed at.taken at.other c.in-Some-get.ensures.value)).0
 
@@ -84,10 +96,10 @@ returns-in-Some-get-clause-ok c =
     let known : ℕ × ℕ × String Global = (c.args.parts.now.file, c.args.parts.now.section, c.in_ok-text.text) in
     let at : IsBehind c.begin_first.new.firsts.entries c.self.inside.others.entries c.self.inside.keys.items keys known key c.in-Some.first =
     is-behind c.begin_first.result c.in_ok-begun.begun c.in-Some.first c.key_hash-hash.result c.self.inside.firsts.entries c.begin_first.new.firsts.entries c.self.inside.others.entries
-    c.self.inside.keys.items keys c.deref-2.result.now known key c.is_key_at-2.result
+    c.self.inside.keys.items keys c.deref-3.result.now known key c.is_key_at-3.result
     c.self.invariant c.begin_first.ensures.taken c.begin_first.ensures.stays c.in_ok-begun.ensures.first c.in_ok-begun.was c.in-Some.is
     c.key_hash-hash.ensures (ap (λ t. record { file = c.args.parts.now.file; section = c.args.parts.now.section; text = t }) c.in_ok-text.ensures.ok)
-    c.deref-2.ensures.value c.is_key_at-2.ensures.key c.if-is_key_at-2.false in
+    c.deref-3.ensures.value c.is_key_at-3.ensures.key c.if-is_key_at-3.false in
     (found-key c.args.self.now keys c.in-Some-get.found.now key (at.same ∙ c.self.view_is)
     (key-found c.begin_first.new.firsts.entries c.self.inside.others.entries keys c.in-Some-get.found.now c.in-Some.first known key at.is at.placed at.taken at.other c.in-Some-get.ensures.value)).1
 
@@ -98,10 +110,10 @@ invariant_of-self-2 c =
     let known : ℕ × ℕ × String Global = (c.args.parts.now.file, c.args.parts.now.section, c.in_ok-text.text) in
     let at : IsBehind c.begin_first.new.firsts.entries c.self.inside.others.entries c.self.inside.keys.items keys known key c.in-Some.first =
     is-behind c.begin_first.result c.in_ok-begun.begun c.in-Some.first c.key_hash-hash.result c.self.inside.firsts.entries c.begin_first.new.firsts.entries c.self.inside.others.entries
-    c.self.inside.keys.items keys c.deref-2.result.now known key c.is_key_at-2.result
+    c.self.inside.keys.items keys c.deref-3.result.now known key c.is_key_at-3.result
     c.self.invariant c.begin_first.ensures.taken c.begin_first.ensures.stays c.in_ok-begun.ensures.first c.in_ok-begun.was c.in-Some.is
     c.key_hash-hash.ensures (ap (λ t. record { file = c.args.parts.now.file; section = c.args.parts.now.section; text = t }) c.in_ok-text.ensures.ok)
-    c.deref-2.ensures.value c.is_key_at-2.ensures.key c.if-is_key_at-2.false in
+    c.deref-3.ensures.value c.is_key_at-3.ensures.key c.if-is_key_at-3.false in
     let none : list_any (same_key key) keys ≡ false =
     key-missing c.begin_first.new.firsts.entries c.self.inside.others.entries keys c.in-Some.first known key at.is at.placed at.taken at.other c.in_default-get.ensures.value in
     placed-by_other c.begin_other.result c.begin_first.new.firsts.entries c.self.inside.others.entries c.begin_other.new.others.entries keys c.begin_other.new.keys.items known key c.in-Some.first
@@ -115,10 +127,10 @@ returns-clause-place c =
     let known : ℕ × ℕ × String Global = (c.args.parts.now.file, c.args.parts.now.section, c.in_ok-text.text) in
     let at : IsBehind c.begin_first.new.firsts.entries c.self.inside.others.entries c.self.inside.keys.items keys known key c.in-Some.first =
     is-behind c.begin_first.result c.in_ok-begun.begun c.in-Some.first c.key_hash-hash.result c.self.inside.firsts.entries c.begin_first.new.firsts.entries c.self.inside.others.entries
-    c.self.inside.keys.items keys c.deref-2.result.now known key c.is_key_at-2.result
+    c.self.inside.keys.items keys c.deref-3.result.now known key c.is_key_at-3.result
     c.self.invariant c.begin_first.ensures.taken c.begin_first.ensures.stays c.in_ok-begun.ensures.first c.in_ok-begun.was c.in-Some.is
     c.key_hash-hash.ensures (ap (λ t. record { file = c.args.parts.now.file; section = c.args.parts.now.section; text = t }) c.in_ok-text.ensures.ok)
-    c.deref-2.ensures.value c.is_key_at-2.ensures.key c.if-is_key_at-2.false in
+    c.deref-3.ensures.value c.is_key_at-3.ensures.key c.if-is_key_at-3.false in
     let none : list_any (same_key key) keys ≡ false =
     key-missing c.begin_first.new.firsts.entries c.self.inside.others.entries keys c.in-Some.first known key at.is at.placed at.taken at.other c.in_default-get.ensures.value in
     (new-key c.args.self.now keys c.begin_other.new.keys.items c.len-end.result key (at.same ∙ c.self.view_is) none
@@ -131,10 +143,10 @@ returns-clause-ok c =
     let known : ℕ × ℕ × String Global = (c.args.parts.now.file, c.args.parts.now.section, c.in_ok-text.text) in
     let at : IsBehind c.begin_first.new.firsts.entries c.self.inside.others.entries c.self.inside.keys.items keys known key c.in-Some.first =
     is-behind c.begin_first.result c.in_ok-begun.begun c.in-Some.first c.key_hash-hash.result c.self.inside.firsts.entries c.begin_first.new.firsts.entries c.self.inside.others.entries
-    c.self.inside.keys.items keys c.deref-2.result.now known key c.is_key_at-2.result
+    c.self.inside.keys.items keys c.deref-3.result.now known key c.is_key_at-3.result
     c.self.invariant c.begin_first.ensures.taken c.begin_first.ensures.stays c.in_ok-begun.ensures.first c.in_ok-begun.was c.in-Some.is
     c.key_hash-hash.ensures (ap (λ t. record { file = c.args.parts.now.file; section = c.args.parts.now.section; text = t }) c.in_ok-text.ensures.ok)
-    c.deref-2.ensures.value c.is_key_at-2.ensures.key c.if-is_key_at-2.false in
+    c.deref-3.ensures.value c.is_key_at-3.ensures.key c.if-is_key_at-3.false in
     let none : list_any (same_key key) keys ≡ false =
     key-missing c.begin_first.new.firsts.entries c.self.inside.others.entries keys c.in-Some.first known key at.is at.placed at.taken at.other c.in_default-get.ensures.value in
     (new-key c.args.self.now keys c.begin_other.new.keys.items c.len-end.result key (at.same ∙ c.self.view_is) none
