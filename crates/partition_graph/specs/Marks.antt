@@ -1,5 +1,5 @@
 -- The counts of edges, and the rows that tell which of them are above 0.
-use Rattle.std.specs.Prelude.{ℕ, ◌≡◌, ◌+◌, ◌*◌, ◌<◌, ◌&&◌, Bool, nat_lt, List, length, slice_index}
+use Rattle.std.specs.Prelude.{ℕ, ◌≡◌, ◌+◌, ◌*◌, ◌<◌, ◌≤◌, ◌&&◌, Bool, nat_lt, List, slice_index, Vec, vec_capacity}
 use Rattle.limits.specs.declared.TheConstants.{MAX_PARTITIONS}
 use Rattle.bit_rows.specs.Tables.{row_at, is_set, HasShape}
 
@@ -15,6 +15,10 @@ is_counted counts p q = nat_lt p MAX_PARTITIONS && (nat_lt q MAX_PARTITIONS && n
 abbrev pub NoneCounted : List ℕ → Type 0
 NoneCounted counts = (p q : ℕ) → p < MAX_PARTITIONS → q < MAX_PARTITIONS → count_in counts p q ≡ 0
 
+-- the memory holds a count for each edge
+abbrev pub HasEdgeRoom : {A : Type 0} → Vec ℕ A → Type 0
+HasEdgeRoom counts = MAX_PARTITIONS * MAX_PARTITIONS ≤ vec_capacity counts
+
 -- a row and a place for each id
 abbrev pub HasIdRows : List (List Bool) → Type 0
 HasIdRows rows = HasShape rows MAX_PARTITIONS MAX_PARTITIONS
@@ -22,7 +26,6 @@ HasIdRows rows = HasShape rows MAX_PARTITIONS MAX_PARTITIONS
 -- row q of the sources has the ids from which an edge to q is counted, and row p of the targets those to which
 -- one from p is counted
 pub record IsMarked (counts : List ℕ) (sources targets : List (List Bool)) : Type 0 where
-  pub room : length counts ≡ MAX_PARTITIONS * MAX_PARTITIONS
   pub source_rows : HasIdRows sources
   pub target_rows : HasIdRows targets
   pub sources_are : (p q : ℕ) → p < MAX_PARTITIONS → q < MAX_PARTITIONS

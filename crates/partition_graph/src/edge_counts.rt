@@ -1,5 +1,5 @@
 //! The counts of edges between ids, and which of them are above 0.
-ghost use Rattle.std.specs.Prelude.{◌≡◌, ◌≢◌, ◌+◌, ◌*◌, ◌<◌, ◌≤◌, ◌⊎◌, ◌^◌, ℕ, false, true, nat_lt, length, slice_index, IfOk};
+ghost use Rattle.std.specs.Prelude.{◌≡◌, ◌+◌, ◌<◌, ◌≤◌, ◌^◌, ℕ, false, true, nat_lt, length, slice_index, vec_capacity, IfOk};
 ghost use Rattle.limits.specs.declared.TheConstants.{MAX_PARTITIONS};
 ghost use Rattle.bit_rows.specs.Tables.{row_at, is_set};
 ghost use Rattle.partition_graph.specs.Counts.{is_edge};
@@ -15,7 +15,8 @@ use std::marker::Model;
 const IDS: usize = MAX_PARTITIONS as usize;
 
 /// A count for each edge between ids below `MAX_PARTITIONS`. Contracts see a list of counts: that of the edge from p to q
-/// stands at the place q * `MAX_PARTITIONS` + p.
+/// stands at the place q * `MAX_PARTITIONS` + p. A list that ends before a place has a count of 0 there, so a graph of few
+/// ids fills little of the room.
 #[derive(Drop)]
 pub struct EdgeCounts {
     counts: Vec<u32>,
@@ -27,21 +28,21 @@ pub struct EdgeCounts {
 
 impl Model for EdgeCounts {
     ghost use Rattle.std.specs.Prelude.{ℕ, List};
-    ghost use Rattle.partition_graph.specs.Marks.{IsMarked};
+    ghost use Rattle.partition_graph.specs.Marks.{HasEdgeRoom, IsMarked};
 
     ghost Value = { List ℕ };
 
     ghost view = { λ s. s.counts.items };
 
-    ghost invariant = { λ s. IsMarked s.counts.items s.sources s.targets };
+    ghost invariant = { λ s. HasEdgeRoom s.counts × IsMarked s.counts.items s.sources s.targets };
 }
 
 impl EdgeCounts {
-    /// Counts of 0. It takes the memory for all edges.
+    /// Counts of 0. It takes the memory for all edges, and nothing else here takes any.
     pub fn make(alloc: Global) -> Result<EdgeCounts, AllocError>
         ensures { IfOk result (λ made. NoneCounted made) }
     {
-        let counts = no_counts(alloc, IDS * IDS)?;
+        let counts = Vec::with_capacity(alloc, IDS * IDS)?;
         let sources = Rows::make(alloc, IDS, IDS)?;
         let targets = Rows::make(alloc, IDS, IDS)?;
         Ok(EdgeCounts {
@@ -57,7 +58,7 @@ impl EdgeCounts {
         requires to { q < MAX_PARTITIONS }
         ensures { result ≡ count_in self.now p q }
     {
-        self.counts[q as usize * IDS + p as usize]
+        count_at(self.counts.as_slice(), q as usize * IDS + p as usize)
     }
 
     /// Counts an edge once more.
@@ -71,6 +72,7 @@ impl EdgeCounts {
         let from = from as usize;
         let to = to as usize;
         let place = to * IDS + from;
+        reach(&mut self.counts, place);
         mark(
             &mut self.sources,
             &mut self.targets,
@@ -92,6 +94,7 @@ impl EdgeCounts {
         let from = from as usize;
         let to = to as usize;
         let place = to * IDS + from;
+        reach(&mut self.counts, place);
         let left = self.counts[place] - 1;
         unmark(&mut self.sources, &mut self.targets, left, from, to);
         self.counts[place] = left;
@@ -117,6 +120,29 @@ impl EdgeCounts {
         }
         let q = self.targets.next_set(p as usize, from as usize)?;
         Some(q as u32)
+    }
+}
+
+/// The count at a place, which is 0 behind the last one.
+fn count_at(counts: &[u32], place: usize) -> u32
+    ensures { result ≡ slice_index counts.now place }
+{
+    if place < counts.len() {
+        counts[place]
+    } else {
+        0
+    }
+}
+
+/// Fills the list with counts of 0 up to a place for which it has the room.
+fn reach(counts: &mut Vec<u32>, place: usize)
+    requires room { place < vec_capacity counts.old }
+    ensures reached { place < length counts.new.items }
+    ensures same { (k : ℕ) → slice_index counts.new.items k ≡ slice_index counts.old.items k }
+    ensures capacity { vec_capacity counts.new ≡ vec_capacity counts.old }
+{
+    while counts.len() <= place {
+        counts.push_reserved(0);
     }
 }
 
