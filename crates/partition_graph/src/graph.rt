@@ -1,7 +1,7 @@
 //! The partitions of events, and the counts of edges.
-ghost use Rattle.std.specs.Prelude.{◌≡◌, ◌≤◌, ◌<◌, ◌+◌, ◌++◌, IfOk, OnOk, length, slice_index, slice_get, Some, MatchOption, IfSome};
+ghost use Rattle.std.specs.Prelude.{◌≡◌, ◌≤◌, ◌<◌, ◌+◌, ◌++◌, IfOk, OnOk, length, map, slice_index, slice_get, Some, MatchOption, IfSome};
 
-use crate::cells::{copy_traces, gather, gather_shared};
+use crate::cells::{Cell, copy_traces, gather, gather_shared};
 use crate::changing::Change;
 use crate::events::Events;
 use crate::tables::Tables;
@@ -319,12 +319,25 @@ impl PartGraph {
     pub fn parts(&self, alloc: Global) -> Result<Seq<u32>, AllocError>
         ensures { IfOk result (λ list. list ≡ parts_of (self.now).traces) }
     {
-        let ids = self
-            .events
-            .cells()
-            .iter()
-            .map(|cell| cell.id)
-            .collect(alloc)?;
-        Ok(Seq::from_vec(ids))
+        ids_of(alloc, self.events.cells())
     }
+
+    /// The id of each event of the traces with these numbers, one trace for each number: those of the graph that
+    /// `spread` makes.
+    pub fn spread_parts(&self, alloc: Global, numbers: &[u32]) -> Result<Seq<u32>, AllocError>
+        requires within { All (λ k. k < length (self.now).traces) numbers.now }
+        requires few { length (events (spread numbers.now (self.now).traces)) ≤ MAX_EVENTS }
+        ensures { IfOk result (λ list. list ≡ parts_of (spread numbers.now (self.now).traces)) }
+    {
+        let (cells, _firsts) = copy_traces(alloc, self.events.cells(), &self.firsts, numbers)?;
+        ids_of(alloc, &cells)
+    }
+}
+
+/// The id of each cell.
+fn ids_of(alloc: Global, cells: &[Cell]) -> Result<Seq<u32>, AllocError>
+    ensures { IfOk result (λ list. list ≡ map (λ c. c.id) cells.now) }
+{
+    let ids = cells.iter().map(|cell| cell.id).collect(alloc)?;
+    Ok(Seq::from_vec(ids))
 }

@@ -1,0 +1,34 @@
+use Rattle.std.proofs.Common.{◌≡◌, ◌<◌, ◌≤◌, ℕ, List, length, map, All, ap, sym, ◌∙◌, subst}
+use Rattle.limits.specs.declared.TheConstants.{MAX_EVENTS}
+use Rattle.partition_model.specs.Assignments.{Assignment}
+use Rattle.partition_model.specs.Listings.{parts_of}
+use Rattle.partition_graph.specs.declared.cells.Cell.{Cell}
+use Rattle.partition_graph.specs.Cells.{traces_of}
+use Rattle.partition_graph.specs.Parts.{Parts}
+use Rattle.partition_graph.specs.Shared.{Begin, joined_traces, picked, trace_cells}
+use Rattle.partition_graph.specs.Spread.{spread}
+use Rattle.partition_graph.proofs.CellTraces.{parts_are}
+use Rattle.partition_graph.proofs.Copied.{begins, copied_traces, copies-few, numbers_within}
+use Rattle.partition_graph.proofs.graph.PartGraph.spread_parts.Goals as goal
+use Rattle.partition_graph.proofs.graph.PartGraph.spread_parts.Goals.{After-deref}
+
+-- the traces that the graph keeps as cells
+held : (c : After-deref) → c.args.self.now.traces ≡ traces_of c.self.inside.events
+held c = ap (λ (x : Parts). x.traces) (sym c.self.view_is)
+
+within : (c : After-deref) → All (λ k. k < length (trace_cells c.self.inside.events)) c.args.numbers.now
+within c = numbers_within c.self.inside.events c.args.numbers.now c.args.self.now.traces c.self.invariant.closed (held c) c.requires.within
+
+pub copy_traces-requires-clause-begin : goal.copy_traces-requires-clause-begin
+copy_traces-requires-clause-begin c =
+    let g = c.self.inside in
+    subst (λ (cs : List Cell). Begin c.deref.result.now (trace_cells cs)) (sym c.cells.ensures)
+    (subst (λ (firsts : List ℕ). Begin firsts (trace_cells g.events)) (sym c.deref.ensures.value) (begins g.events g.firsts.items g.tables g.used c.self.invariant))
+
+pub copy_traces-requires-clause-within : goal.copy_traces-requires-clause-within
+copy_traces-requires-clause-within c = subst (λ (cs : List Cell). All (λ k. k < length (trace_cells cs)) c.args.numbers.now) (sym c.cells.ensures) (within c)
+
+pub copy_traces-requires-clause-few : goal.copy_traces-requires-clause-few
+copy_traces-requires-clause-few c =
+    subst (λ (cs : List Cell). length (joined_traces (picked c.args.numbers.now (trace_cells cs))) ≤ MAX_EVENTS) (sym c.cells.ensures)
+    (copies-few c.self.inside.events c.args.numbers.now c.args.self.now.traces c.self.invariant.closed (held c) (within c) c.requires.few)
