@@ -1,4 +1,5 @@
 use Rattle.std.proofs.Common.{◌≡◌, ◌<◌, ◌≤◌, ℕ, List, length, map, All, ap, sym, ◌∙◌, subst}
+use Rattle.std.proofs.lemmas.Result.{IfOk-weaker}
 use Rattle.limits.specs.declared.TheConstants.{MAX_EVENTS}
 use Rattle.partition_model.specs.Assignments.{Assignment}
 use Rattle.partition_model.specs.Listings.{parts_of}
@@ -32,3 +33,17 @@ pub copy_traces-requires-clause-few : goal.copy_traces-requires-clause-few
 copy_traces-requires-clause-few c =
     subst (λ (cs : List Cell). length (joined_traces (picked c.args.numbers.now (trace_cells cs))) ≤ MAX_EVENTS) (sym c.cells.ensures)
     (copies-few c.self.inside.events c.args.numbers.now c.args.self.now.traces c.self.invariant.closed (held c) (within c) c.requires.few)
+
+pub returns : goal.returns
+returns c =
+    let d : After-deref = (goal.at.returns c).After-deref in
+    let numbers : List ℕ = c.args.numbers.now in
+    let events : List Cell = c.self.inside.events in
+    let copies : c.in_ok-cells.cells.items ≡ joined_traces (picked numbers (trace_cells events)) =
+    c.in_ok-cells.ensures.cells ∙ ap (λ (cs : List Cell). joined_traces (picked numbers (trace_cells cs))) c.cells.ensures in
+    let told : parts_of (traces_of (joined_traces (picked numbers (trace_cells events)))) ≡ parts_of (spread numbers c.args.self.now.traces) =
+    ap (λ (h : Assignment). parts_of h) (copied_traces events numbers c.self.invariant.closed (within d))
+    ∙ ap (λ (h : Assignment). parts_of (spread numbers h)) (sym (held d)) in
+    IfOk-weaker c.ids_of.result _ _
+    (λ ids e. e ∙ ap (λ (cs : List Cell). map (λ (x : Cell). x.id) cs) (c.deref-2.ensures.value ∙ copies) ∙ sym (parts_are (joined_traces (picked numbers (trace_cells events)))) ∙ told)
+    c.ids_of.ensures
