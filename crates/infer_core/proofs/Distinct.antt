@@ -52,6 +52,7 @@ module _ (log : Log) (graph : Parts) (numbers : List ℕ) (s : SharesWords log g
   pub mined-same : mined_of (distinct log graph) ≡ mined_of (typed_words log)
   mined-same = mined-as (length log.types) (inner_words graph.traces) (inner_words_of log) word-to word-from
 
+  -- what holds of each trace holds of each distinct word
   pub hold-few : (invs : List Invariant) → HoldAll (inner_words_of log) invs → HoldAll (inner_words graph.traces) invs
   hold-few invs a = hold-over (inner_words graph.traces) (inner_words_of log) invs word-to a
 
@@ -70,6 +71,7 @@ module _ (log : Log) (graph : Parts) (numbers : List ℕ) (s : SharesWords log g
         subst (λ (x : Assignment). 0 < members x p) s.start (count-member p o.0 (events graph.traces) i o.2);
   }
 
+  -- the first graph of the distinct words can be refined where that of the log can
   pub opened-few : IsOpened (start_of log) → IsOpened graph
   opened-few o = record {
     start = s.start;
@@ -152,6 +154,7 @@ module _ (log : Log) (graph : Parts) (numbers : List ℕ) (s : SharesWords log g
       graph-end : G end.traces ≡ G (spread numbers end.traces)
       graph-end = graph-over end.traces (spread numbers end.traces) (all-alike numbers end.traces coarsened-end.1) coarsened-end.2
 
+      -- the end of the run of the distinct words is that of the log
       pub ended-whole : HasEnded (typed_words log) (whole_of numbers end) planes spans run
       ended-whole = record {
         refined = spread numbers e.refined;
@@ -165,6 +168,7 @@ module _ (log : Log) (graph : Parts) (numbers : List ℕ) (s : SharesWords log g
         paths = e.paths;
       }
 
+      -- each trace still has its number at the end
       pub all-end : AreAllOf numbers end.traces
       all-end = coarsened-end.1
 
@@ -178,6 +182,7 @@ module _ (log : Log) (graph : Parts) (numbers : List ℕ) (s : SharesWords log g
           (coarsening_keeps (mined_of (distinct log graph)) (inner_words graph.traces) e.refined (merges_of run) end.traces k e.coarsens).0 in
           words-as numbers end.traces graph.traces l.words_are ∙ words-are
 
+      -- the spread graph has no more events than a log may have
       pub few-end : sum_by (λ w. length w) (inner_words_of log) ≤ MAX_EVENTS → length (events (spread numbers end.traces)) ≤ MAX_EVENTS
       few-end few =
           let a : length (events (spread numbers end.traces)) ≡ sum_by (λ (w : List ℕ). length w) (inner_words (spread numbers end.traces)) = events-count (spread numbers end.traces) in
@@ -230,9 +235,11 @@ module _ (log : Log) (invs : List Invariant) (graph : Parts) (numbers : List ℕ
       → RunGives r (distinct log graph) end planes' spans' run' → RunGives r (typed_words log) (whole_of numbers end) planes' spans' run'
   start-gives r end planes' spans' run' e = gives-whole log graph numbers s.shares typed-start hold-start r end planes' spans' run' e
 
+  -- the steps that are counted are as few as the log allows
   pub start-counts : (before after : ℕ) → CountsAtMost (distinct log graph) before after → CountsAtMost (typed_words log) before after
   start-counts before after c = counts-whole log graph numbers s.shares typed-start hold-start before after c
 
+  -- where the run ends, what stands is the end of the run of the log
   pub start-ends : (end : Parts) (planes' : Labelling) (spans' : Numbers) (run' : RunLists)
       → HasEnded (distinct log graph) end planes' spans' run' → IsAtEnd log invs end numbers planes' spans' run'
   start-ends end planes' spans' run' e = record {

@@ -35,19 +35,23 @@ pub refined-keeps : (invs listed : List Invariant) (old new : Parts) (splits : L
 refined-keeps invs listed old new splits e r =
     subst (λ (xs : List Invariant). SatisfiesAll (G new.traces) xs) (sym e) (refined-satisfies invs splits old.traces old.used new.traces r.run)
 
--- refinement leaves the merges and the blocks of the log, and the rooms
+-- refinement writes no merge
 pub merges-none : (run run' : RunLists) (spans spans' : Numbers) → AreEmpty run spans → WritesSplits run run' spans spans' → run'.merges ≡ []
 merges-none run run' spans spans' e w = ap (λ (x : RunLists). x.merges) w.log_is ∙ e.merges
 
+-- refinement writes no block
 pub blocks-none : (run run' : RunLists) (spans spans' : Numbers) → AreEmpty run spans → WritesSplits run run' spans spans' → run'.blocks ≡ []
 blocks-none run run' spans spans' e w = ap (λ (x : RunLists). x.blocks) w.log_is ∙ e.blocks
 
+-- refinement leaves the room for merges
 pub merge-room : (run run' : RunLists) (spans spans' : Numbers) → WritesSplits run run' spans spans' → run'.merge_room ≡ run.merge_room
 merge-room run run' spans spans' w = ap (λ (x : RunLists). x.merge_room) w.log_is
 
+-- refinement leaves the room for blocks
 pub block-room : (run run' : RunLists) (spans spans' : Numbers) → WritesSplits run run' spans spans' → run'.block_room ≡ run.block_room
 block-room run run' spans spans' w = ap (λ (x : RunLists). x.block_room) w.log_is
 
+-- refinement leaves the room for the numbers of paths
 pub numbers-room : (run run' : RunLists) (spans spans' : Numbers) → WritesSplits run run' spans spans' → spans'.room ≡ spans.room
 numbers-room run run' spans spans' w = ap (λ (x : Numbers). x.room) w.spans_are
 

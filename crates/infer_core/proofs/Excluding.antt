@@ -141,6 +141,7 @@ numbers-exclude log splits refined merges end blocks r c b l p =
 pub both-exclude : (log : TypedWords) → PassesPartitions log → PassesNumbers log → ⊥
 both-exclude log p n = partitions-exclude log n.splits n.refined n.refines n.within p
 
+-- a log ends in one way alone: with a model, or past one of the two limits
 pub ends_exclude : EndsExclude
 ends_exclude = record {
   partitions = λ m log k w p.
@@ -151,6 +152,7 @@ ends_exclude = record {
   both = both-exclude;
 }
 
+-- the final ids of a log are determined by it
 pub one_final : OneFinal
 one_final log a b x y =
     let s : (x.splits ≡ y.splits) × (x.refined ≡ y.refined) = one_refinement (mined_of log) (by_type log.words) (first_new log) x.splits y.splits x.refined y.refined x.refines y.refines in

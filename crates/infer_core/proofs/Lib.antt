@@ -7,3 +7,4 @@ pub mod Telling
 pub mod Stages
 pub mod Sharing
 pub mod Distinct
+pub mod Spreading

@@ -29,6 +29,7 @@ words-again : (traces : List Trace) → map word_of traces ≡ map with_ends (ma
 words-again [] = refl
 words-again (t ∷ traces) = ap (λ (ws : List (List ℕ)). word_of t ∷ ws) (words-again traces)
 
+-- what is mined of a log is what is mined of its words between their ends
 pub mined-again : (log : Log) → mined (length log.types) (words_of log) ≡ mined_of (typed_words log)
 mined-again log = ap (λ (ws : List (List ℕ)). mined (length log.types) ws) (words-again log.traces)
 

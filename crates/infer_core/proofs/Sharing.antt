@@ -132,6 +132,7 @@ place-In t [] i = absurd i
 place-In t (x ∷ h) (inl e) = (0, omega arith, e)
 place-In t (x ∷ h) (inr j) = let o : (k : ℕ) × (k < length h) × (slice_index_or h k [] ≡ t) = place-In t h j in (suc o.0, omega (arith, o.1), o.2)
 
+-- the traces with these numbers are those of the distinct words, each at least once
 pub all-alike : (ks : List ℕ) (h : Assignment) → AreAllOf ks h → Alike h (spread ks h)
 all-alike ks h a = record {
   to = λ t i.
@@ -176,9 +177,11 @@ words-spread : (ks : List ℕ) (h : Assignment) → inner_words (spread ks h) �
 words-spread [] h = refl
 words-spread (k ∷ ks) h = ap₂ (λ (x : List ℕ) (xs : List (List ℕ)). x ∷ xs) (sym (fetch-map (λ (t : List Event). types_of t) refl h k)) (words-spread ks h)
 
+-- graphs with the same words have them still where they are spread
 pub words-as : (ks : List ℕ) (h k : Assignment) → inner_words h ≡ inner_words k → inner_words (spread ks h) ≡ inner_words (spread ks k)
 words-as ks h k e = words-spread ks h ∙ ap (λ (ws : List (List ℕ)). map (λ k. slice_index_or ws k []) ks) e ∙ sym (words-spread ks k)
 
+-- a graph has as many events as its words have letters
 pub events-count : (h : Assignment) → length (events h) ≡ sum_by (λ w. length w) (inner_words h)
 events-count [] = refl
 events-count (t ∷ h) =
@@ -215,11 +218,13 @@ hold-of inv vs ws f e =
     subst (λ (x : List ℕ). holds inv x ≡ true) o.2
     (passes-each (holds inv) (map with_ends vs) e (with_ends o.0) (map-In with_ends o.0 vs (f o.0 o.1))))
 
+-- words that are the same, however often each stands there, give the same invariants
 pub mined-as : (types : ℕ) (vs ws : List (List ℕ)) → ((w : List ℕ) → In w vs → In w ws) → ((w : List ℕ) → In w ws → In w vs) → mined types (map with_ends vs) ≡ mined types (map with_ends ws)
 mined-as types vs ws to from =
     ap (λ (f : Invariant → Bool). filter f (candidates types))
     (fun_ext (λ inv. same-truth (holds_of_all (map with_ends vs) inv) (holds_of_all (map with_ends ws) inv) (hold-of inv vs ws from) (hold-of inv ws vs to)))
 
+-- what holds of each word of a list holds of each word that stands in it
 pub hold-over : (vs ws : List (List ℕ)) (invs : List Invariant) → ((w : List ℕ) → In w vs → In w ws) → HoldAll ws invs → HoldAll vs invs
 hold-over vs ws [] f a = tt
 hold-over vs ws (inv ∷ invs) f a = (
@@ -262,6 +267,7 @@ refines-over words invs ks (s ∷ ss) h n end all r l a w =
       o.1,
     )
 
+-- the first splits of a refinement may be made before the traces are spread or after
 pub splits-over : (words : List (List ℕ)) (invs : List Invariant) (ks : List ℕ) (splits : List Split) (h : Assignment) (n : ℕ) (end : Assignment) → AreAllOf ks h → IsRun words h n → 2 ≤ n → HoldAll words invs
     → Splits invs h n splits end → Splits invs (spread ks h) n splits (spread ks end) × AreAllOf ks end
 splits-over words invs ks [] h n end all r l a w =
@@ -278,6 +284,7 @@ splits-over words invs ks (s ∷ ss) h n end all r l a w =
       o.1,
     )
 
+-- the next split is the same before the traces are spread and after
 pub next-over : (invs : List Invariant) (ks : List ℕ) (h : Assignment) (s : Split) → AreAllOf ks h → IsTyped h → IsNextSplit invs h s → IsNextSplit invs (spread ks h) s
 next-over invs ks h s all t n = next-split-over invs h (spread ks h) s (all-alike ks h all) t n
 

@@ -36,6 +36,7 @@ partitions-told (Ok done) words graph planes spans run e = (λ q. absurd cc, λ 
 partitions-told (Err Partitions) words graph planes spans run e = (λ q. e, λ p. refl)
 partitions-told (Err Evidence) words graph planes spans run e = (λ q. absurd cc, λ p. absurd (both-exclude words p e))
 
+-- the limit on numbers comes exactly where it is passed
 pub evidence-told : (r : Result (Unit {0}) InferLimit) (words : TypedWords) (graph : Parts) (planes : Labelling) (spans : Numbers) (run : RunLists)
     → RunGives r words graph planes spans run → (r ≡ Err Evidence) ↔ PassesNumbers words
 evidence-told (Ok done) words graph planes spans run e = (

@@ -56,6 +56,7 @@ each-small : (f : Partition → ℕ) (xs : List Partition) → ((x : Partition) 
 each-small f [] small = tt
 each-small f (x ∷ xs) small = (small x, each-small f xs small)
 
+-- the labels say which states are reached at each partition
 pub labels-reached : (labels : Labelling) (h : Assignment) (partitions : List Partition) (k : ℕ) (inv : Invariant) → ArePartitions partitions h → AreLabelsOf labels (G h)
     → slice_get labels.invs k ≡ Some inv → ((j : ℕ) (x : Partition) → slice_get partitions j ≡ Some x → x.id < MAX_PARTITIONS)
     → AreReached inv h partitions (map (λ x. digit labels k x.id) partitions)

@@ -46,9 +46,12 @@ pub record IsAtEnd (log : Log) (invs : List Invariant) (graph : Parts) (numbers 
   pub ended : HasEnded (typed_words log) (whole_of numbers graph) planes spans run
 
 -- what stands at each stage; after a refusal it is good for nothing
-abbrev pub Stands : Stage → Log → List Invariant → Parts → List ℕ → ℕ → Labelling → Numbers → RunLists → Type 0
-Stands Opened log invs graph numbers stitcher planes spans run = IsAtStart log invs graph numbers stitcher planes spans run
-Stands Inferred log invs graph numbers stitcher planes spans run = IsAtEnd log invs graph numbers planes spans run
+abbrev pub Stands : Stage → Log → List Invariant → Parts → List ℕ → ℕ
+    → Labelling → Numbers → RunLists → Type 0
+Stands Opened log invs graph numbers stitcher planes spans run =
+    IsAtStart log invs graph numbers stitcher planes spans run
+Stands Inferred log invs graph numbers stitcher planes spans run =
+    IsAtEnd log invs graph numbers planes spans run
 Stands Refused log invs graph numbers stitcher planes spans run = Unit {0}
 
 -- the model says the types of the log, what the graph is and what is reached there, and what the run tells

@@ -55,7 +55,8 @@ pub record HasEnded (words : TypedWords) (graph : Parts)
   pub paths : HoldsPaths run spans
 
 -- what the run of these words leaves at each answer
-abbrev pub RunGives : Result (Unit {0}) InferLimit → TypedWords → Parts → Labelling → Numbers → RunLists → Type 0
+abbrev pub RunGives : Result (Unit {0}) InferLimit → TypedWords → Parts
+    → Labelling → Numbers → RunLists → Type 0
 RunGives (Ok done) words graph planes spans run = HasEnded words graph planes spans run
 RunGives (Err Partitions) words graph planes spans run = PassesPartitions words
 RunGives (Err Evidence) words graph planes spans run = PassesNumbers words

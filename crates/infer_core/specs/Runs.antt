@@ -39,7 +39,8 @@ pub record PassesNumbers (log : TypedWords) : Type 0 where
   pub end : Assignment
   pub coarsens : Coarsens (mined_of log) refined merges end
   pub blocks : List Block
-  pub ends : EndsWithoutRoom (mined_of log) (record { traces = end; used = first_new log + length splits }) blocks
+  pub ends : EndsWithoutRoom (mined_of log)
+      (record { traces = end; used = first_new log + length splits }) blocks
       (split_numbers splits + block_numbers blocks)
 
 -- the ids are those that the events have, trace after trace, where coarsening of the log ends

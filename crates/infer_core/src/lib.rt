@@ -5,6 +5,8 @@
 mod law;
 mod model;
 mod run;
+mod tools;
+mod whole;
 mod workbench;
 
 pub use law::{ends_exclude, log_is_typed, one_final};

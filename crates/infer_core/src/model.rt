@@ -10,7 +10,7 @@ ghost use Rattle.models.specs.Models.{AreReached};
 ghost use Rattle.labelling.specs.Labelled.{digit, AreLabelsOf};
 ghost use Rattle.infer_core.specs.Benches.{Tells};
 
-use cell_pool::{RunLog, Spans};
+use crate::tools::Tools;
 use invariants::{Invariant, Listed, Model, Partition, Seq, Text};
 use labelling::Planes;
 use limits::MAX_PARTITIONS;
@@ -39,8 +39,10 @@ fn labels_of(
     partitions: &[Partition],
 ) -> Result<Seq<u8>, AllocError>
     requires number { number < length (planes.now).invs }
-    requires ids { (k : ℕ) (x : Partition) → slice_get partitions.now k ≡ Some x → x.id < MAX_PARTITIONS }
-    ensures { IfOk result (λ labels. labels ≡ map (λ x. digit planes.now number x.id) partitions.now) }
+    requires ids { (k : ℕ) (x : Partition) → slice_get partitions.now k ≡ Some x
+        → x.id < MAX_PARTITIONS }
+    ensures { IfOk result
+        (λ labels. labels ≡ map (λ x. digit planes.now number x.id) partitions.now) }
 {
     let mut labels = Vec::with_capacity(alloc, partitions.len())?;
     for partition in partitions {
@@ -57,7 +59,8 @@ fn listed(
     partitions: &[Partition],
 ) -> Result<Seq<Listed>, AllocError>
     requires list { (planes.now).invs ≡ invs.now }
-    requires ids { (k : ℕ) (x : Partition) → slice_get partitions.now k ≡ Some x → x.id < MAX_PARTITIONS }
+    requires ids { (k : ℕ) (x : Partition) → slice_get partitions.now k ≡ Some x
+        → x.id < MAX_PARTITIONS }
     ensures listing { IfOk result (λ list. map (λ l. l.inv) list ≡ invs.now) }
     ensures labels { IfOk result (λ list. (h : Assignment) → ArePartitions partitions.now h
         → AreLabelsOf planes.now (G h)
@@ -80,25 +83,24 @@ pub fn model_of(
     traces: &TraceSet,
     invs: &[Invariant],
     graph: &PartGraph,
-    planes: &Planes,
-    spans: &Spans,
-    log: &RunLog,
+    tools: &Tools,
 ) -> Result<Model, AllocError>
-    requires list { (planes.now).invs ≡ invs.now }
-    requires labels { AreLabelsOf planes.now (G (graph.now).traces) }
-    requires paths { HoldsPaths log.now spans.now }
-    ensures { IfOk result (λ m. Tells m traces.now invs.now graph.now spans.now log.now) }
+    requires list { tools.now.planes.invs ≡ invs.now }
+    requires labels { AreLabelsOf tools.now.planes (G (graph.now).traces) }
+    requires paths { HoldsPaths tools.now.log tools.now.spans }
+    ensures { IfOk result
+        (λ m. Tells m traces.now invs.now graph.now tools.now.spans tools.now.log) }
 {
     prove!(graph.ids_used() <= MAX_PARTITIONS);
     let partitions = graph.partitions(alloc)?;
-    let invariants = listed(alloc, planes, invs, partitions.as_slice())?;
+    let invariants = listed(alloc, &tools.planes, invs, partitions.as_slice())?;
     Ok(Model {
         types: copy_of(alloc, traces.types())?,
         edges: graph.edges(alloc)?,
         partitions,
         invariants,
-        splits: splits(alloc, log, spans)?,
-        merges: merges(alloc, log)?,
-        blocks: blocks(alloc, log, spans)?,
+        splits: splits(alloc, &tools.log, &tools.spans)?,
+        merges: merges(alloc, &tools.log)?,
+        blocks: blocks(alloc, &tools.log, &tools.spans)?,
     })
 }

@@ -7,15 +7,13 @@ ghost use Rattle.splitter.specs.Writing.{WritesSplits};
 ghost use Rattle.infer_core.specs.Runs.{CountsAtMost};
 ghost use Rattle.infer_core.specs.Ends.{BeginsWith, IsReady, RunGives};
 
+use crate::tools::Tools;
 use crate::workbench::InferLimit;
-use cell_pool::{RunLog, Spans};
 use coarsener::{blocks, coarsen};
 use invariants::Invariant;
-use labelling::Planes;
 use limits::MAX_PARTITIONS;
 use partition_graph::{PartGraph, View};
-use path_finder::Finder;
-use splitter::{PartitionLimit, Stitcher, refine_skipping};
+use splitter::{PartitionLimit, refine_skipping};
 use std::sync::ledger::Ledger;
 use steps::Steps;
 
@@ -23,33 +21,40 @@ use steps::Steps;
 /// for these.
 fn refine_broken<L: Ledger>(
     graph: &mut PartGraph,
-    finder: &mut Finder,
-    stitcher: &mut Stitcher,
-    planes: &mut Planes,
+    tools: &mut Tools,
     flags: &mut [bool],
     invs: &[Invariant],
-    spans: &mut Spans,
-    log: &mut RunLog,
     steps: &mut Steps<L>,
 ) -> Result<(), PartitionLimit>
-    requires ready { IsReady invs.now graph.old stitcher.old planes.old spans.old log.old }
+    requires ready { IsReady invs.now graph.old
+        tools.old.stitcher tools.old.planes tools.old.spans tools.old.log }
     requires flags { length flags.old ≡ length invs.now }
-    ensures list { planes.new.invs ≡ planes.old.invs }
-    ensures writes { WritesSplits log.old log.new spans.old spans.new }
+    ensures list { tools.new.planes.invs ≡ tools.old.planes.invs }
+    ensures writes { WritesSplits tools.old.log tools.new.log tools.old.spans tools.new.spans }
 
     // The whole run, and how many steps it counts.
-    ensures ok { OnOk result (EndsRefined invs.now graph.old (splits_of log.new spans.new) graph.new) }
+    ensures ok { OnOk result (EndsRefined invs.now graph.old
+        (splits_of tools.new.log tools.new.spans) graph.new) }
     ensures more { OnOk result (steps.old ≤ steps.new) }
-    ensures few { OnOk result
-        (steps.new ≤ steps.old + length invs.now + length (splits_of log.new spans.new)) }
+    ensures few { OnOk result (steps.new ≤ steps.old + length invs.now
+        + length (splits_of tools.new.log tools.new.spans)) }
 
     // When the limit comes, and what it leaves.
     ensures full { OnErr result (IsFull invs.now graph.new) }
     ensures stands { OnErr result (IsStopped invs.now graph.old graph.new
-        (splits_of log.new spans.new) (steps.new - steps.old)) }
+        (splits_of tools.new.log tools.new.spans) (steps.new - steps.old)) }
 {
-    planes.tell_satisfied(&View::Plain(graph), flags);
-    refine_skipping(graph, finder, stitcher, invs, flags, spans, log, steps)
+    tools.planes.tell_satisfied(&View::Plain(graph), flags);
+    refine_skipping(
+        graph,
+        &mut tools.finder,
+        &mut tools.stitcher,
+        invs,
+        flags,
+        &mut tools.spans,
+        &mut tools.log,
+        steps,
+    )
 }
 
 /// Runs inference on a graph that was opened of a log, by the invariants that are mined of it. It takes no memory.
@@ -58,33 +63,36 @@ fn refine_broken<L: Ledger>(
 /// and blocks have more numbers than they may. Then what is lent is good for nothing.
 pub fn run<L: Ledger>(
     graph: &mut PartGraph,
-    finder: &mut Finder,
-    stitcher: &mut Stitcher,
-    planes: &mut Planes,
+    tools: &mut Tools,
     flags: &mut [bool],
     invs: &[Invariant],
-    spans: &mut Spans,
-    log: &mut RunLog,
     steps: &mut Steps<L>,
 ) -> Result<(), InferLimit>
-    requires ready { IsReady invs.now graph.old stitcher.old planes.old spans.old log.old }
+    requires ready { IsReady invs.now graph.old
+        tools.old.stitcher tools.old.planes tools.old.spans tools.old.log }
     requires flags { length flags.old ≡ length invs.now }
     ensures gives { (words : TypedWords) → BeginsWith words invs.now graph.old
-        → RunGives result words graph.new planes.new spans.new log.new }
+        → RunGives result words graph.new tools.new.planes tools.new.spans tools.new.log }
     ensures counted { OnOk result ((words : TypedWords) → BeginsWith words invs.now graph.old
         → CountsAtMost words steps.old steps.new) }
 {
-    let refined = refine_broken(
-        graph, finder, stitcher, planes, flags, invs, spans, log, steps,
-    );
+    let refined = refine_broken(graph, tools, flags, invs, steps);
     let Ok(()) = refined else {
         return Err(InferLimit::Partitions);
     };
     prove!(graph.ids_used() <= MAX_PARTITIONS);
-    coarsen(graph, planes, log, steps);
-    let Ok(()) = blocks(graph, finder, planes, invs, spans, log, steps) else {
+    coarsen(graph, &mut tools.planes, &mut tools.log, steps);
+    let Ok(()) = blocks(
+        graph,
+        &mut tools.finder,
+        &mut tools.planes,
+        invs,
+        &mut tools.spans,
+        &mut tools.log,
+        steps,
+    ) else {
         return Err(InferLimit::Evidence);
     };
-    planes.label_all(&View::Plain(graph), steps);
+    tools.planes.label_all(&View::Plain(graph), steps);
     Ok(())
 }

@@ -1,7 +1,5 @@
 //! The workbench: a log, and all that its inference needs.
-ghost use Rattle.std.specs.Prelude.{◌≡◌, ◌↔◌, ◌≤◌, ℕ, [], IfOk, OnErr, OnOk, Err, Some, length, slice_get};
-ghost use Rattle.limits.specs.declared.TheConstants.{LAST_TYPE, MAX_INVARIANTS, MAX_PAIRS, MAX_PATH_NUMBERS, MAX_STEPS};
-ghost use Rattle.partition_model.specs.Assignments.{events};
+ghost use Rattle.std.specs.Prelude.{◌≡◌, ◌↔◌, IfOk, OnErr, OnOk, Err, length};
 ghost use Rattle.models.specs.Limits.{KeepsLimits};
 ghost use Rattle.models.specs.Models.{typed_words, IsModelOf};
 ghost use Rattle.infer_core.specs.Runs.{AreFinal, CountsAtMost, PassesNumbers, PassesPartitions};
@@ -9,14 +7,12 @@ ghost use Rattle.infer_core.specs.Runs.{AreFinal, CountsAtMost, PassesNumbers, P
 use crate::law::log_is_typed;
 use crate::model::model_of;
 use crate::run::run;
-use cell_pool::{RunLog, Spans};
+use crate::tools::Tools;
+use crate::whole::{made_or, spread_shared};
 use count_miner::mine;
 use invariants::{Invariant, Seq};
-use labelling::Planes;
-use limits::{MAX_PAIRS, MAX_PATH_NUMBERS, MAX_STEPS};
 use partition_graph::PartGraph;
-use path_finder::Finder;
-use splitter::{Stitcher, start_is_opened};
+use splitter::start_is_opened;
 use std::alloc::{AllocError, Global};
 use std::sync::ledger::Ledger;
 use steps::Steps;
@@ -51,13 +47,9 @@ pub struct Workbench {
     graph: PartGraph,
     /// For each trace the number of the one that has its word in the graph.
     numbers: Vec<u32>,
-    finder: Finder,
-    stitcher: Stitcher,
-    planes: Planes,
+    tools: Tools,
     /// For each invariant whether the first graph satisfies it, as refinement asks.
     flags: Vec<bool>,
-    spans: Spans,
-    log: RunLog,
     stage: Stage,
 }
 
@@ -69,47 +61,17 @@ impl std::marker::Model for Workbench {
 
     ghost view = { λ b. record { log = b.traces; stage = b.stage } };
 
-    ghost invariant = { λ b. Stands b.stage b.traces b.invs b.graph b.numbers.items b.stitcher b.planes b.spans b.log
+    ghost invariant = { λ b.
+        Stands b.stage b.traces b.invs b.graph b.numbers.items
+        b.tools.stitcher b.tools.planes b.tools.spans b.tools.log
         × (length b.flags.items ≡ length b.invs) };
 }
 
-/// What inference needs beside the invariants and the graph.
-#[derive(Drop)]
-struct Tools {
-    finder: Finder,
-    stitcher: Stitcher,
-    planes: Planes,
-    flags: Vec<bool>,
-    spans: Spans,
-    log: RunLog,
-}
-
-/// All that inference of this graph by these invariants needs, with room for all that it can write.
-fn tools_for(alloc: Global, graph: &PartGraph, invs: &[Invariant]) -> Result<Tools, AllocError>
-    requires few { length invs.now ≤ MAX_INVARIANTS }
-    requires named { (k : ℕ) (inv : Invariant) → slice_get invs.now k ≡ Some inv
-        → (inv.a ≤ LAST_TYPE) × (inv.b ≤ LAST_TYPE) }
-    ensures stitcher { IfOk result (λ tools. tools.stitcher ≡ length (events (graph.now).traces)) }
-    ensures planes { IfOk result (λ tools. tools.planes.invs ≡ invs.now) }
-    ensures flags { IfOk result (λ tools. length tools.flags.items ≡ length invs.now) }
-    ensures spans { IfOk result (λ tools. tools.spans ≡ record { numbers = []; room = MAX_PATH_NUMBERS }) }
-    ensures log { IfOk result (λ tools. tools.log ≡ record {
-      splits = [];
-      merges = [];
-      blocks = [];
-      split_room = MAX_STEPS;
-      merge_room = MAX_STEPS;
-      block_room = MAX_PAIRS;
-    }) }
+/// A flag for each invariant, all of them off.
+fn no_flags(alloc: Global, invs: &[Invariant]) -> Result<Vec<bool>, AllocError>
+    ensures { IfOk result (λ flags. length flags.items ≡ length invs.now) }
 {
-    Ok(Tools {
-        finder: Finder::make(alloc)?,
-        stitcher: Stitcher::make(alloc, graph)?,
-        planes: Planes::make(alloc, invs)?,
-        flags: Vec::from_elem(alloc, false, invs.len())?,
-        spans: Spans::make(alloc, MAX_PATH_NUMBERS)?,
-        log: RunLog::make(alloc, MAX_STEPS, MAX_STEPS, MAX_PAIRS)?,
-    })
+    Vec::from_elem(alloc, false, invs.len())
 }
 
 impl Workbench {
@@ -123,18 +85,15 @@ impl Workbench {
         log_is_typed(&traces);
         let (graph, numbers) = PartGraph::open_shared(alloc, &traces)?;
         let invs = mine(alloc, &traces)?;
-        let tools = tools_for(alloc, &graph, invs.as_slice())?;
+        let tools = Tools::make(alloc, &graph, invs.as_slice())?;
+        let flags = no_flags(alloc, invs.as_slice())?;
         Ok(Workbench {
             traces,
             invs,
             graph,
             numbers,
-            finder: tools.finder,
-            stitcher: tools.stitcher,
-            planes: tools.planes,
-            flags: tools.flags,
-            spans: tools.spans,
-            log: tools.log,
+            tools,
+            flags,
             stage: Stage::Opened,
         })
     }
@@ -153,21 +112,20 @@ impl Workbench {
         ensures refused { OnErr result ((self.new).stage ≡ Stage.Refused) }
 
         // Each limit comes exactly where it is passed.
-        ensures partitions { (result ≡ Err InferLimit.Partitions) ↔ PassesPartitions (typed_words (self.old).log) }
-        ensures evidence { (result ≡ Err InferLimit.Evidence) ↔ PassesNumbers (typed_words (self.old).log) }
+        ensures partitions { (result ≡ Err InferLimit.Partitions)
+            ↔ PassesPartitions (typed_words (self.old).log) }
+        ensures evidence { (result ≡ Err InferLimit.Evidence)
+            ↔ PassesNumbers (typed_words (self.old).log) }
 
         // How many steps are counted.
-        ensures counted { OnOk result (CountsAtMost (typed_words (self.old).log) steps.old steps.new) }
+        ensures counted { OnOk result
+            (CountsAtMost (typed_words (self.old).log) steps.old steps.new) }
     {
         let end = run(
             &mut self.graph,
-            &mut self.finder,
-            &mut self.stitcher,
-            &mut self.planes,
+            &mut self.tools,
             self.flags.as_mut_slice(),
             self.invs.as_slice(),
-            &mut self.spans,
-            &mut self.log,
             steps,
         );
         match end {
@@ -188,15 +146,14 @@ impl Workbench {
         ensures value { IfOk result (λ m. IsModelOf m (typed_words (self.now).log)) }
         ensures within { IfOk result (λ m. KeepsLimits m) }
     {
-        let whole = self.graph.spread(alloc, self.numbers.as_slice())?;
+        let made = spread_shared(alloc, &self.graph, self.numbers.as_slice())?;
+        let whole = made_or(&made, &self.graph);
         model_of(
             alloc,
             &self.traces,
             self.invs.as_slice(),
-            &whole,
-            &self.planes,
-            &self.spans,
-            &self.log,
+            whole,
+            &self.tools,
         )
     }
 
@@ -206,8 +163,7 @@ impl Workbench {
         requires { (self.now).stage ≡ Stage.Inferred }
         ensures { IfOk result (λ ids. AreFinal (typed_words (self.now).log) ids) }
     {
-        let whole = self.graph.spread(alloc, self.numbers.as_slice())?;
-        whole.parts(alloc)
+        self.graph.spread_parts(alloc, self.numbers.as_slice())
     }
 
     /// The traces of the log.

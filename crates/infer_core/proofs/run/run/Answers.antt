@@ -9,17 +9,17 @@ use Rattle.infer_core.proofs.run.run.Goals as goal
 
 pub returns-in_default-clause-gives : goal.returns-in_default-clause-gives
 returns-in_default-clause-gives g c words b =
-    stopped-passes words c.args.invs.now c.args.graph.now c.refine_broken-refined.new.graph (splits_of c.refine_broken-refined.new.log c.refine_broken-refined.new.spans) _ b c.in_default.ensures.full c.in_default.ensures.stands
+    stopped-passes words c.args.invs.now c.args.graph.now c.refine_broken-refined.new.graph (splits_of c.refine_broken-refined.new.tools.log c.refine_broken-refined.new.tools.spans) _ b c.in_default.ensures.full c.in_default.ensures.stands
 
 pub coarsen-requires-clause-satisfied : goal.coarsen-requires-clause-satisfied
 coarsen-requires-clause-satisfied g c =
-    refined-keeps c.args.invs.now c.refine_broken-refined.new.planes.invs c.args.graph.now c.refine_broken-refined.new.graph (splits_of c.refine_broken-refined.new.log c.refine_broken-refined.new.spans) (c.refine_broken-refined.ensures.list ∙ c.requires.ready.listed) c.in-Ok.ensures.ok
+    refined-keeps c.args.invs.now c.refine_broken-refined.new.tools.planes.invs c.args.graph.now c.refine_broken-refined.new.graph (splits_of c.refine_broken-refined.new.tools.log c.refine_broken-refined.new.tools.spans) (c.refine_broken-refined.ensures.list ∙ c.requires.ready.listed) c.in-Ok.ensures.ok
 
 pub coarsen-requires-clause-begun : goal.coarsen-requires-clause-begun
-coarsen-requires-clause-begun g c = merges-none c.args.log.now c.refine_broken-refined.new.log c.args.spans.now c.refine_broken-refined.new.spans c.requires.ready.empty c.in-Ok.ensures.writes
+coarsen-requires-clause-begun g c = merges-none c.args.tools.now.log c.refine_broken-refined.new.tools.log c.args.tools.now.spans c.refine_broken-refined.new.tools.spans c.requires.ready.empty c.in-Ok.ensures.writes
 
 pub coarsen-requires-clause-room : goal.coarsen-requires-clause-room
-coarsen-requires-clause-room g c = omega (arith, merge-room c.args.log.now c.refine_broken-refined.new.log c.args.spans.now c.refine_broken-refined.new.spans c.in-Ok.ensures.writes, c.requires.ready.merges)
+coarsen-requires-clause-room g c = omega (arith, merge-room c.args.tools.now.log c.refine_broken-refined.new.tools.log c.args.tools.now.spans c.refine_broken-refined.new.tools.spans c.in-Ok.ensures.writes, c.requires.ready.merges)
 
 pub blocks-requires-clause-ended : goal.blocks-requires-clause-ended
 blocks-requires-clause-ended g c =
@@ -30,20 +30,20 @@ pub blocks-requires-clause-listed : goal.blocks-requires-clause-listed
 blocks-requires-clause-listed g c = c.coarsen.ensures.list ∙ (c.refine_broken-refined.ensures.list ∙ c.requires.ready.listed)
 
 pub blocks-requires-clause-numbers : goal.blocks-requires-clause-numbers
-blocks-requires-clause-numbers g c = numbers-room c.args.log.now c.refine_broken-refined.new.log c.args.spans.now c.refine_broken-refined.new.spans c.in-Ok.ensures.writes ∙ c.requires.ready.numbers
+blocks-requires-clause-numbers g c = numbers-room c.args.tools.now.log c.refine_broken-refined.new.tools.log c.args.tools.now.spans c.refine_broken-refined.new.tools.spans c.in-Ok.ensures.writes ∙ c.requires.ready.numbers
 
 pub blocks-requires-clause-begun : goal.blocks-requires-clause-begun
 blocks-requires-clause-begun g c =
-    ap (λ (x : RunLists). x.blocks) c.coarsen.ensures.others ∙ blocks-none c.args.log.now c.refine_broken-refined.new.log c.args.spans.now c.refine_broken-refined.new.spans c.requires.ready.empty c.in-Ok.ensures.writes
+    ap (λ (x : RunLists). x.blocks) c.coarsen.ensures.others ∙ blocks-none c.args.tools.now.log c.refine_broken-refined.new.tools.log c.args.tools.now.spans c.refine_broken-refined.new.tools.spans c.requires.ready.empty c.in-Ok.ensures.writes
 
 pub blocks-requires-clause-room : goal.blocks-requires-clause-room
 blocks-requires-clause-room g c =
     pairs-room c.coarsen.new.graph c.coarsen.new.log.block_room (omega (arith, c.coarsen.ensures.used, c.in-Ok.ensures.ok.within))
-    (omega (arith, ap (λ (x : RunLists). x.block_room) c.coarsen.ensures.others, block-room c.args.log.now c.refine_broken-refined.new.log c.args.spans.now c.refine_broken-refined.new.spans c.in-Ok.ensures.writes, c.requires.ready.blocks))
+    (omega (arith, ap (λ (x : RunLists). x.block_room) c.coarsen.ensures.others, block-room c.args.tools.now.log c.refine_broken-refined.new.tools.log c.args.tools.now.spans c.refine_broken-refined.new.tools.spans c.in-Ok.ensures.writes, c.requires.ready.blocks))
 
 pub returns-in_default-blocks-clause-gives : goal.returns-in_default-blocks-clause-gives
 returns-in_default-blocks-clause-gives g c words b =
-    let r : IsRun c.args.invs.now c.args.graph.now c.refine_broken-refined.new.graph c.coarsen.new.graph c.args.log.now c.refine_broken-refined.new.log c.coarsen.new.log c.blocks-2.new.log c.args.spans.now c.refine_broken-refined.new.spans c.blocks-2.new.spans = record {
+    let r : IsRun c.args.invs.now c.args.graph.now c.refine_broken-refined.new.graph c.coarsen.new.graph c.args.tools.now.log c.refine_broken-refined.new.tools.log c.coarsen.new.log c.blocks-2.new.log c.args.tools.now.spans c.refine_broken-refined.new.tools.spans c.blocks-2.new.spans = record {
       empty = c.requires.ready.empty;
       writes = c.in-Ok.ensures.writes;
       refines = c.in-Ok.ensures.ok;
@@ -54,11 +54,11 @@ returns-in_default-blocks-clause-gives g c words b =
       paths = c.in_default-blocks.ensures.paths;
       stays = c.in_default-blocks.ensures.stays;
     } in
-    blocked-passes words c.args.invs.now c.args.graph.now c.refine_broken-refined.new.graph c.coarsen.new.graph c.args.log.now c.refine_broken-refined.new.log c.coarsen.new.log c.blocks-2.new.log c.args.spans.now c.refine_broken-refined.new.spans c.blocks-2.new.spans b r c.in_default-blocks.ensures.err
+    blocked-passes words c.args.invs.now c.args.graph.now c.refine_broken-refined.new.graph c.coarsen.new.graph c.args.tools.now.log c.refine_broken-refined.new.tools.log c.coarsen.new.log c.blocks-2.new.log c.args.tools.now.spans c.refine_broken-refined.new.tools.spans c.blocks-2.new.spans b r c.in_default-blocks.ensures.err
 
 pub returns-clause-gives : goal.returns-clause-gives
 returns-clause-gives g c words b =
-    let r : IsRun c.args.invs.now c.args.graph.now c.refine_broken-refined.new.graph c.coarsen.new.graph c.args.log.now c.refine_broken-refined.new.log c.coarsen.new.log c.blocks-2.new.log c.args.spans.now c.refine_broken-refined.new.spans c.blocks-2.new.spans = record {
+    let r : IsRun c.args.invs.now c.args.graph.now c.refine_broken-refined.new.graph c.coarsen.new.graph c.args.tools.now.log c.refine_broken-refined.new.tools.log c.coarsen.new.log c.blocks-2.new.log c.args.tools.now.spans c.refine_broken-refined.new.tools.spans c.blocks-2.new.spans = record {
       empty = c.requires.ready.empty;
       writes = c.in-Ok.ensures.writes;
       refines = c.in-Ok.ensures.ok;
@@ -69,13 +69,13 @@ returns-clause-gives g c words b =
       paths = c.in-Ok-blocks.ensures.paths;
       stays = c.in-Ok-blocks.ensures.stays;
     } in
-    let held : HoldsPaths c.blocks-2.new.log c.blocks-2.new.spans = c.in-Ok-blocks.ensures.holds (holds-merged c.refine_broken-refined.new.log c.coarsen.new.log c.refine_broken-refined.new.spans c.coarsen.ensures.others c.in-Ok.ensures.writes.paths) in
-    ended words c.args.invs.now c.args.graph.now c.refine_broken-refined.new.graph c.coarsen.new.graph c.args.log.now c.refine_broken-refined.new.log c.coarsen.new.log c.blocks-2.new.log c.args.spans.now c.refine_broken-refined.new.spans c.blocks-2.new.spans b r c.label_all.new.self c.in-Ok-blocks.ensures.ok c.in-Ok-blocks.ensures.within
+    let held : HoldsPaths c.blocks-2.new.log c.blocks-2.new.spans = c.in-Ok-blocks.ensures.holds (holds-merged c.refine_broken-refined.new.tools.log c.coarsen.new.log c.refine_broken-refined.new.tools.spans c.coarsen.ensures.others c.in-Ok.ensures.writes.paths) in
+    ended words c.args.invs.now c.args.graph.now c.refine_broken-refined.new.graph c.coarsen.new.graph c.args.tools.now.log c.refine_broken-refined.new.tools.log c.coarsen.new.log c.blocks-2.new.log c.args.tools.now.spans c.refine_broken-refined.new.tools.spans c.blocks-2.new.spans b r c.label_all.new.self c.in-Ok-blocks.ensures.ok c.in-Ok-blocks.ensures.within
     (c.label_all.ensures.same ∙ c.in-Ok-blocks.ensures.list ∙ c.coarsen.ensures.list ∙ (c.refine_broken-refined.ensures.list ∙ c.requires.ready.listed)) c.label_all.ensures.labels held
 
 pub returns-clause-counted : goal.returns-clause-counted
 returns-clause-counted g c words b =
-    let r : IsRun c.args.invs.now c.args.graph.now c.refine_broken-refined.new.graph c.coarsen.new.graph c.args.log.now c.refine_broken-refined.new.log c.coarsen.new.log c.blocks-2.new.log c.args.spans.now c.refine_broken-refined.new.spans c.blocks-2.new.spans = record {
+    let r : IsRun c.args.invs.now c.args.graph.now c.refine_broken-refined.new.graph c.coarsen.new.graph c.args.tools.now.log c.refine_broken-refined.new.tools.log c.coarsen.new.log c.blocks-2.new.log c.args.tools.now.spans c.refine_broken-refined.new.tools.spans c.blocks-2.new.spans = record {
       empty = c.requires.ready.empty;
       writes = c.in-Ok.ensures.writes;
       refines = c.in-Ok.ensures.ok;
@@ -86,5 +86,5 @@ returns-clause-counted g c words b =
       paths = c.in-Ok-blocks.ensures.paths;
       stays = c.in-Ok-blocks.ensures.stays;
     } in
-    counted words c.args.invs.now c.args.graph.now c.refine_broken-refined.new.graph c.coarsen.new.graph c.args.log.now c.refine_broken-refined.new.log c.coarsen.new.log c.blocks-2.new.log c.args.spans.now c.refine_broken-refined.new.spans c.blocks-2.new.spans b r c.args.steps.now c.refine_broken-refined.new.steps c.coarsen.new.steps c.blocks-2.new.steps c.label_all.new.steps
+    counted words c.args.invs.now c.args.graph.now c.refine_broken-refined.new.graph c.coarsen.new.graph c.args.tools.now.log c.refine_broken-refined.new.tools.log c.coarsen.new.log c.blocks-2.new.log c.args.tools.now.spans c.refine_broken-refined.new.tools.spans c.blocks-2.new.spans b r c.args.steps.now c.refine_broken-refined.new.steps c.coarsen.new.steps c.blocks-2.new.steps c.label_all.new.steps
     c.ids_used.ensures.typed c.in-Ok.ensures.more c.in-Ok.ensures.few c.coarsen.ensures.more c.coarsen.ensures.few c.in-Ok-blocks.ensures.more c.in-Ok-blocks.ensures.few c.label_all.ensures.counted

@@ -1,0 +1,55 @@
+//! What inference needs beside a graph and invariants.
+ghost use Rattle.std.specs.Prelude.{◌≡◌, ◌≤◌, ℕ, [], IfOk, Some, length, slice_get};
+ghost use Rattle.limits.specs.declared.TheConstants.{LAST_TYPE, MAX_INVARIANTS, MAX_PAIRS, MAX_PATH_NUMBERS, MAX_STEPS};
+ghost use Rattle.partition_model.specs.Assignments.{events};
+
+use cell_pool::{RunLog, Spans};
+use invariants::Invariant;
+use labelling::Planes;
+use limits::{MAX_PAIRS, MAX_PATH_NUMBERS, MAX_STEPS};
+use partition_graph::PartGraph;
+use path_finder::Finder;
+use splitter::Stitcher;
+use std::alloc::{AllocError, Global};
+
+/// What finds paths, follows traces and keeps labels, and what a run writes.
+#[derive(Drop)]
+pub struct Tools {
+    pub finder: Finder,
+    pub stitcher: Stitcher,
+    pub planes: Planes,
+    /// The paths of splits and blocks.
+    pub spans: Spans,
+    /// The splits, merges and blocks.
+    pub log: RunLog,
+}
+
+impl Tools {
+    /// The tools for this graph and these invariants, with room for all that inference can write.
+    pub fn make(alloc: Global, graph: &PartGraph, invs: &[Invariant]) -> Result<Tools, AllocError>
+        requires few { length invs.now ≤ MAX_INVARIANTS }
+        requires named { (k : ℕ) (inv : Invariant) → slice_get invs.now k ≡ Some inv
+            → (inv.a ≤ LAST_TYPE) × (inv.b ≤ LAST_TYPE) }
+        ensures stitcher { IfOk result
+            (λ tools. tools.stitcher ≡ length (events (graph.now).traces)) }
+        ensures planes { IfOk result (λ tools. tools.planes.invs ≡ invs.now) }
+        ensures spans { IfOk result
+            (λ tools. tools.spans ≡ record { numbers = []; room = MAX_PATH_NUMBERS }) }
+        ensures log { IfOk result (λ tools. tools.log ≡ record {
+          splits = [];
+          merges = [];
+          blocks = [];
+          split_room = MAX_STEPS;
+          merge_room = MAX_STEPS;
+          block_room = MAX_PAIRS;
+        }) }
+    {
+        Ok(Tools {
+            finder: Finder::make(alloc)?,
+            stitcher: Stitcher::make(alloc, graph)?,
+            planes: Planes::make(alloc, invs)?,
+            spans: Spans::make(alloc, MAX_PATH_NUMBERS)?,
+            log: RunLog::make(alloc, MAX_STEPS, MAX_STEPS, MAX_PAIRS)?,
+        })
+    }
+}

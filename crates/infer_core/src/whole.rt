@@ -1,0 +1,52 @@
+//! The graph of all traces of a log, by that of its distinct words.
+ghost use Rattle.std.specs.Prelude.{◌≡◌, ◌≤◌, ◌<◌, ℕ, IfOk, MatchOption, length, slice_index};
+ghost use Rattle.std.specs.Bool.{OnTrue};
+ghost use Rattle.limits.specs.declared.TheConstants.{MAX_EVENTS};
+ghost use Rattle.partition_model.specs.Assignments.{events};
+ghost use Rattle.partition_graph.specs.Spread.{spread, AreAllOf};
+ghost use Rattle.infer_core.specs.Benches.{whole_of};
+
+use partition_graph::PartGraph;
+use std::alloc::{AllocError, Global};
+
+/// Whether each number is that of its place.
+fn are_in_order(numbers: &[u32]) -> bool
+    ensures { OnTrue result ((k : ℕ) → k < length numbers.now → slice_index numbers.now k ≡ k) }
+{
+    for (place, number) in numbers.iter().enumerate() {
+        if *number as usize != place {
+            return false;
+        }
+    }
+    true
+}
+
+/// The graph of the traces with these numbers, which are all traces of the graph, each at least once. None comes only
+/// where it is the graph itself: where no two traces of the log share a word.
+pub fn spread_shared(
+    alloc: Global,
+    graph: &PartGraph,
+    numbers: &[u32],
+) -> Result<Option<PartGraph>, AllocError>
+    requires all { AreAllOf numbers.now (graph.now).traces }
+    requires few { length (events (spread numbers.now (graph.now).traces)) ≤ MAX_EVENTS }
+    ensures { IfOk result (λ made. MatchOption made
+        (graph.now ≡ whole_of numbers.now graph.now)
+        (λ whole. whole ≡ whole_of numbers.now graph.now)) }
+{
+    if are_in_order(numbers) {
+        return Ok(None);
+    }
+    let whole = graph.spread(alloc, numbers)?;
+    Ok(Some(whole))
+}
+
+/// The graph that was made, and the one of the distinct words where none was.
+pub fn made_or<'a>(made: &'a Option<PartGraph>, graph: &'a PartGraph) -> &'a PartGraph
+    ensures { MatchOption made.now (result.now ≡ graph.now) (λ whole. result.now ≡ whole) }
+{
+    match made {
+        Some(whole) => whole,
+        None => graph,
+    }
+}
