@@ -10,11 +10,15 @@ pub mod Moving
 pub mod Marking
 pub mod NextOnes
 pub mod Linked
-pub mod Recounts
+pub mod Around
 pub mod Retyping
 pub mod Joined
+pub mod JoinedEdges
+pub mod Rows
 pub mod Starting
 pub mod Members
-pub mod Passing
+pub mod Walks
+pub mod Sorting
+pub mod Dividing
 pub mod Copied
 pub mod Sharing

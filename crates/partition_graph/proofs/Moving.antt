@@ -1,6 +1,6 @@
 -- Cells that are moved to a new id, and what a graph keeps of them.
-use Rattle.std.proofs.Common.{◌≡◌, ◌≢◌, ◌⊎◌, ℕ, suc, ◌+◌, ◌<◌, ◌≤◌, ◌==◌, ◌&&◌, Bool, true, false, cond, List, [], ◌∷◌, length, map, take, arith, ap, ap₂, sym, ◌∙◌, refl, subst, inl, inr, length-append}
-use Rattle.std.proofs.lemmas.Bool.{cases_Bool}
+use Rattle.std.proofs.Common.{◌≡◌, ◌≢◌, ◌⊎◌, ℕ, suc, ◌+◌, ◌<◌, ◌≤◌, ◌==◌, ◌&&◌, Bool, true, false, cond, List, [], ◌∷◌, length, map, take, arith, ap, ap₂, sym, ◌∙◌, refl, subst, inl, inr, length-append, ne_eqb}
+use Rattle.std.proofs.lemmas.Bool.{cases_Bool, cond-false}
 use Rattle.std.proofs.lemmas.List.{length-map, take-map}
 use Rattle.std.proofs.lemmas.List.Elements.{All-from_recursion}
 use Rattle.std.specs.List.{All, AllByRecursion}
@@ -13,9 +13,10 @@ use Rattle.partition_model.proofs.Runs.{split-typed, split-event, split-In}
 use Rattle.limits.specs.declared.TheConstants.{FIRST_TYPE, MAX_EVENTS, MAX_PARTITIONS}
 use Rattle.partition_graph.specs.declared.cells.Cell.{Cell}
 use Rattle.partition_graph.specs.declared.tables.Tables.{Tables}
-use Rattle.partition_graph.specs.Cells.{event_of, put_before, traces_of, IsClosed, first_id, moved_cells}
+use Rattle.partition_graph.specs.Cells.{event_of, put_before, traces_of, IsClosed, first_id, id_behind, moved_cells}
 use Rattle.partition_graph.specs.Counts.{HasId}
 use Rattle.partition_graph.specs.Kept.{IsKept}
+use Rattle.partition_graph.specs.Members.{HasNone}
 use Rattle.partition_graph.specs.Tables.{IsCountOf}
 use Rattle.partition_graph.proofs.CellTraces.{events_are, types_are, members_are}
 use Rattle.partition_graph.proofs.Edges.{edges_are}
@@ -141,3 +142,13 @@ still_kept p q n cells moved firsts tables new k l e m =
       sizes_are = λ r b. m.sizes r b ∙ sym (members_are r moved);
       counts_are = λ r s a b. m.counts r s a b ∙ edges_are moved r s closed;
     }
+
+-- where no cell has the id, none is moved
+pub moved-none : (p q n : ℕ) (cells : List Cell) → HasNone p cells → cells ≡ moved_cells p q n cells
+moved-none p q n [] none = refl
+moved-none p q n (c ∷ cs) none =
+    let rest : cs ≡ moved_cells p q n cs = moved-none p q n cs (λ k l. none (suc k) (omega (arith, l))) in
+    let stays : (c.id == p && id_behind (c ∷ cs) == q) ≡ false = ap (λ b. b && (id_behind (c ∷ cs) == q)) (ne_eqb c.id p (none 0 (omega arith))) in
+    let id : c.id ≡ cond (c.id == p && id_behind (c ∷ cs) == q) n c.id = sym (cond-false (c.id == p && id_behind (c ∷ cs) == q) n c.id stays) in
+    ap (λ i. (let d : Cell = record { typ = c.typ; last = c.last; id = i } in d) ∷ cs) id
+    ∙ ap (λ (ds : List Cell). (let d : Cell = record { typ = c.typ; last = c.last; id = cond (c.id == p && id_behind (c ∷ cs) == q) n c.id } in d) ∷ ds) rest

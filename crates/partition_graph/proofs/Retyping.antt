@@ -1,5 +1,5 @@
 -- The types of cells before and after a change, and of the ids that are counted of them.
-use Rattle.std.proofs.Common.{◌≡◌, ◌≢◌, ℕ, ◌<◌, ◌≤◌, ◌==◌, ◌&&◌, ◌||◌, Bool, true, false, true≢false, cond, List, [], ◌∷◌, arith, ap, ap₂, sym, ◌∙◌, refl, inl, inr, eq-eqb, ne_eqb, ltb, le-ltb}
+use Rattle.std.proofs.Common.{◌≡◌, ◌≢◌, ℕ, zero, suc, ◌+◌, ◌<◌, ◌≤◌, ◌==◌, ◌&&◌, ◌||◌, Bool, true, false, true≢false, cond, List, [], ◌∷◌, length, get_or, arith, ap, ap₂, sym, ◌∙◌, refl, inl, inr, eq-eqb, ne_eqb, ltb, le-ltb}
 use Rattle.std.proofs.lemmas.Bool.{cases_Bool, cases_eq, cases_lt, cond-true, cond-false, and_parts, eqb-true}
 use Rattle.std.specs.List.{AllByRecursion}
 use Rattle.limits.specs.declared.TheConstants.{INITIAL, FIRST_TYPE, MAX_PARTITIONS}
@@ -9,12 +9,13 @@ use Rattle.partition_model.proofs.Merging.{onto_is, onto_other}
 use Rattle.partition_graph.specs.declared.cells.Cell.{Cell}
 use Rattle.partition_graph.specs.declared.tables.Tables.{Tables}
 use Rattle.partition_graph.specs.Cells.{traces_of, id_behind, moved_cells, joined_cells}
-use Rattle.partition_graph.specs.Changes.{HaveTypes, IsEventId, KnowsTypes}
+use Rattle.partition_graph.specs.Types.{HaveTypes, KnowsTypes}
 use Rattle.partition_graph.specs.Counts.{cells_with, edges_along, last_type}
 use Rattle.partition_graph.specs.Kept.{IsKept}
-use Rattle.partition_graph.specs.Tables.{type_at, size_at, count_at, IsCountOf}
+use Rattle.partition_graph.specs.Tables.{type_at, size_at, count_at, HasCountsOf, IsCountOf}
 use Rattle.partition_graph.proofs.CellTraces.{last_known, members_are, types_are}
 use Rattle.partition_graph.proofs.Edges.{edges_are}
+use Rattle.partition_graph.proofs.JoinedEdges.{sizes-joined}
 use Rattle.partition_graph.proofs.Moving.{all_cells}
 use Rattle.partition_graph.proofs.UnusedIds.{no_member}
 use Rattle.partition_graph.proofs.WordCells.{all_weaker}
@@ -167,54 +168,113 @@ pair-below cells firsts tables used p q k i =
     ]
 
 -- what is counted of moved cells
-pub moved-count : (p next : ℕ) (cells : List Cell) (firsts : List ℕ) (tables new : Tables) (used : ℕ) → IsKept cells firsts tables used
-    → ((types : ℕ → ℕ) → HaveTypes types cells → HaveTypes types (moved_cells p next used cells) → KnowsTypes types tables → KnowsTypes types new)
-    → ((r : ℕ) → r < MAX_PARTITIONS → size_at new r ≡ cells_with r (moved_cells p next used cells))
-    → ((r s : ℕ) → r < MAX_PARTITIONS → s < MAX_PARTITIONS → count_at new r s ≡ edges_along INITIAL (moved_cells p next used cells) r s)
+pub moved-count : (p next : ℕ) (cells : List Cell) (firsts : List ℕ) (tables new : Tables) (used : ℕ) → IsKept cells firsts tables used → p < used
+    → ((types : ℕ → ℕ) → types p ≡ types used → HaveTypes types cells → KnowsTypes types tables → KnowsTypes types new) → HasCountsOf new (moved_cells p next used cells)
     → IsCountOf new (moved_cells p next used cells)
-moved-count p next cells firsts tables new used k types sizes counts =
+moved-count p next cells firsts tables new used k less types counted =
     let T : ℕ → ℕ = types_with (λ r. type_at tables r) p used in
     let typed = typed-cells cells firsts tables used k in
     let before : HaveTypes T cells = have-before (λ r. type_at tables r) p used cells typed in
     let after : HaveTypes T (moved_cells p next used cells) = have-moved (λ r. type_at tables r) p next used cells typed in
     let none : cells_with used cells ≡ 0 = none-unused cells firsts tables used k in
+    let one : T p ≡ T used = with-other (λ r. type_at tables r) p used p (λ e. absurd (omega (arith, less, e))) ∙ sym (with-here (λ r. type_at tables r) p used) in
     let known : KnowsTypes T tables = knows T cells tables (counted-of cells firsts tables used k)
     (λ r b some. with-other (λ x. type_at tables x) p used r (λ e. let same : cells_with r cells ≡ cells_with used cells = ap (λ x. cells_with x cells) e in absurd (omega (arith, same, none, some)))) in
     record {
-      types = known-last T (moved_cells p next used cells) new after (types T before after known) sizes;
-      sizes = sizes;
-      counts = counts;
+      types = known-last T (moved_cells p next used cells) new after (types T one before known) counted.sizes;
+      sizes = counted.sizes;
+      counts = counted.counts;
     }
 
 first-parts : (types : ℕ → ℕ) (n : ℕ) (cs : List Cell) → AllByRecursion (λ (c : Cell). (c.typ ≡ types c.id) × (c.id < n)) cs → HaveTypes types cs
 first-parts types n [] a = tt
 first-parts types n (c ∷ cs) a = (a.0.0, first-parts types n cs a.1)
 
+-- the types that are known once those of one id are none
+joined-types : (p q : ℕ) (types : ℕ → ℕ) (tables new : Tables) → KnowsTypes types tables
+    → ((r : ℕ) → r < MAX_PARTITIONS → type_at new r ≡ cond (r == q) 0 (type_at tables r))
+    → ((r : ℕ) → r < MAX_PARTITIONS → size_at new r ≡ cond (r == q) 0 (size_at tables r + cond (r == p) (size_at tables q) 0))
+    → ((r : ℕ) → type_at tables r ≡ types r) → KnowsTypes types new
+joined-types p q types tables new known typed sized same r low =
+    elim (cases_eq r q) [
+      | inl gone ↦
+          let size : size_at new r ≡ 0 = sized r low ∙ cond-true _ _ _ (eq-eqb r q gone) in
+          typed r low ∙ cond-true _ _ _ (eq-eqb r q gone) ∙ sym (cond-true _ _ _ (eq-eqb (size_at new r) 0 size))
+      | inr kept ↦
+          let typ : type_at new r ≡ type_at tables r = typed r low ∙ cond-false _ _ _ (ne_eqb r q kept) in
+          let size : size_at new r ≡ size_at tables r + cond {A = ℕ} (r == p) (size_at tables q) 0 = sized r low ∙ cond-false _ _ _ (ne_eqb r q kept) in
+          elim (cases_eq (size_at new r) 0) [
+            | inl none ↦
+                let was : size_at tables r ≡ 0 = omega (arith, size, none) in
+                typ ∙ known r low ∙ cond-true _ _ _ (eq-eqb (size_at tables r) 0 was) ∙ sym (cond-true _ _ _ (eq-eqb (size_at new r) 0 none))
+            | inr some ↦ typ ∙ same r ∙ sym (cond-false _ _ _ (ne_eqb (size_at new r) 0 some))
+          ]
+    ]
+
 -- what is counted of joined cells
 pub joined-count : (p q : ℕ) (cells : List Cell) (firsts : List ℕ) (tables new : Tables) (used : ℕ) → IsKept cells firsts tables used → IsPair (G (traces_of cells)) p q
-    → ((types : ℕ → ℕ) → HaveTypes types cells → HaveTypes types (joined_cells p q cells) → KnowsTypes types tables → KnowsTypes types new)
-    → ((r : ℕ) → r < MAX_PARTITIONS → size_at new r ≡ cells_with r (joined_cells p q cells))
+    → ((r : ℕ) → r < MAX_PARTITIONS → type_at new r ≡ cond (r == q) 0 (type_at tables r))
+    → ((r : ℕ) → r < MAX_PARTITIONS → size_at new r ≡ cond (r == q) 0 (size_at tables r + cond (r == p) (size_at tables q) 0))
     → ((r s : ℕ) → r < MAX_PARTITIONS → s < MAX_PARTITIONS → count_at new r s ≡ edges_along INITIAL (joined_cells p q cells) r s)
     → IsCountOf new (joined_cells p q cells)
-joined-count p q cells firsts tables new used k i types sizes counts =
+joined-count p q cells firsts tables new used k i typed sized counts =
     let T : ℕ → ℕ = λ r. type_at tables r in
     let below : q < used = pair-below cells firsts tables used p q k i in
     let limit : used ≤ MAX_PARTITIONS = k.limit in
     let order : p < q = i.order in
+    let was : IsCountOf tables cells = counted-of cells firsts tables used k in
     let before : HaveTypes T cells = first-parts T used cells (typed-cells cells firsts tables used k) in
     let after : HaveTypes T (joined_cells p q cells) =
     have-joined T p q cells (pair-types cells firsts tables used p q k i (omega (arith, below, limit, order)) (omega (arith, below, limit))) before in
-    let known : KnowsTypes T tables = knows T cells tables (counted-of cells firsts tables used k) (λ r b some. refl) in
+    let known : KnowsTypes T tables = knows T cells tables was (λ r b some. refl) in
+    let sizes : (r : ℕ) → r < MAX_PARTITIONS → size_at new r ≡ cells_with r (joined_cells p q cells) =
+    (λ r b. sized r b
+    ∙ ap₂ (λ m n. cond {A = ℕ} (r == q) 0 (m + cond {A = ℕ} (r == p) n 0)) (was.sizes r b) (was.sizes q (omega (arith, below, limit)))
+    ∙ sym (sizes-joined p q r cells (λ e. absurd (omega (arith, order, e))))) in
     record {
-      types = known-last T (joined_cells p q cells) new after (types T before after known) sizes;
+      types = known-last T (joined_cells p q cells) new after (joined-types p q T tables new known typed sized (λ r. refl)) sizes;
       sizes = sizes;
       counts = counts;
     }
 
--- p is an id of a partition of events
-pub pair-event : (cells : List Cell) (firsts : List ℕ) (tables : Tables) (used p q : ℕ) → IsKept cells firsts tables used → IsPair (G (traces_of cells)) p q → IsEventId p
-pair-event cells firsts tables used p q k i =
-    let below : q < used = pair-below cells firsts tables used p q k i in
-    let limit : used ≤ MAX_PARTITIONS = k.limit in
-    let order : p < q = i.order in
-    (i.low, omega (arith, below, limit, order))
+-- types that are known stay so where only edges are counted
+pub keeps-types : (types : ℕ → ℕ) (t u : Tables) → KnowsTypes types t → u.types ≡ t.types → u.sizes ≡ t.sizes → KnowsTypes types u
+keeps-types types t u k a b p l =
+    let e : type_at u p ≡ type_at t p = cc in
+    let s : size_at t p ≡ size_at u p = cc in
+    e ∙ k p l ∙ ap (λ (n : ℕ). cond (n == 0) 0 (types p)) s
+
+-- and where one more cell of an id is counted
+pub adds-type : (types : ℕ → ℕ) (t u : Tables) (id typ : ℕ) → KnowsTypes types t → typ ≡ types id
+    → ((p : ℕ) → p < MAX_PARTITIONS → type_at u p ≡ cond (id == p) typ (type_at t p))
+    → ((p : ℕ) → p < MAX_PARTITIONS → size_at u p ≡ size_at t p + cond {A = ℕ} (id == p) 1 0)
+    → KnowsTypes types u
+adds-type types t u id typ k is typed sized p l =
+    let s : size_at u p ≡ size_at t p + cond {A = ℕ} (id == p) 1 0 = sized p l in
+    elim (cases_eq id p) [
+      | inl e ↦
+          let yes : (id == p) ≡ true = eq-eqb id p e in
+          let one : cond {A = ℕ} (id == p) 1 0 ≡ 1 = ap (λ b. cond {A = ℕ} b 1 0) yes in
+          typed p l ∙ cond-true _ _ _ yes ∙ is ∙ ap types e ∙ sym (cond-false _ _ _ (ne_eqb (size_at u p) 0 (λ z. absurd (omega (arith, s, one, z)))))
+      | inr n ↦
+          let no : (id == p) ≡ false = ne_eqb id p n in
+          let none : cond {A = ℕ} (id == p) 1 0 ≡ 0 = ap (λ b. cond {A = ℕ} b 1 0) no in
+          let same : size_at t p ≡ size_at u p = omega (arith, s, none) in
+          typed p l ∙ cond-false _ _ _ no ∙ k p l ∙ ap (λ (m : ℕ). cond (m == 0) 0 (types p)) same
+    ]
+
+-- a cell has the type that is given for its id
+pub type-of-cell : (types : ℕ → ℕ) (cells : List Cell) (i : ℕ) (d : Cell) → i < length cells → HaveTypes types cells → (get_or cells i d).typ ≡ types (get_or cells i d).id
+type-of-cell types [] i d l h = absurd (omega (arith, l))
+type-of-cell types (c ∷ cs) zero d l h = h.0
+type-of-cell types (c ∷ cs) (suc i) d l h = type-of-cell types cs i d (omega (arith, l)) h.1
+
+-- types that are given for cells once those of one id have another
+pub have-unjoined : (types : ℕ → ℕ) (p n : ℕ) (cs : List Cell) → types p ≡ types n → HaveTypes types (joined_cells p n cs) → HaveTypes types cs
+have-unjoined types p n [] e h = tt
+have-unjoined types p n (c ∷ cs) e h =
+    let here : types (onto p n c.id) ≡ types c.id = elim (cases_eq c.id n) [
+      | inl is ↦ ap types (onto_is p n c.id is) ∙ e ∙ ap types (sym is)
+      | inr is ↦ ap types (onto_other p n c.id is)
+    ] in
+    (h.0 ∙ here, have-unjoined types p n cs e h.1)

@@ -1,7 +1,9 @@
 -- What is counted of cells.
-use Rattle.std.specs.Prelude.{ℕ, zero, suc, ◌+◌, ◌==◌, ◌&&◌, ◌<◌, ◌≤◌, if◌then◌else◌, List, [], ◌∷◌}
+use Rattle.std.specs.Prelude.{ℕ, zero, suc, ◌+◌, ◌==◌, ◌&&◌, ◌<◌, ◌≤◌, if◌then◌else◌, List, [], ◌∷◌, drop}
 use Rattle.limits.specs.declared.TheConstants.{INITIAL, TERMINAL, FIRST_TYPE, MAX_PARTITIONS}
 use Rattle.partition_graph.specs.declared.cells.Cell.{Cell}
+use Rattle.partition_graph.specs.Cells.{id_behind}
+use Rattle.partition_graph.specs.Members.{id_at}
 
 -- the cell's id is one of a partition of events
 abbrev pub HasId : Cell → Type 0
@@ -29,6 +31,11 @@ id_before before (c ∷ cs) (suc i) = id_before (before_next c) cs i
 abbrev pub edges_along : ℕ → List Cell → ℕ → ℕ → ℕ
 edges_along before [] p q = 0
 edges_along before (c ∷ cs) p q = edges_at before c p q + edges_along (before_next c) cs p q
+
+-- how often the edge from p to q leads to the cell at a place, or from it
+abbrev pub edges_around : ℕ → List Cell → ℕ → ℕ → ℕ
+edges_around k cells p q =
+    is_edge (id_before INITIAL cells k) (id_at cells k) p q + is_edge (id_at cells k) (id_behind (drop k cells)) p q
 
 -- how many cells have the id
 abbrev pub cells_with : ℕ → List Cell → ℕ

@@ -10,7 +10,8 @@ pub mod Parts
 pub mod Seen
 pub mod Starts
 pub mod Tables
-pub mod Changes
+pub mod Joins
+pub mod Types
 pub mod Members
 pub mod Spread
 pub mod Shared

@@ -1,10 +1,11 @@
 -- Tables of what is counted of cells.
-use Rattle.std.specs.Prelude.{ℕ, ◌≡◌, ◌<◌, List, slice_index}
+use Rattle.std.specs.Prelude.{ℕ, ◌≡◌, ◌<◌, ◌+◌, ◌==◌, if◌then◌else◌, List, slice_index}
 use Rattle.limits.specs.declared.TheConstants.{MAX_PARTITIONS, INITIAL}
 use Rattle.partition_graph.specs.declared.cells.Cell.{Cell}
 use Rattle.partition_graph.specs.declared.tables.Tables.{Tables}
 use Rattle.partition_graph.specs.Marks.{count_in}
-use Rattle.partition_graph.specs.Counts.{cells_with, last_type, edges_along}
+use Rattle.partition_graph.specs.Members.{id_at}
+use Rattle.partition_graph.specs.Counts.{cells_with, last_type, edges_along, edges_around}
 
 -- the type of an id
 abbrev pub type_at : Tables → ℕ → ℕ
@@ -30,3 +31,16 @@ pub record IsCountOf (t : Tables) (cells : List Cell) : Type 0 where
   pub sizes : (p : ℕ) → p < MAX_PARTITIONS → size_at t p ≡ cells_with p cells
   pub counts : (p q : ℕ) → p < MAX_PARTITIONS → q < MAX_PARTITIONS
       → count_at t p q ≡ edges_along INITIAL cells p q
+
+-- the sizes and the counts of edges are those of the cells
+pub record HasCountsOf (t : Tables) (cells : List Cell) : Type 0 where
+  pub sizes : (p : ℕ) → p < MAX_PARTITIONS → size_at t p ≡ cells_with p cells
+  pub counts : (p q : ℕ) → p < MAX_PARTITIONS → q < MAX_PARTITIONS
+      → count_at t p q ≡ edges_along INITIAL cells p q
+
+-- so they are once the cell at a place is counted too, with the edges to it and from it
+pub record HasCountsBut (t : Tables) (k : ℕ) (cells : List Cell) : Type 0 where
+  pub sizes : (p : ℕ) → p < MAX_PARTITIONS
+      → size_at t p + (if id_at cells k == p then 1 else 0) ≡ cells_with p cells
+  pub counts : (p q : ℕ) → p < MAX_PARTITIONS → q < MAX_PARTITIONS
+      → count_at t p q + edges_around k cells p q ≡ edges_along INITIAL cells p q

@@ -1,8 +1,9 @@
 //! A cell for each event, trace after trace.
 ghost use Rattle.std.specs.Prelude.{◌≡◌, ◌-◌, ◌++◌, ◌<◌, ◌≤◌, ◌^◌, ℕ, List, All, OnOk, IfOk, drop, take, length, slice_index_or, []};
-ghost use Rattle.limits.specs.declared.TheConstants.{MAX_EVENTS};
+ghost use Rattle.limits.specs.declared.TheConstants.{INITIAL, MAX_EVENTS};
+ghost use Rattle.partition_model.specs.Coarsening.{onto};
 ghost use Rattle.partition_graph.specs.Cells.{cells_of, id_behind, IsGatheredOf};
-ghost use Rattle.partition_graph.specs.Counts.{before_next};
+ghost use Rattle.partition_graph.specs.Counts.{before_next, id_before};
 ghost use Rattle.partition_graph.specs.Shared.{joined_traces, picked, trace_cells, words_in, AreShared, Begin, IsNoted};
 
 use indexmap::IndexSet;
@@ -159,6 +160,26 @@ fn push_cells(cells: &mut Vec<Cell>, numbers: &[u16]) -> Result<(), AllocError>
         })?;
     }
     Ok(())
+}
+
+/// The id that stands before the cell at this place: that of the cell before it, and INITIAL where a trace begins.
+pub fn id_before(cells: &[Cell], i: usize) -> u32
+    requires { i ≤ length cells.now }
+    ensures { result ≡ id_before INITIAL cells.now i }
+{
+    if i == 0 {
+        return INITIAL;
+    }
+    cells[i - 1].before_next()
+}
+
+/// The id that followed the cell at this place at once before cells of p got the id n.
+pub fn id_behind_once(cells: &[Cell], i: usize, p: u32, n: u32) -> u32
+    requires { i < length cells.now }
+    ensures { result ≡ onto p n (id_behind (drop i cells.now)) }
+{
+    let behind = id_behind(cells, i);
+    if behind == n { p } else { behind }
 }
 
 /// The id that follows the cell at this place at once: TERMINAL where it is the last of its trace.

@@ -1,8 +1,9 @@
 //! The counts of edges between ids, and which of them are above 0.
-ghost use Rattle.std.specs.Prelude.{◌≡◌, ◌+◌, ◌<◌, ◌≤◌, ◌^◌, ℕ, false, true, nat_lt, length, slice_index, vec_capacity, IfOk};
+ghost use Rattle.std.specs.Prelude.{◌≡◌, ◌≢◌, ◌==◌, ◌&&◌, if◌then◌else◌, ◌+◌, ◌<◌, ◌≤◌, ◌^◌, ℕ, false, true, nat_lt, length, slice_index, vec_capacity, IfOk};
 ghost use Rattle.limits.specs.declared.TheConstants.{MAX_PARTITIONS};
 ghost use Rattle.bit_rows.specs.Tables.{row_at, is_set};
 ghost use Rattle.partition_graph.specs.Counts.{is_edge};
+ghost use Rattle.partition_graph.specs.Joins.{joined_counts, with_sources, with_targets};
 ghost use Rattle.partition_graph.specs.Marks.{count_in, is_counted, HasIdRows, IsWithBit, NoneCounted};
 ghost use Rattle.partition_graph.specs.Nexts.{IsNextAnswer};
 
@@ -100,6 +101,74 @@ impl EdgeCounts {
         self.counts[place] = left;
     }
 
+    /// Counts the edges from q as edges from p, and those to q as edges to p.
+    pub fn join(&mut self, p: u32, q: u32)
+        requires to { p < MAX_PARTITIONS }
+        requires from { q < MAX_PARTITIONS }
+        requires apart { p ≢ q }
+        requires few { (a b : ℕ) → a < MAX_PARTITIONS → b < MAX_PARTITIONS
+            → joined_counts p q (count_in self.old) a b < 2 ^ 32 }
+        ensures { (a b : ℕ) → a < MAX_PARTITIONS → b < MAX_PARTITIONS
+            → count_in self.new a b ≡ joined_counts p q (count_in self.old) a b }
+    {
+        self.join_targets(p, q);
+        self.join_sources(p, q);
+    }
+
+    /// Adds the row of the edges from q to that of p, and leaves none in it.
+    fn join_targets(&mut self, p: u32, q: u32)
+        requires to { p < MAX_PARTITIONS }
+        requires from { q < MAX_PARTITIONS }
+        requires apart { p ≢ q }
+        requires few { (a b : ℕ) → a < MAX_PARTITIONS → b < MAX_PARTITIONS
+            → with_targets p q (count_in self.old) a b < 2 ^ 32 }
+        ensures { (a b : ℕ) → a < MAX_PARTITIONS → b < MAX_PARTITIONS
+            → count_in self.new a b ≡ with_targets p q (count_in self.old) a b }
+    {
+        let mut reached = 0;
+        while let Some(to) = self.next_target(q, reached) {
+            let count = self.get(p, to) + self.get(q, to);
+            self.put(q, to, 0);
+            self.put(p, to, count);
+            reached = to + 1;
+        }
+    }
+
+    /// Adds the column of the edges to q to that of p, and leaves none in it.
+    fn join_sources(&mut self, p: u32, q: u32)
+        requires to { p < MAX_PARTITIONS }
+        requires from { q < MAX_PARTITIONS }
+        requires apart { p ≢ q }
+        requires few { (a b : ℕ) → a < MAX_PARTITIONS → b < MAX_PARTITIONS
+            → with_sources p q (count_in self.old) a b < 2 ^ 32 }
+        ensures { (a b : ℕ) → a < MAX_PARTITIONS → b < MAX_PARTITIONS
+            → count_in self.new a b ≡ with_sources p q (count_in self.old) a b }
+    {
+        let mut reached = 0;
+        while let Some(from) = self.next_source(q, reached) {
+            let count = self.get(from, p) + self.get(from, q);
+            self.put(from, q, 0);
+            self.put(from, p, count);
+            reached = from + 1;
+        }
+    }
+
+    /// Sets the count of an edge.
+    fn put(&mut self, from: u32, to: u32, count: u32)
+        requires from { from < MAX_PARTITIONS }
+        requires to { to < MAX_PARTITIONS }
+        ensures { (a b : ℕ) → a < MAX_PARTITIONS → b < MAX_PARTITIONS → count_in self.new a b
+            ≡ (if a == from && b == to then count else count_in self.old a b) }
+    {
+        let from = from as usize;
+        let to = to as usize;
+        let place = to * IDS + from;
+        reach(&mut self.counts, place);
+        self.counts[place] = count;
+        turn(&mut self.sources, to, from, count > 0);
+        turn(&mut self.targets, from, to, count > 0);
+    }
+
     /// The least id at or above `from` from which an edge to q is counted, and None where there is none.
     pub fn next_source(&self, q: u32, from: u32) -> Option<u32>
         ensures { IsNextAnswer (λ p. is_counted self.now p q) from result }
@@ -168,8 +237,8 @@ fn mark(sources: &mut Rows, targets: &mut Rows, count: u32, from: usize, to: usi
     if count > 0 {
         return;
     }
-    turn_on(sources, to, from);
-    turn_on(targets, from, to);
+    turn(sources, to, from, true);
+    turn(targets, from, to, true);
 }
 
 /// Takes the marks of an edge away, where nothing is left of its count.
@@ -186,26 +255,16 @@ fn unmark(sources: &mut Rows, targets: &mut Rows, left: u32, from: usize, to: us
     if left > 0 {
         return;
     }
-    turn_off(sources, to, from);
-    turn_off(targets, from, to);
+    turn(sources, to, from, false);
+    turn(targets, from, to, false);
 }
 
-/// Turns place i of row r off.
-fn turn_off(rows: &mut Rows, r: usize, i: usize)
+/// Turns place i of row r on or off.
+fn turn(rows: &mut Rows, r: usize, i: usize, bit: bool)
     requires row { r < MAX_PARTITIONS }
     requires place { i < MAX_PARTITIONS }
     requires rows { HasIdRows rows.old }
-    ensures { IsWithBit r i false rows.old rows.new }
+    ensures { IsWithBit r i bit rows.old rows.new }
 {
-    rows.put(r, i, false);
-}
-
-/// Turns place i of row r on.
-fn turn_on(rows: &mut Rows, r: usize, i: usize)
-    requires row { r < MAX_PARTITIONS }
-    requires place { i < MAX_PARTITIONS }
-    requires rows { HasIdRows rows.old }
-    ensures { IsWithBit r i true rows.old rows.new }
-{
-    rows.put(r, i, true);
+    rows.put(r, i, bit);
 }

@@ -2,7 +2,6 @@
 ghost use Rattle.std.specs.Prelude.{◌≡◌, ◌≤◌, ◌<◌, ◌+◌, ◌++◌, IfOk, OnOk, length, map, slice_index, slice_get, Some, MatchOption, IfSome};
 
 use crate::cells::{Cell, copy_traces, gather, gather_shared};
-use crate::changing::Change;
 use crate::events::Events;
 use crate::tables::Tables;
 use invariants::{Edge, Partition, Seq};
@@ -125,8 +124,7 @@ impl PartGraph {
             // No event has an id that was not used.
             return Some(n);
         }
-        self.tables.change(&self.events, Change::Move(p, next, n));
-        self.events.move_cells(p, next, n);
+        self.events.divide(&mut self.tables, p, next, n);
         Some(n)
     }
 
@@ -136,8 +134,8 @@ impl PartGraph {
         requires { IsPair (G (self.old).traces) p q }
         ensures { self.new ≡ joined p q self.old }
     {
-        self.tables.change(&self.events, Change::Join(p, q));
-        self.events.join_cells(p, q);
+        self.tables.join(p, q);
+        self.events.join(p, q);
     }
 
     /// How many ids are used, the two ends counted: each id is less than this number. Some of them may have no events.

@@ -2,7 +2,6 @@
 #![tactic(auto)]
 
 mod cells;
-mod changing;
 mod edge_counts;
 mod events;
 mod graph;

@@ -1,14 +1,14 @@
 //! What is counted of cells: the type and the size of each id, and the edges between ids.
-ghost use Rattle.std.specs.Prelude.{◌≡◌, ◌+◌, ◌<◌, ◌≤◌, ◌^◌, ℕ, length, slice_index, All, IfOk, if◌then◌else◌, ◌==◌};
-ghost use Rattle.limits.specs.declared.TheConstants.{INITIAL, MAX_EVENTS, MAX_PARTITIONS};
-ghost use Rattle.partition_graph.specs.Counts.{HasId, cells_with, edges_along, edges_at};
+ghost use Rattle.std.specs.Prelude.{◌≡◌, ◌≢◌, ◌+◌, ◌<◌, ◌≤◌, ◌^◌, ℕ, true, length, slice_index, All, IfOk, if◌then◌else◌, ◌==◌};
+ghost use Rattle.limits.specs.declared.TheConstants.{MAX_EVENTS, MAX_PARTITIONS};
+ghost use Rattle.partition_graph.specs.Cells.{IsClosed};
+ghost use Rattle.partition_graph.specs.Counts.{HasId, edges_at};
+ghost use Rattle.partition_graph.specs.Joins.{joined_counts};
 ghost use Rattle.partition_graph.specs.Marks.{is_counted};
 ghost use Rattle.partition_graph.specs.Nexts.{IsNextAnswer};
 
-use crate::cells::Cell;
-use crate::changing::{Change, id_after, id_before, node_reached, source_of};
+use crate::cells::{Cell, id_before, id_behind};
 use crate::edge_counts::{EdgeCounts, no_counts};
-use crate::events::Events;
 use limits::{INITIAL, MAX_PARTITIONS, TERMINAL};
 use std::alloc::{AllocError, Global};
 
@@ -29,8 +29,8 @@ pub struct Tables {
 }
 
 impl Tables {
-    ghost use Rattle.partition_graph.specs.Changes.{HaveTypes, IsEventId, KnowsTypes, changed_cells, given_id, source_of, with_id};
-    ghost use Rattle.partition_graph.specs.Tables.{type_at, size_at, count_at, IsClear, IsCountOf};
+    ghost use Rattle.partition_graph.specs.Tables.{type_at, size_at, count_at, HasCountsBut, HasCountsOf, IsClear, IsCountOf};
+    ghost use Rattle.partition_graph.specs.Types.{HaveTypes, KnowsTypes};
 
     /// The tables of these cells.
     pub fn open(alloc: Global, cells: &[Cell]) -> Result<Tables, AllocError>
@@ -43,77 +43,57 @@ impl Tables {
         Ok(tables)
     }
 
-    /// Counts the cells as they are after a change, where they are counted as they are before it: what the change
-    /// touches is counted anew, and nothing else is looked at.
-    pub fn change(&mut self, events: &Events, change: Change)
-        requires ids { All HasId events.now }
-        requires source { source_of change < MAX_PARTITIONS }
-        requires given { IsEventId (given_id change) }
-        requires few { length events.now ≤ MAX_EVENTS }
-        requires counted { IsCountOf self.old events.now }
-        ensures types { (types : ℕ → ℕ) → HaveTypes types events.now
-            → HaveTypes types (changed_cells change events.now)
-            → KnowsTypes types self.old → KnowsTypes types self.new }
-        ensures sizes { (p : ℕ) → p < MAX_PARTITIONS
-            → size_at self.new p ≡ cells_with p (changed_cells change events.now) }
-        ensures counts { (p q : ℕ) → p < MAX_PARTITIONS → q < MAX_PARTITIONS
-            → count_at self.new p q ≡ edges_along INITIAL (changed_cells change events.now) p q }
+    /// Takes the cell at this place from what is counted, with the edge to it and the edge from it.
+    pub fn uncount_around(&mut self, cells: &[Cell], place: usize)
+        requires place { place < length cells.now }
+        requires ids { All HasId cells.now }
+        requires closed { IsClosed true cells.now }
+        requires counted { HasCountsOf self.old cells.now }
+        ensures counted { HasCountsBut self.new place cells.now }
+        ensures types { (types : ℕ → ℕ) → KnowsTypes types self.old → KnowsTypes types self.new }
     {
-        let cells = events.cells();
-        let source = source_of(change);
-        let mut node = events.node_of(source);
-        let mut place = events.next_behind(node);
-        let mut now = id_before(cells, place);
-        while place < cells.len() {
-            let cell = cells[place];
-            let changed = Cell {
-                typ: cell.typ,
-                last: cell.last,
-                id: id_after(change, cells, place),
-            };
-            self.replace(id_before(cells, place), cell, now, changed);
-            node = node_reached(cell, source, place, node);
-            let behind = changed.before_next();
-            if behind != cell.before_next() {
-                // The edge to the next cell changes too.
-                now = behind;
-                place += 1;
-                continue;
-            }
-            place = events.next_behind(node);
-            now = id_before(cells, place);
-        }
+        let cell = cells[place];
+        self.uncount_cell(cell);
+        self.counts.remove(id_before(cells, place), cell.id);
+        self.counts.remove(cell.id, id_behind(cells, place));
     }
 
-    /// Counts a cell as it is after a change, with the id before it as it is then, in place of what it was.
-    fn replace(&mut self, was: u32, cell: Cell, now: u32, changed: Cell)
-        requires was { was < MAX_PARTITIONS }
-        requires now { now < MAX_PARTITIONS }
-        requires id { cell.id < MAX_PARTITIONS }
-        requires given { changed.id < MAX_PARTITIONS }
-        requires same { changed ≡ with_id cell changed.id }
-        requires some { 0 < size_at self.old cell.id }
-        requires few { size_at self.old changed.id + 1 < 2 ^ 32 }
-        requires edges { (p q : ℕ) → p < MAX_PARTITIONS → q < MAX_PARTITIONS
-            → edges_at was cell p q ≤ count_at self.old p q }
-        requires few_edges { (p q : ℕ) → p < MAX_PARTITIONS → q < MAX_PARTITIONS
-            → count_at self.old p q + edges_at now changed p q < 2 ^ 32 }
-        ensures types { (types : ℕ → ℕ) → cell.typ ≡ types cell.id → cell.typ ≡ types changed.id
+    /// Counts the cell at this place too, where all the others are counted, with the edge to it and the edge from it.
+    pub fn count_around(&mut self, cells: &[Cell], place: usize)
+        requires place { place < length cells.now }
+        requires ids { All HasId cells.now }
+        requires few { length cells.now ≤ MAX_EVENTS }
+        requires counted { HasCountsBut self.old place cells.now }
+        ensures counted { HasCountsOf self.new cells.now }
+        ensures types { (types : ℕ → ℕ) → HaveTypes types cells.now
             → KnowsTypes types self.old → KnowsTypes types self.new }
-        ensures sizes { (p : ℕ) → p < MAX_PARTITIONS
-            → size_at self.new p + (if cell.id == p then 1 else 0)
-            ≡ size_at self.old p + (if changed.id == p then 1 else 0) }
-        ensures counts { (p q : ℕ) → p < MAX_PARTITIONS → q < MAX_PARTITIONS
-            → count_at self.new p q + edges_at was cell p q
-            ≡ count_at self.old p q + edges_at now changed p q }
     {
-        if was == now && cell.id == changed.id {
-            return;
-        }
-        self.uncount_cell(cell);
-        self.uncount_edges_at(was, cell);
-        self.count_cell(changed);
-        self.count_edges_at(now, changed);
+        let cell = cells[place];
+        self.count_cell(cell);
+        self.counts.add(id_before(cells, place), cell.id);
+        self.counts.add(cell.id, id_behind(cells, place));
+    }
+
+    /// Counts the cells of q as cells of p, with the edges to them and from them.
+    pub fn join(&mut self, p: u32, q: u32)
+        requires to { p < MAX_PARTITIONS }
+        requires from { q < MAX_PARTITIONS }
+        requires apart { p ≢ q }
+        requires few { size_at self.old p + size_at self.old q < 2 ^ 32 }
+        requires few_edges { (a b : ℕ) → a < MAX_PARTITIONS → b < MAX_PARTITIONS
+            → joined_counts p q (count_at self.old) a b < 2 ^ 32 }
+        ensures types { (r : ℕ) → r < MAX_PARTITIONS
+            → type_at self.new r ≡ (if r == q then 0 else type_at self.old r) }
+        ensures sizes { (r : ℕ) → r < MAX_PARTITIONS → size_at self.new r
+            ≡ (if r == q then 0 else size_at self.old r + (if r == p then size_at self.old q else 0)) }
+        ensures counts { (a b : ℕ) → a < MAX_PARTITIONS → b < MAX_PARTITIONS
+            → count_at self.new a b ≡ joined_counts p q (count_at self.old) a b }
+    {
+        let more = self.sizes[q as usize];
+        self.sizes[p as usize] += more;
+        self.sizes[q as usize] = 0;
+        self.types[q as usize] = 0;
+        self.counts.join(p, q);
     }
 
     /// The type of the cells of p, and 0 where no cell has the id.
@@ -210,25 +190,6 @@ impl Tables {
         self.sizes[cell.id as usize] -= 1;
         if self.sizes[cell.id as usize] == 0 {
             self.types[cell.id as usize] = 0;
-        }
-    }
-
-    /// Takes the edge away that leads to a cell, and the one from it to TERMINAL where its trace ends.
-    fn uncount_edges_at(&mut self, before: u32, cell: Cell)
-        requires before { before < MAX_PARTITIONS }
-        requires id { cell.id < MAX_PARTITIONS }
-        requires some { (p q : ℕ) → p < MAX_PARTITIONS → q < MAX_PARTITIONS
-            → edges_at before cell p q ≤ count_at self.old p q }
-
-        // The types and the sizes stay.
-        ensures counts { (p q : ℕ) → p < MAX_PARTITIONS → q < MAX_PARTITIONS
-            → count_at self.new p q + edges_at before cell p q ≡ count_at self.old p q }
-        ensures types { (self.new).types ≡ (self.old).types }
-        ensures sizes { (self.new).sizes ≡ (self.old).sizes }
-    {
-        self.counts.remove(before, cell.id);
-        if cell.last {
-            self.counts.remove(cell.id, TERMINAL);
         }
     }
 

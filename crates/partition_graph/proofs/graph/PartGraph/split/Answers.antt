@@ -5,31 +5,35 @@ use Rattle.partition_model.specs.Refinement.{split}
 use Rattle.partition_graph.specs.declared.cells.Cell.{Cell}
 use Rattle.partition_graph.specs.Cells.{traces_of, moved_cells}
 use Rattle.partition_graph.specs.Parts.{Parts}
-use Rattle.partition_graph.specs.Tables.{IsCountOf}
+use Rattle.partition_graph.specs.Tables.{HasCountsOf, IsCountOf}
 use Rattle.partition_graph.proofs.Gathered.{starts}
-use Rattle.partition_graph.proofs.Moving.{all_cells, moved_are, moved_ids, still_kept}
-use Rattle.partition_graph.proofs.Passing.{moved-none, none-above}
+use Rattle.partition_graph.proofs.Moving.{all_cells, moved_are, moved_ids, moved-none, still_kept}
+use Rattle.partition_graph.proofs.Members.{none-above}
 use Rattle.partition_graph.proofs.Retyping.{counted-of, moved-count}
 use Rattle.partition_graph.proofs.graph.PartGraph.split.Goals as goal
-use Rattle.partition_graph.proofs.graph.PartGraph.split.Goals.{After-move_cells}
+use Rattle.partition_graph.proofs.graph.PartGraph.split.Goals.{After-divide}
 
-few_used : (c : After-move_cells) → c.self.inside.used < MAX_PARTITIONS
+few_used : (c : After-divide) → c.self.inside.used < MAX_PARTITIONS
 few_used c = omega (arith, c.self.invariant.limit, c.if-self-eq-MAX_PARTITIONS.false)
 
-pub change-requires-clause-ids : goal.change-requires-clause-ids
-change-requires-clause-ids c =
+pub divide-requires-clause-two : goal.divide-requires-clause-two
+divide-requires-clause-two c = c.self.invariant.two
+
+pub divide-requires-clause-new : goal.divide-requires-clause-new
+divide-requires-clause-new c =
+    let g = c.self.inside in
+    none-above g.used g.used g.events (omega arith) (all_cells (λ (e : Event). e.id < g.used) g.events c.self.invariant.below)
+
+pub divide-requires-clause-ids : goal.divide-requires-clause-ids
+divide-requires-clause-ids c =
     let g = c.self.inside in
     moved_ids g.used g.events c.self.invariant.limit c.self.invariant.below c.self.invariant.typed
 
-pub change-requires-clause-counted : goal.change-requires-clause-counted
-change-requires-clause-counted c =
+pub divide-requires-clause-counted : goal.divide-requires-clause-counted
+divide-requires-clause-counted c =
     let g = c.self.inside in
-    counted-of g.events g.firsts.items g.tables g.used c.self.invariant
-
-pub move_cells-requires-clause-new : goal.move_cells-requires-clause-new
-move_cells-requires-clause-new c =
-    let g = c.self.inside in
-    none-above g.used g.used g.events (omega arith) (all_cells (λ (e : Event). e.id < g.used) g.events c.self.invariant.below)
+    let counted = counted-of g.events g.firsts.items g.tables g.used c.self.invariant in
+    record { sizes = counted.sizes; counts = counted.counts }
 
 -- the graph in which nothing moves, since no event has the id
 pub invariant_of-self : goal.invariant_of-self
@@ -52,18 +56,19 @@ returns-then-p-n c =
 
 pub invariant_of-self-2 : goal.invariant_of-self-2
 invariant_of-self-2 c =
-    let d : After-move_cells = (goal.at.invariant_of-self-2 c).After-move_cells in
+    let d : After-divide = (goal.at.invariant_of-self-2 c).After-divide in
     let g = c.self.inside in
-    still_kept c.args.p c.args.next g.used g.events c.move_cells.new.self g.firsts.items g.tables c.change.new.self c.self.invariant (few_used d) c.move_cells.ensures
-    (subst (λ (cs : List Cell). IsCountOf c.change.new.self cs) (sym c.move_cells.ensures)
-    (moved-count c.args.p c.args.next g.events g.firsts.items g.tables c.change.new.self g.used c.self.invariant c.change.ensures.types c.change.ensures.sizes c.change.ensures.counts))
+    still_kept c.args.p c.args.next g.used g.events c.divide.new.self g.firsts.items g.tables c.divide.new.tables c.self.invariant (few_used d) c.divide.ensures.cells
+    (subst (λ (cs : List Cell). IsCountOf c.divide.new.tables cs) (sym c.divide.ensures.cells)
+    (moved-count c.args.p c.args.next g.events g.firsts.items g.tables c.divide.new.tables g.used c.self.invariant c.if-p-n.false c.divide.ensures.types
+    (subst (λ (cs : List Cell). HasCountsOf c.divide.new.tables cs) c.divide.ensures.cells c.divide.ensures.counted)))
 
 pub returns : goal.returns
 returns c =
-    let d : After-move_cells = (goal.at.returns c).After-move_cells in
+    let d : After-divide = (goal.at.returns c).After-divide in
     let g = c.self.inside in
     let used : g.used ≡ c.args.self.now.used = ap (λ (x : Parts). x.used) c.self.view_is in
-    let t : traces_of c.move_cells.new.self ≡ split c.args.p c.args.next c.args.self.now.used c.args.self.now.traces =
-    ap (λ (cs : List Cell). traces_of cs) c.move_cells.ensures ∙ moved_are c.args.p c.args.next g.used g.events c.self.invariant.closed
+    let t : traces_of c.divide.new.self ≡ split c.args.p c.args.next c.args.self.now.used c.args.self.now.traces =
+    ap (λ (cs : List Cell). traces_of cs) c.divide.ensures.cells ∙ moved_are c.args.p c.args.next g.used g.events c.self.invariant.closed
     ∙ ap (λ (x : Parts). split c.args.p c.args.next x.used x.traces) c.self.view_is in
-    (used, few_used d, starts (traces_of c.move_cells.new.self) (split c.args.p c.args.next c.args.self.now.used c.args.self.now.traces) (g.used + 1) (c.args.self.now.used + 1) t (ap (λ n. n + 1) used))
+    (used, few_used d, starts (traces_of c.divide.new.self) (split c.args.p c.args.next c.args.self.now.used c.args.self.now.traces) (g.used + 1) (c.args.self.now.used + 1) t (ap (λ n. n + 1) used))
