@@ -19,7 +19,14 @@ struct Endless {
 impl Inputs for Endless {
     ghost use Rattle.std.specs.Prelude.{None, true};
 
-    ghost state = { λ s. record { files = None; rest = None; opens = s.opens; faults = 0; may_fail = λ _. true; mark = true } };
+    ghost state = { λ s. record {
+      files = None;
+      rest = None;
+      opens = s.opens;
+      faults = 0;
+      may_fail = λ _. true;
+      mark = true;
+    } };
 
     fn open(&mut self, _name: &str) -> Result<(), OpenError> {
         self.opens = self.opens.saturating_add(1);

@@ -66,6 +66,8 @@ impl Clashes {
         requires kept { p < MAX_PARTITIONS }
         requires gone { q < MAX_PARTITIONS }
         requires apart { p ≢ q }
+
+        // The invariants stay, and the marks are those after the merge.
         ensures invs { (self.new).invs ≡ (self.old).invs }
         ensures marks { (h : Assignment) → IsTyped h → IsPair (G h) p q
             → (graph.now).traces ≡ merge p q h

@@ -29,6 +29,8 @@ pub(crate) fn grow(board: &mut Board, links: &[Link], graph: &PartGraph)
 pub(crate) fn grow_from(board: &mut Board, links: &[Link], graph: &PartGraph, p: u32)
     requires links { AreLinksOf links.now (G (graph.now).traces) }
     requires id { p < MAX_PARTITIONS }
+
+    // The invariants stay, and all marks are found.
     ensures invs { (board.new).invs ≡ (board.old).invs }
     ensures marks { IsTyped (graph.now).traces → AreSound board.old (G (graph.now).traces)
         → HasBegun board.old (G (graph.now).traces) → AreEntered board.old (G (graph.now).traces)

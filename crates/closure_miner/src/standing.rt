@@ -91,9 +91,13 @@ impl Standing {
     fn strike_earlier(&mut self, x: u16)
         requires number { IsTypeNumber (self.old).types x }
         ensures types { (self.new).types ≡ (self.old).types }
+
+        // The type of the event is among those that were seen.
         ensures seen { (b : ℕ) → b < (self.old).types
             → on (self.new).rows (3 * (self.old).types + 1) b
             ≡ (x == b + FIRST_TYPE || on (self.old).rows (3 * (self.old).types + 1) b) }
+
+        // Which pairs of a type and what follows it, always or never, still stand.
         ensures followed { (a b : ℕ) → a < (self.old).types → b < (self.old).types
             → on (self.new).rows a b ≡ (on (self.old).rows a b
             && (not (x == a + FIRST_TYPE) || on (self.old).rows (3 * (self.old).types + 1) b)) }
@@ -101,6 +105,8 @@ impl Standing {
             → on (self.new).rows ((self.old).types + a) b
             ≡ (on (self.old).rows ((self.old).types + a) b
             && not (x == a + FIRST_TYPE && on (self.old).rows (3 * (self.old).types + 1) b)) }
+
+        // All other rows stay.
         ensures others { (r : ℕ) → 2 * (self.old).types ≤ r → r < 3 * (self.old).types + 1
             → row_at (self.new).rows r ≡ row_at (self.old).rows r }
     {
@@ -153,13 +159,19 @@ impl Standing {
     fn strike_later(&mut self, x: u16)
         requires number { IsTypeNumber (self.old).types x }
         ensures types { (self.new).types ≡ (self.old).types }
+
+        // The type of the event is among those that were seen.
         ensures seen { (a : ℕ) → a < (self.old).types
             → on (self.new).rows (3 * (self.old).types + 1) a
             ≡ (x == a + FIRST_TYPE || on (self.old).rows (3 * (self.old).types + 1) a) }
+
+        // Which pairs of a type and what precedes it still stand.
         ensures preceded { (a b : ℕ) → a < (self.old).types → b < (self.old).types
             → on (self.new).rows (2 * (self.old).types + b) a
             ≡ (on (self.old).rows (2 * (self.old).types + b) a
             && (not (x == b + FIRST_TYPE) || on (self.old).rows (3 * (self.old).types + 1) a)) }
+
+        // All other rows stay.
         ensures before { (r : ℕ) → r < 2 * (self.old).types
             → row_at (self.new).rows r ≡ row_at (self.old).rows r }
         ensures behind { row_at (self.new).rows (3 * (self.old).types)
@@ -202,8 +214,12 @@ impl Standing {
     fn read_from_end(&mut self, events: &[u16])
         requires numbers { All (IsTypeNumber (self.old).types) events.now }
         ensures types { (self.new).types ≡ (self.old).types }
+
+        // The types that were seen are those of the events.
         ensures seen { (b : ℕ) → b < (self.old).types
             → on (self.new).rows (3 * (self.old).types + 1) b ≡ occurs (b + FIRST_TYPE) events.now }
+
+        // Which pairs of a type and what follows it, always or never, still stand.
         ensures followed { (a b : ℕ) → a < (self.old).types → b < (self.old).types
             → on (self.new).rows a b ≡ (on (self.old).rows a b
             && always_followed (a + FIRST_TYPE) (b + FIRST_TYPE) events.now) }
@@ -211,6 +227,8 @@ impl Standing {
             → on (self.new).rows ((self.old).types + a) b
             ≡ (on (self.old).rows ((self.old).types + a) b
             && never_followed (a + FIRST_TYPE) (b + FIRST_TYPE) events.now) }
+
+        // All other rows stay.
         ensures others { (r : ℕ) → 2 * (self.old).types ≤ r → r < 3 * (self.old).types + 1
             → row_at (self.new).rows r ≡ row_at (self.old).rows r }
     {
@@ -227,10 +245,14 @@ impl Standing {
     fn read_from_start(&mut self, events: &[u16])
         requires numbers { All (IsTypeNumber (self.old).types) events.now }
         ensures types { (self.new).types ≡ (self.old).types }
+
+        // Which pairs of a type and what precedes it still stand.
         ensures preceded { (a b : ℕ) → a < (self.old).types → b < (self.old).types
             → on (self.new).rows (2 * (self.old).types + b) a
             ≡ (on (self.old).rows (2 * (self.old).types + b) a
             && always_preceded (a + FIRST_TYPE) (b + FIRST_TYPE) events.now) }
+
+        // All other rows stay, but for that of the types that were seen.
         ensures before { (r : ℕ) → r < 2 * (self.old).types
             → row_at (self.new).rows r ≡ row_at (self.old).rows r }
         ensures behind { row_at (self.new).rows (3 * (self.old).types)

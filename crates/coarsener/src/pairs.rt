@@ -63,6 +63,8 @@ pub(crate) fn next_pair(graph: &PartGraph, at: Pair) -> Option<Pair>
     requires low { FIRST_TYPE ≤ at.p }
     requires order { at.p ≤ at.q }
     requires limit { at.q < MAX_PARTITIONS }
+
+    // What the next pair is, and what is so of all ids of the graph.
     ensures next { MatchOption result
         (HasNoPairBehind (G (graph.now).traces) at.p at.q)
         (λ pair. IsNextPair (G (graph.now).traces) at.p at.q pair.p pair.q) }

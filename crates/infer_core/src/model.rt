@@ -61,6 +61,8 @@ fn listed(
     requires list { (planes.now).invs ≡ invs.now }
     requires ids { (k : ℕ) (x : Partition) → slice_get partitions.now k ≡ Some x
         → x.id < MAX_PARTITIONS }
+
+    // What is listed, and what its labels say.
     ensures listing { IfOk result (λ list. map (λ l. l.inv) list ≡ invs.now) }
     ensures labels { IfOk result (λ list. (h : Assignment) → ArePartitions partitions.now h
         → AreLabelsOf planes.now (G h)

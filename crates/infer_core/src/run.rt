@@ -71,8 +71,12 @@ pub fn run<L: Ledger>(
     requires ready { IsReady invs.now graph.old
         tools.old.stitcher tools.old.planes tools.old.spans tools.old.log }
     requires flags { length flags.old ≡ length invs.now }
+
+    // What the run gives, for the words of which the graph is the first and the invariants are mined.
     ensures gives { (words : TypedWords) → BeginsWith words invs.now graph.old
         → RunGives result words graph.new tools.new.planes tools.new.spans tools.new.log }
+
+    // How many steps are counted.
     ensures counted { OnOk result ((words : TypedWords) → BeginsWith words invs.now graph.old
         → CountsAtMost words steps.old steps.new) }
 {

@@ -30,9 +30,13 @@ impl Tools {
         requires few { length invs.now ≤ MAX_INVARIANTS }
         requires named { (k : ℕ) (inv : Invariant) → slice_get invs.now k ≡ Some inv
             → (inv.a ≤ LAST_TYPE) × (inv.b ≤ LAST_TYPE) }
+
+        // What the tools are made for.
         ensures stitcher { IfOk result
             (λ tools. tools.stitcher ≡ length (events (graph.now).traces)) }
         ensures planes { IfOk result (λ tools. tools.planes.invs ≡ invs.now) }
+
+        // Nothing is written yet, and there is room for all that may be.
         ensures spans { IfOk result
             (λ tools. tools.spans ≡ record { numbers = []; room = MAX_PATH_NUMBERS }) }
         ensures log { IfOk result (λ tools. tools.log ≡ record {

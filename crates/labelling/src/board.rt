@@ -73,6 +73,8 @@ impl Board {
         ensures same { (found self.new).invs ≡ (found self.old).invs }
         ensures keeps { (k p s : ℕ) → (found self.old).has k p s ≡ true
             → (found self.new).has k p s ≡ true }
+
+        // What is new is at INITIAL alone and is reached there, and all that begins so is found.
         ensures sound { StartsAt typ (found self.old) (found self.new) }
         ensures start { HasStart typ state (found self.new) }
         ensures others { IsSameBut INITIAL (found self.old) (found self.new) }

@@ -44,6 +44,8 @@ pub(crate) fn clear_labels(rows: &mut Rows)
 pub(crate) fn note_broken(rows: &mut Rows)
     requires shape { HasShape rows.old (length rows.old) (length (row_at rows.old BROKEN_ROW)) }
     requires room { BROKEN_ROW < length rows.old }
+
+    // The row of what is broken is written anew, and all others stay.
     ensures shape { KeepsShape rows.old rows.new }
     ensures broken { (k : ℕ) → (is_on rows.new BROKEN_ROW k ≡ true)
         ↔ ((s : ℕ) × (s < 3) × (is_on rows.old (label_row TERMINAL s) k ≡ true)

@@ -65,6 +65,8 @@ fn mark_moves(rows: &mut Rows, count: usize, k: usize, inv: Invariant, typ: u16)
     requires named { typ ≤ LAST_TYPE }
     requires shape { (n : ℕ) × (MOVE_ROWS + (typ + 1) * MOVES ≤ n) × HasShape rows.old n count }
     requires number { k < count }
+
+    // What the type does to each state is marked, and all else stays.
     ensures shape { KeepsShape rows.old rows.new }
     ensures moves { (s t : ℕ) → s < STATES → t < STATES
         → is_on rows.new (move_row typ s t) k ≡ is_move inv typ s t }

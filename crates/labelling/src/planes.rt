@@ -134,8 +134,12 @@ impl Planes {
         requires kept { p < MAX_PARTITIONS }
         requires gone { q < MAX_PARTITIONS }
         requires apart { p ≢ q }
+
+        // The labels stay.
         ensures keeps { KeepsLabels self.old self.new }
         ensures labels { (g : Graph) → AreLabelsOf self.old g → AreLabelsOf self.new g }
+
+        // The marks are those after the merge.
         ensures marks { (h : Assignment) → IsTyped h → IsPair (G h) p q
             → (graph.now).traces ≡ merge p q h → AreMarksOf (self.old).clashes (G h)
             → AreMarksOf (self.new).clashes (G (graph.now).traces) }

@@ -14,6 +14,8 @@ pub fn alike_rules_read_alike()
         → AreAlike rs ss
         → first_refusal (setting (Rules rs) ignore join) files
         ≡ first_refusal (setting (Rules ss) ignore join) files }
+
+    // The same events are read.
     ensures events { (rs ss : List Rule) (ignore join : Bool) (files : List (List ℕ))
         → AreAlike rs ss
         → events_of (setting (Rules rs) ignore join) files
@@ -51,9 +53,13 @@ pub fn lines_come_in_order()
     ensures line { (old new : SeenLines) (before after : InputState) (rest : List ℕ) →
         before.rest ≡ Some rest → GivesLine old new before after
         → TellsLine old new rest after.rest }
+
+    // Without a line no byte was to come.
     ensures none { (old new : SeenLines) (before after : InputState) (rest : List ℕ) →
         before.rest ≡ Some rest → GivesNone old new before after → old.buffered ++ rest ≡ [] }
-    ensures refusal { (old new : SeenLines) (before after : InputState) (rest : List ℕ) (e : LineError) →
-        before.rest ≡ Some rest → RefusesPiece old new before after e
+
+    // A refusal is the first that was to come.
+    ensures refusal { (old new : SeenLines) (before after : InputState) (rest : List ℕ)
+        (e : LineError) → before.rest ≡ Some rest → RefusesPiece old new before after e
         → refusal_to_come old.taken (old.buffered ++ rest) ≡ Some e }
 {}

@@ -258,6 +258,8 @@ impl Lines {
         ensures stays { Stays (I.state inputs.old) (I.state inputs.new) }
         ensures mark { (I.state inputs.new).mark ≡ (I.state inputs.old).mark }
         ensures opens { (I.state inputs.new).opens ≡ (I.state inputs.old).opens }
+
+        // Where the end is found, and why it is not.
         ensures ok { IfOk result
             (FindsEnd self.old self.new (I.state inputs.old) (I.state inputs.new)) }
         ensures err { IfErr result
@@ -290,6 +292,8 @@ impl Lines {
         requires some { 0 < cut.length + feed_bytes cut.fed }
         requires inside { cut.length + feed_bytes cut.fed ≤ length (self.old).buffered }
         requires within { (self.old).taken + cut.length + feed_bytes cut.fed ≤ MAX_INPUT_BYTES }
+
+        // What stands then: the piece is no longer buffered, and its line is the current one.
         ensures { self.new ≡ record {
           buffered = drop (cut.length + feed_bytes cut.fed) (self.old).buffered;
           line = Some (line_of (take cut.length (self.old).buffered));

@@ -53,6 +53,8 @@ impl<'r> LogReader<'r> {
     fn read_text(&mut self, at: At, text: &str) -> Result<(), ReadError>
         requires ready { IsReady self.old }
         requires room { self.old.log.section < 2 ^ 32 - 1 }
+
+        // The line is taken in, or it is told why not.
         ensures ok { OnOk result
             (ReadsText at (decided (setting_of self.old).form text.now) self.old self.new) }
         ensures err { IfErr result (IsRefusal
@@ -69,6 +71,8 @@ impl<'r> LogReader<'r> {
     pub fn read_line(&mut self, alloc: Global, at: At, line: &[u8]) -> Result<(), ReadError>
         requires ready { IsReady self.old }
         requires room { self.old.log.section < 2 ^ 32 - 1 }
+
+        // The line is taken in, or it is told why not.
         ensures ok { OnOk result
             (ReadsText at (decided_line (setting_of self.old).form line.now) self.old self.new) }
         ensures err { IfErr result (IsRefusal

@@ -147,10 +147,14 @@ pub fn read_log<I: Inputs>(
 ) -> Result<TraceSet, ReadError>
     requires { length names.now < 2 ^ 32 }
     ensures stays { Stays (I.state inputs.old) (I.state inputs.new) }
+
+    // The log that is read, and the cause of each error.
     ensures ok { IfOk result (ReadsLog (setting (form_view form.entry) ignore join)
         (names_in names.now) (I.state inputs.old) (I.state inputs.new)) }
     ensures err { IfErr result (HasReadCause (setting (form_view form.entry) ignore join)
         (names_in names.now) (I.state inputs.old) (I.state inputs.new)) }
+
+    // Want of memory hides no fault, and no more inputs are opened than there are names.
     ensures memory { result ≡ Err ReadError.Memory
         → (I.state inputs.new).faults ≡ (I.state inputs.old).faults }
     ensures opens { (I.state inputs.new).opens

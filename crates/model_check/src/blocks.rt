@@ -85,6 +85,8 @@ fn first_open_with(
     requires graph { shown graph.now ≡ graph_of model.now }
     requires there { slice_get (model.now).partitions i ≡ Some x.now }
     requires reached { IsReached model.now next.old i }
+
+    // The id that is found, and how far the blocks are read.
     ensures first { MatchOption result
         ((q : ℕ) → IsPair (graph_of model.now) (x.now).id q → IsBlocked model.now (x.now).id q)
         (IsFirstWith model.now (x.now).id) }

@@ -43,6 +43,8 @@ impl Columns {
         requires id { p < MAX_PARTITIONS }
         requires label { IsLabel label }
         requires source { IsLabel source }
+
+        // Both sets of the id are in the column, and all else stays.
         ensures labels { (c q : ℕ) → c < TOGETHER → at (self.new).labels.items c q
             ≡ (if c == k && q == p then label else at (self.old).labels.items c q) }
         ensures sources { (c q : ℕ) → c < TOGETHER → at (self.new).sources.items c q
@@ -151,6 +153,8 @@ fn lay_columns(
     requires graph { shown graph.now ≡ graph_of model.now }
     requires from { from ≤ length (model.now).invariants }
     requires size { length labels.old ≡ MAX_PARTITIONS }
+
+    // What the columns are where all ends are right.
     ensures { IsTrue result
         → AreColumnsOf model.now (columns.new).labels.items (columns.new).sources.items
         from TOGETHER }

@@ -39,10 +39,14 @@ fn search<L: Ledger>(
     steps: &mut Steps<L>,
 ) -> bool
     requires room { MAX_ENTRIES < vec_capacity path.old }
+
+    // What the path is, where there is one.
     ensures satisfied { result ≡ false
         → Satisfies (asked question.now).graph (asked question.now).inv }
     ensures found { result ≡ true → IsLeastOf (asked question.now) path.new.items }
     ensures short { result ≡ true → length path.new.items ≤ MAX_ENTRIES + 1 }
+
+    // The memory for the next path stays, and one step is counted.
     ensures room { MAX_ENTRIES < vec_capacity path.new }
     ensures counted { steps.new ≡ steps.old + 1 }
 {
@@ -95,11 +99,15 @@ impl Finder {
         steps: &mut Steps<L>,
     ) -> Option<&[u32]>
         requires { IsSound view.now }
+
+        // What the path is, where there is one.
         ensures found { MatchOption result
             (Satisfies (seen view.now) inv)
             (λ path. IsLeastViolation (seen view.now) inv path.now) }
         ensures short { IfSome result (λ path. length path.now ≤ 3 * MAX_PARTITIONS + 1) }
         ensures avoids { IfSome result (λ path. AvoidsGone view.now path.now) }
+
+        // How many steps are counted.
         ensures counted { steps.new ≡ steps.old + 1 }
     {
         prove!(view.ids_used() <= MAX_PARTITIONS);
@@ -128,10 +136,14 @@ impl Finder {
     ) -> Option<&[u32]>
         requires pair { IsPair (G (graph.now).traces) p q }
         requires known { satisfied ≡ true → Satisfies (G (graph.now).traces) inv }
+
+        // What the path is, where there is one.
         ensures found { MatchOption result
             (Satisfies (merged_graph (G (graph.now).traces) p q) inv)
             (λ path. IsLeastViolation (merged_graph (G (graph.now).traces) p q) inv path.now) }
         ensures short { IfSome result (λ path. length path.now ≤ 3 * MAX_PARTITIONS + 1) }
+
+        // How many steps are counted.
         ensures counted { steps.new ≡ steps.old + 1 }
     {
         if !satisfied {

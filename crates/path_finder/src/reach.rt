@@ -212,6 +212,8 @@ impl Around {
     /// Finds those around the ids of this type.
     pub fn find_type(&mut self, view: &View<'_>, typ: u16)
         requires { IsSound view.now }
+
+        // The ids of the type are met both ways, and so is each to which a walk leads from one of them.
         ensures ahead { IsSpread (is_met (self.new).ahead)
             (is_of_type (seen view.now) (parts_seen view.now).used typ)
             (edge_by Ahead (seen view.now)) }

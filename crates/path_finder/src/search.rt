@@ -42,6 +42,8 @@ fn enter_source(question: &Question<'_, '_>, table: &mut Table, turn: Turn, id: 
     requires turn { IsTurn (asked question.now) turn table.old }
     requires id { id < (asked question.now).ids }
     requires edge { (asked question.now).graph.edge id turn.pair.id ≡ true }
+
+    // The turn is still that of the pair, and what leads to it is entered.
     ensures turn { IsTurn (asked question.now) turn table.new }
     ensures grows { Grows table.old table.new }
     ensures entered { (p : Pair) → p.id ≡ id → p.state < 3 → Leads (asked question.now) p turn.pair

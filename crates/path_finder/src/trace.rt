@@ -21,6 +21,8 @@ fn next_at(
     requires pair { IsPairOf (asked question.now) pair }
     requires id { id < (asked question.now).ids }
     requires edge { (asked question.now).graph.edge pair.id id ≡ true }
+
+    // What the pair is, where there is one.
     ensures { MatchOption result
         ((r : Pair) → r.id ≡ id → Leads (asked question.now) pair r → at table.now r ≡ distance → ⊥)
         (λ q. (q.id ≡ id) × IsPairOf (asked question.now) q × Leads (asked question.now) pair q

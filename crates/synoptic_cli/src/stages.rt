@@ -87,9 +87,13 @@ fn read_rules_stage<I: Inputs, P: Patterns>(
 ) -> Result<SoFar, Status>
     ensures stays { Stays (I.state inputs.old) (I.state inputs.new) }
     ensures kept { PatternsStay (P.state patterns.old) (P.state patterns.new) }
+
+    // What is counted of faults and refused patterns.
     ensures memory { result ≡ Err Status.Memory
         → (I.state inputs.new).faults ≡ (I.state inputs.old).faults }
     ensures count { KeepsCounts result (P.state patterns.old) (P.state patterns.new) }
+
+    // What is read where the run goes on, and why it ends.
     ensures ok { IfOk result
         (Reads (rules_stages (task_held task.now)) so_far
         (I.state inputs.old) (I.state inputs.new)) }
@@ -117,11 +121,15 @@ fn read_model_stage<I: Inputs>(
     inputs: &mut I,
 ) -> Result<SoFar, ModelHalt>
     ensures stays { Stays (I.state inputs.old) (I.state inputs.new) }
+
+    // What is read where the run goes on, and why it ends.
     ensures ok { IfOk result
         (Reads (model_stages (task_held task.now)) so_far
         (I.state inputs.old) (I.state inputs.new)) }
     ensures err { IfErr result (λ halt. IsSomeAnd (task_held task.now).model
         (λ name. ModelHalts (I.state inputs.old) (I.state inputs.new) name halt)) }
+
+    // Want of memory hides no fault.
     ensures memory { result ≡ Err ModelHalt.Memory
         → (I.state inputs.new).faults ≡ (I.state inputs.old).faults }
 {
@@ -158,12 +166,16 @@ fn read_files<I: Inputs>(
     inputs: &mut I,
 ) -> Result<TraceSet, ReadError>
     ensures stays { Stays (I.state inputs.old) (I.state inputs.new) }
+
+    // The log that is read, and the cause of each error.
     ensures ok { IfOk result
         (ReadsLog (setting_of (task_held task.now) (form_with (option_map rules_in rules.now)))
         (inputs_of (task_held task.now).files) (I.state inputs.old) (I.state inputs.new)) }
     ensures err { IfErr result
         (HasReadCause (setting_of (task_held task.now) (form_with (option_map rules_in rules.now)))
         (inputs_of (task_held task.now).files) (I.state inputs.old) (I.state inputs.new)) }
+
+    // Want of memory hides no fault, and no more inputs are opened than there are files.
     ensures memory { result ≡ Err ReadError.Memory
         → (I.state inputs.new).faults ≡ (I.state inputs.old).faults }
     ensures opens { (I.state inputs.new).opens
@@ -190,12 +202,16 @@ fn read_log_stage<I: Inputs>(
     inputs: &mut I,
 ) -> Result<SoFar, ReadError>
     ensures stays { Stays (I.state inputs.old) (I.state inputs.new) }
+
+    // What is read where the run goes on, and why it ends.
     ensures ok { IfOk result
         (Reads (log_stages (task_held task.now)) so_far
         (I.state inputs.old) (I.state inputs.new)) }
     ensures err { IfErr result
         (LogHalts (task_held task.now) (held_form so_far)
         (I.state inputs.old) (I.state inputs.new)) }
+
+    // Want of memory hides no fault.
     ensures memory { result ≡ Err ReadError.Memory
         → (I.state inputs.new).faults ≡ (I.state inputs.old).faults }
 {
@@ -224,9 +240,13 @@ pub fn read_material<I: Inputs, P: Patterns>(
 ) -> Result<Material, Status>
     ensures stays { Stays (I.state inputs.old) (I.state inputs.new) }
     ensures kept { PatternsStay (P.state patterns.old) (P.state patterns.new) }
+
+    // What is counted of faults and refused patterns.
     ensures memory { result ≡ Err Status.Memory
         → (I.state inputs.new).faults ≡ (I.state inputs.old).faults }
     ensures count { KeepsCounts result (P.state patterns.old) (P.state patterns.new) }
+
+    // What is read for the command, and why the run ends before it.
     ensures ok { IfOk result
         (ReadsTask (task_held task.now) (I.state inputs.old) (I.state inputs.new)) }
     ensures err { IfErr result (λ status.

@@ -25,10 +25,14 @@ fn answer<I: Inputs, P: Patterns, O: Sink>(
     out: &mut O,
 ) -> Status
     requires { HasSessions (task_held task.now) }
+
+    // What the status says, for all words that ask for the task.
     ensures cause { (words : List (List ℕ)) → task_of words ≡ Some (task_held task.now)
         → HasCause result words
         (world (I.state inputs.old) (P.state patterns.old) (O.state out.old))
         (world (I.state inputs.new) (P.state patterns.new) (O.state out.new)) }
+
+    // What is counted of faults and refused patterns, and what stays.
     ensures memory { result ≡ Status.Memory
         → (I.state inputs.new).faults ≡ (I.state inputs.old).faults }
     ensures count { KeepsCount result (P.state patterns.old) (P.state patterns.new) }
@@ -151,12 +155,16 @@ pub fn run<I: Inputs, P: Patterns, O: Sink, E: Sink>(
     ensures expected { IsExpected result (map string_bytes words.now)
         (world (I.state inputs.old) (P.state patterns.old) (O.state out.old))
         (world (I.state inputs.new) (P.state patterns.new) (O.state out.new)) }
+
+    // What is counted of faults and refused patterns, and what stays.
     ensures memory { result ≡ Status.Memory
         → (I.state inputs.new).faults ≡ (I.state inputs.old).faults }
     ensures count { KeepsCount result (P.state patterns.old) (P.state patterns.new) }
     ensures stays { Stays
         (world (I.state inputs.old) (P.state patterns.old) (O.state out.old))
         (world (I.state inputs.new) (P.state patterns.new) (O.state out.new)) }
+
+    // What is told of the status.
     ensures told { Tells (message_of (map string_bytes words.now) result)
         (E.state err.old) (E.state err.new) }
 {
