@@ -112,6 +112,8 @@ pub fn copy_traces(
     requires begin { Begin firsts.now (trace_cells cells.now) }
     requires within { All (λ k. k < length (trace_cells cells.now)) numbers.now }
     requires few { length (joined_traces (picked numbers.now (trace_cells cells.now))) ≤ MAX_EVENTS }
+
+    // The copies, and where each of them begins.
     ensures cells { IfOk result
         (λ pair. pair.0.items ≡ joined_traces (picked numbers.now (trace_cells cells.now))) }
     ensures begin { IfOk result

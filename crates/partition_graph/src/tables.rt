@@ -49,6 +49,8 @@ impl Tables {
         requires ids { All HasId cells.now }
         requires closed { IsClosed true cells.now }
         requires counted { HasCountsOf self.old cells.now }
+
+        // All others are counted still.
         ensures counted { HasCountsBut self.new place cells.now }
         ensures types { (types : ℕ → ℕ) → KnowsTypes types self.old → KnowsTypes types self.new }
     {
@@ -64,6 +66,8 @@ impl Tables {
         requires ids { All HasId cells.now }
         requires few { length cells.now ≤ MAX_EVENTS }
         requires counted { HasCountsBut self.old place cells.now }
+
+        // Then all are counted.
         ensures counted { HasCountsOf self.new cells.now }
         ensures types { (types : ℕ → ℕ) → HaveTypes types cells.now
             → KnowsTypes types self.old → KnowsTypes types self.new }
@@ -182,6 +186,8 @@ impl Tables {
     fn uncount_cell(&mut self, cell: Cell)
         requires id { cell.id < MAX_PARTITIONS }
         requires some { 0 < size_at self.old cell.id }
+
+        // The counts of edges stay.
         ensures types { (types : ℕ → ℕ) → KnowsTypes types self.old → KnowsTypes types self.new }
         ensures sizes { (p : ℕ) → p < MAX_PARTITIONS
             → size_at self.new p + (if cell.id == p then 1 else 0) ≡ size_at self.old p }
