@@ -9,8 +9,7 @@ ghost use Rattle.traces.specs.PlaceMaps.{first_place, key_cmp, FindAlike};
 ghost use Rattle.traces.specs.Words.{same_key, with_new};
 
 use crate::hints::Hints;
-use crate::key::KeyParts;
-use crate::known_key::{KnownKey, key_hash};
+use crate::key::{Key, KeyParts, key_hash};
 use std::alloc::{AllocError, Global};
 use std::collections::BTreeMap;
 use std::marker::Model;
@@ -18,7 +17,7 @@ use std::marker::Model;
 /// Keys, and the place of each: of the first with its hash under that hash, of each other under the key.
 #[derive(Drop)]
 pub struct KeyTable {
-    keys: Vec<KnownKey>,
+    keys: Vec<Key>,
     firsts: BTreeMap<u64, usize>,
     others: BTreeMap<(u32, u32, String), usize>,
     hints: Hints,
@@ -37,7 +36,7 @@ impl Model for KeyTable {
 }
 
 /// Whether the key with these parts stands at this place.
-fn is_key_at(keys: &[KnownKey], place: usize, parts: &KeyParts<'_>) -> bool
+fn is_key_at(keys: &[Key], place: usize, parts: &KeyParts<'_>) -> bool
     ensures key { result ≡ option_map_or (same_key (key_in parts.now)) (slice_get keys.now place) false }
     ensures within { result ≡ true → place < length keys.now }
 {
@@ -48,7 +47,7 @@ fn is_key_at(keys: &[KnownKey], place: usize, parts: &KeyParts<'_>) -> bool
 }
 
 /// Notes where the last key stands, which has this hash.
-fn note_key(alloc: Global, hints: &mut Hints, keys: &[KnownKey], hash: u64) {
+fn note_key(alloc: Global, hints: &mut Hints, keys: &[Key], hash: u64) {
     if hints.grow(alloc, keys.len()) {
         for (place, key) in keys.iter().enumerate() {
             hints.note(key_hash(&key.parts()), place);
@@ -63,9 +62,9 @@ fn note_key(alloc: Global, hints: &mut Hints, keys: &[KnownKey], hash: u64) {
 /// Puts a key at the end, and its place under its hash. Where a place is known under the hash, that place is the
 /// answer, and nothing is put.
 fn begin_first(
-    keys: &mut Vec<KnownKey>,
+    keys: &mut Vec<Key>,
     firsts: &mut BTreeMap<u64, usize>,
-    key: KnownKey,
+    key: Key,
     hash: u64,
 ) -> Result<Option<usize>, AllocError>
     ensures first { IfOk result (λ first. first ≡ first_place firsts.old.entries hash) }
@@ -92,9 +91,9 @@ fn begin_first(
 
 /// Puts a key at the end, and its place under it.
 fn begin_other(
-    keys: &mut Vec<KnownKey>,
+    keys: &mut Vec<Key>,
     others: &mut BTreeMap<(u32, u32, String), usize>,
-    key: KnownKey,
+    key: Key,
     known: (u32, u32, String),
 ) -> Result<(), AllocError>
     ensures keys { OnOk result (keys.new.items ≡ keys.old.items ++ key ∷ []) }
@@ -144,7 +143,7 @@ impl KeyTable {
             return Ok(hint);
         }
         let end = self.keys.len();
-        let key = KnownKey::make(alloc, parts)?;
+        let key = Key::make(alloc, parts)?;
         let begun = begin_first(&mut self.keys, &mut self.firsts, key, hash)?;
         let Some(first) = begun else {
             note_key(alloc, &mut self.hints, &self.keys, hash);
@@ -161,14 +160,14 @@ impl KeyTable {
             self.hints.note(hash, place);
             return Ok(place);
         }
-        let key = KnownKey::make(alloc, parts)?;
+        let key = Key::make(alloc, parts)?;
         begin_other(&mut self.keys, &mut self.others, key, known)?;
         note_key(alloc, &mut self.hints, &self.keys, hash);
         Ok(end)
     }
 
     /// The keys alone.
-    pub fn into_keys(self) -> Vec<KnownKey>
+    pub fn into_keys(self) -> Vec<Key>
         ensures { result.items ≡ self }
     {
         let KeyTable {

@@ -1,10 +1,9 @@
 use Rattle.std.proofs.Common.{◌≡◌, ℕ, List, length, map, ap, sym, ◌∙◌, subst, arith}
-use Rattle.traces.specs.Columns.{columned, laid, AreStarts}
+use Rattle.traces.specs.Columns.{laid, AreStarts}
 use Rattle.std.specs.Str.{bytes_eq}
 use Rattle.std.proofs.Math.Logic.{∥∥₁_map}
 use Rattle.traces.specs.Kept.{AreShort, HaveBytes, IsKept}
 use Rattle.traces.specs.Words.{Trace, Log, trace_in_order, in_order, event_count_of, AreApart}
-use Rattle.traces.specs.declared.key.Key.{Key}
 use Rattle.traces.proofs.Columned.{length-columned}
 use Rattle.traces.proofs.ColumnsInTime.{columned-count}
 use Rattle.traces.proofs.ShownTraces.{zeros-enough}
@@ -37,18 +36,15 @@ lay_in_order-requires-clause-traces c =
 
 pub invariant_of-result : goal.invariant_of-result
 invariant_of-result c =
-    let known = c.into_columns-keys.result.0.items in
+    let keys = c.into_columns-keys.result.0.items in
     let events = c.into_columns-keys.result.1 in
-    let keys = c.in_ok-keys_with_texts.keys_with_texts.items in
-    let same_keys : keys ≡ known = c.in_ok-keys_with_texts.ensures ∙ c.deref.ensures.value in
     let done = c.in_ok-events.events in
     let order : laid keys done.starts.items done.numbers.items done.times.items ≡ map trace_in_order c.self.inside.traces =
-    c.in_ok-events.ensures.order keys (omega (arith, ap length same_keys))
-    ∙ ap (map trace_in_order) (ap (λ (ks : List Key). columned ks events.places.items events.numbers.items events.times.items) same_keys ∙ c.into_columns-keys.ensures.view) in
+    c.in_ok-events.ensures.order keys (omega (arith, c.len.ensures)) ∙ ap (map trace_in_order) c.into_columns-keys.ensures.view in
     let same : c.self.inside.types ≡ c.from_vec.result = sym (c.from_vec.ensures ∙ c.into_texts.ensures.texts) in
     let types : length c.self.inside.types ≡ length c.from_vec.result = ap length same in
     let shown : List (List ℕ) → List Trace → Log = λ types traces. record { types = types; traces = traces } in
-    let starts = subst (λ n. AreStarts n (length done.numbers.items) done.starts.items) (omega (arith, ap length same_keys)) c.in_ok-events.ensures.starts in (
+    let starts = subst (λ n. AreStarts n (length done.numbers.items) done.starts.items) (omega (arith, c.len.ensures)) c.in_ok-events.ensures.starts in (
       subst (λ n. IsKept n (laid keys done.starts.items done.numbers.items done.times.items) c.self.inside.event_count) types
           (subst (λ (ts : List Trace). IsKept (length c.self.inside.types) ts c.self.inside.event_count) (sym order)
           (kept-in-order (length c.self.inside.types) c.self.inside.traces c.self.inside.event_count c.self.invariant.0)),
@@ -67,14 +63,11 @@ invariant_of-result c =
 
 pub returns : goal.returns
 returns c =
-    let known = c.into_columns-keys.result.0.items in
+    let keys = c.into_columns-keys.result.0.items in
     let events = c.into_columns-keys.result.1 in
-    let keys = c.in_ok-keys_with_texts.keys_with_texts.items in
-    let same_keys : keys ≡ known = c.in_ok-keys_with_texts.ensures ∙ c.deref.ensures.value in
     let done = c.in_ok-events.events in
     let shown : List (List ℕ) → List Trace → Log = λ types traces. record { types = types; traces = traces } in
     let order : laid keys done.starts.items done.numbers.items done.times.items ≡ map trace_in_order c.self.inside.traces =
-    c.in_ok-events.ensures.order keys (omega (arith, ap length same_keys))
-    ∙ ap (map trace_in_order) (ap (λ (ks : List Key). columned ks events.places.items events.numbers.items events.times.items) same_keys ∙ c.into_columns-keys.ensures.view) in
+    c.in_ok-events.ensures.order keys (omega (arith, c.len.ensures)) ∙ ap (map trace_in_order) c.into_columns-keys.ensures.view in
     ap (λ types. shown types (laid keys done.starts.items done.numbers.items done.times.items)) (c.from_vec.ensures ∙ c.into_texts.ensures.texts)
     ∙ (ap (shown c.self.inside.types) order ∙ ap in_order c.self.view_is)
