@@ -258,13 +258,13 @@ abbrev pub IdsWithinRests : Type 0
 IdsWithinRests =
     (invs : List Invariant) (words : List (List ℕ)) (n : ℕ) (splits : List Split) (end : Assignment)
     (names : List (List ℕ)) → AreTyped words n → HoldAll words invs
-    → Splits invs (by_type words) n splits end → NamesRests names end → n + length splits ≤ length names + 2
+    → Splits invs (by_type words) n splits end → NamesRests names end → n + length splits ≤ length names + FIRST_TYPE
 
 -- and fewer splits than events, where there is one
 abbrev pub FewerSplitsThanEvents : Type 0
 FewerSplitsThanEvents =
     (invs : List Invariant) (words : List (List ℕ)) (n : ℕ) (splits : List Split) (end : Assignment)
-    → AreTyped words n → HoldAll words invs → 2 < n
+    → AreTyped words n → HoldAll words invs → FIRST_TYPE < n
     → Splits invs (by_type words) n splits end → length splits < length (events end)
 
 -- the invariants before the one with number k are satisfied
