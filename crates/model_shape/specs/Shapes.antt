@@ -1,7 +1,7 @@
 -- What a model must be like to be written to a file and read from one: seven rules, one for each of its lists.
-use Rattle.std.specs.Prelude.{◌≡◌, ◌≢◌, ℕ, ◌+◌, ◌*◌, ◌<◌, ◌≤◌, ◌==◌, ◌||◌, Bool, true, false, if◌then◌else◌, List, [], ◌∷◌, length, map, slice_get, Some, Contains}
+use Rattle.std.specs.Prelude.{◌≡◌, ◌≢◌, ℕ, ◌+◌, ◌<◌, ◌≤◌, ◌==◌, ◌||◌, Bool, true, false, if◌then◌else◌, List, [], ◌∷◌, length, map, slice_get, Some, Contains}
 use Rattle.std.specs.List.{AllByRecursion}
-use Rattle.limits.specs.declared.TheConstants.{INITIAL, TERMINAL, FIRST_TYPE, MAX_TYPES, MAX_EVENTS, MAX_TYPE_BYTES, MAX_PARTITIONS, MAX_PATH_NUMBERS}
+use Rattle.limits.specs.declared.TheConstants.{INITIAL, TERMINAL, FIRST_TYPE, MAX_TYPES, MAX_EVENTS, MAX_EDGE_COUNT, MAX_TYPE_BYTES, MAX_PARTITIONS, MAX_PATH_NUMBERS}
 use Rattle.invariants.specs.declared.Invariant.{Invariant}
 use Rattle.invariants.specs.declared.records.Partition.{Partition}
 use Rattle.invariants.specs.declared.records.Edge.{Edge}
@@ -81,7 +81,7 @@ pub record IsShapedEdge (partitions : List Partition) (x : Edge) : Type 0 where
   pub not_from_end : x.from ≢ TERMINAL
   pub not_to_start : x.to ≢ INITIAL
   pub some : 0 < x.count
-  pub few : x.count ≤ 2 * MAX_EVENTS
+  pub few : x.count ≤ MAX_EDGE_COUNT
 
 -- such edges, ascending by the ids that they leave and then by those that they enter
 pub record AreShapedEdges (partitions : List Partition) (xs : List Edge) : Type 0 where
