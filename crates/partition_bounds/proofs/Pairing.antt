@@ -6,6 +6,7 @@ use Rattle.std.proofs.lemmas.Nat.{mul-le}
 use Rattle.std.proofs.lemmas.List.{length-map}
 use Rattle.std.proofs.lemmas.List.Sums.{length-filter, sum_by-cons, count_by-le-length}
 use Rattle.std.specs.List.{flat_map, range_with_len}
+use Rattle.limits.specs.declared.TheConstants.{MAX_STEPS}
 use Rattle.invariants.specs.declared.records.Merge.{Merge}
 use Rattle.partition_model.specs.Graphs.{Graph}
 use Rattle.partition_model.specs.Listings.{ids_below}
@@ -13,7 +14,7 @@ use Rattle.partition_model.specs.Coarsening.{IsPair}
 use Rattle.partition_model.specs.Laws.{PairsAscend, IsAmong}
 use Rattle.partition_model.proofs.Lists.{In, In-map, map-In, bit}
 use Rattle.partition_model.proofs.Listing.{In-filter, filter-In, In-flat_map, flat_map-In, range-In}
-use Rattle.partition_bounds.specs.Pairs.{is_pair, pair_of, pairs_from, pairs_below}
+use Rattle.partition_bounds.specs.Pairs.{is_pair, pair_of, pairs_from, pairs_below, inner_count}
 use Rattle.partition_bounds.specs.Laws.{IsBelow, PairsTell, PairsAreFew, PairsWithinLimit}
 
 -- a pair of one type passes the test
@@ -213,14 +214,12 @@ pairs_are_few g (suc zero) =
     omega arith
 pairs_are_few g (suc (suc m)) =
     let f : 2 * length (pairs_below (suc (suc m)) g) ≤ m * (m - 1) = few g m in
-    let a : suc (suc m) - 2 ≡ m = omega arith in
-    let b : suc (suc m) - 3 ≡ m - 1 = omega arith in
-    let p : (suc (suc m) - 2) * (suc (suc m) - 3) ≡ m * (m - 1) = ap₂ (λ (x y : ℕ). x * y) a b in
-    omega arith
+    let e : inner_count (suc (suc m)) ≡ m = omega arith in
+    subst (λ (z : ℕ). 2 * length (pairs_below (suc (suc m)) g) ≤ z * (z - 1)) (sym e) f
 
 -- so there are at most so many pairs of all ids that may be
 pub pairs_within_limit : PairsWithinLimit
 pairs_within_limit g n l =
-    let f : 2 * length (pairs_below n g) ≤ (n - 2) * (n - 3) = pairs_are_few g n in
-    let m : (n - 2) * (n - 3) ≤ 1022 * 1021 = mul-le (n - 2) (n - 3) 1022 1021 (omega arith) (omega arith) in
+    let f : 2 * length (pairs_below n g) ≤ inner_count n * (inner_count n - 1) = pairs_are_few g n in
+    let m : inner_count n * (inner_count n - 1) ≤ MAX_STEPS * (MAX_STEPS - 1) = mul-le (inner_count n) (inner_count n - 1) MAX_STEPS (MAX_STEPS - 1) (omega arith) (omega arith) in
     omega arith

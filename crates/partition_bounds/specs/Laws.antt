@@ -1,7 +1,7 @@
 -- Laws on how much there is: of pairs, of blocks, of ids in a path, and of splits.
 use Rattle.std.specs.Prelude.{◌≡◌, ◌↔◌, ℕ, ◌+◌, ◌*◌, ◌-◌, ◌<◌, ◌≤◌, true, List, ◌++◌, length, Contains}
 use Rattle.std.specs.List.{AllByRecursion}
-use Rattle.limits.specs.declared.TheConstants.{FIRST_TYPE, MAX_PARTITIONS}
+use Rattle.limits.specs.declared.TheConstants.{FIRST_TYPE, MAX_PARTITIONS, MAX_PAIRS}
 use Rattle.invariants.specs.declared.Invariant.{Invariant}
 use Rattle.invariants.specs.declared.records.Split.{Split}
 use Rattle.invariants.specs.declared.records.Merge.{Merge}
@@ -12,7 +12,7 @@ use Rattle.partition_model.specs.Listings.{AreBelow}
 use Rattle.partition_model.specs.Refinement.{SatisfiesAll, IsNextSplit, Splits, Refines}
 use Rattle.partition_model.specs.Coarsening.{merge, IsPair, Coarsens, IsBlock, AreBlocks}
 use Rattle.partition_model.specs.Laws.{AreTyped, HoldAll, PairsAscend, IsAmong, Passes}
-use Rattle.partition_bounds.specs.Pairs.{pairs_below, pairs_of}
+use Rattle.partition_bounds.specs.Pairs.{inner_count, longest_path, pairs_below, pairs_of}
 use Rattle.model_shape.specs.Numbers.{split_numbers}
 
 -- the listed ids are below the bound
@@ -41,11 +41,12 @@ PairsTell =
 
 -- of n ids two are ends, and the others have as many pairs as they have in all
 abbrev pub PairsAreFew : Type 0
-PairsAreFew = (g : Graph) (n : ℕ) → 2 * length (pairs_below n g) ≤ (n - 2) * (n - 3)
+PairsAreFew =
+    (g : Graph) (n : ℕ) → 2 * length (pairs_below n g) ≤ inner_count n * (inner_count n - 1)
 
 -- so at most so many of all ids that may be
 abbrev pub PairsWithinLimit : Type 0
-PairsWithinLimit = (g : Graph) (n : ℕ) → n ≤ MAX_PARTITIONS → length (pairs_below n g) ≤ 521731
+PairsWithinLimit = (g : Graph) (n : ℕ) → n ≤ MAX_PARTITIONS → length (pairs_below n g) ≤ MAX_PAIRS
 
 -- one pass over this list, without the pairs whose ids are gone, makes the whole run of coarsening
 abbrev pub PassCoarsens : Type 0
@@ -106,14 +107,14 @@ abbrev pub LeastWithinLimit : Type 0
 LeastWithinLimit =
     (g : Graph) (inv : Invariant) (path : List ℕ) (n : ℕ) → IsFormed g → IsBelow n g
     → n ≤ MAX_PARTITIONS
-    → IsLeastViolation g inv path → length path ≤ 3067
+    → IsLeastViolation g inv path → length path ≤ longest_path
 
 -- where the run of refinement keeps within the ids that may be, the paths of its splits have together at most so many numbers for each split
 abbrev pub SplitPathsWithinLimit : Type 0
 SplitPathsWithinLimit =
     (invs : List Invariant) (words : List (List ℕ)) (n : ℕ) (splits : List Split) (end : Assignment)
     → AreTyped words n → HoldAll words invs → n + length splits ≤ MAX_PARTITIONS
-    → Splits invs (by_type words) n splits end → split_numbers splits ≤ 3067 * length splits
+    → Splits invs (by_type words) n splits end → split_numbers splits ≤ longest_path * length splits
 
 -- the first splits of a run of refinement begin the whole run, and the rest of it goes on from where they lead
 abbrev pub SplitsBegin : Type 0

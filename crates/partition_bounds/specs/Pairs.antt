@@ -1,7 +1,7 @@
--- The pairs of partitions of one type, as a list.
-use Rattle.std.specs.Prelude.{ℕ, ◌==◌, ◌&&◌, Bool, nat_lt, List, map, filter}
+-- The pairs of partitions of one type, as a list, and how much there may be.
+use Rattle.std.specs.Prelude.{ℕ, ◌*◌, ◌-◌, ◌==◌, ◌&&◌, Bool, nat_lt, List, map, filter}
 use Rattle.std.specs.List.{flat_map}
-use Rattle.limits.specs.declared.TheConstants.{TERMINAL}
+use Rattle.limits.specs.declared.TheConstants.{TERMINAL, FIRST_TYPE, MAX_PARTITIONS}
 use Rattle.invariants.specs.declared.records.Merge.{Merge}
 use Rattle.invariants.specs.declared.records.Block.{Block}
 use Rattle.partition_model.specs.Graphs.{Graph}
@@ -26,3 +26,11 @@ pairs_below n g = flat_map (pairs_from n g) (ids_below n)
 -- the pairs of blocks
 abbrev pub pairs_of : List Block → List Merge
 pairs_of blocks = map (λ b. pair_of b.p b.q) blocks
+
+-- how many of n ids are beside the two ends
+abbrev pub inner_count : ℕ → ℕ
+inner_count n = n - FIRST_TYPE
+
+-- how many ids a least violation has at most: three times as many as there may be, less five
+abbrev pub longest_path : ℕ
+longest_path = 3 * MAX_PARTITIONS - 5
