@@ -171,18 +171,12 @@ one-merge (m ∷ ms) h (suc j) (suc k) a b = ap suc (one-merge ms (merge m.p m.q
 -- no two steps fail first
 pub one_first_step : OneFirstStep
 one_first_step m log step.Types step.Types a b = refl
-one_first_step m log step.Types (step.Split k) a b = absurd (a b.0)
-one_first_step m log step.Types (step.Merge k) a b = absurd (a b.0)
-one_first_step m log step.Types step.Graph a b = absurd (a b.0)
-one_first_step m log (step.Split j) step.Types a b = absurd (b a.0)
+one_first_step m log step.Types y a b = absurd (a b.0)
+one_first_step m log x step.Types a b = absurd (b a.0)
 one_first_step m log (step.Split j) (step.Split k) a b = ap (λ (x : ℕ). step.Split x) (one-split m m.splits (by_type log.words) (first_new log) j k a.1 b.1)
-one_first_step m log (step.Split j) (step.Merge k) a b = absurd (wrong-split m m.splits (by_type log.words) (first_new log) j a.1 b.1)
-one_first_step m log (step.Split j) step.Graph a b = absurd (wrong-split m m.splits (by_type log.words) (first_new log) j a.1 b.1)
-one_first_step m log (step.Merge j) step.Types a b = absurd (b a.0)
-one_first_step m log (step.Merge j) (step.Split k) a b = absurd (wrong-split m m.splits (by_type log.words) (first_new log) k b.1 a.1)
+one_first_step m log (step.Split j) y a b = absurd (wrong-split m m.splits (by_type log.words) (first_new log) j a.1 b.1)
+one_first_step m log x (step.Split k) a b = absurd (wrong-split m m.splits (by_type log.words) (first_new log) k b.1 a.1)
 one_first_step m log (step.Merge j) (step.Merge k) a b = ap (λ (x : ℕ). step.Merge x) (one-merge m.merges (refined_by m log) j k a.2 b.2)
 one_first_step m log (step.Merge j) step.Graph a b = absurd (wrong-merge m.merges (refined_by m log) j a.2 b.2)
-one_first_step m log step.Graph step.Types a b = absurd (b a.0)
-one_first_step m log step.Graph (step.Split k) a b = absurd (wrong-split m m.splits (by_type log.words) (first_new log) k b.1 a.1)
 one_first_step m log step.Graph (step.Merge k) a b = absurd (wrong-merge m.merges (refined_by m log) k b.2 a.2)
 one_first_step m log step.Graph step.Graph a b = refl

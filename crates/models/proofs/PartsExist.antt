@@ -33,14 +33,9 @@ use Rattle.model_shape.specs.Shapes.{listing_of, listed_type, is_listed}
 -- two kinds are the same or not
 kind-or-not : (a b : Kind) → OrNot (a ≡ b)
 kind-or-not AF AF = inl refl
-kind-or-not AF NF = inr (λ e. cc e)
-kind-or-not AF AP = inr (λ e. cc e)
-kind-or-not NF AF = inr (λ e. cc e)
 kind-or-not NF NF = inl refl
-kind-or-not NF AP = inr (λ e. cc e)
-kind-or-not AP AF = inr (λ e. cc e)
-kind-or-not AP NF = inr (λ e. cc e)
 kind-or-not AP AP = inl refl
+kind-or-not a b = inr (λ e. cc e)
 
 -- invariants of the same kind and types are the same
 same-invariant : (x y : Invariant) → x.kind ≡ y.kind → x.a ≡ y.a → x.b ≡ y.b → x ≡ y

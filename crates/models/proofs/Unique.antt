@@ -89,11 +89,9 @@ same-bit false false f g = refl
 bit-number : (m n : ℕ) → m < 2 → n < 2 → (m == 1) ≡ (n == 1) → m ≡ n
 bit-number zero zero k l e = refl
 bit-number zero (suc zero) k l e = cc
-bit-number zero (suc (suc n)) k l e = absurd (omega arith)
 bit-number (suc zero) zero k l e = cc
 bit-number (suc zero) (suc zero) k l e = refl
-bit-number (suc zero) (suc (suc n)) k l e = absurd (omega arith)
-bit-number (suc (suc m)) n k l e = absurd (omega arith)
+bit-number m n k l e = absurd (omega arith)
 
 -- labels with the same states are the same
 same-number : (d e : ℕ) → d ≤ 7 → e ≤ 7 → ((s : ℕ) → s < 3 → has_state d s ≡ has_state e s) → d ≡ e
