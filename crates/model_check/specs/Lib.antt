@@ -1,6 +1,5 @@
 pub mod Verdicts
 pub mod States
-pub mod Kept
 pub mod Rows
 pub mod Pairs
 pub mod InHand

@@ -1,6 +1,6 @@
 -- The rows of ids, and the graph that lies in them.
 use Rattle.std.specs.Prelude.{ℕ, ◌≡◌, ◌+◌, ◌<◌, ◌==◌, ◌&&◌, ◌||◌, nat_lt, Bool, true, false, List, [], ◌∷◌, length, slice_index}
-use Rattle.limits.specs.declared.TheConstants.{MAX_PARTITIONS}
+use Rattle.limits.specs.declared.TheConstants.{INITIAL, MAX_PARTITIONS}
 use Rattle.invariants.specs.declared.records.Partition.{Partition}
 use Rattle.invariants.specs.declared.records.Edge.{Edge}
 use Rattle.bit_rows.specs.Tables.{row_at, is_set, HasShape}
@@ -54,4 +54,4 @@ shown t =
 pub record IsLaid (types : List ℕ) (rows : List (List Bool)) : Type 0 where
   pub size : length types ≡ MAX_PARTITIONS
   pub shape : HasShape rows ROWS MAX_PARTITIONS
-  pub members : (x q : ℕ) → 0 < x → x < TYPES → bit rows (MEMBERS + x) q ≡ (slice_index types q == x)
+  pub members : (x q : ℕ) → INITIAL < x → x < TYPES → bit rows (MEMBERS + x) q ≡ (slice_index types q == x)

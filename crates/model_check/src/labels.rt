@@ -6,7 +6,6 @@ ghost use Rattle.invariants.specs.Monitors.{step, is_bad};
 ghost use Rattle.model_shape.specs.Shapes.{IsLabel, IsShapedListed, IsWellShaped};
 ghost use Rattle.models.specs.Checks.{IsFirstFailure};
 ghost use Rattle.models.specs.Models.{graph_of, has_state, label_at, IsLabelled};
-ghost use Rattle.model_check.specs.Kept.{AreSourcesOf};
 ghost use Rattle.model_check.specs.Rows.{shown, IsMarkable, AreApart, IsEdgeWithin};
 ghost use Rattle.model_check.specs.States.{AreRightEnds, LeadsWithin};
 
@@ -38,7 +37,6 @@ pub fn lay_labels(labels: &mut [u8], partitions: &[Partition], given: &[u8])
 
 /// Whether each edge leads each state in the label of its start to a state in that of its end.
 fn keep_along(sources: &Sources, graph: &ModelGraph, labels: &[u8], edges: &[Edge]) -> bool
-    requires sources { AreSourcesOf sources.now (sources.now).inv }
     requires size { length labels.now ≡ MAX_PARTITIONS }
     requires labels { All IsLabel labels.now }
     requires within { All IsEdgeWithin edges.now }

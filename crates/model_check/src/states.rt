@@ -90,14 +90,14 @@ pub struct Sources {
     inv: Invariant,
     by_a: [u8; SETS],
     by_b: [u8; SETS],
+    ghost first: { AreSources inv inv.a by_a },
+    ghost second: { AreSources inv inv.b by_b },
 }
 
 impl Sources {
-    ghost use Rattle.model_check.specs.Kept.{AreSourcesOf};
-
     /// The sources of the invariant's monitor.
     pub fn of(inv: Invariant) -> Sources
-        ensures { AreSourcesOf result inv }
+        ensures { result.inv ≡ inv }
     {
         Sources {
             inv,
@@ -108,8 +108,7 @@ impl Sources {
 
     /// The states from which the type leads into the set.
     pub fn leading_into(&self, set: u8, typ: u16) -> u8
-        requires sources { AreSourcesOf self.now (self.now).inv }
-        requires set { IsLabel set }
+        requires { IsLabel set }
         ensures set { IsLabel result }
         ensures states { IsSource (self.now).inv typ set result }
     {

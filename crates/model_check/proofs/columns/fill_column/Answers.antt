@@ -16,7 +16,7 @@ loop-partition-preserved c =
     let i : ℕ = c.loop-partition.partition-index in
     let x : Partition = get_or xs i (record { id = 0; typ = 0; count = 0 }) in
     let right : IsSource c.args.inv ((shown c.args.graph.now).typ x.id) (get_or c.args.labels.now x.id 0) c.leading_into-source.result = λ s u.
-    c.leading_into-source.ensures.states s u ∙ ap₂ (λ (v : Invariant) (t : ℕ). has_state (get_or c.args.labels.now x.id 0) (step v s t)) c.of-sources.ensures.same c.type_of.ensures in
+    c.leading_into-source.ensures.states s u ∙ ap₂ (λ (v : Invariant) (t : ℕ). has_state (get_or c.args.labels.now x.id 0) (step v s t)) c.of-sources.ensures c.type_of.ensures in
     record {
       filled = λ j d l.
           filled-more c.args.inv (shown c.args.graph.now) c.args.labels.now c.loop-partition.columns.labels.items c.loop-partition.columns.sources.items c.put.new.self.labels.items c.put.new.self.sources.items c.args.k x.id

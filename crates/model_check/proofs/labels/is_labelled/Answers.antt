@@ -32,7 +32,7 @@ returns-then-not-has_right_ends c =
 pub returns : goal.returns
 returns c =
     let d : After-has_right_ends = (goal.at.returns c).After-has_right_ends in
-    let inv : c.of.result.inv ≡ c.args.listed.now.inv = c.of.ensures.same in
+    let inv : c.of.result.inv ≡ c.args.listed.now.inv = c.of.ensures in
     let m = c.args.model.now in
     let g = shown c.args.graph.now in
     let labels : List ℕ = c.lay_labels.new.labels in (
