@@ -258,7 +258,8 @@ abbrev pub IdsWithinRests : Type 0
 IdsWithinRests =
     (invs : List Invariant) (words : List (List ℕ)) (n : ℕ) (splits : List Split) (end : Assignment)
     (names : List (List ℕ)) → AreTyped words n → HoldAll words invs
-    → Splits invs (by_type words) n splits end → NamesRests names end → n + length splits ≤ length names + FIRST_TYPE
+    → Splits invs (by_type words) n splits end → NamesRests names end
+    → n + length splits ≤ length names + FIRST_TYPE
 
 -- and fewer splits than events, where there is one
 abbrev pub FewerSplitsThanEvents : Type 0
