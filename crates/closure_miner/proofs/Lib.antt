@@ -1,4 +1,3 @@
 pub mod Bits
 pub mod Events
 pub mod Traces
-pub mod Turns

@@ -13,7 +13,7 @@ use Rattle.bit_rows.specs.Tables.{row_at, is_set, HasShape, both}
 use Rattle.closure_miner.specs.Standing.{on, word_with, Stands}
 use Rattle.closure_miner.proofs.Bits.{row-other, on-both}
 use Rattle.closure_miner.proofs.Events.{followed-word, never-word, preceded-word, first-word, one-more}
-use Rattle.closure_miner.proofs.Turns.{take-snoc}
+use Rattle.invariants.proofs.Fronts.{take-snoc}
 
 -- the word at the place of a trace has the events of this trace between the two ends
 word-at : (traces : List Trace) (t : ℕ) (events : List ℕ) → t < length traces → IfSome (slice_get traces t) (λ trace. events ≡ trace.events) → slice_get (map word_of traces) t ≡ Some (word_with events)

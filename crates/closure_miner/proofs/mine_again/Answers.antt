@@ -7,7 +7,7 @@ use Rattle.invariants.specs.Mined.{holds_of_all}
 use Rattle.invariants.proofs.CandidatePlaces.{candidate-shape}
 use Rattle.traces.specs.Words.{words_of}
 use Rattle.closure_miner.specs.Standing.{Stands}
-use Rattle.closure_miner.proofs.Turns.{kept, dropped, past, none-past}
+use Rattle.invariants.proofs.Fronts.{kept, dropped, past, none-past}
 use Rattle.closure_miner.proofs.mine_again.Goals as goal
 use Rattle.closure_miner.proofs.mine_again.Goals.{in-Some+then-has+in_ok-push, in-Some+else-has, in_default}
 

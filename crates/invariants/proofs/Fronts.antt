@@ -1,4 +1,4 @@
--- One more item of a list, by its place.
+-- Fronts of a list, one item longer at a time, and what passes of them.
 use Rattle.std.proofs.Common.{◌≡◌, ℕ, zero, suc, ◌+◌, ◌≤◌, Bool, true, false, List, [], ◌∷◌, ◌++◌, length, take, cond, Some, None, sym, ap, ◌∙◌, arith, add-one, append-nil, take_all}
 use Rattle.std.proofs.lemmas.Bool.{cond-true, cond-false}
 use Rattle.std.proofs.lemmas.List.Elements.{filter-append}
@@ -12,7 +12,7 @@ take-snoc (y ∷ xs) zero x at = ap (λ z. z ∷ []) (same_Some y x at)
 take-snoc (y ∷ xs) (suc i) x at = rw add-one (ap (λ zs. y ∷ zs) (sym (ap (λ n. take n xs) (add-one i)) ∙ take-snoc xs i x at))
 
 -- what passes of a front with one item more is what passed before, and the item where it passes
-pub filter-more : {X : Type 0} (p : X → Bool) (xs : List X) (i : ℕ) (x : X) → slice_get xs i ≡ Some x → filter p (take (i + 1) xs) ≡ filter p (take i xs) ++ cond (p x) (x ∷ []) []
+filter-more : {X : Type 0} (p : X → Bool) (xs : List X) (i : ℕ) (x : X) → slice_get xs i ≡ Some x → filter p (take (i + 1) xs) ≡ filter p (take i xs) ++ cond (p x) (x ∷ []) []
 filter-more p xs i x at = ap (filter p) (take-snoc xs i x at) ∙ filter-append p (take i xs) (x ∷ [])
 
 -- an item that passes comes behind those that passed before it
