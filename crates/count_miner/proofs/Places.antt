@@ -5,8 +5,6 @@ use Rattle.std.proofs.lemmas.Bool.Decides.{Decides-eqb}
 use Rattle.std.proofs.lemmas.List.{get_or-set_same, get_or-set_other}
 use Rattle.std.proofs.lemmas.List.Sums.{sum_by_more, sum_by-take-le}
 use Rattle.std.specs.List.{count_by}
-use Rattle.count_miner.specs.declared.seen.Seen.{Seen}
-use Rattle.count_miner.specs.Seen.{IsSeen}
 
 -- how often a place is listed
 abbrev pub times : ℕ → List ℕ → ℕ
@@ -21,7 +19,7 @@ pub times-le : (k : ℕ) (places : List ℕ) (i : ℕ) → times k (take i place
 times-le k places i = sum_by-take-le (λ p. cond (eqb p k) 1 0) places i
 
 -- what stands after a write at a place
-pub set-at : (xs : List ℕ) (p v k : ℕ) → p < length xs → get_or (set xs p v) k 0 ≡ cond (eqb p k) v (get_or xs k 0)
+set-at : (xs : List ℕ) (p v k : ℕ) → p < length xs → get_or (set xs p v) k 0 ≡ cond (eqb p k) v (get_or xs k 0)
 set-at xs p v k inside = ⊎_elim
     (λ (here : p ≡ k). ap (λ n. get_or (set xs p v) n 0) (sym here) ∙ (get_or-set_same xs p v 0 inside ∙ ap (λ t. cond t v (get_or xs k 0)) (sym ((Decides-eqb p k).1 here))))
     (λ (other : p ≢ k). get_or-set_other xs p k v 0 (λ same. other (sym same)) ∙ ap (λ t. cond t v (get_or xs k 0)) (sym (ne_eqb p k other)))
@@ -49,16 +47,3 @@ clear-more flags old places i k inside within so_far =
     set-at flags p 0 k within
     ∙ (ap (cond (eqb p k) 0) so_far
     ∙ (keeps (eqb p k) (times k (take i places)) (get_or old k 0) ∙ ap (λ n. cond (eqb n 0) (get_or old k 0) 0) (sym (times-more k places i inside))))
-
--- no flag is set, and no place is listed
-pub none-seen : (seen : Seen) (types : ℕ) → length seen.flags ≡ 128 → length seen.places ≡ 16 → types ≤ 128 → seen.most ≤ 16 → seen.listed ≡ 0 → ((k : ℕ) → k < types → get_or seen.flags k 0 ≡ 0) → IsSeen seen types
-none-seen seen types wide room few most none cleared = record {
-  wide = wide;
-  room = room;
-  few = few;
-  most = most;
-  fits = omega arith;
-  bits = λ k inside. omega (arith, cleared k inside);
-  within = λ i inside. absurd (omega arith);
-  listed = λ short k inside. cleared k inside ∙ ap (λ n. times k (take n seen.places)) (sym none);
-}

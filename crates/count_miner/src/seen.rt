@@ -1,7 +1,8 @@
 //! The types that were seen in a part of a trace.
-ghost use Rattle.std.specs.Prelude.{ℕ, ◌≡◌, ◌≤◌, ◌<◌, ◌+◌, ◌^◌, ◌==◌, length, slice_index, count_by, if◌then◌else◌};
+ghost use Rattle.std.specs.Prelude.{ℕ, ◌≡◌, ◌≤◌, ◌<◌, ◌+◌, ◌^◌, ◌==◌, length, take, slice_index, count_by, if◌then◌else◌};
 ghost use Rattle.limits.specs.declared.TheConstants.{MAX_TYPES};
-ghost use Rattle.count_miner.specs.Seen.{IsSeen, AddsFlags};
+ghost use Rattle.count_miner.specs.declared.seen.TheConstants.{MOST_PLACES};
+ghost use Rattle.count_miner.specs.Seen.{AddsFlags};
 
 use limits::MAX_TYPES;
 
@@ -15,6 +16,8 @@ const MOST_PLACES: usize = 16;
 /// places is less than work over all flags.
 #[derive(Drop)]
 pub struct Seen {
+    /// How many types there are.
+    pub types: usize,
     /// 1 at the place of each type that was seen, else 0.
     flags: [u32; FLAGS],
     /// The places of the flags that are 1, each once, as far as `listed`.
@@ -23,6 +26,14 @@ pub struct Seen {
     listed: usize,
     /// How many are listed at most; where so many are, the list may lack some.
     most: usize,
+    ghost few: { types ≤ MAX_TYPES },
+    ghost room: { most ≤ MOST_PLACES },
+    ghost fits: { listed ≤ most },
+    ghost bits: { (k : ℕ) → k < types → slice_index flags k ≤ 1 },
+    ghost within: { (i : ℕ) → i < listed → slice_index places i < types },
+    // Unless the list may lack some, a flag is the number of times that its place is listed.
+    ghost counted: { listed < most → (k : ℕ) → k < types
+        → slice_index flags k ≡ count_by (λ p. p == k) (take listed places) },
 }
 
 /// Sets the flag of each type to 0.
@@ -76,9 +87,10 @@ impl Seen {
     /// No type.
     pub fn new(types: usize) -> Seen
         requires { types ≤ MAX_TYPES }
-        ensures { IsSeen result types }
+        ensures { result.types ≡ types }
     {
         Seen {
+            types,
             flags: [0; FLAGS],
             places: [0; MOST_PLACES],
             listed: 0,
@@ -88,23 +100,23 @@ impl Seen {
     }
 
     /// Forgets each type.
-    pub fn forget(&mut self, types: usize)
-        requires { IsSeen self.old types }
-        ensures shape { IsSeen self.new types }
-        ensures cleared { (k : ℕ) → k < types → slice_index (self.new).flags k ≡ 0 }
+    pub fn forget(&mut self)
+        ensures types { (self.new).types ≡ (self.old).types }
+        ensures cleared { (k : ℕ) → k < (self.old).types → slice_index (self.new).flags k ≡ 0 }
     {
         if self.listed < self.most {
-            clear_places(&mut self.flags, &self.places[..self.listed]);
+            let places = self.places;
+            clear_places(&mut self.flags, &places[..self.listed]);
             self.listed = 0;
             return;
         }
-        clear(&mut self.flags, types);
+        clear(&mut self.flags, self.types);
         self.listed = 0;
     }
 
     /// Adds to each count, one for each type, the flag of its type.
     pub fn add_to(&self, counts: &mut [u32])
-        requires shape { IsSeen self.now (length counts.old) }
+        requires shape { (self.now).types ≡ length counts.old }
         requires room { (k : ℕ) → k < length counts.old
             → slice_index counts.old k + slice_index (self.now).flags k < 2 ^ 32 }
         ensures { AddsFlags counts.old (self.now).flags counts.new }
@@ -117,11 +129,10 @@ impl Seen {
     }
 
     /// Sees the type at a place.
-    pub fn note(&mut self, types: usize, place: usize)
-        requires shape { IsSeen self.old types }
-        requires within { place < types }
-        ensures shape { IsSeen self.new types }
-        ensures seen { (b : ℕ) → b < types → slice_index (self.new).flags b
+    pub fn note(&mut self, place: usize)
+        requires within { place < (self.old).types }
+        ensures types { (self.new).types ≡ (self.old).types }
+        ensures seen { (b : ℕ) → b < (self.old).types → slice_index (self.new).flags b
             ≡ (if place == b then 1 else slice_index (self.old).flags b) }
     {
         if self.flags[place] != 0 {

@@ -10,7 +10,7 @@ returns-clause-seen c = λ b in_b.
 
 pub returns-clause-counted : goal.returns-clause-counted
 returns-clause-counted c = λ a b in_a in_b.
-    let types = c.args.types in
+    let types = c.args.seen.now.types in
     let r = c.args.x - 2 in
     let size = (r + 1) * types - r * types in
     let in_r : r < types = omega (arith, c.requires.number.0, c.requires.number.1) in

@@ -1,7 +1,13 @@
-use Rattle.std.proofs.Common.{refl, arith}
+use Rattle.std.proofs.Common.{ℕ, arith}
 use Rattle.std.proofs.lemmas.List.{get_or-replicate}
-use Rattle.count_miner.proofs.Places.{none-seen}
 use Rattle.count_miner.proofs.seen.Seen.new.Goals as goal
 
-pub returns : goal.returns
-returns c = none-seen _ c.args.types refl refl c.requires (omega arith) refl (λ k inside. get_or-replicate 128 k 0 0 (omega arith))
+pub invariant_of-result : goal.invariant_of-result
+invariant_of-result c = record {
+  few = c.requires;
+  room = omega arith;
+  fits = omega arith;
+  bits = λ k inside. omega (arith, get_or-replicate {A = ℕ} 128 k 0 0 (omega arith));
+  within = λ i inside. absurd (omega arith);
+  counted = λ short k inside. get_or-replicate 128 k 0 0 (omega arith);
+}
