@@ -40,7 +40,7 @@ pub row-other : (old new : List (List Bool)) (r q : ℕ) (row : List Bool) → n
 row-other old new r q row is other = ap (λ t. row_at t q) is ∙ get_or-set_other old r q row [] other
 
 -- the row that is written is what was written
-pub row-same : (old new : List (List Bool)) (r : ℕ) (row : List Bool) → new ≡ set old r row → r < length old → row_at new r ≡ row
+row-same : (old new : List (List Bool)) (r : ℕ) (row : List Bool) → new ≡ set old r row → r < length old → row_at new r ≡ row
 row-same old new r row is within = ap (λ t. row_at t r) is ∙ get_or-set_same old r row [] within
 
 -- where a row keeps only what another has too, no other row changes
@@ -54,7 +54,7 @@ on-both old new r s q i is within long = elim (cases_eq q r) [
 ]
 
 -- where a row loses what another has, no other row changes
-pub on-without : (old new : List (List Bool)) (r s q i : ℕ) → new ≡ set old r (without (row_at old r) (row_at old s)) → r < length old → length (row_at old r) ≡ length (row_at old s)
+on-without : (old new : List (List Bool)) (r s q i : ℕ) → new ≡ set old r (without (row_at old r) (row_at old s)) → r < length old → length (row_at old r) ≡ length (row_at old s)
     → on new q i ≡ (on old q i && not (eqb q r && on old s i))
 on-without old new r s q i is within long = elim (cases_eq q r) [
   | inl same ↦
@@ -64,7 +64,7 @@ on-without old new r s q i is within long = elim (cases_eq q r) [
 ]
 
 -- where a bit is turned on, no other bit changes
-pub on-put : (old new : List (List Bool)) (r p q i : ℕ) → new ≡ set old r (set (row_at old r) p true) → r < length old → p < length (row_at old r)
+on-put : (old new : List (List Bool)) (r p q i : ℕ) → new ≡ set old r (set (row_at old r) p true) → r < length old → p < length (row_at old r)
     → on new q i ≡ (eqb q r && eqb i p || on old q i)
 on-put old new r p q i is within inside = elim (cases_eq q r) [
   | inl same ↦
@@ -82,14 +82,14 @@ on-put old new r p q i is within inside = elim (cases_eq q r) [
 ]
 
 -- the test of a place is the test of its type
-pub place-test : (x p b : ℕ) → x ≡ p + 2 → eqb b p ≡ eqb x (b + 2)
+place-test : (x p b : ℕ) → x ≡ p + 2 → eqb b p ≡ eqb x (b + 2)
 place-test x p b is = elim (cases_eq b p) [
   | inl same ↦ eq-eqb b p same ∙ sym (eq-eqb x (b + 2) (omega arith))
   | inr other ↦ ne_eqb b p other ∙ sym (ne_eqb x (b + 2) (λ e. other (omega arith)))
 ]
 
 -- the test of a row in a block of rows is the test of its type
-pub block-test : (x p b t : ℕ) → x ≡ p + 2 → eqb (t + b) (t + p) ≡ eqb x (b + 2)
+block-test : (x p b t : ℕ) → x ≡ p + 2 → eqb (t + b) (t + p) ≡ eqb x (b + 2)
 block-test x p b t is = elim (cases_eq b p) [
   | inl same ↦ eq-eqb (t + b) (t + p) (omega arith) ∙ sym (eq-eqb x (b + 2) (omega arith))
   | inr other ↦ ne_eqb (t + b) (t + p) (λ e. other (omega arith)) ∙ sym (ne_eqb x (b + 2) (λ e. other (omega arith)))

@@ -1,10 +1,11 @@
-//! The invariants that hold of every trace, mined once more: by the sets of the types that come later and earlier,
-//! and not by counts.
+//! The invariants that hold of every trace, mined once more: by the sets of the types that come
+//! later and earlier, and not by counts.
 //!
-//! A candidate stands until a trace breaks it. Each trace is read once from its end, with the set of the types that come
-//! later, and once from its start, with the set of those that came earlier; an event strikes out of its type's sets what
-//! the set at hand denies. An event of a type that came before, where the set is as it was then, strikes out nothing more.
-//! So the work is at most the events times the types over 64, and in long traces little more than a look at each event.
+//! A candidate stands until a trace breaks it. Each trace is read once from its end, with the set
+//! of the types that come later, and once from its start, with the set of those that came earlier;
+//! an event strikes out of its type's sets what the set at hand denies. An event of a type that
+//! came before, where the set is as it was then, strikes out nothing more. So the work is at most
+//! the events times the types over 64, and in long traces little more than a look at each event.
 #![tactic(auto)]
 
 ghost use Rattle.std.specs.Prelude.{◌≡◌, ◌≤◌, length, IfOk};
@@ -36,8 +37,8 @@ fn standing_after(alloc: Global, traces: &TraceSet, types: usize) -> Result<Stan
     Ok(standing)
 }
 
-/// The invariants that hold of every trace, in the order of the candidates. `AllocError` comes where there is not enough
-/// memory for them or for the sets.
+/// The invariants that hold of every trace, in the order of the candidates. `AllocError` comes where
+/// there is not enough memory for them or for the sets.
 pub fn mine_again(alloc: Global, traces: &TraceSet) -> Result<Seq<Invariant>, AllocError>
     ensures { IfOk result (λ list. list ≡ mined (length (traces.now).types) (words_of traces.now)) }
 {

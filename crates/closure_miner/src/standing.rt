@@ -6,7 +6,7 @@ ghost use Rattle.invariants.specs.Holds.{occurs, always_followed, never_followed
 ghost use Rattle.invariants.specs.Mined.{holds_of_all};
 ghost use Rattle.traces.specs.Kept.{IsTypeNumber};
 ghost use Rattle.bit_rows.specs.Tables.{row_at, HasShape};
-ghost use Rattle.closure_miner.specs.Standing.{on, word_with, AllOn, ArePreceded, AreSettled, Stands};
+ghost use Rattle.closure_miner.specs.Standing.{on, seen_row, word_with, AllOn, ArePreceded, AreSettled, Stands};
 
 use bit_rows::Rows;
 use invariants::{Invariant, Kind};
@@ -18,9 +18,9 @@ const TYPES: usize = MAX_TYPES as usize;
 
 /// The candidates that still stand: those that hold of every trace that was read. Each has a bit.
 ///
-/// With T types, and `a` and `b` the places of two of them, AF(a, b) is bit b of row a, NF(a, b) bit b of row T + a,
-/// AP(a, b) bit a of row 2 T + b, and AF(INITIAL, b) bit b of row 3 T. The last row is for the types that were seen in a
-/// part of a trace.
+/// With T types, and `a` and `b` the places of two of them, AF(a, b) is bit b of row a, NF(a, b)
+/// bit b of row T + a, AP(a, b) bit a of row 2 T + b, and AF(INITIAL, b) bit b of row 3 T. The last
+/// row is for the types that were seen in a part of a trace.
 #[derive(Drop)]
 pub struct Standing {
     types: usize,
@@ -79,35 +79,35 @@ impl Standing {
     fn forget(&mut self)
         ensures types { (self.new).types ≡ (self.old).types }
         ensures seen { (b : ℕ) → b < (self.old).types
-            → on (self.new).rows (3 * (self.old).types + 1) b ≡ false }
-        ensures others { (r : ℕ) → r < 3 * (self.old).types + 1
+            → on (self.new).rows (seen_row (self.old).types) b ≡ false }
+        ensures others { (r : ℕ) → r < seen_row (self.old).types
             → row_at (self.new).rows r ≡ row_at (self.old).rows r }
     {
         self.rows.clear(3 * self.types + 1);
     }
 
-    /// Strikes out what an event breaks that stands before the types that were seen, of which its own is one
-    /// from then on.
+    /// Strikes out what an event breaks that stands before the types that were seen, of which its
+    /// own is one from then on.
     fn strike_earlier(&mut self, x: u16)
         requires number { IsTypeNumber (self.old).types x }
         ensures types { (self.new).types ≡ (self.old).types }
 
         // The type of the event is among those that were seen.
         ensures seen { (b : ℕ) → b < (self.old).types
-            → on (self.new).rows (3 * (self.old).types + 1) b
-            ≡ (x == b + FIRST_TYPE || on (self.old).rows (3 * (self.old).types + 1) b) }
+            → on (self.new).rows (seen_row (self.old).types) b
+            ≡ (x == b + FIRST_TYPE || on (self.old).rows (seen_row (self.old).types) b) }
 
         // Which pairs of a type and what follows it, always or never, still stand.
         ensures followed { (a b : ℕ) → a < (self.old).types → b < (self.old).types
             → on (self.new).rows a b ≡ (on (self.old).rows a b
-            && (not (x == a + FIRST_TYPE) || on (self.old).rows (3 * (self.old).types + 1) b)) }
+            && (not (x == a + FIRST_TYPE) || on (self.old).rows (seen_row (self.old).types) b)) }
         ensures never { (a b : ℕ) → a < (self.old).types → b < (self.old).types
             → on (self.new).rows ((self.old).types + a) b
             ≡ (on (self.old).rows ((self.old).types + a) b
-            && not (x == a + FIRST_TYPE && on (self.old).rows (3 * (self.old).types + 1) b)) }
+            && not (x == a + FIRST_TYPE && on (self.old).rows (seen_row (self.old).types) b)) }
 
         // All other rows stay.
-        ensures others { (r : ℕ) → 2 * (self.old).types ≤ r → r < 3 * (self.old).types + 1
+        ensures others { (r : ℕ) → 2 * (self.old).types ≤ r → r < seen_row (self.old).types
             → row_at (self.new).rows r ≡ row_at (self.old).rows r }
     {
         let place = place_of(x);
@@ -117,8 +117,8 @@ impl Standing {
         self.rows.put(seen, place, true);
     }
 
-    /// The same as `strike_earlier`. It has nothing to do where the type is settled: where the types that were seen are those
-    /// of its last event.
+    /// The same as `strike_earlier`. It has nothing to do where the type is settled: where the types
+    /// that were seen are those of its last event.
     fn read_earlier(&mut self, settled: &mut [bool; TYPES], x: u16)
         requires number { IsTypeNumber (self.old).types x }
         requires settled { AreSettled (self.old).types (self.old).rows settled.old }
@@ -126,16 +126,16 @@ impl Standing {
         // What `strike_earlier` leaves, whether it is called or not.
         ensures types { (self.new).types ≡ (self.old).types }
         ensures seen { (b : ℕ) → b < (self.old).types
-            → on (self.new).rows (3 * (self.old).types + 1) b
-            ≡ (x == b + FIRST_TYPE || on (self.old).rows (3 * (self.old).types + 1) b) }
+            → on (self.new).rows (seen_row (self.old).types) b
+            ≡ (x == b + FIRST_TYPE || on (self.old).rows (seen_row (self.old).types) b) }
         ensures followed { (a b : ℕ) → a < (self.old).types → b < (self.old).types
             → on (self.new).rows a b ≡ (on (self.old).rows a b
-            && (not (x == a + FIRST_TYPE) || on (self.old).rows (3 * (self.old).types + 1) b)) }
+            && (not (x == a + FIRST_TYPE) || on (self.old).rows (seen_row (self.old).types) b)) }
         ensures never { (a b : ℕ) → a < (self.old).types → b < (self.old).types
             → on (self.new).rows ((self.old).types + a) b
             ≡ (on (self.old).rows ((self.old).types + a) b
-            && not (x == a + FIRST_TYPE && on (self.old).rows (3 * (self.old).types + 1) b)) }
-        ensures others { (r : ℕ) → 2 * (self.old).types ≤ r → r < 3 * (self.old).types + 1
+            && not (x == a + FIRST_TYPE && on (self.old).rows (seen_row (self.old).types) b)) }
+        ensures others { (r : ℕ) → 2 * (self.old).types ≤ r → r < seen_row (self.old).types
             → row_at (self.new).rows r ≡ row_at (self.old).rows r }
 
         // The types that are settled when the next event is read.
@@ -154,22 +154,22 @@ impl Standing {
         }
     }
 
-    /// Strikes out what an event breaks that stands behind the types that were seen, of which its own is one
-    /// from then on.
+    /// Strikes out what an event breaks that stands behind the types that were seen, of which its
+    /// own is one from then on.
     fn strike_later(&mut self, x: u16)
         requires number { IsTypeNumber (self.old).types x }
         ensures types { (self.new).types ≡ (self.old).types }
 
         // The type of the event is among those that were seen.
         ensures seen { (a : ℕ) → a < (self.old).types
-            → on (self.new).rows (3 * (self.old).types + 1) a
-            ≡ (x == a + FIRST_TYPE || on (self.old).rows (3 * (self.old).types + 1) a) }
+            → on (self.new).rows (seen_row (self.old).types) a
+            ≡ (x == a + FIRST_TYPE || on (self.old).rows (seen_row (self.old).types) a) }
 
         // Which pairs of a type and what precedes it still stand.
         ensures preceded { (a b : ℕ) → a < (self.old).types → b < (self.old).types
             → on (self.new).rows (2 * (self.old).types + b) a
             ≡ (on (self.old).rows (2 * (self.old).types + b) a
-            && (not (x == b + FIRST_TYPE) || on (self.old).rows (3 * (self.old).types + 1) a)) }
+            && (not (x == b + FIRST_TYPE) || on (self.old).rows (seen_row (self.old).types) a)) }
 
         // All other rows stay.
         ensures before { (r : ℕ) → r < 2 * (self.old).types
@@ -191,12 +191,12 @@ impl Standing {
         // What `strike_later` leaves, whether it is called or not.
         ensures types { (self.new).types ≡ (self.old).types }
         ensures seen { (a : ℕ) → a < (self.old).types
-            → on (self.new).rows (3 * (self.old).types + 1) a
-            ≡ (x == a + FIRST_TYPE || on (self.old).rows (3 * (self.old).types + 1) a) }
+            → on (self.new).rows (seen_row (self.old).types) a
+            ≡ (x == a + FIRST_TYPE || on (self.old).rows (seen_row (self.old).types) a) }
         ensures preceded { (a b : ℕ) → a < (self.old).types → b < (self.old).types
             → on (self.new).rows (2 * (self.old).types + b) a
             ≡ (on (self.old).rows (2 * (self.old).types + b) a
-            && (not (x == b + FIRST_TYPE) || on (self.old).rows (3 * (self.old).types + 1) a)) }
+            && (not (x == b + FIRST_TYPE) || on (self.old).rows (seen_row (self.old).types) a)) }
         ensures before { (r : ℕ) → r < 2 * (self.old).types
             → row_at (self.new).rows r ≡ row_at (self.old).rows r }
         ensures behind { row_at (self.new).rows (3 * (self.old).types)
@@ -217,7 +217,8 @@ impl Standing {
 
         // The types that were seen are those of the events.
         ensures seen { (b : ℕ) → b < (self.old).types
-            → on (self.new).rows (3 * (self.old).types + 1) b ≡ occurs (b + FIRST_TYPE) events.now }
+            → on (self.new).rows (seen_row (self.old).types) b
+            ≡ occurs (b + FIRST_TYPE) events.now }
 
         // Which pairs of a type and what follows it, always or never, still stand.
         ensures followed { (a b : ℕ) → a < (self.old).types → b < (self.old).types
@@ -229,7 +230,7 @@ impl Standing {
             && never_followed (a + FIRST_TYPE) (b + FIRST_TYPE) events.now) }
 
         // All other rows stay.
-        ensures others { (r : ℕ) → 2 * (self.old).types ≤ r → r < 3 * (self.old).types + 1
+        ensures others { (r : ℕ) → 2 * (self.old).types ≤ r → r < seen_row (self.old).types
             → row_at (self.new).rows r ≡ row_at (self.old).rows r }
     {
         self.forget();
