@@ -15,7 +15,7 @@ ghost use Rattle.coarsener.specs.Blocking.{pair_count, paths_of, EndsWithoutRoom
 
 use crate::pairs::{Pair, next_pair};
 use cell_pool::{RunLog, Spans};
-use invariants::Invariant;
+use invariants::{Invariant, Merge};
 use labelling::Planes;
 use limits::MAX_PATH_NUMBERS;
 use partition_graph::{PartGraph, View};
@@ -118,7 +118,11 @@ pub fn blocks<L: Ledger>(
             unreachable!()
         };
         let known = is_satisfied(bad, k);
-        let Some(path) = finder.least_loss(graph, pair.p, pair.q, invs[k], known, steps) else {
+        let merge = Merge {
+            p: pair.p,
+            q: pair.q,
+        };
+        let Some(path) = finder.least_loss(graph, merge, invs[k], known, steps) else {
             unreachable!()
         };
         let Some(path) = spans.push(path) else {

@@ -15,7 +15,7 @@ use crate::reach::Around;
 use crate::search::measure;
 use crate::table::{MAX_ENTRIES, OPEN, Table};
 use crate::trace::trace;
-use invariants::{Invariant, Kind, Monitor};
+use invariants::{Invariant, Kind, Merge, Monitor};
 use limits::{INITIAL, MAX_PARTITIONS};
 use partition_graph::{PartGraph, View};
 use std::alloc::{AllocError, Global};
@@ -119,7 +119,7 @@ impl Finder {
         Some(&self.path)
     }
 
-    /// The least violation in the graph as it would be after `merge(p, q)`, which has two partitions of one type in it,
+    /// The least violation in the graph as it would be after the merge, which is of two partitions of one type,
     /// or `None` where that graph satisfies the invariant: the answer of `least_violation` for the merged view. Where the
     /// graph as it is is known to satisfy the invariant, a path that breaks it goes through the merged partition, and
     /// only ids before and behind that one are looked at.
@@ -128,30 +128,30 @@ impl Finder {
     pub fn least_loss<L: Ledger>(
         &mut self,
         graph: &PartGraph,
-        p: u32,
-        q: u32,
+        merge: Merge,
         inv: Invariant,
         satisfied: bool,
         steps: &mut Steps<L>,
     ) -> Option<&[u32]>
-        requires pair { IsPair (G (graph.now).traces) p q }
+        requires pair { IsPair (G (graph.now).traces) merge.p merge.q }
         requires known { satisfied ≡ true → Satisfies (G (graph.now).traces) inv }
 
         // What the path is, where there is one.
         ensures found { MatchOption result
-            (Satisfies (merged_graph (G (graph.now).traces) p q) inv)
-            (λ path. IsLeastViolation (merged_graph (G (graph.now).traces) p q) inv path.now) }
+            (Satisfies (merged_graph (G (graph.now).traces) merge.p merge.q) inv)
+            (λ path. IsLeastViolation
+            (merged_graph (G (graph.now).traces) merge.p merge.q) inv path.now) }
         ensures short { IfSome result (λ path. length path.now ≤ 3 * MAX_PARTITIONS + 1) }
 
         // How many steps are counted.
         ensures counted { steps.new ≡ steps.old + 1 }
     {
         if !satisfied {
-            return self.least_violation(&View::Merged(graph, p, q), inv, steps);
+            return self.least_violation(&View::Merged(graph, merge.p, merge.q), inv, steps);
         }
         prove!(graph.ids_used() <= MAX_PARTITIONS);
-        let view = View::Merged(graph, p, q);
-        self.around.find(&view, p);
+        let view = View::Merged(graph, merge.p, merge.q);
+        self.around.find(&view, merge.p);
         let question = Question::new(&view, inv, &self.around);
         if !search(&question, &mut self.table, &mut self.path, steps) {
             return None;

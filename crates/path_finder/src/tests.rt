@@ -5,7 +5,7 @@ ghost use Rattle.partition_model.specs.Assignments.{G};
 ghost use Rattle.partition_model.specs.Coarsening.{IsPair};
 
 use crate::Finder;
-use invariants::{Invariant, Kind, candidate, candidate_count};
+use invariants::{Invariant, Kind, Merge, candidate, candidate_count};
 use limits::{FIRST_TYPE, MAX_PARTITIONS, MAX_TYPE_BYTES, TERMINAL};
 use partition_graph::{PartGraph, View};
 use std::alloc::Global;
@@ -72,18 +72,17 @@ fn ask_loss<L: Ledger>(
     alloc: Global,
     finder: &mut Finder,
     graph: &PartGraph,
-    p: u32,
-    q: u32,
+    merge: Merge,
     inv: Invariant,
     blank: Blank,
 ) -> Result<Vec<u32>, Fail>
-    requires pair { IsPair (G (graph.now).traces) p q }
+    requires pair { IsPair (G (graph.now).traces) merge.p merge.q }
     requires name { blank.name ≡ L.name }
     requires parts { blank.parts ≡ L.parts }
     requires stands { 0 < blank.parts }
 {
     let mut steps = Steps::<L>::open(blank);
-    match finder.least_loss(graph, p, q, inv, false, &mut steps) {
+    match finder.least_loss(graph, merge, inv, false, &mut steps) {
         Some(path) => Ok(path.to_vec(alloc)?),
         None => Ok(Vec::new(alloc)),
     }
@@ -311,14 +310,13 @@ fn find_loss(
     alloc: Global,
     finder: &mut Finder,
     graph: &PartGraph,
-    p: u32,
-    q: u32,
+    merge: Merge,
     inv: Invariant,
 ) -> Result<Vec<u32>, Fail> {
-    if !is_pair(graph, p, q) {
+    if !is_pair(graph, merge.p, merge.q) {
         return Ok(Vec::new(alloc));
     }
-    ask_loss::<Brand>(alloc, finder, graph, p, q, inv, Blank::new(1))
+    ask_loss::<Brand>(alloc, finder, graph, merge, inv, Blank::new(1))
 }
 
 /// A random graph of two types in which some partitions were divided.
@@ -338,15 +336,14 @@ fn assert_losses(
     rt: &impl Abort,
     alloc: Global,
     before: &PartGraph,
-    p: u32,
-    q: u32,
+    merge: Merge,
     after: &PartGraph,
 ) -> Result<u32, Fail> {
     let mut finder = Finder::make(alloc)?;
     let mut losses = 0u32;
     for index in 0..candidate_count(2) {
         if let Some(inv) = candidate(2, index) {
-            let found = find_loss(alloc, &mut finder, before, p, q, inv)?;
+            let found = find_loss(alloc, &mut finder, before, merge, inv)?;
             let wanted = find(alloc, &mut finder, after, inv)?;
             losses = losses.wrapping_add(u32::from(!found.is_empty()));
             assert_eq!(rt; found, wanted);
@@ -367,7 +364,8 @@ fn merges_answer_as_merged_graphs(rt: HostRuntime) -> Result<(), Fail> {
         let mut after = divided_graph(alloc, seed)?;
         if is_pair(&before, p, q) {
             merge(&mut after, p, q);
-            losses = losses.wrapping_add(assert_losses(&rt, alloc, &before, p, q, &after)?);
+            let found = assert_losses(&rt, alloc, &before, Merge { p, q }, &after)?;
+            losses = losses.wrapping_add(found);
         }
     }
     assert!(rt; losses > 10);

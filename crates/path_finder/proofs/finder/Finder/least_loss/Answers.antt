@@ -8,14 +8,14 @@ use Rattle.path_finder.proofs.finder.Finder.least_loss.Goals as goal
 
 pub find-requires-clause-id : goal.find-requires-clause-id
 find-requires-clause-id g c =
-    let l : c.args.p < c.ids_used.result = live_below (c.args.graph.now.traces) c.ids_used.result c.args.p c.requires.pair.low c.ids_used.ensures.below c.requires.pair.has_p in
+    let l : c.args.merge.p < c.ids_used.result = live_below (c.args.graph.now.traces) c.ids_used.result c.args.merge.p c.requires.pair.low c.ids_used.ensures.below c.requires.pair.has_p in
     omega (arith, l, c.ids_used.ensures.limit)
 
 pub returns-then-not-search : goal.returns-then-not-search
 returns-then-not-search g c =
-    let m : Graph = Merged (G c.args.graph.now.traces) c.args.p c.args.q in
+    let m : Graph = Merged (G c.args.graph.now.traces) c.args.merge.p c.args.merge.q in
     let k : KeepsViolations (is_around c.find.new.self) m c.args.inv =
-    loss_keeps (is_around c.find.new.self) (G c.args.graph.now.traces) c.args.p c.args.q c.args.inv (around_keeps c.find.new.self m (λ u. u == c.args.p) c.find.ensures.ahead c.find.ensures.behind) (c.requires.known c.if-not-satisfied.false) in
+    loss_keeps (is_around c.find.new.self) (G c.args.graph.now.traces) c.args.merge.p c.args.merge.q c.args.inv (around_keeps c.find.new.self m (λ u. u == c.args.merge.p) c.find.ensures.ahead c.find.ensures.behind) (c.requires.known c.if-not-satisfied.false) in
     record {
       found = narrowed_satisfies (is_around c.find.new.self) m c.args.inv k
           (subst₂ (λ (x : Graph) (i : Invariant). Satisfies x i) c.new-question.ensures.graph c.new-question.ensures.inv (c.if-not-search.ensures.satisfied refl));
@@ -25,9 +25,9 @@ returns-then-not-search g c =
 
 pub returns : goal.returns
 returns g c =
-    let m : Graph = Merged (G c.args.graph.now.traces) c.args.p c.args.q in
+    let m : Graph = Merged (G c.args.graph.now.traces) c.args.merge.p c.args.merge.q in
     let k : KeepsViolations (is_around c.find.new.self) m c.args.inv =
-    loss_keeps (is_around c.find.new.self) (G c.args.graph.now.traces) c.args.p c.args.q c.args.inv (around_keeps c.find.new.self m (λ u. u == c.args.p) c.find.ensures.ahead c.find.ensures.behind) (c.requires.known c.if-not-satisfied.false) in
+    loss_keeps (is_around c.find.new.self) (G c.args.graph.now.traces) c.args.merge.p c.args.merge.q c.args.inv (around_keeps c.find.new.self m (λ u. u == c.args.merge.p) c.find.ensures.ahead c.find.ensures.behind) (c.requires.known c.if-not-satisfied.false) in
     record {
       found = subst (λ (p : List ℕ). IsLeastViolation m c.args.inv p) (sym c.deref.ensures.value)
           (narrowed_least (is_around c.find.new.self) m c.args.inv c.search.new.path.items k
