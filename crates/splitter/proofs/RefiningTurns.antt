@@ -68,7 +68,8 @@ before_more g invs k inv e b s j i m f = go (cases_lt j k)
         let y : inv ≡ i = cc in
         subst (λ (z : Invariant). Satisfies g z) y s
 
-all_at : (g : Graph) (invs : List Invariant) (k : ℕ) (inv : Invariant) → slice_get invs k ≡ Some inv → SatisfiesAll g invs → Satisfies g inv
+-- an invariant of a list that is satisfied, by its number
+pub all_at : (g : Graph) (invs : List Invariant) (k : ℕ) (inv : Invariant) → slice_get invs k ≡ Some inv → SatisfiesAll g invs → Satisfies g inv
 all_at g [] k inv e a = absurd (cc e)
 all_at g (i ∷ invs) zero inv e a = let q : i ≡ inv = cc in subst (λ (z : Invariant). Satisfies g z) q a.0
 all_at g (i ∷ invs) (suc k) inv e a = all_at g invs k inv e a.1
