@@ -38,7 +38,7 @@ use Rattle.coarsener.proofs.Deciding.{none}
 use Rattle.coarsener.proofs.Remaining.{Remain, remain-start, remain-next, remain-none, remain-some}
 
 -- one more at the end
-all-push : {X : Type 0} (P : X → Type 0) (xs : List X) (x : X) → AllByRecursion P xs → P x → AllByRecursion P (xs ++ x ∷ [])
+pub all-push : {X : Type 0} (P : X → Type 0) (xs : List X) (x : X) → AllByRecursion P xs → P x → AllByRecursion P (xs ++ x ∷ [])
 all-push P [] x a p = (p, tt)
 all-push P (y ∷ xs) x a p = (a.0, all-push P xs x a.1 p)
 
@@ -116,7 +116,8 @@ held-more p q k path span log spans spans' held push =
 paths-more : (bs : List Block) (b : Block) → paths_of (bs ++ b ∷ []) ≡ paths_of bs ++ b.path
 paths-more bs b = flat_map-append (λ (x : Block). x.path) bs (b ∷ []) ∙ ap (λ (ns : List ℕ). paths_of bs ++ ns) (append-none b.path)
 
-pairs-more : (bs : List Block) (b : Block) (more : List Merge) → pairs_of (bs ++ b ∷ []) ++ more ≡ pairs_of bs ++ pair_of b.p b.q ∷ more
+-- the pairs of blocks with one more
+pub pairs-more : (bs : List Block) (b : Block) (more : List Merge) → pairs_of (bs ++ b ∷ []) ++ more ≡ pairs_of bs ++ pair_of b.p b.q ∷ more
 pairs-more [] b more = refl
 pairs-more (x ∷ bs) b more = ap (λ (ms : List Merge). pair_of x.p x.q ∷ ms) (pairs-more bs b more)
 

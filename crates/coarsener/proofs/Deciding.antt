@@ -10,19 +10,14 @@ use Rattle.partition_model.specs.Assignments.{Assignment, G, IsTyped}
 use Rattle.partition_model.specs.Refinement.{SatisfiesAll, IsFirstBroken}
 use Rattle.partition_model.specs.Coarsening.{merge, IsPair}
 use Rattle.partition_model.specs.Laws.{SatisfiesBefore}
-use Rattle.partition_model.proofs.Lists.{all_in}
 use Rattle.partition_model.proofs.Merging.{merged_keeps}
 use Rattle.partition_model.proofs.OnePass.{all_numbers}
 use Rattle.partition_model.proofs.Runs.{broken, broken-first}
-use Rattle.partition_bounds.proofs.Ordered.{get-In}
 use Rattle.partition_bounds.proofs.Blocks.{merge_satisfies}
 use Rattle.clashes.specs.Marks.{Marks, AreMarksOf, has_clash, NoClash, IsFirstClash}
 use Rattle.clashes.proofs.Telling.{clashes_tell}
+use Rattle.splitter.proofs.RefiningTurns.{all_at}
 use Rattle.coarsener.specs.Deciding.{IsFirstLost}
-
--- an invariant of a list that is satisfied, by its number
-pub all-at : (g : Graph) (invs : List Invariant) (k : ℕ) (inv : Invariant) → SatisfiesAll g invs → slice_get invs k ≡ Some inv → Satisfies g inv
-all-at g invs k inv a e = all_in (λ i. Satisfies g i) inv invs a (get-In invs k inv e)
 
 -- the invariants before the first that is broken are satisfied
 pub satisfied-before : (g : Graph) (invs : List Invariant) (k : ℕ) → IsFirstBroken g invs k → SatisfiesBefore g invs k
@@ -53,7 +48,7 @@ lost-at m h p q t k inv e s c sat = true≢false (sym c ∙ (clashes_tell m h p 
 kept-all : (m : Marks) (h : Assignment) (p q : ℕ) → IsTold m h p q → SatisfiesAll (G h) m.invs → NoClash m p q → SatisfiesAll (Merged (G h) p q) m.invs
 kept-all m h p q t s n =
     all_numbers (Merged (G h) p q) m.invs
-    (λ j inv e. kept-at m h p q t j inv e (all-at (G h) m.invs j inv s e) (n j (slice_get_within m.invs j inv e)))
+    (λ j inv e. kept-at m h p q t j inv e (all_at (G h) m.invs j inv e s) (n j (slice_get_within m.invs j inv e)))
 
 -- a merge without a clash keeps all invariants
 pub merge-keeps : (m : Marks) (h : Assignment) (p q : ℕ) → IsTold m h p q → SatisfiesAll (G h) m.invs → NoClash m p q → SatisfiesAll (G (merge p q h)) m.invs
@@ -65,7 +60,7 @@ merge-loses m h p q k t s f sat =
     let inv : Invariant = get_or m.invs k none in
     let e : slice_get m.invs k ≡ Some inv = slice_get-get_or m.invs k none f.within in
     let all : SatisfiesAll (Merged (G h) p q) m.invs = (merge_satisfies h p q t.typed t.pair m.invs).0 sat in
-    lost-at m h p q t k inv e (all-at (G h) m.invs k inv s e) f.clash (all-at (Merged (G h) p q) m.invs k inv all e)
+    lost-at m h p q t k inv e (all_at (G h) m.invs k inv e s) f.clash (all_at (Merged (G h) p q) m.invs k inv e all)
 
 -- the first invariant that the graph does not satisfy is the first that is lost, where none before it has a clash
 pub lost-bad : (m : Marks) (h : Assignment) (p q b : ℕ) → IsTold m h p q → IsFirstBroken (G h) m.invs b → ((j : ℕ) → j < b → j < length m.invs → has_clash m j p q ≡ false)
@@ -108,7 +103,7 @@ lost-some-none m h p q b t f n = lost-bad m h p q b t f (λ j i w. n j w)
 pub lost-none : (m : Marks) (h : Assignment) (p q : ℕ) (clash : Option ℕ) → IsTold m h p q → SatisfiesAll (G h) m.invs → MatchOption clash (NoClash m p q) (λ k. IsFirstClash m p q k)
     → IsFirstLost h m.invs p q clash
 lost-none m h p q None t s n = kept-all m h p q t s n
-lost-none m h p q (Some k) t s f = lost-clash m h p q k t (λ j inv i e. all-at (G h) m.invs j inv s e) f
+lost-none m h p q (Some k) t s f = lost-clash m h p q k t (λ j inv i e. all_at (G h) m.invs j inv e s) f
 
 -- an answer that is there is the number of the first clash
 pub some-clash : (m : Marks) (p q : ℕ) (clash : Option ℕ) → is_some clash ≡ true → MatchOption clash (NoClash m p q) (λ k. IsFirstClash m p q k) → (k : ℕ) × IsFirstClash m p q k

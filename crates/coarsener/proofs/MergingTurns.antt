@@ -105,11 +105,6 @@ pub record IsCoarsening (invs : List Invariant) (old now : Parts) (p q : ℕ) (m
   pub satisfied : SatisfiesAll (G now.traces) invs
   pub few : length ms + live_count old.used now.traces ≤ live_count old.used old.traces
 
--- before the first pair
-none-before : (invs : List Invariant) (h : Assignment) → LostBefore invs h 2 3
-none-before invs h r s i (inl l) sat = let a : 2 ≤ r = i.low in omega arith
-none-before invs h r s i (inr e) sat = let a : r < s = i.order in omega (arith, e.0, e.1)
-
 -- each pair before the next one is decided
 lost-between : (invs : List Invariant) (h : Assignment) (p q r s : ℕ) → LostBefore invs h p (q + 1) → IsNextPair (G h) p q r s → LostBefore invs h r s
 lost-between invs h p q r s lost n u v i k sat =

@@ -49,39 +49,53 @@ struct Told {
     blocks: Seq<Block>,
 }
 
+/// What a run writes.
+#[derive(Drop)]
+struct Written {
+    spans: Spans,
+    log: RunLog,
+}
+
 /// The merges and the blocks of a graph that is refined.
 fn finish<L: Ledger>(
     rt: &impl Abort,
     alloc: Global,
     graph: &mut PartGraph,
-    finder: &mut Finder,
     invs: &[Invariant],
-    spans: &mut Spans,
-    log: &mut RunLog,
+    written: &mut Written,
     steps: &mut Steps<L>,
 ) -> Result<Told, Fail>
     requires satisfied { SatisfiesAll (G (graph.old).traces) invs.now }
-    requires merges { (log.old).merges ≡ [] }
-    requires blocks { (log.old).blocks ≡ [] }
+    requires merges { written.old.log.merges ≡ [] }
+    requires blocks { written.old.log.blocks ≡ [] }
 
     // Room for all that is written, beside the paths of the splits.
-    requires merge_room { MAX_STEPS ≤ (log.old).merge_room }
-    requires block_room { MAX_PAIRS ≤ (log.old).block_room }
-    requires numbers { (spans.old).room ≡ MAX_PATH_NUMBERS }
-    requires paths { HoldsPaths log.old spans.old }
+    requires merge_room { MAX_STEPS ≤ written.old.log.merge_room }
+    requires block_room { MAX_PAIRS ≤ written.old.log.block_room }
+    requires numbers { written.old.spans.room ≡ MAX_PATH_NUMBERS }
+    requires paths { HoldsPaths written.old.log written.old.spans }
 {
     assert!(rt; invs.len() <= MAX_INVARIANTS);
     for inv in invs {
         assert!(rt; inv.a <= LAST_TYPE && inv.b <= LAST_TYPE);
     }
+    let mut finder = Finder::make(alloc)?;
     let mut planes = Planes::make(alloc, invs)?;
-    coarsen(graph, &mut planes, log, steps);
+    coarsen(graph, &mut planes, &mut written.log, steps);
     prove!(graph.ids_used() <= MAX_PARTITIONS);
-    let end = blocks(graph, finder, &mut planes, invs, spans, log, steps);
+    let end = blocks(
+        graph,
+        &mut finder,
+        &mut planes,
+        invs,
+        &mut written.spans,
+        &mut written.log,
+        steps,
+    );
     assert!(rt; end.is_ok());
     Ok(Told {
-        merges: run_history::merges(alloc, log)?,
-        blocks: run_history::blocks(alloc, log, spans)?,
+        merges: run_history::merges(alloc, &written.log)?,
+        blocks: run_history::blocks(alloc, &written.log, &written.spans)?,
     })
 }
 
@@ -209,8 +223,9 @@ fn run_counted<L: Ledger>(
     let invs = mine(alloc, set)?;
     let mut finder = Finder::make(alloc)?;
     let mut stitcher = Stitcher::make(alloc, &graph)?;
-    let mut spans = Spans::make(alloc, MAX_PATH_NUMBERS)?;
-    let mut log = RunLog::make(alloc, MAX_STEPS, MAX_STEPS, MAX_PAIRS)?;
+    let spans = Spans::make(alloc, MAX_PATH_NUMBERS)?;
+    let log = RunLog::make(alloc, MAX_STEPS, MAX_STEPS, MAX_PAIRS)?;
+    let mut written = Written { spans, log };
     let mut steps = Steps::<L>::open(blank);
     let invs = invs.as_slice();
     assert!(rt; invs.len() < 100_000);
@@ -219,8 +234,8 @@ fn run_counted<L: Ledger>(
         &mut finder,
         &mut stitcher,
         invs,
-        &mut spans,
-        &mut log,
+        &mut written.spans,
+        &mut written.log,
         &mut steps,
     ) else {
         return Err(Fail::new("ids do not suffice"));
@@ -228,16 +243,7 @@ fn run_counted<L: Ledger>(
     if by_search {
         return finish_by_search(alloc, &mut graph, &mut finder, invs, &mut steps);
     }
-    finish(
-        rt,
-        alloc,
-        &mut graph,
-        &mut finder,
-        invs,
-        &mut spans,
-        &mut log,
-        &mut steps,
-    )
+    finish(rt, alloc, &mut graph, invs, &mut written, &mut steps)
 }
 
 /// The same for the log with these lines.

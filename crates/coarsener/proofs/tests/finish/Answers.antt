@@ -21,4 +21,4 @@ blocks-end-requires-clause-room g c =
 
 pub blocks-requires : goal.blocks-requires
 blocks-requires g c =
-    c.blocks-end.ensures.holds (holds-merged c.args.log.now c.coarsen.new.log c.args.spans.now c.coarsen.ensures.others c.requires.paths)
+    c.blocks-end.ensures.holds (holds-merged c.args.written.now.log c.coarsen.new.log c.args.written.now.spans c.coarsen.ensures.others c.requires.paths)
