@@ -17,13 +17,14 @@ use Rattle.partition_model.proofs.Lists.{In, In-append, all_in}
 use Rattle.partition_model.proofs.Least.{one_least}
 use Rattle.partition_model.proofs.Runs.{broken}
 use Rattle.partition_model.proofs.Unique.{one-broken, one_refinement, one_coarsening}
-use Rattle.partition_bounds.specs.Pairs.{pair_of, pairs_of}
+use Rattle.partition_bounds.specs.Pairs.{pairs_of}
 use Rattle.partition_bounds.proofs.Ordered.{pair-asym, pair-next, get-In}
 use Rattle.partition_bounds.proofs.FirstSplits.{steps_exclude}
 use Rattle.models.specs.Models.{TypedWords, mined_of}
 use Rattle.models.specs.Histories.{first_new}
 use Rattle.partition_graph.specs.Parts.{Parts}
 use Rattle.coarsener.specs.Blocking.{EndsWithoutRoom}
+use Rattle.coarsener.proofs.BlockingTurns.{pairs-more}
 use Rattle.infer_core.specs.Laws.{EndsExclude, OneFinal}
 use Rattle.infer_core.specs.Runs.{PassesNumbers, PassesPartitions}
 use Rattle.infer_core.proofs.Pairs.{pairs-ascend}
@@ -91,10 +92,6 @@ no-more p q r s (d ∷ ds) (b ∷ bs) a c f =
 front-ascends : (p q : ℕ) (ds : List Block) (rest : List Merge) → PairsAscend p q (pairs_of ds ++ rest) → AscendFrom p q ds
 front-ascends p q [] rest a = tt
 front-ascends p q (d ∷ ds) rest a = (a.0, front-ascends d.p d.q ds rest a.1)
-
-pairs-more : (bs : List Block) (b : Block) (more : List Merge) → pairs_of (bs ++ b ∷ []) ++ more ≡ pairs_of bs ++ pair_of b.p b.q ∷ more
-pairs-more [] b more = refl
-pairs-more (x ∷ bs) b more = ap (λ (ms : List Merge). pair_of x.p x.q ∷ ms) (pairs-more bs b more)
 
 -- so all blocks have at least the numbers of the first ones and of the next
 pub next-within : (invs : List Invariant) (parts : Parts) (done bs : List Block) (held : ℕ) (w : EndsWithoutRoom invs parts done held) → AreBlocks invs (G parts.traces) bs

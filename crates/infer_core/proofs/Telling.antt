@@ -71,11 +71,6 @@ labels-reached labels h partitions k inv a l at ids =
           subst (λ (n : ℕ). (has_state n s ≡ true) ↔ Reached inv (G h) x.id s) e (l.states k inv x.id s at (ids j x there) low);
     })
 
--- one element more
-pub all-push : {X : Type 0} (P : X → Type 0) (xs : List X) (x : X) → AllByRecursion P xs → P x → AllByRecursion P (xs ++ x ∷ [])
-all-push P [] x a p = (p, tt)
-all-push P (y ∷ xs) x a p = (a.0, all-push P xs x a.1 p)
-
 -- one listed invariant more
 pub listing-more : (list : List Listed) (invs : List Invariant) (number : ℕ) (d : Invariant) (labels : List ℕ) → number < length invs → map (λ x. x.inv) list ≡ take number invs
     → map (λ (x : Listed). x.inv) (list ++ record { inv = get_or invs number d; labels = labels } ∷ []) ≡ take (number + 1) invs

@@ -5,7 +5,8 @@ use Rattle.invariants.specs.declared.Kind.TheVariants.{AF}
 use Rattle.invariants.specs.declared.Invariant.{Invariant}
 use Rattle.invariants.specs.declared.records.Listed.{Listed}
 use Rattle.models.specs.Models.{AreReached}
-use Rattle.infer_core.proofs.Telling.{all-push, labels-reached, listing-more}
+use Rattle.coarsener.proofs.BlockingTurns.{all-push}
+use Rattle.infer_core.proofs.Telling.{labels-reached, listing-more}
 use Rattle.infer_core.proofs.model.listed.Goals as goal
 
 -- what stands where there is no invariant
