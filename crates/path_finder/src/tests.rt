@@ -72,17 +72,17 @@ fn ask_loss<L: Ledger>(
     alloc: Global,
     finder: &mut Finder,
     graph: &PartGraph,
-    merge: Merge,
+    pair: Merge,
     inv: Invariant,
     blank: Blank,
 ) -> Result<Vec<u32>, Fail>
-    requires pair { IsPair (G (graph.now).traces) merge.p merge.q }
+    requires pair { IsPair (G (graph.now).traces) pair.p pair.q }
     requires name { blank.name ≡ L.name }
     requires parts { blank.parts ≡ L.parts }
     requires stands { 0 < blank.parts }
 {
     let mut steps = Steps::<L>::open(blank);
-    match finder.least_loss(graph, merge, inv, false, &mut steps) {
+    match finder.least_loss(graph, pair, inv, false, &mut steps) {
         Some(path) => Ok(path.to_vec(alloc)?),
         None => Ok(Vec::new(alloc)),
     }
@@ -310,13 +310,13 @@ fn find_loss(
     alloc: Global,
     finder: &mut Finder,
     graph: &PartGraph,
-    merge: Merge,
+    pair: Merge,
     inv: Invariant,
 ) -> Result<Vec<u32>, Fail> {
-    if !is_pair(graph, merge.p, merge.q) {
+    if !is_pair(graph, pair.p, pair.q) {
         return Ok(Vec::new(alloc));
     }
-    ask_loss::<Brand>(alloc, finder, graph, merge, inv, Blank::new(1))
+    ask_loss::<Brand>(alloc, finder, graph, pair, inv, Blank::new(1))
 }
 
 /// A random graph of two types in which some partitions were divided.
@@ -336,14 +336,14 @@ fn assert_losses(
     rt: &impl Abort,
     alloc: Global,
     before: &PartGraph,
-    merge: Merge,
+    pair: Merge,
     after: &PartGraph,
 ) -> Result<u32, Fail> {
     let mut finder = Finder::make(alloc)?;
     let mut losses = 0u32;
     for index in 0..candidate_count(2) {
         if let Some(inv) = candidate(2, index) {
-            let found = find_loss(alloc, &mut finder, before, merge, inv)?;
+            let found = find_loss(alloc, &mut finder, before, pair, inv)?;
             let wanted = find(alloc, &mut finder, after, inv)?;
             losses = losses.wrapping_add(u32::from(!found.is_empty()));
             assert_eq!(rt; found, wanted);
