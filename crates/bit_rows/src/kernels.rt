@@ -1,5 +1,5 @@
 //! Loops over the words of rows.
-ghost use Rattle.std.specs.Prelude.{◌≡◌, ◌≢◌, ◌==◌, ℕ, ◌+◌, ◌*◌, ◌^◌, ◌<◌, ◌≤◌, length, slice_index, bit_and, if◌then◌else◌};
+ghost use Rattle.std.specs.Prelude.{◌≡◌, ◌≢◌, ◌==◌, ℕ, ◌+◌, ◌*◌, ◌^◌, ◌<◌, ◌≤◌, length, bit_and, if◌then◌else◌};
 ghost use Rattle.std.specs.Int.{bit_at, bit_not, w64};
 ghost use Rattle.std.specs.Int.Bits.{bit_or};
 ghost use Rattle.bit_rows.specs.Written.{word, AllFit, IsApart, IsWritten, TellsChange};
@@ -98,6 +98,8 @@ fn or_blocks(words: &mut [u64], to: usize, from: usize, blocks: usize) -> bool
     requires to_in { to + blocks * LANES ≤ length words.old }
     requires from_in { from + blocks * LANES ≤ length words.old }
     requires apart { IsApart to from (blocks * LANES) }
+
+    // The words that are written, and whether any of them changed.
     ensures fits { AllFit words.old }
     ensures written { IsWritten words.old words.new to (blocks
         * LANES) (λ k. bit_or (word words.old to k) (word words.old from k)) }
@@ -121,6 +123,8 @@ fn or_rest(words: &mut [u64], to: usize, from: usize, count: usize) -> bool
     requires to_in { to + count ≤ length words.old }
     requires from_in { from + count ≤ length words.old }
     requires apart { IsApart to from count }
+
+    // The words that are written, and whether any of them changed.
     ensures fits { AllFit words.old × AllFit words.new }
     ensures written { IsWritten words.old words.new to count
         (λ k. bit_or (word words.old to k) (word words.old from k)) }
@@ -143,6 +147,8 @@ pub(crate) fn or_words(words: &mut [u64], to: usize, from: usize, count: usize) 
     requires to_in { to + count ≤ length words.old }
     requires from_in { from + count ≤ length words.old }
     requires apart { IsApart to from count }
+
+    // The words that are written, and whether any of them changed.
     ensures fits { AllFit words.old × AllFit words.new }
     ensures written { IsWritten words.old words.new to count
         (λ k. bit_or (word words.old to k) (word words.old from k)) }
