@@ -1,5 +1,5 @@
 //! Cells in lists, each in one list at any time.
-ghost use Rattle.std.specs.Prelude.{◌≡◌, ◌≢◌, ℕ, ◌+◌, ◌-◌, ◌^◌, ◌<◌, ◌≤◌, [], ◌∷◌, ◌++◌, Some, None, length, map, replicate, slice_get, slice_set, nat_lt, if◌then◌else◌, IfOk, OnOk, Contains};
+ghost use Rattle.std.specs.Prelude.{◌≡◌, ◌≢◌, ℕ, ◌+◌, ◌-◌, ◌<◌, ◌≤◌, [], ◌∷◌, ◌++◌, Some, None, length, map, replicate, slice_get, slice_set, nat_lt, if◌then◌else◌, IfOk, Contains};
 ghost use Rattle.std.specs.List.{range_with_len};
 ghost use Rattle.cell_pool.specs.Tables.{row_at, without, StandsIn, HasCells, KeepsCells};
 ghost use Rattle.cell_pool.specs.Chains.{next_at_start, prev_at_start};
@@ -123,6 +123,8 @@ impl Cells {
         requires to_list { to < length self.old }
         requires apart { from ≢ to }
         requires stands { Contains (row_at self.old from) cell }
+
+        // The lists as they are then, with the same cells in all.
         ensures lists { self.new ≡ slice_set
             (slice_set self.old from (without (row_at self.old from) cell))
             to (row_at self.old to ++ cell ∷ []) }

@@ -73,6 +73,7 @@ impl RunLog {
     /// Three empty lists, with room for this many splits, merges and blocks. This alone takes memory: `AllocError` comes
     /// where there is not enough.
     pub fn make(alloc: Global, splits: u32, merges: u32, blocks: u32) -> Result<RunLog, AllocError>
+        // Nothing is written yet, and there is the room that is asked for.
         ensures { IfOk result (λ made. made ≡ record {
           splits = [];
           merges = [];

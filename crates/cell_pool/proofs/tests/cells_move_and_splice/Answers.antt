@@ -1,5 +1,5 @@
 -- The second cell that is moved still stands in list 0, which is 0, 2, 3 by then.
-use Rattle.std.proofs.Common.{◌<◌, List, ℕ, ◌++◌, [], ◌∷◌, set, Contains, refl, sym, ap, ◌∙◌, subst, arith}
+use Rattle.std.proofs.Common.{List, ℕ, ◌++◌, [], ◌∷◌, set, Contains, refl, sym, ap, ◌∙◌, subst, arith}
 use Rattle.cell_pool.specs.Tables.{row_at, without}
 use Rattle.cell_pool.proofs.tests.cells_move_and_splice.Goals as goal
 
