@@ -10,7 +10,7 @@ use Rattle.invariants.specs.Candidates.{candidates, kind_at, IsFirst, IsPair, Ca
 use Rattle.invariants.specs.Holds.{Holds, holds}
 use Rattle.invariants.specs.Mined.{holds_of_all, MinedTells}
 use Rattle.invariants.proofs.ByPlaces.{holds-Holds}
-use Rattle.invariants.proofs.CandidatePlaces.{candidates-differ, candidate-shape, first-at, pair-at}
+use Rattle.invariants.proofs.CandidatePlaces.{candidates-differ, candidate-shape, first-at, pair-at, place_of}
 
 -- what stands at a place is an element
 pub Contains-from_place : {X : Type 0} (xs : List X) (k : ℕ) (x : X) → slice_get xs k ≡ Some x → Contains xs x
@@ -41,22 +41,14 @@ found-none count index inv at = (λ e. cc, λ no. absurd (no (Contains-from_plac
 pub absent-none : (count : ℕ) (inv : Invariant) → ((k : ℕ) → slice_get (candidates count) k ≡ Some inv → ⊥) → IsNone {T = ℕ} None ↔ (¬ Contains (candidates count) inv)
 absent-none count inv none = (λ _ h. none h.0 (place-from_Contains (candidates count) inv h), λ _. refl)
 
--- the place of a kind
-place_of : Kind → ℕ
-place_of AF = 0
-place_of NF = 1
-place_of AP = 2
-
 -- at the place of a kind stands the kind
 kind_at-place_of : (kind : Kind) → kind_at (place_of kind) ≡ kind
-unfolding place_of
 kind_at-place_of AF = refl
 kind_at-place_of NF = refl
 kind_at-place_of AP = refl
 
 -- the place of a kind is less than 3
 place_of-lt : (kind : Kind) → place_of kind < 3
-unfolding place_of
 place_of-lt AF = omega arith
 place_of-lt NF = omega arith
 place_of-lt AP = omega arith
