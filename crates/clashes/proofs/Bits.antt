@@ -1,7 +1,7 @@
 -- What writes to rows leave of each bit.
 use Rattle.std.proofs.Common.{◌≡◌, ◌≢◌, ℕ, ◌<◌, Bool, false, ◌&&◌, ◌||◌, List, [], length, set, replicate, refl, sym, ap, ◌∙◌, subst, arith, inl, inr}
 use Rattle.std.proofs.lemmas.List.{get_or-set_same, get_or-set_other, get_or-replicate, length-replicate, get_or_past}
-use Rattle.std.proofs.lemmas.Bool.{cases_eq, cases_lt}
+use Rattle.std.proofs.lemmas.Bool.{cases_lt}
 use Rattle.std.proofs.lemmas.Simd.{length-zip2}
 use Rattle.bit_rows.specs.Tables.{row_at, is_set, HasShape, either, both}
 use Rattle.bit_rows.proofs.Done.{is_set-zip2}
@@ -14,28 +14,6 @@ set_here T new to row h e = ap (λ t. row_at t to) e ∙ get_or-set_same T to ro
 -- a row that is not written stays
 pub set_other : (T new : List (List Bool)) (to s : ℕ) (row : List Bool) → s ≢ to → new ≡ set T to row → row_at new s ≡ row_at T s
 set_other T new to s row n e = ap (λ t. row_at t s) e ∙ get_or-set_other T to s row [] n
-
--- one bit is another
-pub record IsPut (old new : List (List Bool)) (r i : ℕ) (v : Bool) : Type 0 where
-  pub here : on new r i ≡ v
-  pub rows : (s j : ℕ) → s ≢ r → on new s j ≡ on old s j
-  pub places : (s j : ℕ) → j ≢ i → on new s j ≡ on old s j
-
--- a bit that is written has its new value, and each other bit stays
-pub put_done : (T new : List (List Bool)) (n bits r i : ℕ) (v : Bool) → HasShape T n bits → r < n → i < bits → new ≡ set T r (set (row_at T r) i v) → IsPut T new r i v
-put_done T new n bits r i v h lr li e =
-    let lt : r < length T = omega (arith, h.count) in
-    let li' : i < length (row_at T r) = omega (arith, h.long r lr) in
-    record {
-      here = ap (λ row. is_set row i) (set_here T new r (set (row_at T r) i v) lt e) ∙ get_or-set_same (row_at T r) i v false li';
-      rows = λ s j ns. ap (λ row. is_set row j) (set_other T new r s (set (row_at T r) i v) ns e);
-      places = λ s j nj. elim (cases_eq s r) [
-        | inl same ↦
-            ap (λ x. on new x j) same ∙ ap (λ row. is_set row j) (set_here T new r (set (row_at T r) i v) lt e)
-            ∙ get_or-set_other (row_at T r) i j v false nj ∙ sym (ap (λ x. on T x j) same)
-        | inr ns ↦ ap (λ row. is_set row j) (set_other T new r s (set (row_at T r) i v) ns e)
-      ];
-    }
 
 -- bits are added to a row
 pub record IsSpread (old new : List (List Bool)) (to : ℕ) (given : ℕ → Bool) : Type 0 where
