@@ -3,12 +3,10 @@ use Rattle.std.proofs.Common.{◌≡◌, ℕ, List, [], ◌∷◌, ◌++◌, len
 use Rattle.std.proofs.lemmas.List.{take-append-le, drop-append-le}
 use Rattle.std.proofs.lemmas.List.Elements.{All-head, All-tail}
 use Rattle.invariants.specs.declared.records.Split.{Split}
-use Rattle.invariants.specs.declared.records.Block.{Block}
 use Rattle.cell_pool.specs.declared.spans.Span.{Span}
 use Rattle.cell_pool.specs.declared.run_log.SplitEntry.{SplitEntry}
-use Rattle.cell_pool.specs.declared.run_log.BlockEntry.{BlockEntry}
 use Rattle.cell_pool.specs.Numbers.{Numbers, Pushes, KeepsLists}
-use Rattle.run_history.specs.Records.{path_of, split_of, block_of, IsWithin}
+use Rattle.run_history.specs.Records.{path_of, split_of, IsWithin}
 
 -- what stands in front stays
 pub keeps-front : (numbers more : List ℕ) → KeepsLists numbers (numbers ++ more)
@@ -41,11 +39,3 @@ splits-stay old new (e ∷ es) k w =
     let p : path_of new e.path ≡ path_of old e.path = k e.path.from e.path.len (All-head (λ (d : SplitEntry). IsWithin old d.path) e es w) in
     ap₂ (λ (x : List ℕ) (ss : List Split). record { inv = e.inv; place = e.place; path = x } ∷ ss) p
     (splits-stay old new es k (All-tail (λ (d : SplitEntry). IsWithin old d.path) e es w))
-
--- the blocks stay
-pub blocks-stay : (old new : List ℕ) (es : List BlockEntry) → KeepsLists old new → All (λ e. IsWithin old e.path) es → map (block_of new) es ≡ map (block_of old) es
-blocks-stay old new [] k w = refl
-blocks-stay old new (e ∷ es) k w =
-    let p : path_of new e.path ≡ path_of old e.path = k e.path.from e.path.len (All-head (λ (d : BlockEntry). IsWithin old d.path) e es w) in
-    ap₂ (λ (x : List ℕ) (ss : List Block). record { p = e.p; q = e.q; inv = e.inv; path = x } ∷ ss) p
-    (blocks-stay old new es k (All-tail (λ (d : BlockEntry). IsWithin old d.path) e es w))

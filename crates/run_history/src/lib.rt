@@ -3,7 +3,6 @@
 #![tactic(auto)]
 
 ghost use Rattle.std.specs.Prelude.{◌≡◌, IfOk};
-ghost use Rattle.cell_pool.specs.Numbers.{Numbers};
 ghost use Rattle.run_history.specs.Records.{path_of, splits_of, merges_of, blocks_of, IsWithin, HoldsPaths};
 
 use cell_pool::{RunLog, Span, Spans};
