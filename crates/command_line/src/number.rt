@@ -1,5 +1,5 @@
 //! The number that a value says.
-ghost use Rattle.std.specs.Prelude.{◌≡◌, ◌<◌, ◌^◌, length, true};
+ghost use Rattle.std.specs.Prelude.{◌≡◌, ◌<◌, ◌^◌, true};
 ghost use Rattle.std.specs.Str.Parse.{digits_value};
 ghost use Rattle.command_line.specs.Numbers.{are_digits, number_of};
 
