@@ -1,5 +1,5 @@
 -- From line to line of an expressions file, and from its lines to its rules.
-use Rattle.std.proofs.Common.{◌≡◌, ◌<◌, ◌≤◌, ◌+◌, ◌⊎◌, inl, inr, ℕ, suc, ◌||◌, true, false, List, [], ◌∷◌, ◌++◌, length, Result, Ok, Err, refl, ap, ap₂, sym, ◌∙◌, subst, arith, ⊎_elim, append_assoc, append-nil, cond}
+use Rattle.std.proofs.Common.{◌≡◌, ◌<◌, ◌≤◌, ◌+◌, ◌⊎◌, inl, inr, ℕ, suc, ◌||◌, true, false, List, [], ◌∷◌, ◌++◌, length, Result, Ok, Err, refl, ap, ap₂, sym, ◌∙◌, subst, arith, ⊎_elim, append_assoc, cond}
 use Rattle.std.specs.Prelude.{IsTrue, Bool, Option, Some, None, is_some, codes, nat_le, ◌&&◌, if◌then◌else◌}
 use Rattle.std.specs.Option.{option_map_or}
 use Rattle.std.proofs.lemmas.Bool.{le-ltb}
@@ -9,7 +9,7 @@ use Rattle.limits.specs.declared.TheConstants.{MAX_RULES, MAX_RULES_BYTES}
 use Rattle.line_rules.specs.Patterns.{PatternsState, Stays, Rose, NestsTooDeep}
 use Rattle.line_rules.specs.Rules as spec
 use Rattle.line_rules.specs.Rules.{Alike, AreAlike, group_named, rule_of}
-use Rattle.line_rules.specs.Files.{is_skipped, is_event, numbered, rule_lines, rule_at, with_rule, rules_from, with_event, rules_of, AreRead, IsRefused, first_time, has_time, lacks_type, differ, rule_read, rule_spelled, spelled_by, KeepsAt}
+use Rattle.line_rules.specs.Files.{is_skipped, is_event, numbered, rule_lines, rule_at, with_rule, rules_from, with_event, rules_of, AreRead, first_time, has_time, lacks_type, differ, rule_read, rule_spelled, spelled_by, KeepsAt}
 use Rattle.line_rules.specs.Building.{IsRuleOf, Builds, IsLineRefused, AddsLine, AreRulesOf, BuildsAt, AreLinesRefused}
 use Rattle.line_rules.specs.declared.line_rules.RuleError.{RuleError}
 use Rattle.line_rules.specs.declared.line_rules.RuleError.TheVariants as refused
@@ -115,11 +115,6 @@ step bytes number rest piece after rs new so next (inl skips) =
     }
 step bytes number rest piece after rs new so next (inr adds) = added bytes number rest piece after rs new adds.1.0 so next adds.0 adds.1.1 adds.1.2
 
--- no line is left
-pub end : (bytes : List ℕ) (number : ℕ) (rest : List ℕ) (rs : List spec.Rule) → ReadTo bytes number rest rs → length rest ≡ 0 → AreRulesOf bytes rs
-end bytes number [] rs so none = record { plain = so.plain; read = ap (rules_from []) (so.lines ∙ append-nil so.before) ∙ so.read; alike = so.alike }
-end bytes number (b ∷ rest) rs so none = absurd (omega (arith, none))
-
 -- the line's own refusal is the first of the lines
 plain-refused : (bytes : List ℕ) (number : ℕ) (rest piece after : List ℕ) (rs : List spec.Rule) (e : RuleError) → ReadTo bytes number rest rs → pieces rest ≡ piece ∷ pieces after
     → is_skipped (line_of piece) ≡ false → rule_at rs (number + 1, line_of piece) ≡ Err e → rules_from [] (rule_lines bytes) ≡ Err e
@@ -173,31 +168,12 @@ refuse bytes number rest piece after rs old mid new (refused.TooLarge at) short 
     (subst (λ (f : List ℕ → Bool). Builds rs (line_of piece) (λ pattern. IsTrue (f pattern))) stays.may_refuse h.2) in
     (rose-before old.refusals mid.refusals new.refusals stays.refusals h.1, subst (λ (n : ℕ). BuildsAt bytes n may) (sym h.0) built)
 refuse bytes number rest piece after rs old mid new refused.TooLong short so next counts stays h = absurd h
-refuse bytes number rest piece after rs old mid new (refused.BadLine at) short so next counts stays h = plain-refused bytes number rest piece after rs (refused.BadLine at) so next counts h
-refuse bytes number rest piece after rs old mid new (refused.TooMany at) short so next counts stays h = plain-refused bytes number rest piece after rs (refused.TooMany at) so next counts h
-refuse bytes number rest piece after rs old mid new (refused.NoType at) short so next counts stays h = plain-refused bytes number rest piece after rs (refused.NoType at) so next counts h
-refuse bytes number rest piece after rs old mid new (refused.MixedTime at) short so next counts stays h = plain-refused bytes number rest piece after rs (refused.MixedTime at) so next counts h
 refuse bytes number rest piece after rs old mid new refused.NoEvent short so next counts stays h = absurd h
+refuse bytes number rest piece after rs old mid new e short so next counts stays h = plain-refused bytes number rest piece after rs e so next counts h
 
 -- a file that is short enough is read by its lines
 short-file : (bytes : List ℕ) → length bytes ≤ MAX_RULES_BYTES → rules_of bytes ≡ with_event (rules_from [] (rule_lines bytes))
 short-file bytes short = rw (le-ltb MAX_RULES_BYTES (length bytes) short) refl
-
-lines-refused : (bytes : List ℕ) (e : RuleError) → length bytes ≤ MAX_RULES_BYTES → rules_from [] (rule_lines bytes) ≡ Err e → rules_of bytes ≡ Err e
-lines-refused bytes e short read = short-file bytes short ∙ ap with_event read
-
--- the refusal of its lines is that of the file
-pub file-refused : (bytes : List ℕ) (old new : PatternsState) (e : RuleError) → length bytes ≤ MAX_RULES_BYTES → AreLinesRefused bytes old new e → IsRefused bytes old new e
-file-refused bytes old new refused.Memory short h = tt
-file-refused bytes old new (refused.Syntax at) short h =
-    ⊎_elim (λ plain. inl (lines-refused bytes (refused.Syntax at) short plain)) (λ builds. inr (builds.pattern, builds.built, builds.holds)) h
-file-refused bytes old new (refused.TooLarge at) short h = (h.0, (h.1.pattern, h.1.built, h.1.holds))
-file-refused bytes old new refused.TooLong short h = absurd h
-file-refused bytes old new (refused.BadLine at) short h = lines-refused bytes (refused.BadLine at) short h
-file-refused bytes old new (refused.TooMany at) short h = lines-refused bytes (refused.TooMany at) short h
-file-refused bytes old new (refused.NoType at) short h = lines-refused bytes (refused.NoType at) short h
-file-refused bytes old new (refused.MixedTime at) short h = lines-refused bytes (refused.MixedTime at) short h
-file-refused bytes old new refused.NoEvent short h = absurd h
 
 events-of : (bytes : List ℕ) (rs : List spec.Rule) (b : Bool) → length bytes ≤ MAX_RULES_BYTES → (of : AreRulesOf bytes rs) → list_any (λ rule. is_event rule.form) rs ≡ b
     → rules_of bytes ≡ (cond b (Ok of.plain) (Err refused.NoEvent))
@@ -216,11 +192,4 @@ no-event bytes rs short of any = events-of bytes rs false short of any
 -- a refusal that keeps the count of refusals keeps an equal one
 pub count-on : (old mid new : PatternsState) (e : RuleError) → mid.refusals ≡ old.refusals → KeepsAt mid e new → KeepsAt old e new
 count-on old mid new (refused.TooLarge number) same kept = tt
-count-on old mid new refused.Memory same kept = kept ∙ same
-count-on old mid new (refused.Syntax number) same kept = kept ∙ same
-count-on old mid new refused.TooLong same kept = kept ∙ same
-count-on old mid new (refused.BadLine number) same kept = kept ∙ same
-count-on old mid new (refused.TooMany number) same kept = kept ∙ same
-count-on old mid new (refused.NoType number) same kept = kept ∙ same
-count-on old mid new (refused.MixedTime number) same kept = kept ∙ same
-count-on old mid new refused.NoEvent same kept = kept ∙ same
+count-on old mid new other same kept = kept ∙ same

@@ -6,7 +6,7 @@ use Rattle.regex_syntax.specs.Grammar.{read}
 use Rattle.regex.specs.declared.string.regex.Regex.{Regex}
 use Rattle.regex.specs.declared.error.Error.{Error}
 use Rattle.regex.specs.declared.error.Error.TheVariants as error
-use Rattle.line_rules.specs.Patterns.{PatternsState, IsReadAs, IsNoPattern, NestsTooDeep, next_build}
+use Rattle.line_rules.specs.Patterns.{PatternsState, IsReadAs, IsNoPattern, NestsTooDeep, max_depth, next_build}
 use Rattle.line_rules.specs.declared.patterns.BuildFault.{BuildFault}
 use Rattle.line_rules.specs.declared.patterns.BuildFault.TheVariants.{Syntax, TooLarge, Memory}
 
@@ -28,7 +28,7 @@ Tells old (Err error.Internal) answer new = (answer ≡ Err TooLarge) × (new �
 
 -- the grammar reads a pattern that does not nest too deep
 abbrev pub IsPattern : List ℕ → Type 0
-IsPattern text = IsSomeAnd (read default_config (chars text)) (λ (tree, _). tree.depth ≤ 250)
+IsPattern text = IsSomeAnd (read default_config (chars text)) (λ (tree, _). tree.depth ≤ max_depth)
 
 -- what `build(text)` of `regex` leaves: the count rises exactly at a pattern that is refused as too large
 abbrev pub RegexGives : ℕ → List ℕ → Result Regex BuildFault → ℕ → Type 0

@@ -27,10 +27,14 @@ pub record Stays (old new : PatternsState) : Type 0 where
   pub may_refuse : new.may_refuse ≡ old.may_refuse
   pub refusals : old.refusals ≤ new.refusals
 
+-- how deep a pattern may nest that is built: what `regex` takes where no other limit is set
+abbrev pub max_depth : ℕ
+max_depth = 250
+
 -- the pattern and the names of its groups are what the grammar reads from the text
 abbrev pub IsReadAs : List ℕ → Re → List (Option (List ℕ)) → Type 0
 IsReadAs text re names = IsSomeAnd (read default_config (chars text)) (λ (tree, found).
-    (tree.depth ≤ 250) × SameCaptures re tree.value × (names ≡ found))
+    (tree.depth ≤ max_depth) × SameCaptures re tree.value × (names ≡ found))
 
 -- the grammar reads no pattern from the text
 abbrev pub IsNoPattern : List ℕ → Type 0
@@ -38,7 +42,7 @@ IsNoPattern text = read default_config (chars text) ≡ None
 
 -- the grammar reads a pattern that nests too deep
 abbrev pub NestsTooDeep : List ℕ → Type 0
-NestsTooDeep text = IsSomeAnd (read default_config (chars text)) (λ (tree, _). 250 < tree.depth)
+NestsTooDeep text = IsSomeAnd (read default_config (chars text)) (λ (tree, _). max_depth < tree.depth)
 
 -- what `build(text)` leaves at each answer
 abbrev pub BuildGives : PatternsState → List ℕ → Result Regex BuildFault → PatternsState → Type 0

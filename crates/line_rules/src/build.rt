@@ -16,19 +16,23 @@ use std::alloc::Global;
 
 /// Builds a rule from the text of its pattern.
 fn build_rule<P: Patterns>(patterns: &mut P, form: RuleForm, text: &str) -> Result<Rule, BuildFault>
+    // The rule that the grammar reads, up to what a search tells apart.
     ensures rule { IfOk result
         (λ r. IsSomeAnd (rule_of (form_view form) text.now) (Alike (rule_view r))) }
-    ensures syntax { result ≡ Err BuildFault.Syntax → IsNoPattern text.now ⊎ NestsTooDeep text.now }
+
+    // What stays of the patterns, whatever the answer.
     ensures stays { Stays (P.state patterns.old) (P.state patterns.new) }
     ensures count { KeepsCount (P.state patterns.old) result (P.state patterns.new) }
+
+    // Each refusal but for memory has its cause.
+    ensures syntax { result ≡ Err BuildFault.Syntax
+        → IsNoPattern text.now ⊎ NestsTooDeep text.now }
     ensures large { result ≡ Err BuildFault.TooLarge
         → Rose (P.state patterns.old).refusals (P.state patterns.new).refusals
         × IsTrue ((P.state patterns.old).may_refuse text.now) }
 {
-    match patterns.build(text) {
-        Ok(regex) => Ok(Rule::new(form, regex)),
-        Err(fault) => Err(fault),
-    }
+    let regex = patterns.build(text)?;
+    Ok(Rule::new(form, regex))
 }
 
 /// Whether the first event rule has a group TIME, where there is an event rule.
@@ -43,7 +47,8 @@ fn first_time(rules: &[Rule]) -> Option<bool>
     None
 }
 
-/// Whether this is an event rule that has a group TIME where the first event rule has none, or the other way round.
+/// Whether this is an event rule that has a group TIME where the first event rule has none, or the
+/// other way round.
 fn mixes_time(rules: &[Rule], rule: &Rule) -> bool
     ensures { result ≡ mixes_time (map rule_view rules.now) (rule_view rule.now) }
 {
@@ -58,8 +63,8 @@ fn mixes_time(rules: &[Rule], rule: &Rule) -> bool
 
 /// The rule of the line with this number, after these rules.
 ///
-/// It is refused by the first that fits: `BadLine`, `TooMany`, the refusal of its build, `NoType`, `MixedTime`.
-/// `Memory` may come in place of each.
+/// It is refused by the first that fits: `BadLine`, `TooMany`, the refusal of its build, `NoType`,
+/// `MixedTime`. `Memory` may come in place of each.
 pub(crate) fn rule_of_line<P: Patterns>(
     alloc: Global,
     rules: &[Rule],
@@ -67,11 +72,16 @@ pub(crate) fn rule_of_line<P: Patterns>(
     line: &[u8],
     patterns: &mut P,
 ) -> Result<Rule, RuleError>
+    // What stays of the patterns, whatever the answer.
     ensures stays { Stays (P.state patterns.old) (P.state patterns.new) }
     ensures count { KeepsRefusals (P.state patterns.old) result (P.state patterns.new) }
+
+    // A rule comes only where there is room for one more, and is that of the line.
     ensures few { IfOk result (λ _. length rules.now < MAX_RULES) }
     ensures ok { IfOk result
         (λ rule. IsRuleOf (map rule_view rules.now) number line.now (rule_view rule)) }
+
+    // Each refusal has its cause in the line.
     ensures err { IfErr result (IsLineRefused (P.state patterns.old) (P.state patterns.new)
         (map rule_view rules.now) number line.now) }
 {
@@ -81,9 +91,7 @@ pub(crate) fn rule_of_line<P: Patterns>(
     if rules.len() >= MAX_RULES {
         return Err(RuleError::TooMany(number));
     }
-    let Ok(form) = word.to_form(alloc) else {
-        return Err(RuleError::Memory);
-    };
+    let form = word.to_form(alloc)?;
     let rule = match build_rule(patterns, form, pattern) {
         Ok(rule) => rule,
         Err(BuildFault::Syntax) => return Err(RuleError::Syntax(number)),

@@ -1,4 +1,7 @@
 //! What a line of a log is.
+ghost use Rattle.std.specs.Prelude.{◌≡◌};
+
+use std::alloc::AllocError;
 
 /// The type text of an event: that of the rule with this number, or a part of the line.
 #[derive(Clone, Copy, Debug, PartialEq, Eq)]
@@ -12,8 +15,8 @@ pub enum Named {
 /// What a line is.
 #[derive(Clone, Copy, Debug, PartialEq, Eq)]
 pub enum Decision {
-    /// An event of the trace whose text stands from `trace_from` up to `trace_to`; the time is in billionths,
-    /// and 0 where the rule has no group TIME.
+    /// An event of the trace whose text stands from `trace_from` up to `trace_to`; the time is in
+    /// billionths, and 0 where the rule has no group TIME.
     Event {
         name: Named,
         trace_from: usize,
@@ -35,4 +38,14 @@ pub enum DecideError {
     BadTime,
     /// Memory was wanted.
     Memory,
+}
+
+impl From<AllocError> for DecideError {
+    ghost use Rattle.line_rules.specs.declared.decision.DecideError.TheVariants.{Memory};
+
+    ghost from_gives = { λ _ e. e ≡ Memory };
+
+    fn from(_: AllocError) -> DecideError {
+        DecideError::Memory
+    }
 }

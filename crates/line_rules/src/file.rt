@@ -24,6 +24,8 @@ fn add_line<P: Patterns>(
     patterns: &mut P,
 ) -> Result<(), RuleError>
     requires { vec_len rules.old ≤ MAX_RULES }
+
+    // What stays, whatever the answer: of the patterns, and that the rules are few.
     ensures stays { Stays (P.state patterns.old) (P.state patterns.new) }
     ensures count { KeepsRefusals (P.state patterns.old) result (P.state patterns.new) }
     ensures few { vec_len rules.new ≤ MAX_RULES }
@@ -38,13 +40,8 @@ fn add_line<P: Patterns>(
     if is_comment(line) {
         return Ok(());
     }
-    let rule = match rule_of_line(alloc, rules, number, line, patterns) {
-        Ok(rule) => rule,
-        Err(fault) => return Err(fault),
-    };
-    let Ok(()) = rules.push(rule) else {
-        return Err(RuleError::Memory);
-    };
+    let rule = rule_of_line(alloc, rules, number, line, patterns)?;
+    rules.push(rule)?;
     Ok(())
 }
 
@@ -55,10 +52,16 @@ pub(crate) fn read_rules<P: Patterns>(
     patterns: &mut P,
 ) -> Result<Vec<Rule>, RuleError>
     requires { length bytes.now ≤ MAX_RULES_BYTES }
+
+    // What stays of the patterns, whatever the answer.
     ensures stays { Stays (P.state patterns.old) (P.state patterns.new) }
     ensures count { KeepsRefusals (P.state patterns.old) result (P.state patterns.new) }
+
+    // The rules are few, and those of all lines.
     ensures few { IfOk result (λ rules. vec_len rules ≤ MAX_RULES) }
     ensures ok { IfOk result (λ rules. AreRulesOf bytes.now (map rule_view rules.items)) }
+
+    // Each refusal has its cause in one of the lines.
     ensures err { IfErr result
         (AreLinesRefused bytes.now (P.state patterns.old) (P.state patterns.new)) }
 {
@@ -68,10 +71,7 @@ pub(crate) fn read_rules<P: Patterns>(
     while !rest.is_empty() {
         let (piece, after) = next_piece(rest);
         number += 1;
-        match add_line(alloc, number, without_return(piece), &mut rules, patterns) {
-            Ok(()) => {}
-            Err(fault) => return Err(fault),
-        }
+        add_line(alloc, number, without_return(piece), &mut rules, patterns)?;
         rest = after;
     }
     Ok(rules)

@@ -11,7 +11,7 @@ use crate::matchers::{Matchers, RuleMatcher};
 use crate::patterns::Patterns;
 use crate::rule::Rule;
 use limits::MAX_RULES_BYTES;
-use std::alloc::{AllocError, Global};
+use std::alloc::{AllocError, AllocFailed, Global};
 use thiserror::Error;
 
 /// Why an expressions file is refused. The numbers are those of lines, counted from 1.
@@ -35,8 +35,8 @@ pub enum RuleError {
     /// The line is `event PATTERN`, and its pattern has no group named TYPE.
     #[error("the pattern in line {0} has no group named TYPE")]
     NoType(u32),
-    /// The line is an event rule, and its pattern has a group named TIME where that of the first event rule has
-    /// none, or the other way round.
+    /// The line is an event rule, and its pattern has a group named TIME where that of the first
+    /// event rule has none, or the other way round.
     #[error("the pattern in line {0} and that of the first event rule have not both a group named TIME")]
     MixedTime(u32),
     /// No rule is an event rule.
@@ -45,6 +45,26 @@ pub enum RuleError {
     /// Memory was wanted.
     #[error("out of memory")]
     Memory,
+}
+
+impl From<AllocError> for RuleError {
+    ghost use Rattle.line_rules.specs.declared.line_rules.RuleError.TheVariants.{Memory};
+
+    ghost from_gives = { λ _ e. e ≡ Memory };
+
+    fn from(_: AllocError) -> RuleError {
+        RuleError::Memory
+    }
+}
+
+impl<T: Drop> From<AllocFailed<T>> for RuleError {
+    ghost use Rattle.line_rules.specs.declared.line_rules.RuleError.TheVariants.{Memory};
+
+    ghost from_gives = { λ _ e. e ≡ Memory };
+
+    fn from(_: AllocFailed<T>) -> RuleError {
+        RuleError::Memory
+    }
 }
 
 /// At most 32 rules, in the order of their file.
@@ -60,9 +80,10 @@ impl LineRules {
 
     /// The rules of an expressions file.
     ///
-    /// A file of more than 65,536 bytes is `TooLong`. Then each line that is not skipped is tested in turn by
-    /// `BadLine`, `TooMany`, the build of its pattern, `NoType` and `MixedTime`, and a file without an event rule
-    /// is `NoEvent`. `TooLarge` comes only where the count of `patterns` rose, and `Memory` may come at any time.
+    /// A file of more than 65,536 bytes is `TooLong`. Then each line that is not skipped is tested
+    /// in turn by `BadLine`, `TooMany`, the build of its pattern, `NoType` and `MixedTime`, and a
+    /// file without an event rule is `NoEvent`. `TooLarge` comes only where the count of `patterns`
+    /// rose, and `Memory` may come at any time.
     pub fn read<P: Patterns>(
         alloc: Global,
         bytes: &[u8],
@@ -77,10 +98,7 @@ impl LineRules {
         if bytes.len() > MAX_RULES_BYTES {
             return Err(RuleError::TooLong);
         }
-        let rules = match read_rules(alloc, bytes, patterns) {
-            Ok(rules) => rules,
-            Err(fault) => return Err(fault),
-        };
+        let rules = read_rules(alloc, bytes, patterns)?;
         if !has_event(&rules) {
             return Err(RuleError::NoEvent);
         }
@@ -89,19 +107,18 @@ impl LineRules {
 
     /// What the line is, by the first rule that decides it.
     ///
-    /// Places in the decision are byte places in the line, on character bounds, and a trace that has no group
-    /// stands from 0 up to 0. `BadTime` comes where the first rule that decides the line is an event rule with
-    /// a group TIME, and the group took no part or says no time. What searches is made within the call, and
-    /// `Memory` comes only for it: the rules may be used again. For many lines see [`LineRules::matchers`].
+    /// Places in the decision are byte places in the line, on character bounds, and a trace that
+    /// has no group stands from 0 up to 0. `BadTime` comes where the first rule that decides the
+    /// line is an event rule with a group TIME, and the group took no part or says no time. What
+    /// searches is made within the call, and `Memory` comes only for it: the rules may be used
+    /// again. For many lines see [`LineRules::matchers`].
     pub fn decide(&self, line: &str) -> Result<Decision, DecideError>
         ensures value { result ≢ Err DecideError.Memory
             → result ≡ decision_of (rules_in self.now) line.now }
         ensures parts { IfOk result (HasParts (rules_in self.now) line.now) }
     {
-        match self.matchers() {
-            Ok(mut matchers) => matchers.decide(line),
-            Err(_) => Err(DecideError::Memory),
-        }
+        let mut matchers = self.matchers()?;
+        matchers.decide(line)
     }
 
     /// What searches for the rules, for many lines.
@@ -115,7 +132,8 @@ impl LineRules {
         Ok(Matchers { rules: matchers })
     }
 
-    /// The type, of 1 to 256 bytes, that the rule with this number gives its events. Rules are numbered from 0.
+    /// The type, of 1 to 256 bytes, that the rule with this number gives its events. Rules are
+    /// numbered from 0.
     pub fn fixed(&self, rule: u32) -> &str
         requires { IsSome (fixed_name (rules_in self.now) rule) }
         ensures name { fixed_name (rules_in self.now) rule ≡ Some result.now }

@@ -8,10 +8,11 @@ use crate::regex_patterns::RegexPatterns;
 use regex::Regex;
 use std::marker::Model;
 
-/// Patterns as `regex` builds them, but the builds whose numbers are listed are refused as too large.
+/// Patterns as `regex` builds them, but the builds whose numbers are listed are refused as too
+/// large.
 ///
-/// Contracts see the count of texts that were refused as too large, the numbers of the builds that are
-/// refused, and how many builds were asked for.
+/// Contracts see the count of texts that were refused as too large, the numbers of the builds that
+/// are refused, and how many builds were asked for.
 #[derive(Drop)]
 pub struct ListedPatterns {
     inner: RegexPatterns,
@@ -24,14 +25,15 @@ impl Model for ListedPatterns {
 
     ghost Value = { ListedState };
 
-    ghost view = { λ p. record { refusals = p.inner; failing = p.failing.items; builds = p.builds } };
+    ghost view = { λ p.
+        record { refusals = p.inner; failing = p.failing.items; builds = p.builds } };
 }
 
 impl ListedPatterns {
     /// Patterns of which no build was asked for yet.
     ///
-    /// Builds are counted from 1, and the number stands still at `u64::MAX`. A build whose number is in
-    /// `failing` is refused, and every other is answered as `inner` answers it.
+    /// Builds are counted from 1, and the number stands still at `u64::MAX`. A build whose number
+    /// is in `failing` is refused, and every other is answered as `inner` answers it.
     pub fn new(inner: RegexPatterns, failing: Vec<u64>) -> ListedPatterns
         ensures { result ≡ record { refusals = inner; failing = failing.items; builds = 0 } }
     {

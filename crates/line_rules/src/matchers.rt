@@ -59,8 +59,8 @@ impl<'r> Matchers<'r> {
 
     /// What the line is, by the first rule that decides it. It wants no memory.
     ///
-    /// `BadTime` comes where that rule is an event rule with a group TIME, and the group took no part or says
-    /// no time.
+    /// `BadTime` comes where that rule is an event rule with a group TIME, and the group took no
+    /// part or says no time.
     pub fn decide(&mut self, line: &str) -> Result<Decision, DecideError>
         ensures value { result ≡ decision_of (matched_rules self.old) line.now }
         ensures parts { IfOk result (HasParts (matched_rules self.old) line.now) }

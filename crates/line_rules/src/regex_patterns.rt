@@ -46,7 +46,8 @@ impl RegexPatterns {
         BuildFault::TooLarge
     }
 
-    /// What `regex` answered, in the words of [`Patterns`]: too large and out of memory exactly where it said so.
+    /// What `regex` answered, in the words of [`Patterns`]: too large and out of memory exactly
+    /// where it said so.
     fn tell(&mut self, answer: Result<Regex, Error>) -> Result<Regex, BuildFault>
         ensures tells { Tells self.old answer result self.new }
         ensures grows { self.old ≤ self.new }

@@ -86,8 +86,8 @@ impl Rule {
         self.time_group.is_some()
     }
 
-    /// The time of an event in the line, where the group TIME has this span: 0 without such a group. None where the
-    /// group took no part or says no time.
+    /// The time of an event in the line, where the group TIME has this span: 0 without such a
+    /// group. None where the group took no part or says no time.
     fn time_in(&self, line: &str, span: Option<(usize, usize)>) -> Option<u128>
         requires { IfSome span (spec.IsSpanOf line.now) }
         ensures { result ≡ spec.time_by self.now.time_group line.now span }

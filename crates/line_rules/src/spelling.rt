@@ -84,7 +84,8 @@ fn spelled_text(text: &str) -> Option<(Word<'_>, &str)>
     }
 }
 
-/// The form and the pattern that the line spells. None where it is not UTF-8 or has none of the four forms.
+/// The form and the pattern that the line spells. None where it is not UTF-8 or has none of the
+/// four forms.
 pub(crate) fn spelled(line: &[u8]) -> Option<(Word<'_>, &str)>
     ensures parts { option_map (λ s. (word_view s.0, s.1.now)) result ≡ spelled_by line.now }
     ensures short { IfSome result (λ s. HasShortName s.0) }

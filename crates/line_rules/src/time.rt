@@ -1,5 +1,5 @@
 //! The time that a text says.
-ghost use Rattle.std.specs.Prelude.{◌≡◌, ◌<◌, ◌≤◌, ◌^◌, IfNone, IfSome, length, true, false};
+ghost use Rattle.std.specs.Prelude.{◌≡◌, ◌<◌, ◌^◌, IfNone, IfSome, true, false};
 ghost use Rattle.std.specs.List.{list_any, before_first, after_first};
 ghost use Rattle.std.specs.Str.Parse.{digits_value};
 ghost use Rattle.line_rules.specs.Times.{are_digits, fractional_time, is_point, time_of, whole_time};
@@ -69,7 +69,8 @@ fn parts(text: &str) -> Option<(&str, &str)>
     text.split_once('.')
 }
 
-/// The time in billionths that the text says: 1 to 18 ASCII digits, which a point and 1 to 9 ASCII digits may follow.
+/// The time in billionths that the text says: 1 to 18 ASCII digits, which a point and 1 to 9 ASCII
+/// digits may follow.
 pub(crate) fn time_of(text: &str) -> Option<u128>
     ensures { result ≡ time_of text.now }
 {

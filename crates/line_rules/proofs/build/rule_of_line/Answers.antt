@@ -25,9 +25,9 @@ pub returns-then-lacks_type-clause-err : goal.returns-then-lacks_type-clause-err
 returns-then-lacks_type-clause-err g c =
     let form = word_view c.in-Some.word in
     let pattern = c.in-Some.pattern.now in
-    let r = rule_view c.in-Ok-build_rule.rule in
+    let r = rule_view c.in-Ok.rule in
     let built : IsSomeAnd (rule_of form pattern) (Alike r) =
-    subst (λ (f : spec.RuleForm). IsSomeAnd (rule_of f pattern) (Alike r)) c.in-Ok.ensures c.in-Ok-build_rule.ensures.rule in
+    subst (λ (f : spec.RuleForm). IsSomeAnd (rule_of f pattern) (Alike r)) c.in_ok-form.ensures c.in-Ok.ensures.rule in
     line-lacks (map rule_view c.args.rules.now) c.args.number c.args.line.now form pattern r c.in-Some.ensures.parts (omega (arith, length-map c.args.rules.now rule_view)) built
     (sym c.lacks_type.ensures ∙ c.if-lacks_type.true)
 
@@ -35,9 +35,9 @@ pub returns-then-mixes_time-clause-err : goal.returns-then-mixes_time-clause-err
 returns-then-mixes_time-clause-err g c =
     let form = word_view c.in-Some.word in
     let pattern = c.in-Some.pattern.now in
-    let r = rule_view c.in-Ok-build_rule.rule in
+    let r = rule_view c.in-Ok.rule in
     let built : IsSomeAnd (rule_of form pattern) (Alike r) =
-    subst (λ (f : spec.RuleForm). IsSomeAnd (rule_of f pattern) (Alike r)) c.in-Ok.ensures c.in-Ok-build_rule.ensures.rule in
+    subst (λ (f : spec.RuleForm). IsSomeAnd (rule_of f pattern) (Alike r)) c.in_ok-form.ensures c.in-Ok.ensures.rule in
     line-mixes (map rule_view c.args.rules.now) c.args.number c.args.line.now form pattern r c.in-Some.ensures.parts (omega (arith, length-map c.args.rules.now rule_view)) built
     (sym c.lacks_type.ensures ∙ c.if-lacks_type.false) (sym c.mixes_time.ensures ∙ c.if-mixes_time.true)
 
@@ -45,8 +45,8 @@ pub returns-clause-ok : goal.returns-clause-ok
 returns-clause-ok g c =
     let form = word_view c.in-Some.word in
     let pattern = c.in-Some.pattern.now in
-    let r = rule_view c.in-Ok-build_rule.rule in
+    let r = rule_view c.in-Ok.rule in
     let built : IsSomeAnd (rule_of form pattern) (Alike r) =
-    subst (λ (f : spec.RuleForm). IsSomeAnd (rule_of f pattern) (Alike r)) c.in-Ok.ensures c.in-Ok-build_rule.ensures.rule in
+    subst (λ (f : spec.RuleForm). IsSomeAnd (rule_of f pattern) (Alike r)) c.in_ok-form.ensures c.in-Ok.ensures.rule in
     line-rule (map rule_view c.args.rules.now) c.args.number c.args.line.now form pattern r c.in-Some.ensures.parts (omega (arith, length-map c.args.rules.now rule_view)) built
     (sym c.lacks_type.ensures ∙ c.if-lacks_type.false) (sym c.mixes_time.ensures ∙ c.if-mixes_time.false)

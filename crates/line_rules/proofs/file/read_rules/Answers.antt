@@ -1,4 +1,5 @@
 use Rattle.std.proofs.Common.{◌≡◌, ◌∙◌, ◌+◌, ℕ, List, false, refl, arith, subst, map}
+use Rattle.std.proofs.lemmas.Result.{err_from_is_err_and}
 use Rattle.lines.specs.Lines.{line_of}
 use Rattle.line_rules.specs.Patterns.{PatternsState}
 use Rattle.line_rules.specs.Rules as spec
@@ -24,30 +25,32 @@ loop-rest-preserved g c =
     let rs : List spec.Rule = map rule_view l.rules.items in
     let new : List spec.Rule = map rule_view c.add_line.new.rules.items in
     let adds : AddsLine (l.number + 1) (line_of c.next_piece.result.0.now) rs new =
-    subst (λ (t : List ℕ). AddsLine (l.number + 1) t rs new) c.without_return.ensures c.in-Ok.ensures.ok in
+    subst (λ (t : List ℕ). AddsLine (l.number + 1) t rs new) c.without_return.ensures c.in_ok-add_line.ensures.ok in
     record {
       counted = omega arith;
       few = c.add_line.ensures.few;
       stays = stays-on (state c.args.patterns.now) (state l.patterns) (state c.add_line.new.patterns) l.invariant.stays c.add_line.ensures.stays;
-      count = c.in-Ok.ensures.count ∙ l.invariant.count;
+      count = c.in_ok-add_line.ensures.count ∙ l.invariant.count;
       read = step c.args.bytes.now l.number l.rest.now c.next_piece.result.0.now c.next_piece.result.1.now rs new l.invariant.read c.next_piece.ensures.pieces adds;
     }
 
-pub returns-in-Err-clause-err : goal.returns-in-Err-clause-err
-returns-in-Err-clause-err g c =
+pub returns-in_err-add_line-clause-err : goal.returns-in_err-add_line-clause-err
+returns-in_err-add_line-clause-err g c =
     let l = c.loop-rest in
     let state = g.P.Patterns.state in
     let mid : PatternsState = state l.patterns in
     let new : PatternsState = state c.add_line.new.patterns in
     let rs : List spec.Rule = map rule_view l.rules.items in
-    let fault = c.in-Err.fault in
+    let fault = c.in_err-add_line.field-0.0 in
+    let p = err_from_is_err_and c.from_residual.result c.from_residual.ensures.1 in
     let piece : List ℕ = c.next_piece.result.0.now in
-    let counts : is_skipped (line_of piece) ≡ false = subst (λ (t : List ℕ). is_skipped t ≡ false) c.without_return.ensures c.in-Err.ensures.not_skipped in
+    let counts : is_skipped (line_of piece) ≡ false = subst (λ (t : List ℕ). is_skipped t ≡ false) c.without_return.ensures c.in_err-add_line.ensures.not_skipped in
     let refused : IsLineRefused mid new rs (l.number + 1) (line_of piece) fault =
-    subst (λ (t : List ℕ). IsLineRefused mid new rs (l.number + 1) t fault) c.without_return.ensures c.in-Err.ensures.err in
-    refuse c.args.bytes.now l.number l.rest.now piece c.next_piece.result.1.now rs (state c.args.patterns.now) mid new fault c.requires l.invariant.read c.next_piece.ensures.pieces counts l.invariant.stays refused
+    subst (λ (t : List ℕ). IsLineRefused mid new rs (l.number + 1) t fault) c.without_return.ensures c.in_err-add_line.ensures.err in
+    rw (p.1, p.2) (refuse c.args.bytes.now l.number l.rest.now piece c.next_piece.result.1.now rs (state c.args.patterns.now) mid new fault c.requires l.invariant.read c.next_piece.ensures.pieces counts l.invariant.stays refused)
 
-pub returns-in-Err-clause-count : goal.returns-in-Err-clause-count
-returns-in-Err-clause-count g c =
+pub returns-in_err-add_line-clause-count : goal.returns-in_err-add_line-clause-count
+returns-in_err-add_line-clause-count g c =
     let state = g.P.Patterns.state in
-    count-on (state c.args.patterns.now) (state c.loop-rest.patterns) (state c.add_line.new.patterns) c.in-Err.fault c.loop-rest.invariant.count c.in-Err.ensures.count
+    let p = err_from_is_err_and c.from_residual.result c.from_residual.ensures.1 in
+    rw (p.1, p.2) (count-on (state c.args.patterns.now) (state c.loop-rest.patterns) (state c.add_line.new.patterns) c.in_err-add_line.field-0.0 c.loop-rest.invariant.count c.in_err-add_line.ensures.count)

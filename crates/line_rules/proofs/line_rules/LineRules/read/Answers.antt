@@ -9,10 +9,10 @@ use Rattle.line_rules.proofs.line_rules.LineRules.read.Goals as goal
 pub returns-then-not-has_event-clause-err : goal.returns-then-not-has_event-clause-err
 returns-then-not-has_event-clause-err g c =
     let any = ap (λ (rs : List Rule). list_any (λ rule. is_event rule.form) (map rule_view rs)) (sym c.deref.ensures.value) ∙ (sym c.has_event.ensures ∙ c.if-not-has_event.true) in
-    no-event c.args.bytes.now (map rule_view c.in-Ok.rules.items) (omega arith) c.in-Ok.ensures.ok any
+    no-event c.args.bytes.now (map rule_view c.in_ok-rules.rules.items) (omega arith) c.in_ok-rules.ensures.ok any
 
 pub returns-clause-ok : goal.returns-clause-ok
 unfolding rules_in
 returns-clause-ok g c =
     let any = ap (λ (rs : List Rule). list_any (λ rule. is_event rule.form) (map rule_view rs)) (sym c.deref.ensures.value) ∙ (sym c.has_event.ensures ∙ c.if-not-has_event.false) in
-    file-read c.args.bytes.now (map rule_view c.in-Ok.rules.items) (omega arith) c.in-Ok.ensures.ok any
+    file-read c.args.bytes.now (map rule_view c.in_ok-rules.rules.items) (omega arith) c.in_ok-rules.ensures.ok any
