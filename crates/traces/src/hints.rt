@@ -7,8 +7,11 @@ ghost use Rattle.traces.specs.Hashes.{hash_of_bytes};
 
 use std::alloc::Global;
 
+/// How many bits of a hash choose one of the first buckets.
+const FIRST_BITS: u32 = 10;
+
 /// The buckets that the first hints get.
-const FIRST_BUCKETS: usize = 256;
+const FIRST_BUCKETS: usize = 1 << FIRST_BITS;
 
 /// How many slots a bucket has. Memory holds them beside one another, so that one that is looked at brings the others.
 const SLOTS: usize = 4;
@@ -65,9 +68,15 @@ pub struct Hints {
     buckets: Vec<Bucket>,
 }
 
-/// The part of a hash that tells apart what is in one bucket.
+/// The part of a hash that tells apart what is in one bucket: what stands above the bits that choose a first bucket, so
+/// that the mark and the bucket tell the bucket that comes after more were made.
 fn mark_of(hash: u64) -> u32 {
-    (hash >> 32) as u32
+    ((hash << (u32::BITS - FIRST_BITS)) >> u32::BITS) as u32
+}
+
+/// As much of a hash as its mark and its bucket tell.
+fn hash_of_slot(bucket: usize, mark: u32) -> u64 {
+    (u64::from(mark) << FIRST_BITS) | (bucket as u64 & (FIRST_BUCKETS as u64 - 1))
 }
 
 impl Hints {
@@ -99,23 +108,32 @@ impl Hints {
         });
     }
 
-    /// Makes eight slots for each place where there are no more than two, and forgets all then.
-    /// Without memory for them it leaves those that there are. Whether it forgot.
-    pub fn grow(&mut self, alloc: Global, places: usize) -> bool {
+    /// Notes where something new with this hash stands, the next place behind all others. Where there are no more than
+    /// two slots for each place there are eight then; without memory for them it leaves those that there are.
+    pub fn note_new(&mut self, alloc: Global, hash: u64, place: usize) {
         let buckets = self.buckets.len();
-        if places / 2 < buckets {
-            return false;
-        }
-        let wanted = buckets.saturating_mul(4).max(FIRST_BUCKETS);
-        let empty = Bucket {
-            slots: [EMPTY; SLOTS],
-        };
-        match vec![in alloc; empty; wanted] {
-            Ok(fresh) => {
-                self.buckets = fresh;
-                true
+        if place / 2 >= buckets {
+            let wanted = buckets.saturating_mul(4).max(FIRST_BUCKETS);
+            let empty = Bucket {
+                slots: [EMPTY; SLOTS],
+            };
+            if let Ok(buckets) = vec![in alloc; empty; wanted] {
+                let mut fresh = Hints { buckets };
+                fresh.take_over(&self.buckets);
+                *self = fresh;
             }
-            Err(_) => false,
+        }
+        self.note(hash, place);
+    }
+
+    /// Notes what is noted in these buckets.
+    fn take_over(&mut self, buckets: &[Bucket]) {
+        for (index, bucket) in buckets.iter().enumerate() {
+            for slot in &bucket.slots {
+                if slot.place != u32::MAX {
+                    self.note(hash_of_slot(index, slot.mark), slot.place as usize);
+                }
+            }
         }
     }
 }

@@ -46,19 +46,6 @@ fn is_key_at(keys: &[Key], place: usize, parts: &KeyParts<'_>) -> bool
     }
 }
 
-/// Notes where the last key stands, which has this hash.
-fn note_key(alloc: Global, hints: &mut Hints, keys: &[Key], hash: u64) {
-    if hints.grow(alloc, keys.len()) {
-        for (place, key) in keys.iter().enumerate() {
-            hints.note(key_hash(&key.parts()), place);
-        }
-        return;
-    }
-    if let Some(place) = keys.len().checked_sub(1) {
-        hints.note(hash, place);
-    }
-}
-
 /// Puts a key at the end, and its place under its hash. Where a place is known under the hash, that place is the
 /// answer, and nothing is put.
 fn begin_first(
@@ -146,7 +133,7 @@ impl KeyTable {
         let key = Key::make(alloc, parts)?;
         let begun = begin_first(&mut self.keys, &mut self.firsts, key, hash)?;
         let Some(first) = begun else {
-            note_key(alloc, &mut self.hints, &self.keys, hash);
+            self.hints.note_new(alloc, hash, end);
             return Ok(end);
         };
         if is_key_at(&self.keys, first, parts) {
@@ -162,7 +149,7 @@ impl KeyTable {
         }
         let key = Key::make(alloc, parts)?;
         begin_other(&mut self.keys, &mut self.others, key, known)?;
-        note_key(alloc, &mut self.hints, &self.keys, hash);
+        self.hints.note_new(alloc, hash, end);
         Ok(end)
     }
 
