@@ -3,21 +3,28 @@ use Rattle.std.proofs.Common.{◌≡◌, ℕ, ◌≤◌, List, length, Some, Res
 use Rattle.std.specs.Prelude.{IfOk, IfErr}
 use Rattle.serde_json.specs.Data.{Data}
 use Rattle.model_file.specs.declared.refusal.FileError.{FileError}
-use Rattle.model_file.specs.declared.refusal.FileError.TheVariants.{TooLong, NotJson, Shape, Version, Memory}
+use Rattle.model_file.specs.declared.refusal.FileError.TheVariants.{TooLong, NotJson, Memory}
 use Rattle.model_file.specs.Reading.{◌>>=◌, or_not_json, Fails, Gives, IsNoValue, model_in, value_of, reads}
 use Rattle.limits.specs.declared.TheConstants.{MAX_MODEL_BYTES}
 
 -- where a step fails, so does what goes on from it
 pub Fails-then : {A B : Type 0} (e : FileError) (r : Result A FileError) (f : A → Result B FileError) → Fails e r → Fails e (r >>= f)
-Fails-then TooLong r f h = ap (λ x. x >>= f) h
-Fails-then NotJson r f h = ap (λ x. x >>= f) h
-Fails-then (Shape field) r f h = ap (λ x. x >>= f) h
-Fails-then (Version n) r f h = ap (λ x. x >>= f) h
 Fails-then Memory r f h = tt
+Fails-then _ r f h = ap (λ x. x >>= f) h
 
 -- the refusal of a step, where what is read comes down to that step
 pub Fails-at : {A B : Type 0} (e : FileError) (whole : Result B FileError) (r : Result A FileError) (f : A → Result B FileError) → whole ≡ (r >>= f) → Fails e r → Fails e whole
 Fails-at e whole r f is h = subst (Fails e) (sym is) (Fails-then e r f h)
+
+-- the same of an answer that is this refusal
+pub Gives-at : {A B : Type 0} (e refusal : FileError) (answer whole : Result B FileError) (r : Result A FileError) (f : A → Result B FileError)
+    → answer ≡ Err refusal → refusal ≡ e → whole ≡ (r >>= f) → Fails e r → Gives answer whole
+Gives-at e refusal answer whole r f failed same is h = subst (λ x. Gives x whole) (sym (failed ∙ ap Err same)) (Fails-at e whole r f is h)
+
+-- the same of a step that is also written in another way
+pub Gives-by : {A B : Type 0} (e refusal : FileError) (answer whole : Result B FileError) (r s : Result A FileError) (f : A → Result B FileError)
+    → answer ≡ Err refusal → refusal ≡ e → whole ≡ (r >>= f) → s ≡ r → Fails e s → Gives answer whole
+Gives-by e refusal answer whole r s f failed same is moved h = Gives-at e refusal answer whole r f failed same is (subst (Fails e) moved h)
 
 -- what a part of the reading gives, the whole gives
 pub Gives-ok : {A : Type 0} (r read whole : Result A FileError) → whole ≡ read → Gives r read → IfOk r (λ x. whole ≡ Ok x)
@@ -45,8 +52,6 @@ reads-value bytes d short is = reads-short bytes short ∙ ap (λ o. or_not_json
 
 -- where the bytes give no value, the reading fails for the same cause
 pub no-value : (e : FileError) (bytes : List ℕ) → length bytes ≤ MAX_MODEL_BYTES → IsNoValue e (value_of bytes) → Fails e (reads bytes)
-no-value TooLong bytes short h = absurd h
 no-value NotJson bytes short h = reads-short bytes short ∙ ap (λ o. or_not_json o >>= model_in) h
-no-value (Shape field) bytes short h = absurd h
-no-value (Version n) bytes short h = absurd h
 no-value Memory bytes short h = tt
+no-value _ bytes short h = absurd h

@@ -3,7 +3,7 @@ use Rattle.std.proofs.Common.{◌≡◌, ℕ, ◌-◌, ◌^◌, ◌≤◌, Bool,
 use Rattle.std.specs.Prelude.{codes}
 use Rattle.std.proofs.lemmas.Bool.{and_parts, leb-true}
 use Rattle.std.proofs.lemmas.Slice.Eq.{bytes_eq-Decides}
-use Rattle.serde_json.specs.Data.{unsigned, negative, float, Data, null, boolean, number, string, array, object, Items, no_items, item}
+use Rattle.serde_json.specs.Data.{unsigned, Data, number, string, array, Items, no_items, item}
 use Rattle.serde_json.specs.Find.{as_str}
 use Rattle.serde_json.specs.View.{items_of}
 use Rattle.invariants.specs.declared.Kind.{Kind}
@@ -17,9 +17,6 @@ use Rattle.invariants.specs.declared.records.Split.{Split}
 use Rattle.invariants.specs.declared.records.Block.{Block}
 use Rattle.model_file.specs.Tree.{number_data, array_of, path_data, partition_data, edge_data, kind_text, digit_of, listed_data, merge_data, split_data, block_data}
 use Rattle.model_file.specs.Entries.{◌>>=◌, number_below, number_in, type_in, each, list_in, two, three, four, two_in, three_in, four_in, kind_named, kind_in, label_of, labels_of, labels_in, path_in, partition_in, edge_in, invariant_in, listed_in, merge_in, split_in, block_in}
-
-some : {A : Type 0} → A → Option A
-some x = Some x
 
 -- two options that are the same have the same value
 pub some-is : {A : Type 0} (x y : A) → Some x ≡ Some y → x ≡ y
@@ -36,23 +33,13 @@ below-is false k n e = absurd cc
 
 number-forth : (limit n : ℕ) (d : Data) → number_below limit d ≡ Some n → d ≡ number_data n
 unfolding number_below
-number-forth limit n null e = absurd cc
-number-forth limit n (boolean b) e = absurd cc
 number-forth limit n (number (unsigned k)) e = ap number_data (below-is (ltb k limit) k n e)
-number-forth limit n (number (negative z)) e = absurd cc
-number-forth limit n (number (float x)) e = absurd cc
-number-forth limit n (string s) e = absurd cc
-number-forth limit n (array ds) e = absurd cc
-number-forth limit n (object ms) e = absurd cc
+number-forth limit n _ e = absurd cc
 
 -- a value that is read as a text is the value of this text
 pub text-forth : (d : Data) (s : List ℕ) → as_str d ≡ Some s → d ≡ string s
-text-forth null s e = absurd cc
-text-forth (boolean b) s e = absurd cc
-text-forth (number n) s e = absurd cc
 text-forth (string t) s e = ap string (some-is t s e)
-text-forth (array ds) s e = absurd cc
-text-forth (object ms) s e = absurd cc
+text-forth _ s e = absurd cc
 
 each-forth : {A : Type 0} (f : Data → Option A) (g : A → Data) → ((d : Data) (a : A) → f d ≡ Some a → d ≡ g a) → (ds : Items) (xs : List A) → each f ds ≡ Some xs → ds ≡ items_of (map g xs)
 each-forth f g forth no_items xs e = ap (λ ys. items_of (map g ys)) (some-is [] xs e)
@@ -64,62 +51,37 @@ each-forth f g forth (item d ds) xs e =
 -- where each value that is read is that of its entry, an array that is read is that of its list
 pub list-forth : {A : Type 0} (f : Data → Option A) (g : A → Data) → ((d : Data) (a : A) → f d ≡ Some a → d ≡ g a) → (d : Data) (xs : List A) → list_in f d ≡ Some xs → d ≡ array_of (map g xs)
 unfolding list_in
-list-forth f g forth null xs e = absurd cc
-list-forth f g forth (boolean b) xs e = absurd cc
-list-forth f g forth (number n) xs e = absurd cc
-list-forth f g forth (string s) xs e = absurd cc
 list-forth f g forth (array ds) xs e = ap array (each-forth f g forth ds xs e)
-list-forth f g forth (object ms) xs e = absurd cc
+list-forth f g forth _ xs e = absurd cc
 
 -- ---- arrays of a few items
 
 items-two : (ds : Items) (a b : Data) → two ds ≡ Some (a, b) → ds ≡ item a (item b no_items)
-items-two no_items a b e = absurd cc
-items-two (item x no_items) a b e = absurd cc
 items-two (item x (item y no_items)) a b e = let p = some-is (x, y) (a, b) e in ap (λ (q : Data × Data). item q.0 (item q.1 no_items)) p
-items-two (item x (item y (item z ds))) a b e = absurd cc
+items-two _ a b e = absurd cc
 
 two-forth : (d : Data) (row : Data × Data) → two_in d ≡ Some row → d ≡ array_of (row.0 ∷ row.1 ∷ [])
 unfolding two_in
-two-forth null row e = absurd cc
-two-forth (boolean b) row e = absurd cc
-two-forth (number n) row e = absurd cc
-two-forth (string s) row e = absurd cc
 two-forth (array ds) row e = ap array (items-two ds row.0 row.1 e)
-two-forth (object ms) row e = absurd cc
+two-forth _ row e = absurd cc
 
 items-three : (ds : Items) (a b c : Data) → three ds ≡ Some (a, b, c) → ds ≡ item a (item b (item c no_items))
-items-three no_items a b c e = absurd cc
-items-three (item x no_items) a b c e = absurd cc
-items-three (item x (item y no_items)) a b c e = absurd cc
 items-three (item x (item y (item z no_items))) a b c e = let p = some-is (x, y, z) (a, b, c) e in ap (λ (q : Data × Data × Data). item q.0 (item q.1 (item q.2 no_items))) p
-items-three (item x (item y (item z (item w ds)))) a b c e = absurd cc
+items-three _ a b c e = absurd cc
 
 three-forth : (d : Data) (row : Data × Data × Data) → three_in d ≡ Some row → d ≡ array_of (row.0 ∷ row.1 ∷ row.2 ∷ [])
 unfolding three_in
-three-forth null row e = absurd cc
-three-forth (boolean b) row e = absurd cc
-three-forth (number n) row e = absurd cc
-three-forth (string s) row e = absurd cc
 three-forth (array ds) row e = ap array (items-three ds row.0 row.1 row.2 e)
-three-forth (object ms) row e = absurd cc
+three-forth _ row e = absurd cc
 
 items-four : (ds : Items) (a b c d : Data) → four ds ≡ Some (a, b, c, d) → ds ≡ item a (item b (item c (item d no_items)))
-items-four no_items a b c d e = absurd cc
-items-four (item x no_items) a b c d e = absurd cc
-items-four (item x (item y no_items)) a b c d e = absurd cc
-items-four (item x (item y (item z no_items))) a b c d e = absurd cc
 items-four (item x (item y (item z (item w no_items)))) a b c d e = let p = some-is (x, y, z, w) (a, b, c, d) e in ap (λ (q : Data × Data × Data × Data). item q.0 (item q.1 (item q.2 (item q.3 no_items)))) p
-items-four (item x (item y (item z (item w (item v ds))))) a b c d e = absurd cc
+items-four _ a b c d e = absurd cc
 
 four-forth : (d : Data) (row : Data × Data × Data × Data) → four_in d ≡ Some row → d ≡ array_of (row.0 ∷ row.1 ∷ row.2 ∷ row.3 ∷ [])
 unfolding four_in
-four-forth null row e = absurd cc
-four-forth (boolean b) row e = absurd cc
-four-forth (number n) row e = absurd cc
-four-forth (string s) row e = absurd cc
 four-forth (array ds) row e = ap array (items-four ds row.0 row.1 row.2 row.3 e)
-four-forth (object ms) row e = absurd cc
+four-forth _ row e = absurd cc
 
 array-two : {a b x y : Data} → a ≡ x → b ≡ y → array_of (a ∷ b ∷ []) ≡ array_of (x ∷ y ∷ [])
 array-two {a} {b} {x} {y} p q = ap₂ (λ (s t : Data). array_of (s ∷ t ∷ [])) p q

@@ -1,5 +1,5 @@
 -- The object that a model is read from.
-use Rattle.std.proofs.Common.{◌≡◌, ℕ, ◌==◌, Bool, true, false, cond, ◌||◌, List, [], ◌∷◌, map, length, Option, Some, None, Result, Ok, Err, bytes_eq, refl, sym, ap, subst, ◌∙◌, inl, inr, Ordering, Less, Equal, Greater, is_eq}
+use Rattle.std.proofs.Common.{◌≡◌, ℕ, ◌==◌, Bool, true, false, cond, ◌||◌, List, [], ◌∷◌, map, length, Option, Some, None, Result, Ok, Err, bytes_eq, refl, sym, ap, subst, ◌∙◌, inl, inr, Ordering, Equal, is_eq}
 use Rattle.std.specs.Prelude.{codes, nat_lt}
 use Rattle.std.specs.List.{list_any, AllByRecursion}
 use Rattle.std.specs.Ordering.{nat_cmp, match_ordering}
@@ -7,7 +7,7 @@ use Rattle.std.specs.Cmp.Lexicographic.{slice_cmp}
 use Rattle.std.proofs.lemmas.Bool.{and_parts, eqb-true, cases_Bool, false≢true}
 use Rattle.std.proofs.lemmas.Slice.Eq.{bytes_eq-Decides}
 use Rattle.std.proofs.lemmas.Map.Text.{is_eq-slice_cmp}
-use Rattle.serde_json.specs.Data.{Num, unsigned, negative, float, Data, null, boolean, number, string, array, object, Members, no_members, member}
+use Rattle.serde_json.specs.Data.{Num, unsigned, Data, number, string, object, Members, no_members, member}
 use Rattle.serde_json.specs.Find.{get, get_member, as_str, as_number, as_u64, as_object}
 use Rattle.invariants.specs.declared.records.Partition.{Partition}
 use Rattle.invariants.specs.declared.records.Edge.{Edge}
@@ -79,12 +79,8 @@ splits-under invariants d xs e = part-forth split_in split_data split-forth (cod
 -- ---- the head
 
 object-forth : (d : Data) (ms : Members) → as_object d ≡ Some ms → d ≡ object ms
-object-forth null ms e = absurd cc
-object-forth (boolean b) ms e = absurd cc
-object-forth (number n) ms e = absurd cc
-object-forth (string s) ms e = absurd cc
-object-forth (array ds) ms e = absurd cc
 object-forth (object ns) ms e = let same : ns ≡ ms = cc in ap object same
+object-forth _ ms e = absurd cc
 
 root-forth : (d : Data) (ms : Members) → root_in d ≡ Ok ms → d ≡ object ms
 unfolding root_in
@@ -103,16 +99,11 @@ first-is (Some n) e = ap Some (one-at (n == 1) n _ refl e)
 
 unsigned-is : (x : Num) (n : ℕ) → as_u64 x ≡ Some n → x ≡ unsigned n
 unsigned-is (unsigned k) n e = let same : k ≡ n = cc in ap unsigned same
-unsigned-is (negative z) n e = absurd cc
-unsigned-is (float x) n e = absurd cc
+unsigned-is _ n e = absurd cc
 
 number-is : (d : Data) (x : Num) → as_number d ≡ Some x → d ≡ number x
-number-is null x e = absurd cc
-number-is (boolean b) x e = absurd cc
 number-is (number y) x e = let same : y ≡ x = cc in ap number same
-number-is (string s) x e = absurd cc
-number-is (array ds) x e = absurd cc
-number-is (object ms) x e = absurd cc
+number-is _ x e = absurd cc
 
 version-under : (d : Data) → version_in d ≡ Ok tt → get (codes "version") d ≡ Some (number_data 1)
 unfolding version_in
@@ -129,9 +120,8 @@ keys-forth ms e = (tested-ok Extra (has_no_extra ms) tt tt e).0
 -- ---- the other keys
 
 other-at : (o : Ordering) (found : Option Data) (d : Data) → is_eq o ≡ false → found ≡ None → match_ordering o found (Some d) found ≡ None
-other-at Less found d e none = none
 other-at Equal found d e none = absurd (false≢true (sym e))
-other-at Greater found d e none = none
+other-at _ found d e none = none
 
 differs : (key k : List ℕ) (b : Bool) → bytes_eq key k ≡ b → is_key key ≡ false → is_key k ≡ true → b ≡ false
 differs key k true same other here = absurd (false≢true (sym other ∙ ap is_key ((bytes_eq-Decides key k).0 same) ∙ here))

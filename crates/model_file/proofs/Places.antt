@@ -10,14 +10,9 @@ use Rattle.model_file.specs.Rules.{same_kind, same_invariant, place_in, place_of
 
 kinds-are : (i j : Kind) → same_kind i j ≡ true → i ≡ j
 kinds-are AF AF h = refl
-kinds-are AF NF h = absurd (false≢true h)
-kinds-are AF AP h = absurd (false≢true h)
-kinds-are NF AF h = absurd (false≢true h)
 kinds-are NF NF h = refl
-kinds-are NF AP h = absurd (false≢true h)
-kinds-are AP AF h = absurd (false≢true h)
-kinds-are AP NF h = absurd (false≢true h)
 kinds-are AP AP h = refl
+kinds-are _ _ h = absurd (false≢true h)
 
 kind-itself : (k : Kind) → same_kind k k ≡ true
 kind-itself AF = refl

@@ -7,25 +7,16 @@ use Rattle.serde_json.specs.declared.value.Value.{Value}
 use Rattle.model_file.specs.Entries.{◌>>=◌, two, three, four, two_in, three_in, four_in}
 
 not-two : (vs : List Value) → (length vs ≡ 2 → ⊥) → two (items_view vs) ≡ None
-not-two [] h = refl
-not-two (a ∷ []) h = refl
 not-two (a ∷ b ∷ []) h = absurd (h refl)
-not-two (a ∷ b ∷ c ∷ vs) h = refl
+not-two _ h = refl
 
 not-three : (vs : List Value) → (length vs ≡ 3 → ⊥) → three (items_view vs) ≡ None
-not-three [] h = refl
-not-three (a ∷ []) h = refl
-not-three (a ∷ b ∷ []) h = refl
 not-three (a ∷ b ∷ c ∷ []) h = absurd (h refl)
-not-three (a ∷ b ∷ c ∷ d ∷ vs) h = refl
+not-three _ h = refl
 
 not-four : (vs : List Value) → (length vs ≡ 4 → ⊥) → four (items_view vs) ≡ None
-not-four [] h = refl
-not-four (a ∷ []) h = refl
-not-four (a ∷ b ∷ []) h = refl
-not-four (a ∷ b ∷ c ∷ []) h = refl
 not-four (a ∷ b ∷ c ∷ d ∷ []) h = absurd (h refl)
-not-four (a ∷ b ∷ c ∷ d ∷ e ∷ vs) h = refl
+not-four _ h = refl
 
 module _ (d : Data) (vs : List Value) (array : Some (items_view vs) ≡ as_array d) where
   -- an array that has not two items is not read as two

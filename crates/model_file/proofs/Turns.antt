@@ -1,24 +1,10 @@
 -- A test that goes over a list, a turn at a time: what it gives of the rest is what it gives of the whole.
-use Rattle.std.proofs.Common.{◌≡◌, ℕ, ◌+◌, ◌<◌, ◌≤◌, Bool, true, false, ◌&&◌, List, [], ◌∷◌, length, get_or, drop, sym, ap, ◌∙◌}
+use Rattle.std.proofs.Common.{◌≡◌, ℕ, ◌+◌, ◌<◌, ◌≤◌, List, [], ◌∷◌, length, get_or, drop, sym, ap, ◌∙◌}
 use Rattle.std.proofs.lemmas.List.{at_drop_more, at_drop_all}
 
 -- the rest from an element on, by that element and the rest after it
 pub turn : {X Y : Type 0} (rest : List X → Y) (xs : List X) (i : ℕ) (x : X) (total : Y) → i < length xs → x ≡ get_or xs i x → rest (drop i xs) ≡ total → rest (x ∷ drop (i + 1) xs) ≡ total
 turn rest xs i x total inside is so_far = ap (λ y. rest (y ∷ drop (i + 1) xs)) is ∙ sym (at_drop_more rest xs i x inside) ∙ so_far
-
--- an element that passes
-pub passes : {X : Type 0} (rest next : List X → Bool) (b : Bool) (xs : List X) (i : ℕ) (x : X) (total : Bool) → i < length xs → x ≡ get_or xs i x → ((ys : List X) → rest (x ∷ ys) ≡ b && next ys)
-    → b ≡ true → rest (drop i xs) ≡ total → next (drop (i + 1) xs) ≡ total
-passes rest next b xs i x total inside is step e so_far =
-    let here : b && next (drop (i + 1) xs) ≡ total = sym (step (drop (i + 1) xs)) ∙ turn rest xs i x total inside is so_far in
-    ap (λ c. c && next (drop (i + 1) xs)) (sym e) ∙ here
-
--- an element that fails
-pub fails : {X : Type 0} (rest next : List X → Bool) (b : Bool) (xs : List X) (i : ℕ) (x : X) (total : Bool) → i < length xs → x ≡ get_or xs i x → ((ys : List X) → rest (x ∷ ys) ≡ b && next ys)
-    → b ≡ false → rest (drop i xs) ≡ total → false ≡ total
-fails rest next b xs i x total inside is step e so_far =
-    let here : b && next (drop (i + 1) xs) ≡ total = sym (step (drop (i + 1) xs)) ∙ turn rest xs i x total inside is so_far in
-    ap (λ c. c && next (drop (i + 1) xs)) (sym e) ∙ here
 
 -- no element is left
 pub over : {X Y : Type 0} (rest : List X → Y) (xs : List X) (i : ℕ) (total : Y) → length xs ≤ i → rest (drop i xs) ≡ total → rest [] ≡ total

@@ -1,8 +1,8 @@
 -- The seven rules of a well-shaped model as tests, one for each of its lists.
-use Rattle.std.specs.Prelude.{◌↔◌, ℕ, ◌+◌, ◌-◌, ◌*◌, ◌==◌, ◌&&◌, ◌||◌, Bool, true, false, not, List, [], ◌∷◌, drop, length, map, find, nat_lt, nat_le, IsTrue, Option, Some, None, is_some, option_map, unwrap_or, if◌then◌else◌}
+use Rattle.std.specs.Prelude.{◌↔◌, ℕ, ◌+◌, ◌-◌, ◌==◌, ◌&&◌, ◌||◌, Bool, true, false, not, List, [], ◌∷◌, drop, length, map, find, nat_lt, nat_le, IsTrue, Option, Some, None, is_some, option_map, unwrap_or, if◌then◌else◌}
 use Rattle.std.specs.List.{list_all, list_any}
 use Rattle.std.specs.Str.{bytes_eq}
-use Rattle.limits.specs.declared.TheConstants.{INITIAL, TERMINAL, FIRST_TYPE, MAX_TYPES, MAX_EVENTS, MAX_TYPE_BYTES, MAX_PARTITIONS, MAX_PATH_NUMBERS}
+use Rattle.limits.specs.declared.TheConstants.{INITIAL, TERMINAL, FIRST_TYPE, MAX_TYPES, MAX_EVENTS, MAX_EDGE_COUNT, MAX_TYPE_BYTES, MAX_PARTITIONS, MAX_PATH_NUMBERS}
 use Rattle.invariants.specs.Candidates.{candidates}
 use Rattle.invariants.specs.declared.Kind.{Kind}
 use Rattle.invariants.specs.declared.Kind.TheVariants.{AF, NF, AP}
@@ -14,6 +14,7 @@ use Rattle.invariants.specs.declared.records.Merge.{Merge}
 use Rattle.invariants.specs.declared.records.Split.{Split}
 use Rattle.invariants.specs.declared.records.Block.{Block}
 use Rattle.invariants.specs.declared.records.Model.{Model}
+use Rattle.model_file.specs.declared.shape.TheConstants.{ENDS}
 use Rattle.model_shape.specs.Numbers.{split_numbers, block_numbers}
 use Rattle.model_shape.specs.Shapes.{AreTypes, AreShapedPartitions, AreShapedEdges, AreShapedInvariants, AreShapedMerges, AreShapedSplits, AreShapedBlocks}
 
@@ -73,7 +74,7 @@ partition_holds types p =
 unfoldable pub partitions_hold : ℕ → List Partition → Bool
 partitions_hold types ps =
     nat_le (length ps) MAX_PARTITIONS && (ends_hold ps
-    && (list_all (partition_holds types) (drop 2 ps) && ascends nat_lt (map (λ p. p.id) ps)))
+    && (list_all (partition_holds types) (drop ENDS ps) && ascends nat_lt (map (λ p. p.id) ps)))
 
 -- the type of a listed partition
 abbrev pub type_of : List Partition → ℕ → Option ℕ
@@ -81,12 +82,12 @@ type_of ps id = option_map (λ p. p.typ) (find (λ p. p.id == id) ps)
 
 -- ---- edges
 
--- both ids are listed, nothing leaves TERMINAL and nothing enters INITIAL, and the count is within twice the limit on events, and not 0
+-- both ids are listed, nothing leaves TERMINAL and nothing enters INITIAL, and the count is within the limit on the places of an edge, and not 0
 abbrev pub edge_holds : (ℕ → Option ℕ) → Edge → Bool
 edge_holds type e =
     is_some (type e.from)
     && (is_some (type e.to) && (not (e.from == TERMINAL) && (not (e.to == INITIAL)
-    && (nat_le 1 e.count && nat_le e.count (2 * MAX_EVENTS)))))
+    && (nat_le 1 e.count && nat_le e.count MAX_EDGE_COUNT))))
 
 -- such edges, which ascend by where they come from and where they go to; `type` gives the type of a listed partition
 unfoldable pub edges_hold : (ℕ → Option ℕ) → List Edge → Bool

@@ -67,10 +67,8 @@ pub(crate) fn test_head(root: &Value) -> Result<(), FileError>
     let Some(members) = root.as_object() else {
         return Err(FileError::Shape(Field::Root));
     };
-    match test_version(root) {
-        Ok(()) => test_keys(members),
-        Err(e) => Err(e),
-    }
+    test_version(root)?;
+    test_keys(members)
 }
 
 /// The entries under a key.
@@ -86,10 +84,9 @@ fn part<T: Entry + Drop>(
     let Some(value) = root.get(key) else {
         return Err(FileError::Shape(field));
     };
-    match list(alloc, value) {
-        Ok(Some(entries)) => Ok(Seq::from_vec(entries)),
-        Ok(None) => Err(FileError::Shape(field)),
-        Err(_) => Err(FileError::Memory),
+    match list(alloc, value)? {
+        Some(entries) => Ok(Seq::from_vec(entries)),
+        None => Err(FileError::Shape(field)),
     }
 }
 
@@ -98,10 +95,7 @@ fn part<T: Entry + Drop>(
 pub(crate) fn types_in(alloc: Global, root: &Value) -> Result<Seq<Text>, FileError>
     ensures { Gives result (types_in (view root.now)) }
 {
-    let types = match part::<Text>(alloc, root, "types", Field::Types) {
-        Ok(types) => types,
-        Err(e) => return Err(e),
-    };
+    let types = part::<Text>(alloc, root, "types", Field::Types)?;
     if !types_hold(types.as_slice()) {
         return Err(FileError::Shape(Field::Types));
     }
@@ -118,10 +112,7 @@ pub(crate) fn partitions_in(
     requires { types ≤ MAX_TYPES }
     ensures { Gives result (partitions_in types (view root.now)) }
 {
-    let partitions = match part::<Partition>(alloc, root, "partitions", Field::Partitions) {
-        Ok(partitions) => partitions,
-        Err(e) => return Err(e),
-    };
+    let partitions = part::<Partition>(alloc, root, "partitions", Field::Partitions)?;
     if !partitions_hold(types, partitions.as_slice()) {
         return Err(FileError::Shape(Field::Partitions));
     }
@@ -137,10 +128,7 @@ pub(crate) fn edges_in(
 ) -> Result<Seq<Edge>, FileError>
     ensures { Gives result (edges_in (type_at table.now) (view root.now)) }
 {
-    let edges = match part::<Edge>(alloc, root, "edges", Field::Edges) {
-        Ok(edges) => edges,
-        Err(e) => return Err(e),
-    };
+    let edges = part::<Edge>(alloc, root, "edges", Field::Edges)?;
     if !edges_hold(table, edges.as_slice()) {
         return Err(FileError::Shape(Field::Edges));
     }
@@ -158,10 +146,7 @@ pub(crate) fn invariants_in(
     requires { types ≤ MAX_TYPES }
     ensures { Gives result (invariants_in types partitions (view root.now)) }
 {
-    let invariants = match part::<Listed>(alloc, root, "invariants", Field::Invariants) {
-        Ok(invariants) => invariants,
-        Err(e) => return Err(e),
-    };
+    let invariants = part::<Listed>(alloc, root, "invariants", Field::Invariants)?;
     if !invariants_hold(types, partitions, invariants.as_slice()) {
         return Err(FileError::Shape(Field::Invariants));
     }
@@ -173,10 +158,7 @@ pub(crate) fn invariants_in(
 pub(crate) fn merges_in(alloc: Global, root: &Value) -> Result<Seq<Merge>, FileError>
     ensures { Gives result (merges_in (view root.now)) }
 {
-    let merges = match part::<Merge>(alloc, root, "merges", Field::Merges) {
-        Ok(merges) => merges,
-        Err(e) => return Err(e),
-    };
+    let merges = part::<Merge>(alloc, root, "merges", Field::Merges)?;
     if !merges_hold(merges.as_slice()) {
         return Err(FileError::Shape(Field::Merges));
     }
@@ -192,10 +174,7 @@ pub(crate) fn splits_in(
 ) -> Result<Seq<Split>, FileError>
     ensures { Gives result (splits_in invariants (view root.now)) }
 {
-    let splits = match part::<Split>(alloc, root, "splits", Field::Splits) {
-        Ok(splits) => splits,
-        Err(e) => return Err(e),
-    };
+    let splits = part::<Split>(alloc, root, "splits", Field::Splits)?;
     if !splits_hold(invariants, splits.as_slice()) {
         return Err(FileError::Shape(Field::Splits));
     }
@@ -213,10 +192,7 @@ pub(crate) fn blocks_in(
 ) -> Result<Seq<Block>, FileError>
     ensures { Gives result (blocks_in (type_at table.now) invariants splits.now (view root.now)) }
 {
-    let blocks = match part::<Block>(alloc, root, "blocks", Field::Blocks) {
-        Ok(blocks) => blocks,
-        Err(e) => return Err(e),
-    };
+    let blocks = part::<Block>(alloc, root, "blocks", Field::Blocks)?;
     if !blocks_hold(table, invariants, splits, blocks.as_slice()) {
         return Err(FileError::Shape(Field::Blocks));
     }

@@ -18,37 +18,14 @@ use std::alloc::Global;
 fn parts_of(alloc: Global, root: &Value) -> Result<Model, FileError>
     ensures { Gives result (parts_in (view root.now)) }
 {
-    let types = match types_in(alloc, root) {
-        Ok(types) => types,
-        Err(e) => return Err(e),
-    };
-    let partitions = match partitions_in(alloc, root, types.len()) {
-        Ok(partitions) => partitions,
-        Err(e) => return Err(e),
-    };
-    let Ok(table) = types_by_id(alloc, partitions.as_slice()) else {
-        return Err(FileError::Memory);
-    };
-    let edges = match edges_in(alloc, root, &table) {
-        Ok(edges) => edges,
-        Err(e) => return Err(e),
-    };
-    let invariants = match invariants_in(alloc, root, types.len() as u32, partitions.len()) {
-        Ok(invariants) => invariants,
-        Err(e) => return Err(e),
-    };
-    let merges = match merges_in(alloc, root) {
-        Ok(merges) => merges,
-        Err(e) => return Err(e),
-    };
-    let splits = match splits_in(alloc, root, invariants.len()) {
-        Ok(splits) => splits,
-        Err(e) => return Err(e),
-    };
-    let blocks = match blocks_in(alloc, root, &table, invariants.len(), splits.as_slice()) {
-        Ok(blocks) => blocks,
-        Err(e) => return Err(e),
-    };
+    let types = types_in(alloc, root)?;
+    let partitions = partitions_in(alloc, root, types.len())?;
+    let table = types_by_id(alloc, partitions.as_slice())?;
+    let edges = edges_in(alloc, root, &table)?;
+    let invariants = invariants_in(alloc, root, types.len() as u32, partitions.len())?;
+    let merges = merges_in(alloc, root)?;
+    let splits = splits_in(alloc, root, invariants.len())?;
+    let blocks = blocks_in(alloc, root, &table, invariants.len(), splits.as_slice())?;
     Ok(Model {
         types,
         partitions,
@@ -65,10 +42,8 @@ fn parts_of(alloc: Global, root: &Value) -> Result<Model, FileError>
 fn model_of(alloc: Global, root: &Value) -> Result<Model, FileError>
     ensures { Gives result (model_in (view root.now)) }
 {
-    match test_head(root) {
-        Ok(()) => parts_of(alloc, root),
-        Err(e) => Err(e),
-    }
+    test_head(root)?;
+    parts_of(alloc, root)
 }
 
 /// The JSON value that the bytes are.
@@ -101,8 +76,6 @@ pub fn read_model(alloc: Global, bytes: &[u8]) -> Result<Model, FileError>
     if bytes.len() > MAX_MODEL_BYTES {
         return Err(FileError::TooLong);
     }
-    match value_of(alloc, bytes) {
-        Ok(root) => model_of(alloc, &root),
-        Err(e) => Err(e),
-    }
+    let root = value_of(alloc, bytes)?;
+    model_of(alloc, &root)
 }

@@ -1,5 +1,8 @@
 //! Why a model file is refused.
+ghost use Rattle.std.specs.Prelude.{◌≡◌};
+ghost use Rattle.model_file.specs.declared.refusal.FileError.TheVariants.{Memory};
 
+use std::alloc::AllocError;
 use thiserror::Error;
 
 /// A part of a model file.
@@ -46,4 +49,12 @@ pub enum FileError {
     /// Memory was wanted.
     #[error("out of memory")]
     Memory,
+}
+
+impl From<AllocError> for FileError {
+    ghost from_gives = { λ _ e. e ≡ Memory };
+
+    fn from(_: AllocError) -> FileError {
+        FileError::Memory
+    }
 }

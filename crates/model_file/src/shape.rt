@@ -11,10 +11,13 @@ ghost use Rattle.model_shape.specs.Numbers.{split_numbers, block_numbers};
 use crate::table::{type_at, types_by_id};
 use invariants::{Block, Edge, Invariant, Listed, Merge, Model, Partition, Split, Text, index_of};
 use limits::{
-    FIRST_TYPE, INITIAL, MAX_EVENTS, MAX_PARTITIONS, MAX_PATH_NUMBERS, MAX_TYPE_BYTES, MAX_TYPES,
-    TERMINAL,
+    FIRST_TYPE, INITIAL, MAX_EDGE_COUNT, MAX_EVENTS, MAX_PARTITIONS, MAX_PATH_NUMBERS,
+    MAX_TYPE_BYTES, MAX_TYPES, TERMINAL,
 };
 use std::alloc::{AllocError, Global};
+
+/// How many partitions come before those of events: INITIAL and TERMINAL.
+const ENDS: usize = 2;
 
 fn stands_in(text: &str, types: &[Text]) -> bool
     ensures { result ≡ list_any (bytes_eq text.now) types.now }
@@ -111,7 +114,7 @@ pub(crate) fn partitions_hold(types: usize, partitions: &[Partition]) -> bool
     if partitions.len() > MAX_PARTITIONS as usize || !ends_hold(partitions) {
         return false;
     }
-    'others: for partition in &partitions[2..] {
+    'others: for partition in &partitions[ENDS..] {
         if !partition_holds(types, *partition) {
             return false;
         }
@@ -127,7 +130,7 @@ fn edge_holds(table: &[Option<u16>], edge: Edge) -> bool
         && edge.from != TERMINAL
         && edge.to != INITIAL
         && 1 <= edge.count
-        && edge.count <= 2 * MAX_EVENTS
+        && edge.count <= MAX_EDGE_COUNT
 }
 
 fn is_less(x: (u32, u32), y: (u32, u32)) -> bool
