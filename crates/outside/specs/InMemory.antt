@@ -27,7 +27,15 @@ pub record StoredInputs : Type 0 where
 -- inputs over these files before the first call, with nothing open
 abbrev pub unused_inputs : Files → ℕ → List ℕ → StoredInputs
 unused_inputs files piece failing =
-    record { files = files; rest = []; piece = piece; failing = failing; calls = 0; opens = 0; faults = 0 }
+    record {
+      files = files;
+      rest = [];
+      piece = piece;
+      failing = failing;
+      calls = 0;
+      opens = 0;
+      faults = 0;
+    }
 
 -- what the file at a place has from a byte on
 abbrev pub rest_of : Files → Option ℕ → ℕ → List ℕ
@@ -47,15 +55,18 @@ input_state s = record {
 
 -- one more call, which leaves this rest and this count of faults
 abbrev pub after_input : StoredInputs → List ℕ → ℕ → StoredInputs
-after_input old rest faults = record old { rest = rest; calls = next_call old.calls; faults = faults }
+after_input old rest faults =
+    record old { rest = rest; calls = next_call old.calls; faults = faults }
 
 -- what `open(name)` answers, and all that it leaves
-abbrev pub OpensStored : {T : Type 0} → StoredInputs → List ℕ → Result T OpenError → StoredInputs → Type 0
+abbrev pub OpensStored
+    : {T : Type 0} → StoredInputs → List ℕ → Result T OpenError → StoredInputs → Type 0
 OpensStored old name (Ok x) new =
     ¬ FailsNext old.failing old.calls × (bytes_of old.files name ≡ Some new.rest)
     × (new ≡ record (after_input old new.rest old.faults) { opens = next_call old.opens })
 OpensStored old name (Err Missing) new =
-    ¬ FailsNext old.failing old.calls × (bytes_of old.files name ≡ None) × (new ≡ after_input old [] old.faults)
+    ¬ FailsNext old.failing old.calls × (bytes_of old.files name ≡ None)
+    × (new ≡ after_input old [] old.faults)
 OpensStored old name (Err Failed) new =
     FailsNext old.failing old.calls × (new ≡ after_input old [] (raised old.faults))
 
@@ -64,12 +75,15 @@ abbrev pub read_count : StoredInputs → ℕ → ℕ
 read_count s room = min room (min s.piece (length s.rest))
 
 -- what `read(buf)` answers, and all that it leaves
-abbrev pub ReadsStored : {E : Type 0} → StoredInputs → List ℕ → Result ℕ E → List ℕ → StoredInputs → Type 0
+abbrev pub ReadsStored
+    : {E : Type 0} → StoredInputs → List ℕ → Result ℕ E → List ℕ → StoredInputs → Type 0
 ReadsStored old before (Ok n) buf new =
     ¬ FailsNext old.failing old.calls × (n ≡ read_count old (length before))
-    × (buf ≡ take n old.rest ++ drop n before) × (new ≡ after_input old (drop n old.rest) old.faults)
+    × (buf ≡ take n old.rest ++ drop n before)
+    × (new ≡ after_input old (drop n old.rest) old.faults)
 ReadsStored old before (Err e) buf new =
-    FailsNext old.failing old.calls × (buf ≡ before) × (new ≡ after_input old old.rest (raised old.faults))
+    FailsNext old.failing old.calls × (buf ≡ before)
+    × (new ≡ after_input old old.rest (raised old.faults))
 
 -- what contracts see of a sink in memory
 pub record StoredSink : Type 0 where
@@ -101,7 +115,8 @@ room_left s = s.room - length s.bytes
 
 -- one more call, which leaves these bytes and this count of faults
 abbrev pub after_write : StoredSink → List ℕ → ℕ → StoredSink
-after_write old bytes faults = record old { bytes = bytes; calls = next_call old.calls; faults = faults }
+after_write old bytes faults =
+    record old { bytes = bytes; calls = next_call old.calls; faults = faults }
 
 -- the next write of this piece fails
 abbrev pub RefusesNext : StoredSink → List ℕ → Type 0

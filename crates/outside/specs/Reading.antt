@@ -15,7 +15,8 @@ IfTold (Some files) name P = (content : List ℕ) × (bytes_of files name ≡ So
 
 -- the named input was opened once and read, with no fault, and is open;
 -- these are its bytes, or its first ones up to one past the limit
-pub record ReadsInput (old new : InputState) (name : List ℕ) (limit : ℕ) (bytes : List ℕ) : Type 0 where
+pub record ReadsInput (old new : InputState) (name : List ℕ) (limit : ℕ) (bytes : List ℕ)
+    : Type 0 where
   pub opens : new.opens ≡ next_call old.opens
   pub mark : new.mark ≡ old.may_fail name
   pub faults : new.faults ≡ old.faults
@@ -39,9 +40,10 @@ pub record OpensNamed (old new : InputState) (name : List ℕ) (limit : ℕ) : T
   pub mark : new.mark ≡ old.may_fail name
   pub left : IfTold old.files name (λ content. LosesFront (Some content) new.rest limit)
 
--- what `read_input(name, limit)` leaves at each answer: only at Fault was a fault counted, and then the opening of the
--- named input failed, or a read of it
-abbrev pub InputGives : InputState → List ℕ → ℕ → Result (Vec ℕ Global) InputError → InputState → Type 0
+-- what `read_input(name, limit)` leaves at each answer: only at Fault was a fault counted, and then
+-- the opening of the named input failed, or a read of it
+abbrev pub InputGives
+    : InputState → List ℕ → ℕ → Result (Vec ℕ Global) InputError → InputState → Type 0
 InputGives old name limit (Ok bytes) new = ReadsInput old new name limit bytes.items
 InputGives old name limit (Err Missing) new =
     Lacks old.files name × OpensNone old new × (new.faults ≡ old.faults)

@@ -1,4 +1,5 @@
--- The process's own streams and the system's files: what contracts see of them, and which calls count a fault.
+-- The process's own streams and the system's files: what contracts see of them, and which calls
+-- count a fault.
 use Rattle.std.specs.Prelude.{ℕ, ◌≡◌, ◌≢◌, ⊤, true, List, [], Option, Some, None, Result, Ok, Err}
 use Rattle.outside.specs.declared.OpenError.{OpenError}
 use Rattle.outside.specs.declared.OpenError.TheVariants.{Missing, Failed}
@@ -57,9 +58,11 @@ IsSourceOf name Standard = name ≡ []
 IsSourceOf name (File rest) = name ≢ []
 
 -- what `open(name)` answers, and all that it leaves: the empty name opens
-abbrev pub OpensStream : {T : Type 0} → StreamState → List ℕ → Result T OpenError → StreamState → Type 0
+abbrev pub OpensStream
+    : {T : Type 0} → StreamState → List ℕ → Result T OpenError → StreamState → Type 0
 OpensStream old name (Ok x) new =
-    IsSourceOf name new.source × (new ≡ record old { source = new.source; opens = next_call old.opens })
+    IsSourceOf name new.source
+    × (new ≡ record old { source = new.source; opens = next_call old.opens })
 OpensStream old name (Err Missing) new = ⊥
 OpensStream old name (Err Failed) new =
     (name ≢ []) × (new ≡ record old { source = Nothing; faults = raised old.faults })
@@ -76,7 +79,8 @@ MovesOpen Nothing old new = new ≡ old
 MovesOpen Standard old new = new ≡ record old { remaining = new.remaining }
 MovesOpen (File rest) old new = IsFile new.source × (new ≡ record old { source = new.source })
 
--- what `read` leaves beside the bytes: a failure is one fault, and comes only where something is open
+-- what `read` leaves beside the bytes: a failure is one fault, and comes only where something is
+-- open
 abbrev pub ReadsStream : {E : Type 0} → StreamState → Result ℕ E → StreamState → Type 0
 ReadsStream old (Ok n) new = MovesOpen old.source old new
 ReadsStream old (Err e) new =

@@ -23,6 +23,8 @@ pub enum InputError {
 /// Reads the open input to its end, or to one byte past the limit.
 fn read_rest<I: Inputs>(alloc: Global, inputs: &mut I, limit: usize) -> Result<Vec<u8>, InputError>
     requires { limit < 2 ^ 32 }
+
+    // What stays of the inputs, and how much is gone from the rest.
     ensures stays { Stays (I.state inputs.old) (I.state inputs.new) }
     ensures opens { (I.state inputs.new).opens ≡ (I.state inputs.old).opens }
     ensures mark { (I.state inputs.new).mark ≡ (I.state inputs.old).mark }
@@ -86,10 +88,7 @@ pub fn read_input<I: Inputs>(
     ensures gives { InputGives (I.state inputs.old) name.now limit result (I.state inputs.new) }
 {
     match inputs.open(name) {
-        Ok(()) => match read_rest(alloc, inputs, limit) {
-            Ok(bytes) => Ok(bytes),
-            Err(error) => Err(error),
-        },
+        Ok(()) => Ok(read_rest(alloc, inputs, limit)?),
         Err(OpenError::Missing) => Err(InputError::Missing),
         Err(OpenError::Failed) => Err(InputError::Fault),
     }

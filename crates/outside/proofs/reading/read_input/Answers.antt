@@ -2,15 +2,15 @@ use Rattle.std.proofs.Common.{◌∙◌}
 use Rattle.outside.proofs.Fronts.{told-read}
 use Rattle.outside.proofs.reading.read_input.Goals as goal
 
-pub returns-in-Ok-read_rest-clause-gives : goal.returns-in-Ok-read_rest-clause-gives
-returns-in-Ok-read_rest-clause-gives g c =
+pub returns-in_ok-read_rest-in-Ok-clause-gives : goal.returns-in_ok-read_rest-in-Ok-clause-gives
+returns-in_ok-read_rest-in-Ok-clause-gives g c =
     let opened = c.in-Ok.ensures.gives in
-    let read = c.in-Ok-read_rest.ensures in
+    let read = c.in_ok-read_rest-in-Ok.ensures in
     record {
       opens = read.opens ∙ opened.2;
       mark = read.mark ∙ opened.1;
       faults = read.no_fault ∙ opened.3;
       short = read.short;
-      told = told-read _ _ _ _ c.in-Ok-read_rest.bytes.items _ opened.0 read.read read.short read.at_end;
+      told = told-read _ _ _ _ c.in_ok-read_rest-in-Ok.field-0.items _ opened.0 read.read read.short read.at_end;
       at_end = read.at_end;
     }
