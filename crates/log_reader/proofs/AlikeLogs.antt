@@ -1,5 +1,5 @@
 -- Rules that are alike read logs alike.
-use Rattle.std.proofs.Common.{◌≡◌, ℕ, ◌+◌, ◌-◌, ◌<◌, ◌==◌, ◌&&◌, Bool, List, [], ◌∷◌, ◌++◌, length, take, get_or, nat_lt, unwrap_or, Option, Some, Result, Ok, Err, cond, refl, ap, ap₂, ◌∙◌}
+use Rattle.std.proofs.Common.{◌≡◌, ℕ, ◌+◌, ◌-◌, ◌<◌, ◌==◌, ◌&&◌, Bool, List, [], ◌∷◌, ◌++◌, length, take, get_or, nat_lt, unwrap_or, Option, Some, Result, Ok, cond, refl, ap, ap₂, ◌∙◌}
 use Rattle.limits.specs.declared.TheConstants.{MAX_INPUT_BYTES, MAX_LINE_BYTES}
 use Rattle.lines.specs.Lines.{pieces, line_of, text_of}
 use Rattle.traces.specs.Words.{Event as KeyedEvent}
@@ -22,10 +22,7 @@ same-type rs ss text alike (named.Part from to) = refl
 
 same-by_rules : (rs ss : List Rule) (text : List ℕ) → AreAlike rs ss → (d : Result Decision DecideError) → by_rules rs text d ≡ by_rules ss text d
 same-by_rules rs ss text alike (Ok (decision.Event name from to time)) = ap (λ typ. spec.Event typ (part text from to) time) (same-type rs ss text alike name)
-same-by_rules rs ss text alike (Ok decision.Skip) = refl
-same-by_rules rs ss text alike (Ok decision.Separator) = refl
-same-by_rules rs ss text alike (Ok decision.Undecided) = refl
-same-by_rules rs ss text alike (Err e) = refl
+same-by_rules rs ss text alike _ = refl
 
 same-decided : (rs ss : List Rule) (text : List ℕ) → ((k : ℕ) → get_or text k 0 < 256) → AreAlike rs ss → decided (Rules rs) text ≡ decided (Rules ss) text
 same-decided rs ss text bytes alike = ap (by_rules rs text) (alike-decision 0 rs ss text bytes alike) ∙ same-by_rules rs ss text alike (decision_of ss text)

@@ -23,11 +23,8 @@ files_lines s number section (bytes ∷ files) =
     piece_lines s.form number section 1 (pieces bytes) ++ files_lines s (number + 1) (next_section s (section_at_end s.form section (pieces bytes))) files
 
 after-one : (section : ℕ) (d : Decided) → section_after section d ≡ section + cond (is_separator d) 1 0
-after-one section (spec.Event typ trace time) = omega arith
-after-one section spec.Skip = omega arith
 after-one section spec.Separator = refl
-after-one section spec.Undecided = omega arith
-after-one section spec.BadTime = omega arith
+after-one section _ = omega arith
 
 separators-cons : (form : Form) (p : List ℕ) (ps : List (List ℕ)) → separators form (p ∷ ps) ≡ cond (is_separator (decided_piece form p)) 1 0 + separators form ps
 separators-cons form p ps = sum_by-cons (λ q. cond (is_separator (decided_piece form q)) 1 0) p ps

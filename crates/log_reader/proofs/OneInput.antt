@@ -26,17 +26,10 @@ told-front None name opened rest room tells loses = tt
 told-front (Some files) name None rest room tells loses = absurd (true≢false (sym tells.0))
 told-front (Some files) name (Some content) rest room tells loses = (content, sym tells.1, loses)
 
+-- an error is want of memory or not
 is-memory : (e : ReadError) → (e ≡ refused.Memory) ⊎ (e ≡ refused.Memory → ⊥)
-is-memory (refused.ReadFault n) = inr (λ is. cc)
-is-memory (refused.LineTooLong at) = inr (λ is. cc)
-is-memory (refused.Undecided at) = inr (λ is. cc)
-is-memory (refused.BadTime at) = inr (λ is. cc)
-is-memory (refused.TypeTooLong at) = inr (λ is. cc)
-is-memory (refused.TraceTooLong at) = inr (λ is. cc)
-is-memory (refused.TypeLimit at) = inr (λ is. cc)
-is-memory (refused.EventLimit at) = inr (λ is. cc)
-is-memory refused.InputLimit = inr (λ is. cc)
 is-memory refused.Memory = inl refl
+is-memory _ = inr (λ is. cc)
 
 -- a file whose lines are refused, or could not be read
 pub file-refused : (before opened after : InputState) (name : List ℕ) (number : ℕ) (first : SeenLines) (old : LogReader) (e : ReadError)

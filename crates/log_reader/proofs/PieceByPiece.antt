@@ -51,21 +51,15 @@ same-refusal ignore at log events so_far (spec.Event typ trace time) =
     ap₂ (λ types count. event_refusal at types count typ trace)
     (sym (ap (λ (g : Gathering). g.types) so_far))
     (sym (count-gathered_of events) ∙ sym (ap (λ (g : Gathering). event_count_of g.traces) so_far))
-same-refusal ignore at log events so_far spec.Skip = refl
-same-refusal ignore at log events so_far spec.Separator = refl
-same-refusal ignore at log events so_far spec.Undecided = refl
-same-refusal ignore at log events so_far spec.BadTime = refl
+same-refusal ignore at log events so_far _ = refl
 
 same-piece_refusal : (s : Setting) (at : At) (log : Gathering) (events : List KeyedEvent) → IsGatheredOf log events → (piece : List ℕ) → piece_refusal s at events piece ≡ piece_refusal_in s at log piece
 same-piece_refusal s at log events so_far piece =
     ap (λ o. cond (nat_lt MAX_LINE_BYTES (length piece)) (Some (refused.LineTooLong at)) o) (same-refusal s.ignore at log events so_far (decided_piece s.form piece))
 
 section-few : (section : ℕ) (d : Decided) → section_after section d ≤ section + 1
-section-few section (spec.Event typ trace time) = omega arith
-section-few section spec.Skip = omega arith
 section-few section spec.Separator = omega arith
-section-few section spec.Undecided = omega arith
-section-few section spec.BadTime = omega arith
+section-few section _ = omega arith
 
 some-first : (b : ℕ) (ps : List (List ℕ)) → 0 < length (on_first b ps)
 some-first b [] = omega arith

@@ -83,16 +83,10 @@ of-pieces s number cut section before line (p ∷ ps) =
 -- so reading stops at that file
 stops-at : (number : ℕ) (cut : Bool) (e : ReadError) (contents : List (List ℕ)) → IsOfFile number cut (Some e) → (cut ≡ true → file_past MAX_INPUT_BYTES contents ≡ Some number)
     → refused_input e contents ≡ Some number
-stops-at number cut (refused.LineTooLong at) contents is past = ap (λ (n : ℕ). Some n) is
-stops-at number cut (refused.Undecided at) contents is past = ap (λ (n : ℕ). Some n) is
-stops-at number cut (refused.BadTime at) contents is past = ap (λ (n : ℕ). Some n) is
-stops-at number cut (refused.TypeTooLong at) contents is past = ap (λ (n : ℕ). Some n) is
-stops-at number cut (refused.TraceTooLong at) contents is past = ap (λ (n : ℕ). Some n) is
-stops-at number cut (refused.TypeLimit at) contents is past = ap (λ (n : ℕ). Some n) is
-stops-at number cut (refused.EventLimit at) contents is past = ap (λ (n : ℕ). Some n) is
 stops-at number cut refused.InputLimit contents is past = past is
 stops-at number cut (refused.ReadFault n) contents is past = absurd is
 stops-at number cut refused.Memory contents is past = absurd is
+stops-at number cut _ contents is past = ap (λ (n : ℕ). Some n) is
 
 -- no fault is a refusal of lines
 never-fault : (s : Setting) (told : Option Files) (names : List (List ℕ)) (n number : ℕ) → SomeContents told names (IsRefusedAt s (refused.ReadFault n) number) → ⊥

@@ -28,7 +28,8 @@ abbrev pub IsLineWithin : ℕ → Option Part → Type 0
 IsLineWithin size None = ⊤
 IsLineWithin size (Some part) = (part.from ≤ part.to) × (part.to ≤ size)
 
--- a buffer and the counts of its reader: it is never read more than one byte past the limit on all input
+-- a buffer and the counts of its reader: it is never read more than one byte past the limit on all
+-- input
 pub record IsSound (buf : List ℕ) (from to : ℕ) (line : Option Part) (number taken : ℕ) : Type 0 where
   pub size : length buf ≡ BUFFER_BYTES
   pub order : from ≤ to

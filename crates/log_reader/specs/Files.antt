@@ -26,7 +26,8 @@ pub record FileIsRead (s : Setting) (number room section : ℕ) (content : List 
   pub refusal : bytes_refusal s number section events room content ≡ None
   pub log : IsGatheredOf new (events ++ piece_events s.form (key_file s number) section (pieces content))
 
--- the input with this number was read to its end and is not refused, its lines are taken in, and so much room is left
+-- the input with this number was read to its end and is not refused, its lines are taken in, and so
+-- much room is left
 pub record ReadsFile (before after : InputState) (name : List ℕ) (number room left : ℕ)
     (old new : LogReader) : Type 0 where
   pub opens : after.opens ≡ next_call before.opens
@@ -48,7 +49,8 @@ abbrev pub known_rest : Option (List ℕ) → List ℕ
 known_rest None = []
 known_rest (Some rest) = rest
 
--- the open input, which has this number, was read to its end and is not refused, and its lines are taken in
+-- the open input, which has this number, was read to its end and is not refused, and its lines are
+-- taken in
 pub record ReadsLines (before after : InputState) (number : ℕ) (first last : SeenLines)
     (old new : LogReader) : Type 0 where
   pub bytes : List ℕ
@@ -63,8 +65,8 @@ pub record ReadsLines (before after : InputState) (number : ℕ) (first last : S
       ≤ old.log.section + (MAX_INPUT_BYTES - first.taken)
   pub pieces : ReadsPieces number false (pieces bytes) old new
 
--- the open input, which has this number, has this first refusal, or memory was wanted, after the events that the reader
--- has gathered
+-- the open input, which has this number, has this first refusal, or memory was wanted, after the
+-- events that the reader has gathered
 pub record RefusesLines (before after : InputState) (number : ℕ) (first : SeenLines) (old : LogReader)
     (e : ReadError) : Type 0 where
   pub bytes : List ℕ
@@ -94,7 +96,8 @@ pub record IsBetween (lines : SeenLines) : Type 0 where
   pub refused : lines.refused ≡ false
   pub taken : lines.taken ≤ MAX_INPUT_BYTES
 
--- the input with this number was opened, and has this first refusal after the events that the reader has gathered
+-- the input with this number was opened, and has this first refusal after the events that the
+-- reader has gathered
 pub record RefusesFile (before after : InputState) (name : List ℕ) (number room : ℕ)
     (old : LogReader) (e : ReadError) : Type 0 where
   pub opens : after.opens ≡ next_call before.opens
@@ -104,7 +107,8 @@ pub record RefusesFile (before after : InputState) (name : List ℕ) (number roo
   pub refusal : (events : List KeyedEvent) → IsGatheredOf old.log.builder events
       → bytes_refusal (setting_of old) number old.log.section events room content ≡ Some e
 
--- the input with this number could not be read: it failed, or files are told and the name is not among them
+-- the input with this number could not be read: it failed, or files are told and the name is not
+-- among them
 pub record IsUnread (before after : InputState) (name : List ℕ) (number room : ℕ)
     (e : ReadError) : Type 0 where
   pub answer : e ≡ refused.ReadFault number

@@ -36,7 +36,8 @@ abbrev pub first_lacking : Files → List (List ℕ) → Option ℕ
 first_lacking files [] = None
 first_lacking files (name ∷ names) = lacking (bytes_of files name) (first_lacking files names)
 
--- P holds of the bytes of the inputs up to the first that is not there, where files are told; else of some bytes of a front of the inputs
+-- P holds of the bytes of the inputs up to the first that is not there, where files are told; else
+-- of some bytes of a front of the inputs
 abbrev pub SomeContents : Option Files → List (List ℕ) → (List (List ℕ) → Type 0) → Type 0
 SomeContents None names P =
     (contents : List (List ℕ)) × (length contents ≤ length names) × P contents
@@ -67,8 +68,8 @@ file_past room (bytes ∷ files) =
     if nat_lt room (length bytes) then Some 0
     else option_map (λ number. number + 1) (file_past (room - length bytes) files)
 
--- the number of the input at which reading stops, over these bytes: the one with the line that is refused, or with
--- the byte past the limit on all input
+-- the number of the input at which reading stops, over these bytes: the one with the line that is
+-- refused, or with the byte past the limit on all input
 abbrev pub refused_input : ReadError → List (List ℕ) → Option ℕ
 refused_input (refused.LineTooLong at) contents = Some at.file
 refused_input (refused.Undecided at) contents = Some at.file
@@ -86,7 +87,8 @@ abbrev pub IsRefusedAt : Setting → ReadError → ℕ → List (List ℕ) → T
 IsRefusedAt s e number contents =
     (first_refusal s contents ≡ Some e) × (refused_input e contents ≡ Some number)
 
--- the inputs have this first refusal, and those up to the one at which reading stops were opened, and no others
+-- the inputs have this first refusal, and those up to the one at which reading stops were opened,
+-- and no others
 pub record RefusesLog (s : Setting) (names : List (List ℕ)) (old new : InputState)
     (e : ReadError) : Type 0 where
   pub number : ℕ
@@ -94,7 +96,8 @@ pub record RefusesLog (s : Setting) (names : List (List ℕ)) (old new : InputSt
   pub refusal : SomeContents old.files names (IsRefusedAt s e number)
   pub opened : Opened (number + 1) old new
 
--- files are told, the one with this number is the first that is not there, and nothing in those before it is refused
+-- files are told, the one with this number is the first that is not there, and nothing in those
+-- before it is refused
 abbrev pub IsLacking : Setting → Option Files → List (List ℕ) → ℕ → Type 0
 IsLacking s None names number = ⊥
 IsLacking s (Some files) names number =
@@ -105,8 +108,8 @@ pub record StopsBefore (number : ℕ) (old new : InputState) : Type 0 where
   pub opens : new.opens ≡ opens_after old.opens number
   pub closed : new.rest ≡ Some []
 
--- the inputs up to the named one, which has this number, were opened, and no others; it is open, and has left what
--- stands behind some front
+-- the inputs up to the named one, which has this number, were opened, and no others; it is open,
+-- and has left what stands behind some front
 pub record StopsWithin (number : ℕ) (old new : InputState) (name : List ℕ) : Type 0 where
   pub opens : new.opens ≡ opens_after old.opens (number + 1)
   pub mark : new.mark ≡ old.may_fail name
@@ -123,7 +126,8 @@ Fails names old new number =
     MayFail names old new number
     × (StopsBefore number old new ⊎ IsSomeAnd (slice_get names number) (StopsWithin number old new))
 
--- the input with this number is the first that is not there, nothing before it is refused, and no fault was counted
+-- the input with this number is the first that is not there, nothing before it is refused, and no
+-- fault was counted
 abbrev pub IsMissing : Setting → List (List ℕ) → InputState → InputState → ℕ → Type 0
 IsMissing s names old new number =
     IsLacking s old.files names number × StopsBefore number old new × (new.faults ≡ old.faults)

@@ -49,7 +49,8 @@ feed_if fed = if fed then 10 ∷ [] else []
 abbrev pub feed_bytes : Bool → ℕ
 feed_bytes fed = if fed then 1 else 0
 
--- the refusal of the first of these pieces, where the last of them may have the byte past the limit on all input
+-- the refusal of the first of these pieces, where the last of them may have the byte past the limit
+-- on all input
 abbrev pub first_piece_refusal : Bool → List (List ℕ) → Option LineError
 first_piece_refusal cut [] = None
 first_piece_refusal cut (piece ∷ rest) =
@@ -63,8 +64,9 @@ refusal_to_come taken bytes =
     first_piece_refusal (nat_lt (MAX_INPUT_BYTES - taken) (length bytes))
     (pieces (take (MAX_INPUT_BYTES - taken + 1) bytes))
 
--- A line was given. What was buffered and what was read for it begin with its piece and the line feed that ends it; the
--- others are buffered. Where no line feed ends the piece, it is the last of the input, and has a byte or more.
+-- A line was given. What was buffered and what was read for it begin with its piece and the line
+-- feed that ends it; the others are buffered. Where no line feed ends the piece, it is the last of
+-- the input, and has a byte or more.
 pub record GivesLine (old new : SeenLines) (before after : InputState) : Type 0 where
   pub got : List ℕ
   pub read : Consumes before.rest after.rest got
@@ -96,7 +98,8 @@ pub record RefusesPiece (old new : SeenLines) (before after : InputState) (e : L
   pub refusal : (more : List ℕ) → refusal_to_come old.taken ((old.buffered ++ got) ++ more) ≡ Some e
   pub leaves : new ≡ record (with_more (without_line old) got) { refused = true }
 
--- a read failed, after which a front of the input is buffered, of at most one byte past the limit on all input
+-- a read failed, after which a front of the input is buffered, of at most one byte past the limit
+-- on all input
 pub record FailsToRead (old new : SeenLines) (before after : InputState) : Type 0 where
   pub got : List ℕ
   pub read : Consumes before.rest after.rest got
@@ -113,8 +116,8 @@ NextGives old before (Err ReadFault) new after = FailsToRead old new before afte
 NextGives old before (Err TooLong) new after = RefusesPiece old new before after TooLong
 NextGives old before (Err InputLimit) new after = RefusesPiece old new before after InputLimit
 
--- what a given line is, where these bytes of the input were left before it: the first of the bytes to come, which has no
--- refusal; what is to come after it are the others
+-- what a given line is, where these bytes of the input were left before it: the first of the bytes
+-- to come, which has no refusal; what is to come after it are the others
 pub record TellsLine (old new : SeenLines) (rest : List ℕ) (after : Option (List ℕ)) : Type 0 where
   pub left : List ℕ
   pub is_left : after ≡ Some left

@@ -19,10 +19,7 @@ pub record Line : Type 0 where
 -- a separator ends a section
 abbrev pub is_separator : Decided → Bool
 is_separator Separator = true
-is_separator (Event typ trace time) = false
-is_separator Skip = false
-is_separator Undecided = false
-is_separator BadTime = false
+is_separator _ = false
 
 -- how many of these lines are separators
 abbrev pub separators : Form → List (List ℕ) → ℕ
@@ -32,11 +29,13 @@ separators form ps = count_by (λ p. is_separator (decided_piece form p)) ps
 abbrev pub separators_in : Form → List (List ℕ) → ℕ
 separators_in form files = sum_by (λ bytes. separators form (pieces bytes)) files
 
--- how many separators stand before a file: none, or with files that are joined those of the files before it
+-- how many separators stand before a file: none, or with files that are joined those of the files
+-- before it
 abbrev pub separators_before : Setting → List (List ℕ) → ℕ
 separators_before s files = if s.join then separators_in s.form files else 0
 
--- the lines of the file with this number, which stands behind these files; lines are numbered from 1
+-- the lines of the file with this number, which stands behind these files; lines are numbered from
+-- 1
 abbrev pub file_lines : Setting → List (List ℕ) → ℕ → List (List ℕ) → List Line
 file_lines s before number ps =
     map
@@ -88,8 +87,8 @@ up_to room (bytes ∷ files) =
     if nat_lt room (length bytes) then take (room + 1) bytes ∷ []
     else bytes ∷ up_to (room - length bytes) files
 
--- the refusal of a line with these behind it, after those before it: where the limit on all input is passed, the last
--- line is the one with the byte past it
+-- the refusal of a line with these behind it, after those before it: where the limit on all input
+-- is passed, the last line is the one with the byte past it
 abbrev pub own_refusal : Setting → Bool → List Line → Line → List Line → Option ReadError
 own_refusal s passed front l rest =
     if passed && length rest == 0 then Some (limit_refusal l.at l.piece) else refusal_after s front l

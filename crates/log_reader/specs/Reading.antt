@@ -19,7 +19,8 @@ pub data Form : Type 0 where
   Plain : Form
   Rules : (rules : List Rule) → Form
 
--- how a log is read: what decides its lines, whether undecided lines are skipped, and whether its files are joined
+-- how a log is read: what decides its lines, whether undecided lines are skipped, and whether its
+-- files are joined
 pub record Setting : Type 0 where
   pub form : Form
   pub ignore : Bool
@@ -63,18 +64,12 @@ decided_piece form piece = if length (line_of piece) == 0 then Skip else decided
 -- the event of a line of this file and section, if it is one
 abbrev pub line_events : ℕ → ℕ → Decided → List KeyedEvent
 line_events file section (Event typ trace time) = event_of file section trace typ time ∷ []
-line_events file section Skip = []
-line_events file section Separator = []
-line_events file section Undecided = []
-line_events file section BadTime = []
+line_events file section _ = []
 
 -- how many separators stand before the next line
 abbrev pub section_after : ℕ → Decided → ℕ
-section_after section (Event typ trace time) = section
-section_after section Skip = section
 section_after section Separator = section + 1
-section_after section Undecided = section
-section_after section BadTime = section
+section_after section _ = section
 
 -- the events of the pieces of a file, of which the first stands in this section
 abbrev pub piece_events : Form → ℕ → ℕ → List (List ℕ) → List KeyedEvent
@@ -147,9 +142,9 @@ limit_refusal at piece =
 abbrev pub at_line : ℕ → ℕ → At
 at_line file line = record { file = file; line = line }
 
--- The first refusal of the pieces of the file with this number, after these events, where the first piece has this
--- line number and section.
--- Where the limit on all input cuts the file, the last piece is the one with the byte past the limit.
+-- The first refusal of the pieces of the file with this number, after these events, where the first
+-- piece has this line number and section. Where the limit on all input cuts the file, the last
+-- piece is the one with the byte past the limit.
 abbrev pub pieces_refusal : Setting → ℕ → Bool → ℕ → List KeyedEvent → ℕ → List (List ℕ) → Option ReadError
 pieces_refusal s number cut section before line [] = None
 pieces_refusal s number cut section before line (piece ∷ rest) =

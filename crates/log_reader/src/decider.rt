@@ -29,7 +29,7 @@ pub enum Decider<'r> {
 
 impl<'r> Decider<'r> {
     /// What decides by this form. It takes memory for the matchers of rules.
-    pub fn new(form: Form<'r>) -> Result<Decider<'r>, AllocError>
+    pub fn make(form: Form<'r>) -> Result<Decider<'r>, AllocError>
         ensures form { IfOk result (λ decider. decider_view decider ≡ form_view form.entry) }
         ensures matchers { IfOk result HasMatchers }
     {

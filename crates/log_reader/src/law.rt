@@ -22,33 +22,34 @@ pub fn alike_rules_read_alike()
         ≡ events_of (setting (Rules ss) ignore join) files }
 {}
 
-/// The events of a log are those of its lines, file by file and line by line. The key of each names its file
-/// and how many separators stand before its line in that file; where files are joined it names file 0, and
-/// how many stand before its line in all files.
+/// The events of a log are those of its lines, file by file and line by line. The key of each names
+/// its file and how many separators stand before its line in that file; where files are joined it
+/// names file 0, and how many stand before its line in all files.
 pub fn events_are_those_of_lines()
     ensures { (s : Setting) (files : List (List ℕ)) →
         events_of s files ≡ events_at s (lines_of s files) }
 {}
 
-/// What the first refusal of a log says of its lines: no line before the one that is named is refused, and
-/// that line is, by itself, after what stands before it. Where all inputs pass the limit, the lines end with
-/// the one that has the byte past it, and that one is refused for the limit, or for its length. Without a
-/// refusal the limit is not passed, no line is refused, and each is decided or skipped.
+/// What the first refusal of a log says of its lines: no line before the one that is named is
+/// refused, and that line is, by itself, after what stands before it. Where all inputs pass the
+/// limit, the lines end with the one that has the byte past it, and that one is refused for the
+/// limit, or for its length. Without a refusal the limit is not passed, no line is refused, and
+/// each is decided or skipped.
 pub fn a_refusal_is_of_the_first_line()
     ensures refusal { (s : Setting) (files : List (List ℕ)) →
         TellsRefusal s files (first_refusal s files) }
     ensures taken { (s : Setting) (files : List (List ℕ)) → AllTaken s files }
 {}
 
-/// The file with the first byte past the room that all files have: those before it are within, and with it
-/// they are not. Where there is none, all files together are within.
+/// The file with the first byte past the room that all files have: those before it are within, and
+/// with it they are not. Where there is none, all files together are within.
 pub fn one_file_passes_the_limit()
     ensures { (room : ℕ) (files : List (List ℕ)) → TellsPast room files (file_past room files) }
 {}
 
-/// What the answers of [`Lines::next`](crate::Lines::next) say of an input whose rest is told: the given line is the first
-/// of the bytes to come, in which no refusal comes first, and those after it are still to come; without a line no byte is
-/// to come; and a refusal is the first in them.
+/// What the answers of [`Lines::next`](crate::Lines::next) say of an input whose rest is told: the
+/// given line is the first of the bytes to come, in which no refusal comes first, and those after
+/// it are still to come; without a line no byte is to come; and a refusal is the first in them.
 pub fn lines_come_in_order()
     ensures line { (old new : SeenLines) (before after : InputState) (rest : List ℕ) →
         before.rest ≡ Some rest → GivesLine old new before after

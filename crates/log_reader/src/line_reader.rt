@@ -1,5 +1,5 @@
 //! Reads the lines of inputs, one by one, through a buffer of a fixed size.
-ghost use Rattle.std.specs.Prelude.{◌≡◌, ◌≢◌, ◌<◌, ◌≤◌, ◌+◌, ◌-◌, [], length, take, drop, Some, Err, IfOk, IfErr, IfNone, IfSome, IsSome, false};
+ghost use Rattle.std.specs.Prelude.{◌≡◌, ◌<◌, ◌≤◌, ◌+◌, ◌-◌, [], length, take, drop, Some, IfOk, IfErr, IfNone, IfSome, IsSome, false};
 ghost use Rattle.std.specs.List.{position_or_len};
 ghost use Rattle.limits.specs.declared.TheConstants.{MAX_INPUT_BYTES, MAX_LINE_BYTES};
 ghost use Rattle.lines.specs.Lines.{is_feed, line_of};
@@ -14,7 +14,8 @@ use outside::{Failed, Inputs};
 use std::alloc::{AllocError, Global};
 use std::marker::Model;
 
-/// How many bytes the buffer has: a piece of the greatest length with its line feed, and room to read many more at once.
+/// How many bytes the buffer has: a piece of the greatest length with its line feed, and room to
+/// read many more at once.
 const BUFFER_BYTES: usize = 131_072;
 
 /// Why a line is not given.
@@ -24,7 +25,8 @@ pub enum LineError {
     ReadFault,
     /// The line has more than 65,536 bytes, a final carriage return counted.
     TooLong,
-    /// All inputs have more than 268,435,456 bytes, and the first byte past them stands in this line or ends it.
+    /// All inputs have more than 268,435,456 bytes, and the first byte past them stands in this
+    /// line or ends it.
     InputLimit,
 }
 
@@ -60,12 +62,13 @@ impl Cut {
     }
 }
 
-/// A reader of the lines of inputs, one input after the other. It keeps a buffer of 131,072 bytes, which is made once, and a
-/// line is read where it stands in it.
+/// A reader of the lines of inputs, one input after the other. It keeps a buffer of 131,072 bytes,
+/// which is made once, and a line is read where it stands in it.
 ///
-/// Contracts see the bytes that are buffered, the current line where there is one, whether a line feed ends it, the number
-/// of the line in its input, how many bytes all lines have taken since the reader was made, and whether a call of `next`
-/// was refused. The bytes still to come are those that are buffered, and then the rest of the open input.
+/// Contracts see the bytes that are buffered, the current line where there is one, whether a line
+/// feed ends it, the number of the line in its input, how many bytes all lines have taken since the
+/// reader was made, and whether a call of `next` was refused. The bytes still to come are those
+/// that are buffered, and then the rest of the open input.
 #[derive(Drop)]
 pub struct Lines {
     buf: Vec<u8>,
@@ -99,7 +102,8 @@ impl Model for Lines {
     ghost invariant = { λ l. IsSound l.buf.items l.from l.to l.line l.number l.taken };
 }
 
-/// Where the first line feed stands, if there is one. None stands before the place from which the search begins.
+/// Where the first line feed stands, if there is one. None stands before the place from which the
+/// search begins.
 fn first_feed(bytes: &[u8], searched: usize) -> Option<usize>
     requires inside { searched ≤ length bytes.now }
     requires before { searched ≤ position_or_len is_feed bytes.now }
@@ -163,7 +167,8 @@ fn read_behind<I: Inputs>(
 }
 
 impl Lines {
-    /// A reader with nothing buffered. This alone takes memory: `AllocError` comes where there is not enough.
+    /// A reader with nothing buffered. This alone takes memory: `AllocError` comes where there is
+    /// not enough.
     pub fn make(alloc: Global) -> Result<Lines, AllocError>
         ensures { IfOk result (λ lines. lines ≡ unused_lines) }
     {
@@ -180,8 +185,8 @@ impl Lines {
         })
     }
 
-    /// Begins an input that was opened, behind the end of the one before: its lines are numbered from 1. The bytes that
-    /// lines have taken are counted over all inputs.
+    /// Begins an input that was opened, behind the end of the one before: its lines are numbered
+    /// from 1. The bytes that lines have taken are counted over all inputs.
     pub fn start(&mut self)
         requires { (self.old).buffered ≡ [] }
         ensures { self.new ≡ at_start self.old }
@@ -191,7 +196,8 @@ impl Lines {
         self.number = 0;
     }
 
-    /// The current line: its bytes without the line feed that ends it, and without one carriage return at its end.
+    /// The current line: its bytes without the line feed that ends it, and without one carriage
+    /// return at its end.
     pub fn line(&self) -> &[u8]
         requires { IsSome (self.now).line }
         ensures { (self.now).line ≡ Some result.now }
@@ -202,7 +208,8 @@ impl Lines {
         }
     }
 
-    /// The number of the current line in its input, from 1: how many of the input's lines were given.
+    /// The number of the current line in its input, from 1: how many of the input's lines were
+    /// given.
     pub fn number(&self) -> u32
         ensures { result ≡ (self.now).number }
     {
@@ -243,13 +250,9 @@ impl Lines {
         self.from = 0;
         self.to = held;
         let room = (BUFFER_BYTES - held).min(MAX_INPUT_BYTES + 1 - self.taken - held);
-        match read_behind(inputs, &mut self.buf, held, room) {
-            Ok(count) => {
-                self.to = held + count;
-                Ok(count > 0)
-            }
-            Err(error) => Err(error),
-        }
+        let count = read_behind(inputs, &mut self.buf, held, room)?;
+        self.to = held + count;
+        Ok(count > 0)
     }
 
     /// Reads until the end of the first piece to come is buffered, and says where it is.
@@ -270,15 +273,9 @@ impl Lines {
             let held = self.buffered();
             let length = held.len();
             if let Some(length) = first_feed(held, searched) {
-                match within_limits(self.taken, Cut { length, fed: true }) {
-                    Ok(cut) => return Ok(cut),
-                    Err(error) => return Err(error),
-                }
+                return Ok(within_limits(self.taken, Cut { length, fed: true })?);
             }
-            let whole = match within_limits(self.taken, Cut { length, fed: false }) {
-                Ok(cut) => cut,
-                Err(error) => return Err(error),
-            };
+            let whole = within_limits(self.taken, Cut { length, fed: false })?;
             match self.fill(inputs) {
                 Ok(true) => searched = length,
                 Ok(false) => return Ok(whole),
@@ -287,7 +284,8 @@ impl Lines {
         }
     }
 
-    /// Takes the piece that ends so from the front of what is buffered: its line is the current one.
+    /// Takes the piece that ends so from the front of what is buffered: its line is the current
+    /// one.
     fn take(&mut self, cut: Cut)
         requires some { 0 < cut.length + feed_bytes cut.fed }
         requires inside { cut.length + feed_bytes cut.fed ≤ length (self.old).buffered }
@@ -315,18 +313,21 @@ impl Lines {
         self.number += 1;
     }
 
-    /// Goes on to the next line of the open input, and says whether there is one. It takes no memory. An input is begun by
-    /// `start`. After a refusal the reader may only be dropped.
+    /// Goes on to the next line of the open input, and says whether there is one. It takes no
+    /// memory. An input is begun by `start`. After a refusal the reader may only be dropped.
     ///
-    /// - `Ok(true)`: the current line is the first of the bytes still to come. Its piece and the line feed that ends it are
-    ///   gone from them, and are counted as taken.
-    /// - `Ok(false)`: exactly where no byte is to come. There is no current line, and nothing is buffered. The number of the
-    ///   line and the count of bytes stay.
-    /// - `ReadFault`: only where the inputs counted a fault in this call, and may fail the open input.
-    /// - `TooLong`, `InputLimit`: exactly where the first piece to come has its 65,537th byte, or the byte past the limit on
-    ///   all input; of the two what comes first, and at one byte `TooLong`. The bytes of all inputs count.
+    /// - `Ok(true)`: the current line is the first of the bytes still to come. Its piece and the
+    ///   line feed that ends it are gone from them, and are counted as taken.
+    /// - `Ok(false)`: exactly where no byte is to come. There is no current line, and nothing is
+    ///   buffered. The number of the line and the count of bytes stay.
+    /// - `ReadFault`: only where the inputs counted a fault in this call, and may fail the open
+    ///   input.
+    /// - `TooLong`, `InputLimit`: exactly where the first piece to come has its 65,537th byte, or
+    ///   the byte past the limit on all input; of the two what comes first, and at one byte
+    ///   `TooLong`. The bytes of all inputs count.
     ///
-    /// At each refusal a front of the input was read and is buffered, up to one byte past the limit on all input.
+    /// At each refusal a front of the input was read and is buffered, up to one byte past the limit
+    /// on all input.
     pub fn next<I: Inputs>(&mut self, inputs: &mut I) -> Result<bool, LineError>
         requires { (self.old).refused ≡ false }
         ensures stays { Stays (I.state inputs.old) (I.state inputs.new) }

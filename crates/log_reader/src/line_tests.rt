@@ -67,8 +67,9 @@ fn lines_come_in_any_pieces(rt: HostRuntime) -> Result<(), Fail> {
     Ok(())
 }
 
-/// The first line has the greatest length. The line feed of the second stands before the buffer's last byte, there, or
-/// behind it, where its carriage return is the last byte or stands behind it too.
+/// The first line has the greatest length. The line feed of the second stands before the buffer's
+/// last byte, there, or behind it, where its carriage return is the last byte or stands behind it
+/// too.
 #[test]
 fn lines_end_at_the_end_of_the_buffer(rt: HostRuntime) -> Result<(), Fail> {
     let alloc = rt.alloc();

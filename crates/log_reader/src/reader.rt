@@ -24,8 +24,8 @@ pub struct LogReader<'r> {
 }
 
 impl<'r> LogReader<'r> {
-    /// A reader before the first line.
-    pub fn new(
+    /// A reader before the first line. It takes memory where the form does.
+    pub fn make(
         alloc: Global,
         form: Form<'r>,
         ignore: bool,
@@ -37,7 +37,7 @@ impl<'r> LogReader<'r> {
         ensures section { IfOk result (λ reader. reader.log.section ≡ 0) }
         ensures log { IfOk result (λ reader. reader.log.builder ≡ gathered_of []) }
     {
-        let decider = Decider::new(form)?;
+        let decider = Decider::make(form)?;
         Ok(LogReader {
             decider,
             log: LogSoFar {

@@ -79,7 +79,8 @@ fn read_lines<I: Inputs>(
     }
 }
 
-/// Takes in the lines of the input with this number, line by line. The bytes of all inputs so far count against the limit.
+/// Takes in the lines of the input with this number, line by line. The bytes of all inputs so far
+/// count against the limit.
 fn read_file<I: Inputs>(
     alloc: Global,
     inputs: &mut I,
@@ -120,23 +121,26 @@ fn read_file<I: Inputs>(
     Ok(())
 }
 
-/// The types and the traces of the log in the named inputs, in this order. Without any name it is read
-/// from standard input, as input 0. There are fewer than 2^32 names. Lines are taken in as they are read, and of an input
-/// no more than a buffer of a fixed size is held.
+/// The types and the traces of the log in the named inputs, in this order. Without any name it is
+/// read from standard input, as input 0. There are fewer than 2^32 names. Lines are taken in as
+/// they are read, and of an input no more than a buffer of a fixed size is held.
 ///
-/// Lines are decided by the form. A line that nothing decides is refused, or with `ignore` skipped; one whose
-/// time is bad is refused either way. With `join` the inputs are one log: traces go on from one to the next,
-/// and separators count over all. The events of a trace stand by their times.
+/// Lines are decided by the form. A line that nothing decides is refused, or with `ignore` skipped;
+/// one whose time is bad is refused either way. With `join` the inputs are one log: traces go on
+/// from one to the next, and separators count over all. The events of a trace stand by their times.
 ///
-/// - `Ok`: each input was opened and read to its end, nothing in them is refused, and no fault was counted.
-/// - `ReadFault`: the inputs before the named one were opened, and no others but that one. Either the inputs
-///   counted a fault and may fail it: nothing is open where its opening failed, and where a read failed it
-///   stays open, with what stands behind the front that was read. Or it is the first that is missing, and
-///   nothing before it is refused: nothing is open then, and no fault was counted.
-/// - Each other refusal but `Memory` is the first in the order of the bytes. The inputs up to the one with
-///   the line that is named, or with the byte past the limit on all input, were opened, and no others, and
-///   no fault was counted.
-/// - `Memory`: memory was wanted. No more inputs were opened than there are, and no fault was counted.
+/// - `Ok`: each input was opened and read to its end, nothing in them is refused, and no fault was
+///   counted.
+/// - `ReadFault`: the inputs before the named one were opened, and no others but that one. Either
+///   the inputs counted a fault and may fail it: nothing is open where its opening failed, and
+///   where a read failed it stays open, with what stands behind the front that was read. Or it is
+///   the first that is missing, and nothing before it is refused: nothing is open then, and no
+///   fault was counted.
+/// - Each other refusal but `Memory` is the first in the order of the bytes. The inputs up to the
+///   one with the line that is named, or with the byte past the limit on all input, were opened,
+///   and no others, and no fault was counted.
+/// - `Memory`: memory was wanted. No more inputs were opened than there are, and no fault was
+///   counted.
 pub fn read_log<I: Inputs>(
     alloc: Global,
     inputs: &mut I,
@@ -160,7 +164,7 @@ pub fn read_log<I: Inputs>(
     ensures opens { (I.state inputs.new).opens
         ≤ (I.state inputs.old).opens + length (names_in names.now) }
 {
-    let Ok(mut reader) = LogReader::new(alloc, form, ignore, join) else {
+    let Ok(mut reader) = LogReader::make(alloc, form, ignore, join) else {
         return Err(ReadError::Memory);
     };
     let Ok(mut lines) = Lines::make(alloc) else {

@@ -6,12 +6,12 @@ use Rattle.log_reader.specs.Buffers.{line_in}
 use Rattle.log_reader.proofs.Buffered.{seen, filled, reads-more}
 use Rattle.log_reader.proofs.line_reader.Lines.fill.Goals as goal
 
-pub returns-in-Ok-clause-gives : goal.returns-in-Ok-clause-gives
-returns-in-Ok-clause-gives g c =
+pub returns-clause-gives : goal.returns-clause-gives
+returns-clause-gives g c =
     let inside = c.self.inside in
     let held = inside.to - inside.from in
-    let count = c.in-Ok.count in
-    let gives = c.in-Ok.ensures.gives in
+    let count = c.in_ok-count.count in
+    let gives = c.in_ok-count.ensures.gives in
     let front = c.to_front.new.buf in
     let at = c.deref_mut-2.result.now in
     let read = c.read_behind.new.buf in

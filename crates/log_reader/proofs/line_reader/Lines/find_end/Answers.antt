@@ -1,4 +1,5 @@
 use Rattle.std.proofs.Common.{◌≡◌, ◌+◌, ◌≤◌, true, false, length, ap, sym, ◌∙◌, subst, arith}
+use Rattle.std.proofs.lemmas.Result.{err_from_is_err_and}
 use Rattle.std.specs.List.{position_or_len}
 use Rattle.lines.specs.Lines.{is_feed}
 use Rattle.log_reader.specs.LineReader.{SeenLines}
@@ -12,22 +13,24 @@ loop-length-preserved g c =
     searches-on _ _ _ _ _ _ c.loop-length.searched (length c.buffered-held.result.now) c.in-Ok-true.field-0 c.loop-length.invariant c.fill.ensures.stays c.fill.ensures.mark c.fill.ensures.opens c.in-Ok-true.ensures.gives
     (ap length held) (subst (λ bs. position_or_len is_feed bs ≡ length bs) held c.in_default.ensures.none)
 
-pub returns-in-Err-clause-err : goal.returns-in-Err-clause-err
-returns-in-Err-clause-err g c =
+pub returns-in_err-within_limits-clause-err : goal.returns-in_err-within_limits-clause-err
+returns-in_err-within_limits-clause-err g c =
     let held = c.buffered-held.ensures.value in
     let now = c.loop-length.self in
     let taken : c.self.inside.taken ≡ now.taken = ap (λ (s : SeenLines). s.taken) c.self.view_is in
     let cut : Cut = record { length = c.in-Some.length; fed = true } in
     let inside : c.in-Some.length + 1 ≤ length now.buffered = omega (arith, c.in-Some.ensures.found, ap length held) in
-    misses-end c.args.self.now now _ _ c.loop-length.searched c.self.inside.taken cut c.in-Err.error c.requires.line c.loop-length.invariant taken c.self.invariant.limit
-    (omega (arith, taken, c.buffered-held.ensures.within, ap length held)) (c.in-Some.ensures.some ∙ ap (position_or_len is_feed) held) inside c.in-Err.ensures.err
+    let p = err_from_is_err_and c.from_residual.result c.from_residual.ensures.1 in
+    rw (p.1, p.2) (misses-end c.args.self.now now _ _ c.loop-length.searched c.self.inside.taken cut _ c.requires.line c.loop-length.invariant taken c.self.invariant.limit
+    (omega (arith, taken, c.buffered-held.ensures.within, ap length held)) (c.in-Some.ensures.some ∙ ap (position_or_len is_feed) held) inside c.in_err-within_limits.ensures.err)
 
-pub returns-in-Err-within_limits-clause-err : goal.returns-in-Err-within_limits-clause-err
-returns-in-Err-within_limits-clause-err g c =
+pub returns-in_err-whole-clause-err : goal.returns-in_err-whole-clause-err
+returns-in_err-whole-clause-err g c =
     let held = c.buffered-held.ensures.value in
     let now = c.loop-length.self in
     let taken : c.self.inside.taken ≡ now.taken = ap (λ (s : SeenLines). s.taken) c.self.view_is in
     let cut : Cut = record { length = length c.buffered-held.result.now; fed = false } in
     let inside : length c.buffered-held.result.now + 0 ≤ length now.buffered = omega (arith, ap length held) in
-    misses-end c.args.self.now now _ _ c.loop-length.searched c.self.inside.taken cut c.in-Err-within_limits.error c.requires.line c.loop-length.invariant taken c.self.invariant.limit
-    (omega (arith, taken, c.buffered-held.ensures.within, ap length held)) (sym c.in_default.ensures.none ∙ ap (position_or_len is_feed) held) inside c.in-Err-within_limits.ensures.err
+    let p = err_from_is_err_and c.from_residual-in_err-whole.result c.from_residual-in_err-whole.ensures.1 in
+    rw (p.1, p.2) (misses-end c.args.self.now now _ _ c.loop-length.searched c.self.inside.taken cut _ c.requires.line c.loop-length.invariant taken c.self.invariant.limit
+    (omega (arith, taken, c.buffered-held.ensures.within, ap length held)) (sym c.in_default.ensures.none ∙ ap (position_or_len is_feed) held) inside c.in_err-whole.ensures.err)
