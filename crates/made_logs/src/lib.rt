@@ -1,4 +1,5 @@
-//! Made logs as they are read: what the text of a number of sessions says as a log, and the traces that it has.
+//! Made logs as they are read: what the text of a number of sessions says as a log, and the traces
+//! that it has.
 #![tactic(auto)]
 
 mod law;

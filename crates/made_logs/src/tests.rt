@@ -1,7 +1,8 @@
 use super::*;
 use std::test::Fail;
 
-/// The two first sessions: open, write, seek, read, seek, sync, close, and open, read, write, sync, close.
+/// The two first sessions: open, write, seek, read, seek, sync, close, and open, read, write, sync,
+/// close.
 #[test]
 fn two_sessions_are_read(rt: HostRuntime) -> Result<(), Fail> {
     let log = read_made_log(rt.alloc(), 2)?;

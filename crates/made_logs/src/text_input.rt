@@ -6,8 +6,8 @@ use invariants::Seq;
 use outside::{Failed, Inputs, OpenError};
 use std::marker::Model;
 
-/// A text under the empty name, whose calls never fail. Contracts see the text, what is still to be read of it, and how
-/// often it was opened.
+/// A text under the empty name, whose calls never fail. Contracts see the text, what is still to be
+/// read of it, and how often it was opened.
 #[derive(Drop)]
 pub struct TextInput {
     text: Seq<u8>,
