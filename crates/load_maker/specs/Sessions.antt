@@ -56,7 +56,8 @@ abbrev pub sync_where : Bool → List Call
 sync_where true = Sync ∷ []
 sync_where false = []
 
--- the calls of a session that begins at this state: it opens, makes the calls drawn, syncs where it wrote, and closes
+-- the calls of a session that begins at this state: it opens, makes the calls drawn, syncs where it
+-- wrote, and closes
 abbrev pub session_calls : ℕ → List Call
 session_calls x =
     let drawn = calls_within most_draws x in

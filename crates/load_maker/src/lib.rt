@@ -1,4 +1,5 @@
-//! A log made to be as large as one likes: sessions of calls on a file, drawn by a fixed generator of numbers.
+//! A log made to be as large as one likes: sessions of calls on a file, drawn by a fixed generator
+//! of numbers.
 #![tactic(auto)]
 
 mod call;

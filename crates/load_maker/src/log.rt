@@ -16,7 +16,8 @@ const MAX_DRAWS: u32 = 4;
 /// The number that gives no call and is the last that its session draws.
 const NO_CALL: u16 = 3;
 
-/// How many bytes the text of a session has at most: 7 lines of 5 digits, a space, 5 letters and a line feed.
+/// How many bytes the text of a session has at most: 7 lines of 5 digits, a space, 5 letters and a
+/// line feed.
 const MAX_SESSION_BYTES: usize = 84;
 
 /// Puts the line of a call in the session with this number at the end of the text.
@@ -31,7 +32,8 @@ fn push_line(text: &mut Vec<u8>, session: u32, call: Call) -> Result<(), AllocEr
     Ok(())
 }
 
-/// Puts a line for each call that the session draws at the end of the text. Answers whether one of them writes.
+/// Puts a line for each call that the session draws at the end of the text. Answers whether one of
+/// them writes.
 fn push_drawn(
     text: &mut Vec<u8>,
     session: u32,
@@ -86,14 +88,15 @@ fn push_session(
     Ok(())
 }
 
-/// The text of a log of so many sessions, from 1 to `MAX_SESSIONS`, the same whenever it is made: lines
-/// `NUMBER CALL`, each ended by byte 10, where the number is that of the session, counted from 1, and the call one of
-/// `open`, `read`, `write`, `seek`, `sync` and `close`.
+/// The text of a log of so many sessions, from 1 to `MAX_SESSIONS`, the same whenever it is made:
+/// lines `NUMBER CALL`, each ended by byte 10, where the number is that of the session, counted
+/// from 1, and the call one of `open`, `read`, `write`, `seek`, `sync` and `close`.
 ///
-/// A session opens, makes the calls that at most four numbers drawn give it, syncs where it wrote, and closes. A draw
-/// of 0 gives `read`, 1 `write` and 2 `seek`; one of 3 gives no call and is the last of its session. The state x of
-/// what draws is 1 at first and goes on from session to session: one draw sets x to (25173 x + 13849) mod 65536 and
-/// answers (x / 4096) mod 4, rounded down.
+/// A session opens, makes the calls that at most four numbers drawn give it, syncs where it wrote,
+/// and closes. A draw of 0 gives `read`, 1 `write` and 2 `seek`; one of 3 gives no call and is the
+/// last of its session. The state x of what draws is 1 at first and goes on from session to
+/// session: one draw sets x to (25173 x + 13849) mod 65536 and answers (x / 4096) mod 4, rounded
+/// down.
 ///
 /// The one error is want of memory.
 pub fn make_log(alloc: Global, n: u32) -> Result<Seq<u8>, AllocError>
