@@ -108,6 +108,11 @@ pub opens-next : (a b c k : ℕ) → (k ≡ 0 → b ≡ a) → (0 < k → b ≡ 
 opens-next a b c zero none some next = let same : b ≡ a = none refl in omega arith
 opens-next a b c (suc k) none some next = let sum : b ≡ min (a + suc k) (2 ^ 64 - 1) = some (omega arith) in omega arith
 
+-- so many were opened, so no more opens are counted
+pub opened-few : (a b k : ℕ) → (k ≡ 0 → b ≡ a) → (0 < k → b ≡ min (a + k) (2 ^ 64 - 1)) → b ≤ a + k
+opened-few a b zero none some = let same : b ≡ a = none refl in omega arith
+opened-few a b (suc k) none some = let sum : b ≡ min (a + suc k) (2 ^ 64 - 1) = some (omega arith) in omega arith
+
 -- so many were opened, none among them
 pub opened-so : (a b k : ℕ) → (k ≡ 0 → b ≡ a) → (0 < k → b ≡ min (a + k) (2 ^ 64 - 1)) → b ≡ opens_after a k
 opened-so a b zero none some = none refl

@@ -69,10 +69,7 @@ fn read_lines<I: Inputs>(
             file: number,
             line: lines.number(),
         };
-        match reader.read_line(alloc, at, lines.line()) {
-            Ok(()) => {}
-            Err(error) => return Err(error),
-        }
+        reader.read_line(alloc, at, lines.line())?;
         if !lines.ends_with_feed() {
             return Ok(());
         }
@@ -113,10 +110,7 @@ fn read_file<I: Inputs>(
         Err(OpenError::Failed) => return Err(ReadError::ReadFault(number)),
     }
     lines.start();
-    match read_lines(alloc, inputs, lines, reader, number) {
-        Ok(()) => {}
-        Err(error) => return Err(error),
-    }
+    read_lines(alloc, inputs, lines, reader, number)?;
     reader.end_file();
     Ok(())
 }
@@ -164,22 +158,12 @@ pub fn read_log<I: Inputs>(
     ensures opens { (I.state inputs.new).opens
         ≤ (I.state inputs.old).opens + length (names_in names.now) }
 {
-    let Ok(mut reader) = LogReader::make(alloc, form, ignore, join) else {
-        return Err(ReadError::Memory);
-    };
-    let Ok(mut lines) = Lines::make(alloc) else {
-        return Err(ReadError::Memory);
-    };
+    let mut reader = LogReader::make(alloc, form, ignore, join)?;
+    let mut lines = Lines::make(alloc)?;
     for number in 0..names.len().max(1) {
         let name = name_at(names, number);
-        match read_file(alloc, inputs, &mut lines, &mut reader, name, number as u32) {
-            Ok(()) => {}
-            Err(error) => return Err(error),
-        }
+        read_file(alloc, inputs, &mut lines, &mut reader, name, number as u32)?;
     }
     gathering_in_order_is_the_log();
-    match reader.finish() {
-        Ok(set) => Ok(set),
-        Err(_) => Err(ReadError::Memory),
-    }
+    Ok(reader.finish()?)
 }

@@ -1,5 +1,8 @@
 //! Why a log is refused.
+ghost use Rattle.std.specs.Prelude.{◌≡◌};
+ghost use Rattle.log_reader.specs.declared.refusal.ReadError.TheVariants.{Memory};
 
+use std::alloc::AllocError;
 use thiserror::Error;
 
 /// A line of an input.
@@ -44,4 +47,12 @@ pub enum ReadError {
     /// Memory was wanted.
     #[error("out of memory")]
     Memory,
+}
+
+impl From<AllocError> for ReadError {
+    ghost from_gives = { λ _ e. e ≡ Memory };
+
+    fn from(_: AllocError) -> ReadError {
+        ReadError::Memory
+    }
 }

@@ -1,9 +1,11 @@
 use Rattle.std.proofs.Common.{◌≡◌, ◌+◌, Bool, true, false, Result, Ok, Err, [], refl, sym, ap, ◌∙◌, subst, inl, inr}
+use Rattle.std.proofs.lemmas.Result.{err_from_is_err_and}
 use Rattle.log_reader.specs.LineReader.{SeenLines, NextGives, GivesLine, GivesNone, FailsToRead, RefusesPiece}
 use Rattle.log_reader.specs.Reading.{at_line}
 use Rattle.log_reader.specs.SoFar.{decided_line, refusal_in, setting_of, IsRefusal, ReadsText}
 use Rattle.log_reader.specs.declared.line_reader.LineError.{LineError}
 use Rattle.log_reader.specs.declared.line_reader.LineError.TheVariants.{ReadFault, TooLong, InputLimit}
+use Rattle.log_reader.specs.declared.refusal.ReadError.{ReadError}
 use Rattle.log_reader.specs.declared.refusal.ReadError.TheVariants as refused
 use Rattle.log_reader.proofs.LineByLine.{reading-begins, reading-more, reading-ends, reading-ends-in-line, reading-refused, reading-refused-at, reading-fails}
 use Rattle.log_reader.proofs.reading.read_lines.Goals as goal
@@ -49,16 +51,18 @@ returns-in-Err-InputLimit-clause-err g c =
 pub read_line-requires-clause-ready : goal.read_line-requires-clause-ready
 read_line-requires-clause-ready g c = (c.lines.invariant.way false [] refl).ready
 
-pub returns-in-Err-clause-err : goal.returns-in-Err-clause-err
-returns-in-Err-clause-err g c =
+pub returns-in_err-read_line-clause-err : goal.returns-in_err-read_line-clause-err
+returns-in_err-read_line-clause-err g c =
     let before = g.I.Inputs.state c.lines.inputs in
     let after = g.I.Inputs.state c.next.new.inputs in
     let reader = c.lines.reader in
     let is : ◌≡◌ {A = Result Bool LineError} c.next.result (Ok true) = cc (c.in-Ok-true.is) in
     let gives : GivesLine c.lines.lines c.next.new.self before after = subst (λ r. NextGives c.lines.lines before r c.next.new.self after) is c.next.ensures.gives in
-    inr (reading-refused-at c.args.number (g.I.Inputs.state c.args.inputs.now) before after c.args.lines.now c.lines.lines c.next.new.self c.args.reader.now reader c.line.result.now c.in-Err.error c.lines.invariant gives
+    let p = err_from_is_err_and c.from_residual.result c.from_residual.ensures.1 in
+    let at_number = λ (e : ReadError). subst (λ k. IsRefusal (refusal_in (setting_of reader).ignore (at_line c.args.number k) reader.log.builder (decided_line (setting_of reader).form c.line.result.now)) e) c.number.ensures in
+    rw (p.1, p.2) (inr (reading-refused-at c.args.number (g.I.Inputs.state c.args.inputs.now) before after c.args.lines.now c.lines.lines c.next.new.self c.args.reader.now reader c.line.result.now _ c.lines.invariant gives
     c.next.ensures.taken c.line.ensures
-    (subst (λ k. IsRefusal (refusal_in (setting_of reader).ignore (at_line c.args.number k) reader.log.builder (decided_line (setting_of reader).form c.line.result.now)) c.in-Err.error) c.number.ensures c.in-Err.ensures.err))
+    (at_number _ c.in_err-read_line.ensures.err)))
 
 pub returns-then-not-ends_with_feed-clause-ok : goal.returns-then-not-ends_with_feed-clause-ok
 returns-then-not-ends_with_feed-clause-ok g c =
@@ -70,7 +74,7 @@ returns-then-not-ends_with_feed-clause-ok g c =
     let unfed : c.next.new.self.fed ≡ false = sym c.ends_with_feed.ensures ∙ c.if-not-ends_with_feed.true in
     reading-ends-in-line c.args.number (g.I.Inputs.state c.args.inputs.now) before after c.args.lines.now c.lines.lines c.next.new.self c.args.reader.now reader c.read_line.new.self c.line.result.now c.lines.invariant gives
     c.next.ensures.taken c.line.ensures unfed
-    (subst (λ k. ReadsText (at_line c.args.number k) (decided_line (setting_of reader).form c.line.result.now) reader c.read_line.new.self) c.number.ensures c.in-Ok.ensures.ok)
+    (subst (λ k. ReadsText (at_line c.args.number k) (decided_line (setting_of reader).form c.line.result.now) reader c.read_line.new.self) c.number.ensures c.in_ok-read_line.ensures.ok)
 
 pub lines-preserved : goal.lines-preserved
 lines-preserved g c =
@@ -82,4 +86,4 @@ lines-preserved g c =
     let fed : c.next.new.self.fed ≡ true = sym c.ends_with_feed.ensures ∙ c.if-not-ends_with_feed.false in
     reading-more c.args.number (g.I.Inputs.state c.args.inputs.now) before after c.args.lines.now c.lines.lines c.next.new.self c.args.reader.now reader c.read_line.new.self c.line.result.now c.lines.invariant
     c.next.ensures.stays c.next.ensures.opens c.next.ensures.mark gives c.next.ensures.taken c.line.ensures fed
-    (subst (λ k. ReadsText (at_line c.args.number k) (decided_line (setting_of reader).form c.line.result.now) reader c.read_line.new.self) c.number.ensures c.in-Ok.ensures.ok)
+    (subst (λ k. ReadsText (at_line c.args.number k) (decided_line (setting_of reader).form c.line.result.now) reader c.read_line.new.self) c.number.ensures c.in_ok-read_line.ensures.ok)
