@@ -1,273 +1,323 @@
+//! Small graphs, told by text.
+ghost use Rattle.std.specs.Prelude.{◌≤◌, ◌<◌, All, length};
+ghost use Rattle.std.specs.Bool.{OnTrue};
+ghost use Rattle.limits.specs.declared.TheConstants.{MAX_EVENTS};
+ghost use Rattle.partition_model.specs.Assignments.{events, G};
+ghost use Rattle.partition_model.specs.Coarsening.{IsPair};
+ghost use Rattle.partition_graph.specs.Spread.{spread};
+
 use crate::{PartGraph, View};
-use limits::{MAX_PARTITIONS, MAX_TYPE_BYTES, TERMINAL};
-use std::alloc::Global;
-use std::process::Abort;
+use limits::{FIRST_TYPE, MAX_PARTITIONS, MAX_TYPE_BYTES};
+use std::alloc::{AllocError, Global};
 use std::test::Fail;
 use traces::{Builder, TraceSet};
 
-/// The traces of a log, each given as the texts of its types.
-pub fn log(rt: &impl Abort, alloc: Global, traces: &[&[&str]]) -> Result<TraceSet, Fail> {
-    let mut builder = Builder::new(alloc);
-    for (t, types) in traces.iter().enumerate() {
-        for typ in types.iter() {
-            assert!(rt; !typ.is_empty() && typ.len() <= MAX_TYPE_BYTES && t < 10);
-            builder.add(0, t as u32, "", typ, 0)?;
+/// Adds a trace of types between spaces.
+fn add_trace(builder: &mut Builder, number: u32, trace: &str) -> Result<(), Fail> {
+    for typ in trace.split_whitespace() {
+        if !typ.is_empty() && typ.len() <= MAX_TYPE_BYTES {
+            builder.add(number, 0, "", typ, 0)?;
         }
+    }
+    Ok(())
+}
+
+/// The log of these traces, with a bar between two of them.
+pub fn log_of(alloc: Global, traces: &str) -> Result<TraceSet, Fail> {
+    let mut builder = Builder::new(alloc);
+    let mut number = 0u32;
+    for trace in traces.split('|') {
+        add_trace(&mut builder, number, trace)?;
+        number = number.wrapping_add(1);
     }
     Ok(builder.finish()?)
 }
 
-/// Compares partitions and edges with rows of numbers.
-pub fn assert_graph(
-    rt: &impl Abort,
-    alloc: Global,
-    graph: &PartGraph,
-    partitions: &[[u32; 3]],
-    edges: &[[u32; 3]],
-) -> Result<(), Fail> {
-    let found = graph.partitions(alloc)?;
-    assert_eq!(rt; found.len(), partitions.len());
-    for (x, row) in found.as_slice().iter().zip(partitions) {
-        assert_eq!(rt; [x.id, u32::from(x.typ), x.count], *row);
+/// Whether p and q are two partitions of one type, p before q.
+pub fn is_pair(graph: &PartGraph, p: u32, q: u32) -> bool
+    ensures { OnTrue result (IsPair (G (graph.now).traces) p q) }
+{
+    p >= FIRST_TYPE
+        && p < q
+        && graph.is_live(p)
+        && graph.is_live(q)
+        && graph.type_of(p) == graph.type_of(q)
+}
+
+/// Merges a pair, and says whether it is one, and nothing is left of q.
+pub fn merge(graph: &mut PartGraph, p: u32, q: u32) -> bool {
+    if !is_pair(graph, p, q) {
+        return false;
     }
-    let found = graph.edges(alloc)?;
-    assert_eq!(rt; found.len(), edges.len());
-    for (x, row) in found.as_slice().iter().zip(edges) {
-        assert_eq!(rt; [x.from, x.to, x.count], *row);
+    graph.merge(p, q);
+    !graph.is_live(q) && graph.type_of(q) == 0
+}
+
+/// Splits, and says whether the new id is the next one.
+fn divide(graph: &mut PartGraph, p: u32, next: u32) -> bool {
+    let used = graph.ids_used();
+    graph.split(p, next) == Some(used)
+}
+
+/// The number of a decimal digit.
+fn digit(text: &str) -> u32 {
+    match text.as_bytes().first() {
+        Some(byte) => u32::from(byte.wrapping_sub(b'0')),
+        None => 0,
+    }
+}
+
+/// Makes a split, as `3/6`, or a merge, as `2+4`, and says whether that could be.
+fn step(graph: &mut PartGraph, text: &str) -> bool {
+    if let Some((p, next)) = text.split_once('/') {
+        return divide(graph, digit(p), digit(next));
+    }
+    if let Some((p, q)) = text.split_once('+') {
+        return merge(graph, digit(p), digit(q));
+    }
+    false
+}
+
+/// Makes the steps between spaces, and says whether each could be made.
+fn take_steps(graph: &mut PartGraph, steps: &str) -> bool {
+    for text in steps.split_whitespace() {
+        if !step(graph, text) {
+            return false;
+        }
+    }
+    true
+}
+
+/// Puts a number and a sign behind the text.
+fn put(text: &mut String, number: u32, sign: &str) -> Result<(), AllocError> {
+    write!(text, "{number}{sign}")
+}
+
+/// Puts the partitions behind the text, each as its id, its type and its count.
+fn put_partitions(alloc: Global, text: &mut String, graph: &PartGraph) -> Result<(), AllocError> {
+    let partitions = graph.partitions(alloc)?;
+    for partition in partitions.as_slice() {
+        put(text, partition.id, ":")?;
+        put(text, u32::from(partition.typ), "*")?;
+        put(text, partition.count, " ")?;
     }
     Ok(())
 }
 
-/// Compares ids, the first events of traces, and what follows each event.
-fn assert_events(
-    rt: &impl Abort,
-    alloc: Global,
-    graph: &PartGraph,
-    parts: &[u32],
-    firsts: &[u32],
-    next: &[Option<u32>],
-) -> Result<(), Fail> {
-    assert_eq!(rt; graph.parts(alloc)?.as_slice(), parts);
-    assert_eq!(rt; graph.event_count() as usize, parts.len());
-    assert_eq!(rt; graph.trace_count() as usize, firsts.len());
-    for (t, first) in firsts.iter().enumerate() {
-        assert!(rt; (t as u64) < u64::from(graph.trace_count()));
-        assert_eq!(rt; graph.first_event(t as u32), *first);
-    }
-    for (event, after) in next.iter().enumerate() {
-        assert!(rt; (event as u64) < u64::from(graph.event_count()));
-        assert_eq!(rt; graph.next_event(event as u32), *after);
-        assert_eq!(rt;
-            Some(graph.part_of(event as u32)),
-            parts.get(event).copied()
-        );
+/// Puts the edges behind the text, each as its ids and its count.
+fn put_edges(alloc: Global, text: &mut String, graph: &PartGraph) -> Result<(), AllocError> {
+    let edges = graph.edges(alloc)?;
+    for edge in edges.as_slice() {
+        put(text, edge.from, ">")?;
+        put(text, edge.to, "*")?;
+        put(text, edge.count, " ")?;
     }
     Ok(())
 }
 
-/// Traces, splits of their graph, each with the id that it gives, and what the graph is then: its partitions and edges as
-/// rows of numbers, the id of each event, the first event of each trace, and the event behind each.
-#[derive(Clone, Copy)]
-struct Case<'a> {
-    traces: &'a [&'a [&'a str]],
-    splits: &'a [[u32; 3]],
-    partitions: &'a [[u32; 3]],
-    edges: &'a [[u32; 3]],
-    parts: &'a [u32],
-    firsts: &'a [u32],
-    next: &'a [Option<u32>],
-}
-
-const ONE_WORD_TWICE: Case<'static> = Case {
-    traces: &[&["a", "b"], &["a", "b"]],
-    splits: &[],
-    partitions: &[[0, 0, 2], [1, 1, 2], [2, 2, 2], [3, 3, 2]],
-    edges: &[[0, 2, 2], [2, 3, 2], [3, 1, 2]],
-    parts: &[2, 3, 2, 3],
-    firsts: &[0, 2],
-    next: &[Some(1), None, Some(3), None],
-};
-
-/// Before any partition is divided, both traces go through one partition of c.
-const TWO_WORDS: Case<'static> = Case {
-    traces: &[&["a", "c", "d"], &["b", "c", "e"]],
-    splits: &[],
-    partitions: &[
-        [0, 0, 2],
-        [1, 1, 2],
-        [2, 2, 1],
-        [3, 3, 2],
-        [4, 4, 1],
-        [5, 5, 1],
-        [6, 6, 1],
-    ],
-    edges: &[
-        [0, 2, 1],
-        [0, 5, 1],
-        [2, 3, 1],
-        [3, 4, 1],
-        [3, 6, 1],
-        [4, 1, 1],
-        [5, 3, 1],
-        [6, 1, 1],
-    ],
-    parts: &[2, 3, 4, 5, 3, 6],
-    firsts: &[0, 3],
-    next: &[Some(1), Some(2), None, Some(4), Some(5), None],
-};
-
-const ONE_TYPE: Case<'static> = Case {
-    traces: &[&["a", "a", "a"]],
-    splits: &[],
-    partitions: &[[0, 0, 1], [1, 1, 1], [2, 2, 3]],
-    edges: &[[0, 2, 1], [2, 1, 1], [2, 2, 2]],
-    parts: &[2, 2, 2],
-    firsts: &[0],
-    next: &[Some(1), Some(2), None],
-};
-
-const EMPTY: Case<'static> = Case {
-    traces: &[],
-    splits: &[],
-    partitions: &[[0, 0, 0], [1, 1, 0]],
-    edges: &[],
-    parts: &[],
-    firsts: &[],
-    next: &[],
-};
-
-/// The partition of c is divided by what follows.
-const TWO_WORDS_DIVIDED: Case<'static> = Case {
-    traces: &[&["a", "c", "d"], &["b", "c", "e"]],
-    splits: &[[3, 6, 7]],
-    partitions: &[
-        [0, 0, 2],
-        [1, 1, 2],
-        [2, 2, 1],
-        [3, 3, 1],
-        [4, 4, 1],
-        [5, 5, 1],
-        [6, 6, 1],
-        [7, 3, 1],
-    ],
-    edges: &[
-        [0, 2, 1],
-        [0, 5, 1],
-        [2, 3, 1],
-        [3, 4, 1],
-        [4, 1, 1],
-        [5, 7, 1],
-        [6, 1, 1],
-        [7, 6, 1],
-    ],
-    parts: &[2, 3, 4, 5, 7, 6],
-    firsts: &[0, 3],
-    next: &[Some(1), Some(2), None, Some(4), Some(5), None],
-};
-
-/// A partition whose events follow one another is divided by itself.
-const DIVIDED_BY_ITSELF: Case<'static> = Case {
-    traces: &[&["a", "a", "a"]],
-    splits: &[[2, 2, 3]],
-    partitions: &[[0, 0, 1], [1, 1, 1], [2, 2, 1], [3, 2, 2]],
-    edges: &[[0, 3, 1], [2, 1, 1], [3, 2, 1], [3, 3, 1]],
-    parts: &[3, 3, 2],
-    firsts: &[0],
-    next: &[Some(1), Some(2), None],
-};
-
-/// The events that end their traces are divided off, each of them and no other.
-const DIVIDED_BY_TERMINAL: Case<'static> = Case {
-    traces: &[&["a", "b", "a"], &["b", "a"], &["a", "a"]],
-    splits: &[[2, TERMINAL, 4]],
-    partitions: &[[0, 0, 3], [1, 1, 3], [2, 2, 2], [3, 3, 2], [4, 2, 3]],
-    edges: &[
-        [0, 2, 2],
-        [0, 3, 1],
-        [2, 3, 1],
-        [2, 4, 1],
-        [3, 4, 2],
-        [4, 1, 3],
-    ],
-    parts: &[2, 3, 4, 3, 4, 2, 4],
-    firsts: &[0, 3, 5],
-    next: &[Some(1), Some(2), None, Some(4), None, Some(6), None],
-};
-
-/// Divides the graph of the case, and compares.
-fn assert_case(rt: &impl Abort, alloc: Global, case: &Case<'_>) -> Result<(), Fail> {
-    let set = log(rt, alloc, case.traces)?;
-    let mut graph = PartGraph::open(alloc, &set)?;
-    for [p, next, n] in case.splits.iter().copied() {
-        assert_eq!(rt; graph.split(p, next), Some(n));
+/// Puts the id of each event behind the text, and a bar behind each trace.
+fn put_events(text: &mut String, graph: &PartGraph) -> Result<(), AllocError> {
+    for event in 0..graph.event_count() {
+        let last = graph.next_event(event).is_none();
+        put(text, graph.part_of(event), if last { "|" } else { "." })?;
     }
-    assert_graph(rt, alloc, &graph, case.partitions, case.edges)?;
-    assert_events(rt, alloc, &graph, case.parts, case.firsts, case.next)
+    Ok(())
 }
+
+/// Puts the number of the first event of each trace behind the text, and then how many ids are used.
+fn put_firsts(text: &mut String, graph: &PartGraph) -> Result<(), AllocError> {
+    for t in 0..graph.trace_count() {
+        put(text, graph.first_event(t), "#")?;
+    }
+    put(text, graph.ids_used(), "")
+}
+
+/// All that the graph tells.
+pub fn text_of(alloc: Global, graph: &PartGraph) -> Result<String, AllocError> {
+    let mut text = String::new(alloc);
+    put_partitions(alloc, &mut text, graph)?;
+    put_edges(alloc, &mut text, graph)?;
+    put_events(&mut text, graph)?;
+    put_firsts(&mut text, graph)?;
+    Ok(text)
+}
+
+/// What the graph of these traces tells after the steps.
+fn text_after(alloc: Global, traces: &str, steps: &str) -> Result<String, Fail> {
+    let mut graph = PartGraph::open(alloc, &log_of(alloc, traces)?)?;
+    if !take_steps(&mut graph, steps) {
+        return Ok(String::new(alloc));
+    }
+    Ok(text_of(alloc, &graph)?)
+}
+
+/// Traces, steps of their graph, and what it tells then: its partitions, its edges, the id of each event, the first event
+/// of each trace, and how many ids are used.
+const CASES: [[&str; 3]; 11] = [
+    [
+        "a b|a b",
+        "",
+        "0:0*2 1:1*2 2:2*2 3:3*2 0>2*2 2>3*2 3>1*2 2.3|2.3|0#2#4",
+    ],
+    // Before any partition is divided, both traces go through one partition of c.
+    [
+        "a c d|b c e",
+        "",
+        "0:0*2 1:1*2 2:2*1 3:3*2 4:4*1 5:5*1 6:6*1 \
+         0>2*1 0>5*1 2>3*1 3>4*1 3>6*1 4>1*1 5>3*1 6>1*1 2.3.4|5.3.6|0#3#7",
+    ],
+    ["a a a", "", "0:0*1 1:1*1 2:2*3 0>2*1 2>1*1 2>2*2 2.2.2|0#3"],
+    ["", "", "0:0*0 1:1*0 2"],
+    // The partition of c is divided by what follows.
+    [
+        "a c d|b c e",
+        "3/6",
+        "0:0*2 1:1*2 2:2*1 3:3*1 4:4*1 5:5*1 6:6*1 7:3*1 \
+         0>2*1 0>5*1 2>3*1 3>4*1 4>1*1 5>7*1 6>1*1 7>6*1 2.3.4|5.7.6|0#3#8",
+    ],
+    // A partition whose events follow one another is divided by itself.
+    [
+        "a a a",
+        "2/2",
+        "0:0*1 1:1*1 2:2*1 3:2*2 0>3*1 2>1*1 3>2*1 3>3*1 3.3.2|0#4",
+    ],
+    // The events that end their traces are divided off, each of them and no other.
+    [
+        "a b a|b a|a a",
+        "2/1",
+        "0:0*3 1:1*3 2:2*2 3:3*2 4:2*3 0>2*2 0>3*1 2>3*1 2>4*1 3>4*2 4>1*3 2.3.4|3.4|2.4|0#3#5#5",
+    ],
+    // Words that come twice are divided too.
+    [
+        "a b a|b a|a b a|b a",
+        "2/1",
+        "0:0*4 1:1*4 2:2*2 3:3*4 4:2*4 0>2*2 0>3*2 2>3*2 3>4*4 4>1*4 \
+         2.3.4|3.4|2.3.4|3.4|0#3#5#8#5",
+    ],
+    // Where 3 leads to 2, 2 leads to itself then, and 3 has nothing left.
+    [
+        "a a a",
+        "2/2 3/3 2+3",
+        "0:0*1 1:1*1 2:2*2 4:2*1 0>4*1 2>1*1 2>2*1 4>2*1 4.2.2|0#5",
+    ],
+    // Edges lead both ways.
+    [
+        "a a a",
+        "2/2 3/3 2+4 2+3",
+        "0:0*1 1:1*1 2:2*3 0>2*1 2>1*1 2>2*2 2.2.2|0#5",
+    ],
+    // The ids that have lost their events are not given again.
+    [
+        "a a a",
+        "2/2 3/3 2+4 2+3 2/2",
+        "0:0*1 1:1*1 2:2*1 5:2*2 0>5*1 2>1*1 5>2*1 5>5*1 5.5.2|0#6",
+    ],
+];
 
 #[test]
 fn graphs_of_small_logs(rt: HostRuntime) -> Result<(), Fail> {
-    for case in [
-        ONE_WORD_TWICE,
-        TWO_WORDS,
-        ONE_TYPE,
-        EMPTY,
-        TWO_WORDS_DIVIDED,
-        DIVIDED_BY_ITSELF,
-        DIVIDED_BY_TERMINAL,
-    ] {
-        assert_case(&rt, rt.alloc(), &case)?;
+    for [traces, steps, wanted] in CASES {
+        let text = text_after(rt.alloc(), traces, steps)?;
+        assert_eq!(rt; text.as_str(), wanted);
     }
+    Ok(())
+}
+
+/// Whether all numbers are below a bound.
+fn are_below(bound: u32, numbers: &[u32]) -> bool
+    ensures { OnTrue result (All (λ k. k < bound) numbers.now) }
+{
+    numbers.iter().all(|number| *number < bound)
+}
+
+/// Whether a graph of few events can be spread over few traces with these numbers.
+fn can_be_spread(graph: &PartGraph, numbers: &[u32]) -> bool
+    ensures { OnTrue result (All (λ k. k < length (graph.now).traces) numbers.now
+        × length (events (spread numbers.now (graph.now).traces)) ≤ MAX_EVENTS) }
+{
+    if graph.event_count() > 100 || numbers.len() > 100 {
+        return false;
+    }
+    are_below(graph.trace_count(), numbers)
+}
+
+/// What the graph tells that is spread over traces with these numbers: nothing where it can't be spread, or where the
+/// ids of its events are not those that are told beforehand.
+pub fn text_spread(
+    alloc: Global,
+    graph: &PartGraph,
+    numbers: &[u32],
+) -> Result<String, AllocError> {
+    if !can_be_spread(graph, numbers) {
+        return Ok(String::new(alloc));
+    }
+    let whole = graph.spread(alloc, numbers)?;
+    let ids = graph.spread_parts(alloc, numbers)?;
+    if whole.parts(alloc)?.as_slice() != ids.as_slice() {
+        return Ok(String::new(alloc));
+    }
+    text_of(alloc, &whole)
+}
+
+/// What the graph of the distinct words of these traces tells after the steps, spread over the traces.
+fn text_shared(alloc: Global, traces: &str, steps: &str) -> Result<String, Fail> {
+    let (mut graph, numbers) = PartGraph::open_shared(alloc, &log_of(alloc, traces)?)?;
+    if !take_steps(&mut graph, steps) {
+        return Ok(String::new(alloc));
+    }
+    Ok(text_spread(alloc, &graph, &numbers)?)
+}
+
+#[test]
+fn graphs_of_shared_words(rt: HostRuntime) -> Result<(), Fail> {
+    for [traces, steps, wanted] in CASES {
+        let text = text_shared(rt.alloc(), traces, steps)?;
+        assert_eq!(rt; text.as_str(), wanted);
+    }
+    Ok(())
+}
+
+/// A word that comes again has the number of the first one, and no events of its own.
+#[test]
+fn words_are_shared(rt: HostRuntime) -> Result<(), Fail> {
+    let set = log_of(rt.alloc(), "a b|c|a b|c a|c")?;
+    let (graph, numbers) = PartGraph::open_shared(rt.alloc(), &set)?;
+    assert_eq!(rt; numbers.as_slice(), [0, 1, 0, 2, 1].as_slice());
+    assert_eq!(rt; [graph.trace_count(), graph.event_count()], [3, 5]);
     Ok(())
 }
 
 #[test]
 fn what_a_view_shows(rt: HostRuntime) -> Result<(), Fail> {
-    let set = log(&rt, rt.alloc(), ONE_WORD_TWICE.traces)?;
-    let graph = PartGraph::open(rt.alloc(), &set)?;
+    let graph = PartGraph::open(rt.alloc(), &log_of(rt.alloc(), "a b|a b")?)?;
     let view = View::Plain(&graph);
     assert!(rt; view.has_edge(2, 3) && !view.has_edge(3, 2) && !view.has_edge(2, 5000));
-    assert_eq!(rt; view.type_of(3), 3);
-    assert_eq!(rt; view.ids_used(), 4);
+    assert_eq!(rt; [u32::from(view.type_of(3)), view.ids_used()], [3, 4]);
     Ok(())
 }
 
-/// Adds a trace: one type, then so many letters a, then another type.
-fn add_row(
-    rt: &impl Abort,
-    builder: &mut Builder,
-    trace: u32,
-    first: &str,
-    letters: u32,
-    last: &str,
-) -> Result<(), Fail> {
-    assert!(rt; !first.is_empty() && first.len() <= MAX_TYPE_BYTES);
-    assert!(rt; !last.is_empty() && last.len() <= MAX_TYPE_BYTES);
-    builder.add(0, trace, "", first, 0)?;
-    for _ in 0..letters {
-        builder.add(0, trace, "", "a", 0)?;
+/// Divides an id on and on, each time by the id before, until all ids are used, and gives the last one.
+fn divide_on(graph: &mut PartGraph, p: u32, last: u32) -> Option<u32> {
+    let mut next = last;
+    for n in graph.ids_used()..MAX_PARTITIONS {
+        if graph.split(p, next) != Some(n) {
+            return None;
+        }
+        next = n;
     }
-    builder.add(0, trace, "", last, 0)?;
-    Ok(())
+    Some(next)
 }
 
 /// Each split takes one more place of the second row: the a before s, the a before that, and so on, until all ids are used.
 #[test]
 fn a_row_that_is_divided_to_the_last_id(rt: HostRuntime) -> Result<(), Fail> {
-    let mut builder = Builder::new(rt.alloc());
-    add_row(&rt, &mut builder, 0, "p", 1017, "q")?;
-    add_row(&rt, &mut builder, 1, "r", 1017, "s")?;
-    let mut graph = PartGraph::open(rt.alloc(), &builder.finish()?)?;
-    assert_eq!(rt; graph.ids_used(), 7);
-    let mut next = 6;
-    for n in 7..MAX_PARTITIONS {
-        assert_eq!(rt; graph.split(3, next), Some(n));
-        next = n;
-    }
-    assert_eq!(rt; graph.ids_used(), MAX_PARTITIONS);
-    assert_eq!(rt; graph.split(3, next), None);
+    let letters = " a".repeat(rt.alloc(), 1017)?;
+    let traces = format!(in rt.alloc(); "p{letters} q|r{letters} s")?;
+    let mut graph = PartGraph::open(rt.alloc(), &log_of(rt.alloc(), traces.as_str())?)?;
+    assert_eq!(rt; divide_on(&mut graph, 3, 6), Some(1023));
+    assert_eq!(rt; graph.split(3, 1023), None);
     assert_eq!(rt;
-        [graph.ids_used(), graph.size(3), graph.size(next)],
+        [graph.ids_used(), graph.size(3), graph.size(1023)],
         [MAX_PARTITIONS, 1017, 1]
     );
     Ok(())
