@@ -13,6 +13,7 @@ use crate::pair::Pair;
 use crate::question::Question;
 use crate::reach::Around;
 use crate::search::measure;
+use crate::sight::Sight;
 use crate::table::{MAX_ENTRIES, OPEN, Table};
 use crate::trace::trace;
 use invariants::{Invariant, Kind, Merge, Monitor};
@@ -111,8 +112,9 @@ impl Finder {
         ensures counted { steps.new ≡ steps.old + 1 }
     {
         prove!(view.ids_used() <= MAX_PARTITIONS);
-        self.around.find_type(view, key_of(inv));
-        let question = Question::new(view, inv, &self.around);
+        let sight = Sight { view: *view };
+        self.around.find_type(&sight, key_of(inv));
+        let question = Question::new(&sight, inv, &self.around);
         if !search(&question, &mut self.table, &mut self.path, steps) {
             return None;
         }
@@ -150,9 +152,11 @@ impl Finder {
             return self.least_violation(&View::Merged(graph, merge.p, merge.q), inv, steps);
         }
         prove!(graph.ids_used() <= MAX_PARTITIONS);
-        let view = View::Merged(graph, merge.p, merge.q);
-        self.around.find(&view, merge.p);
-        let question = Question::new(&view, inv, &self.around);
+        let sight = Sight {
+            view: View::Merged(graph, merge.p, merge.q),
+        };
+        self.around.find(&sight, merge.p);
+        let question = Question::new(&sight, inv, &self.around);
         if !search(&question, &mut self.table, &mut self.path, steps) {
             return None;
         }

@@ -12,6 +12,7 @@ mod pair;
 mod question;
 mod reach;
 mod search;
+mod sight;
 mod table;
 #[cfg(test)]
 mod tests;

@@ -2,28 +2,26 @@
 ghost use Rattle.std.specs.Prelude.{◌≡◌, ◌≤◌, ◌<◌, IfSome, MatchOption};
 ghost use Rattle.limits.specs.declared.TheConstants.{FIRST_TYPE, MAX_PARTITIONS};
 ghost use Rattle.partition_graph.specs.Parts.{HasEdgesBelow};
-ghost use Rattle.partition_graph.specs.Seen.{seen, IsSound};
+ghost use Rattle.partition_graph.specs.Seen.{seen};
 ghost use Rattle.path_finder.specs.Keeping.{is_around};
 ghost use Rattle.path_finder.specs.Nearness.{narrowed};
-ghost use Rattle.path_finder.specs.Sound.{sound-prop};
 
 use crate::reach::Around;
+use crate::sight::Sight;
 use invariants::{Invariant, Monitor};
 use limits::{FIRST_TYPE, MAX_PARTITIONS};
-use partition_graph::View;
 
 /// An invariant, and a graph that may break it. Edges go between the ids below `ids`, and those between some of these
 /// alone are looked at.
 #[derive(Drop)]
 pub(crate) struct Question<'v, 'a> {
-    view: &'v View<'v>,
+    sight: &'v Sight<'v>,
     inv: Invariant,
     ids: u32,
     around: &'a Around,
     ghost two: { FIRST_TYPE ≤ ids },
     ghost few: { ids ≤ MAX_PARTITIONS },
-    ghost sound: { IsSound view.now } by { sound-prop view.now },
-    ghost within: { HasEdgesBelow (narrowed (is_around around.now) (seen view.now)) ids },
+    ghost within: { HasEdgesBelow (narrowed (is_around around.now) (seen sight.now.view)) ids },
 }
 
 impl<'v, 'a> Question<'v, 'a> {
@@ -33,15 +31,14 @@ impl<'v, 'a> Question<'v, 'a> {
     ghost use Rattle.path_finder.specs.Walks.{state_at};
 
     /// The question whether the graph breaks the invariant by edges between these ids.
-    pub fn new(view: &'v View<'v>, inv: Invariant, around: &'a Around) -> Question<'v, 'a>
-        requires { IsSound view.now }
-        ensures graph { (asked result).graph ≡ narrowed (is_around around.now) (seen view.now) }
+    pub fn new(sight: &'v Sight<'v>, inv: Invariant, around: &'a Around) -> Question<'v, 'a>
+        ensures graph { (asked result).graph ≡ narrowed (is_around around.now) (seen sight.now.view) }
         ensures inv { (asked result).inv ≡ inv }
     {
         Question {
-            view,
+            sight,
             inv,
-            ids: view.ids_used(),
+            ids: sight.view.ids_used(),
             around,
         }
     }
@@ -66,7 +63,7 @@ impl<'v, 'a> Question<'v, 'a> {
             return None;
         }
         let mut from = from;
-        while let Some(p) = self.view.next_source(q, from) {
+        while let Some(p) = self.sight.view.next_source(q, from) {
             if self.around.has(p) {
                 return Some(p);
             }
@@ -86,7 +83,7 @@ impl<'v, 'a> Question<'v, 'a> {
             return None;
         }
         let mut from = from;
-        while let Some(q) = self.view.next_target(p, from) {
+        while let Some(q) = self.sight.view.next_target(p, from) {
             if self.around.has(q) {
                 return Some(q);
             }
@@ -101,7 +98,7 @@ impl<'v, 'a> Question<'v, 'a> {
         ensures value { result ≡ state_at (asked self.now) state q }
         ensures bound { result < 3 }
     {
-        Monitor::step(self.inv, state, self.view.type_of(q))
+        Monitor::step(self.inv, state, self.sight.view.type_of(q))
     }
 
     /// Whether a path that ends in the state breaks the invariant.

@@ -1,12 +1,13 @@
 //! The ids that walks lead to from some ids, or from which walks lead to one of them.
 ghost use Rattle.std.specs.Prelude.{◌≡◌, ◌==◌, ℕ, ◌≤◌, ◌<◌, ◌+◌, [], Bool, true, length, replicate, IfSome, MatchOption, false};
 ghost use Rattle.limits.specs.declared.TheConstants.{MAX_PARTITIONS};
-ghost use Rattle.partition_graph.specs.Seen.{parts_seen, seen, IsSound};
+ghost use Rattle.partition_graph.specs.Seen.{parts_seen, seen};
 ghost use Rattle.path_finder.specs.Nearness.{is_met, is_of_type, IsClosed, IsSpread};
 ghost use Rattle.path_finder.specs.Keeping.{is_around};
 ghost use Rattle.path_finder.specs.declared.reach.Way.TheVariants.{Ahead, Behind};
 ghost use Rattle.path_finder.specs.Reaching.{edge_by, meeting, HasNoneOn, IsCounted, IsNextOn, IsSpreading, MeetsMore};
 
+use crate::sight::Sight;
 use limits::MAX_PARTITIONS;
 use partition_graph::View;
 use std::alloc::{AllocError, Global};
@@ -45,16 +46,15 @@ impl Model for Reach {
 }
 
 /// The next neighbour of the id that way, from an id on.
-fn next_on(view: &View<'_>, way: Way, id: u32, from: u32) -> Option<u32>
-    requires { IsSound view.now }
+fn next_on(sight: &Sight<'_>, way: Way, id: u32, from: u32) -> Option<u32>
     ensures next { MatchOption result
-        (HasNoneOn (edge_by way (seen view.now)) id from)
-        (λ n. IsNextOn (edge_by way (seen view.now)) id from n) }
+        (HasNoneOn (edge_by way (seen sight.now.view)) id from)
+        (λ n. IsNextOn (edge_by way (seen sight.now.view)) id from n) }
     ensures within { IfSome result (λ n. n < MAX_PARTITIONS) }
 {
     match way {
-        Way::Ahead => view.next_target(id, from),
-        Way::Behind => view.next_source(id, from),
+        Way::Ahead => sight.view.next_target(id, from),
+        Way::Behind => sight.view.next_source(id, from),
     }
 }
 
@@ -103,31 +103,29 @@ impl Reach {
     }
 
     /// Meets the ids to which an edge leads from the one at this place of the list.
-    fn follow(&mut self, view: &View<'_>, way: Way, next: usize)
-        requires sound { IsSound view.now }
+    fn follow(&mut self, sight: &Sight<'_>, way: Way, next: usize)
         requires place { next < length (self.old).list }
-        requires spreading { IsSpreading (edge_by way (seen view.now)) next self.old }
-        ensures spreading { IsSpreading (edge_by way (seen view.now)) (next + 1) self.new }
+        requires spreading { IsSpreading (edge_by way (seen sight.now.view)) next self.old }
+        ensures spreading { IsSpreading (edge_by way (seen sight.now.view)) (next + 1) self.new }
         ensures more { MeetsMore self.old self.new }
     {
         let id = self.list[next];
         let mut from = 0;
-        while let Some(n) = next_on(view, way, id, from) {
+        while let Some(n) = next_on(sight, way, id, from) {
             self.meet(n);
             from = n + 1;
         }
     }
 
     /// Meets all to which walks lead that way from those that are met.
-    fn follow_all(&mut self, view: &View<'_>, way: Way)
-        requires sound { IsSound view.now }
-        requires spreading { IsSpreading (edge_by way (seen view.now)) 0 self.old }
+    fn follow_all(&mut self, sight: &Sight<'_>, way: Way)
+        requires { IsSpreading (edge_by way (seen sight.now.view)) 0 self.old }
         ensures more { MeetsMore self.old self.new }
-        ensures closed { IsClosed (is_met self.new) (edge_by way (seen view.now)) }
+        ensures closed { IsClosed (is_met self.new) (edge_by way (seen sight.now.view)) }
     {
         let mut next = 0;
         while next < self.list.len() {
-            self.follow(view, way, next);
+            self.follow(sight, way, next);
             next += 1;
         }
     }
@@ -159,25 +157,23 @@ impl Reach {
     }
 
     /// Meets the id and all to which walks lead from it that way.
-    fn spread(&mut self, view: &View<'_>, way: Way, start: u32)
-        requires sound { IsSound view.now }
-        requires start { start < MAX_PARTITIONS }
-        ensures { IsSpread (is_met self.new) (λ p. p == start) (edge_by way (seen view.now)) }
+    fn spread(&mut self, sight: &Sight<'_>, way: Way, start: u32)
+        requires { start < MAX_PARTITIONS }
+        ensures { IsSpread (is_met self.new) (λ p. p == start) (edge_by way (seen sight.now.view)) }
     {
         self.clear(IDS);
         self.meet(start);
-        self.follow_all(view, way);
+        self.follow_all(sight, way);
     }
 
     /// Meets the ids of the type and all to which walks lead from them that way.
-    fn spread_type(&mut self, view: &View<'_>, way: Way, typ: u16)
-        requires sound { IsSound view.now }
+    fn spread_type(&mut self, sight: &Sight<'_>, way: Way, typ: u16)
         ensures { IsSpread (is_met self.new)
-            (is_of_type (seen view.now) (parts_seen view.now).used typ)
-            (edge_by way (seen view.now)) }
+            (is_of_type (seen sight.now.view) (parts_seen sight.now.view).used typ)
+            (edge_by way (seen sight.now.view)) }
     {
-        self.begin_with_type(view, typ);
-        self.follow_all(view, way);
+        self.begin_with_type(&sight.view, typ);
+        self.follow_all(sight, way);
     }
 }
 
@@ -197,32 +193,29 @@ impl Around {
     }
 
     /// Finds those around this id, which is one of both.
-    pub fn find(&mut self, view: &View<'_>, id: u32)
-        requires sound { IsSound view.now }
-        requires id { id < MAX_PARTITIONS }
+    pub fn find(&mut self, sight: &Sight<'_>, id: u32)
+        requires { id < MAX_PARTITIONS }
         ensures ahead { IsSpread (is_met (self.new).ahead) (λ p. p == id)
-            (edge_by Ahead (seen view.now)) }
+            (edge_by Ahead (seen sight.now.view)) }
         ensures behind { IsSpread (is_met (self.new).behind) (λ p. p == id)
-            (edge_by Behind (seen view.now)) }
+            (edge_by Behind (seen sight.now.view)) }
     {
-        self.ahead.spread(view, Way::Ahead, id);
-        self.behind.spread(view, Way::Behind, id);
+        self.ahead.spread(sight, Way::Ahead, id);
+        self.behind.spread(sight, Way::Behind, id);
     }
 
     /// Finds those around the ids of this type.
-    pub fn find_type(&mut self, view: &View<'_>, typ: u16)
-        requires { IsSound view.now }
-
+    pub fn find_type(&mut self, sight: &Sight<'_>, typ: u16)
         // The ids of the type are met both ways, and so is each to which a walk leads from one of them.
         ensures ahead { IsSpread (is_met (self.new).ahead)
-            (is_of_type (seen view.now) (parts_seen view.now).used typ)
-            (edge_by Ahead (seen view.now)) }
+            (is_of_type (seen sight.now.view) (parts_seen sight.now.view).used typ)
+            (edge_by Ahead (seen sight.now.view)) }
         ensures behind { IsSpread (is_met (self.new).behind)
-            (is_of_type (seen view.now) (parts_seen view.now).used typ)
-            (edge_by Behind (seen view.now)) }
+            (is_of_type (seen sight.now.view) (parts_seen sight.now.view).used typ)
+            (edge_by Behind (seen sight.now.view)) }
     {
-        self.ahead.spread_type(view, Way::Ahead, typ);
-        self.behind.spread_type(view, Way::Behind, typ);
+        self.ahead.spread_type(sight, Way::Ahead, typ);
+        self.behind.spread_type(sight, Way::Behind, typ);
     }
 
     /// Whether the id is one of either.

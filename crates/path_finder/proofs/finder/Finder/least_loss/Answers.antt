@@ -6,8 +6,8 @@ use Rattle.path_finder.specs.Keeping.{is_around}
 use Rattle.path_finder.proofs.Narrow.{KeepsViolations, around_keeps, loss_keeps, narrowed_least, narrowed_satisfies, live_below}
 use Rattle.path_finder.proofs.finder.Finder.least_loss.Goals as goal
 
-pub find-requires-clause-id : goal.find-requires-clause-id
-find-requires-clause-id g c =
+pub find-requires : goal.find-requires
+find-requires g c =
     let l : c.args.merge.p < c.ids_used.result = live_below (c.args.graph.now.traces) c.ids_used.result c.args.merge.p c.requires.pair.low c.ids_used.ensures.below c.requires.pair.has_p in
     omega (arith, l, c.ids_used.ensures.limit)
 

@@ -3,7 +3,6 @@ use Rattle.invariants.specs.declared.Invariant.{Invariant}
 use Rattle.partition_graph.specs.Seen.{seen}
 use Rattle.partition_model.specs.Graphs.{Graph, Satisfies, IsLeastViolation}
 use Rattle.path_finder.specs.Keeping.{is_around}
-use Rattle.path_finder.specs.Nearness.{key_of}
 use Rattle.path_finder.proofs.Narrow.{KeepsViolations, asked_keeps, avoids_gone, narrowed_least, narrowed_satisfies}
 use Rattle.path_finder.proofs.finder.Finder.least_violation.Goals as goal
 

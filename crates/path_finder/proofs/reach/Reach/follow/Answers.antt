@@ -10,7 +10,7 @@ use Rattle.path_finder.proofs.reach.Reach.follow.Goals as goal
 
 pub loop-n-preserved : goal.loop-n-preserved
 loop-n-preserved c =
-    let e : ℕ → ℕ → Bool = edge_by c.args.way (seen c.args.view.now) in
+    let e : ℕ → ℕ → Bool = edge_by c.args.way (seen c.args.sight.now.view) in
     let i = c.loop-n.invariant in
     let n : ℕ = c.in-Some.n in
     let w : n < MAX_PARTITIONS = c.in-Some.ensures.within in

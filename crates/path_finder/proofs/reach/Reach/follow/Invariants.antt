@@ -10,10 +10,10 @@ invariant-loop-n l =
     record {
       place : l.next < length l.self.list;
       there : slice_get l.self.list l.next ≡ Some l.id;
-      spreading : IsSpreading (edge_by l.way (seen l.view)) l.next l.self;
+      spreading : IsSpreading (edge_by l.way (seen l.sight.view)) l.next l.self;
       more : MeetsMore l.initial.self l.self;
       low : l.from ≤ MAX_PARTITIONS;
-      followed : (q : ℕ) → q < l.from → edge_by l.way (seen l.view) l.id q ≡ true → is_met l.self q ≡ true;
+      followed : (q : ℕ) → q < l.from → edge_by l.way (seen l.sight.view) l.id q ≡ true → is_met l.self q ≡ true;
     }
 
 abbrev pub decreases-loop-n : goal.decreases-loop-n

@@ -20,4 +20,4 @@ pub returns-clause-closed : goal.returns-clause-closed
 returns-clause-closed c =
     let v : length c.self.inside.list.items ≡ length c.loop-next.self.list = ap (λ (m : Met). length m.list) c.self.view_is in
     let l : length c.loop-next.self.list ≤ c.loop-next.next = omega (arith, c.loop-next-test.false, c.len.ensures, v) in
-    all_followed (edge_by c.args.way (seen c.args.view.now)) c.loop-next.next c.loop-next.self c.loop-next.invariant.spreading l
+    all_followed (edge_by c.args.way (seen c.args.sight.now.view)) c.loop-next.next c.loop-next.self c.loop-next.invariant.spreading l

@@ -7,7 +7,7 @@ use Rattle.path_finder.proofs.reach.Reach.follow_all.Given as goal
 abbrev pub invariant-loop-next : goal.invariant-loop-next
 invariant-loop-next l =
     record {
-      spreading : IsSpreading (edge_by l.way (seen l.view)) l.next l.self;
+      spreading : IsSpreading (edge_by l.way (seen l.sight.view)) l.next l.self;
       more : MeetsMore l.initial.self l.self;
     }
 

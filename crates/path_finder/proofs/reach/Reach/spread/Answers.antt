@@ -7,18 +7,18 @@ use Rattle.path_finder.specs.Reaching.{edge_by, IsSpreading}
 use Rattle.path_finder.proofs.Reaching.{blank_spreading, meets_spreading}
 use Rattle.path_finder.proofs.reach.Reach.spread.Goals as goal
 
-pub follow_all-requires-clause-spreading : goal.follow_all-requires-clause-spreading
-follow_all-requires-clause-spreading c =
-    let e : ℕ → ℕ → Bool = edge_by c.args.way (seen c.args.view.now) in
+pub follow_all-requires : goal.follow_all-requires
+follow_all-requires c =
+    let e : ℕ → ℕ → Bool = edge_by c.args.way (seen c.args.sight.now.view) in
     subst (λ (m : Met). IsSpreading e 0 m) (sym c.meet.ensures)
-    (meets_spreading e 0 c.clear.new.self c.args.start (omega arith) c.requires.start (blank_spreading e c.clear.new.self MAX_PARTITIONS refl c.clear.ensures.flags c.clear.ensures.list)).0
+    (meets_spreading e 0 c.clear.new.self c.args.start (omega arith) c.requires (blank_spreading e c.clear.new.self MAX_PARTITIONS refl c.clear.ensures.flags c.clear.ensures.list)).0
 
 pub returns : goal.returns
 returns c =
-    let e : ℕ → ℕ → Bool = edge_by c.args.way (seen c.args.view.now) in
+    let e : ℕ → ℕ → Bool = edge_by c.args.way (seen c.args.sight.now.view) in
     let m : is_met c.meet.new.self c.args.start ≡ true =
     subst (λ (m : Met). is_met m c.args.start ≡ true) (sym c.meet.ensures)
-    (meets_spreading e 0 c.clear.new.self c.args.start (omega arith) c.requires.start (blank_spreading e c.clear.new.self MAX_PARTITIONS refl c.clear.ensures.flags c.clear.ensures.list)).2 in
+    (meets_spreading e 0 c.clear.new.self c.args.start (omega arith) c.requires (blank_spreading e c.clear.new.self MAX_PARTITIONS refl c.clear.ensures.flags c.clear.ensures.list)).2 in
     record {
       first = λ p t. ap (λ (x : ℕ). is_met c.follow_all.new.self x) (eqb-true p c.args.start t) ∙ c.follow_all.ensures.more.met c.args.start m;
       along = c.follow_all.ensures.closed;

@@ -2,8 +2,8 @@ use Rattle.partition_graph.specs.Seen.{seen}
 use Rattle.path_finder.specs.Reaching.{edge_by}
 use Rattle.path_finder.proofs.reach.Reach.spread_type.Goals as goal
 
-pub follow_all-requires-clause-spreading : goal.follow_all-requires-clause-spreading
-follow_all-requires-clause-spreading c = c.begin_with_type.ensures.spreading (edge_by c.args.way (seen c.args.view.now))
+pub follow_all-requires : goal.follow_all-requires
+follow_all-requires c = c.begin_with_type.ensures.spreading (edge_by c.args.way (seen c.args.sight.now.view))
 
 pub returns : goal.returns
 returns c = record {
