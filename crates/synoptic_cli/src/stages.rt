@@ -104,13 +104,11 @@ fn read_rules_stage<I: Inputs, P: Patterns>(
     let Some(name) = rules_name(task.form) else {
         return Ok(so_far);
     };
-    match read_rules(alloc, name, inputs, patterns) {
-        Ok(rules) => Ok(SoFar {
-            rules: Some(rules),
-            material: so_far.material,
-        }),
-        Err(status) => Err(status),
-    }
+    let rules = read_rules(alloc, name, inputs, patterns)?;
+    Ok(SoFar {
+        rules: Some(rules),
+        material: so_far.material,
+    })
 }
 
 /// The stage of the model: reads its file, where the task has one.
@@ -136,16 +134,14 @@ fn read_model_stage<I: Inputs>(
     let Some(name) = task.model else {
         return Ok(so_far);
     };
-    match read_model_file(alloc, name, inputs) {
-        Ok(model) => Ok(SoFar {
-            rules: so_far.rules,
-            material: Material {
-                log: so_far.material.log,
-                model,
-            },
-        }),
-        Err(halt) => Err(halt),
-    }
+    let model = read_model_file(alloc, name, inputs)?;
+    Ok(SoFar {
+        rules: so_far.rules,
+        material: Material {
+            log: so_far.material.log,
+            model,
+        },
+    })
 }
 
 /// What decides the lines: the rules that were read, where some were.
@@ -219,16 +215,14 @@ fn read_log_stage<I: Inputs>(
     let Some(_) = task.form else {
         return Ok(so_far);
     };
-    match read_files(alloc, task, &so_far.rules, inputs) {
-        Ok(log) => Ok(SoFar {
-            rules: so_far.rules,
-            material: Material {
-                log,
-                model: so_far.material.model,
-            },
-        }),
-        Err(error) => Err(error),
-    }
+    let log = read_files(alloc, task, &so_far.rules, inputs)?;
+    Ok(SoFar {
+        rules: so_far.rules,
+        material: Material {
+            log,
+            model: so_far.material.model,
+        },
+    })
 }
 
 /// What the task's command is to work on, read from the inputs.
@@ -257,10 +251,7 @@ pub fn read_material<I: Inputs, P: Patterns>(
     let Ok(start) = start(alloc) else {
         return Err(Status::Memory);
     };
-    let so_far = match read_rules_stage(alloc, task, start, inputs, patterns) {
-        Ok(so_far) => so_far,
-        Err(status) => return Err(status),
-    };
+    let so_far = read_rules_stage(alloc, task, start, inputs, patterns)?;
     let so_far = match read_model_stage(alloc, task, so_far, inputs) {
         Ok(so_far) => so_far,
         Err(halt) => return Err(halt_status(halt)),

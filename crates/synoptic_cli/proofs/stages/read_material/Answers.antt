@@ -1,4 +1,5 @@
 use Rattle.std.proofs.Common.{◌≡◌, ◌∙◌, Err, ap, subst, sym}
+use Rattle.std.proofs.lemmas.Result.{err_from_is_err_and}
 use Rattle.log_reader.specs.declared.refusal.ReadError.TheVariants as refused
 use Rattle.command_line.specs.Task.{task_held}
 use Rattle.synoptic_cli.specs.declared.status.Status.{Status}
@@ -11,6 +12,16 @@ use Rattle.synoptic_cli.proofs.Through.{reads-both, stays-both}
 use Rattle.synoptic_cli.proofs.Ends.{log-memory, log-stage-ends, rules-faults, stage-faults, task-read}
 use Rattle.synoptic_cli.proofs.stages.read_material.Goals as goal
 
+pub returns-in_err-so_far-clause-count : goal.returns-in_err-so_far-clause-count
+returns-in_err-so_far-clause-count g c =
+    let p = err_from_is_err_and c.from_residual.result c.from_residual.ensures.1 in
+    rw (p.1, p.2) c.in_err-so_far.ensures.count
+
+pub returns-in_err-so_far-clause-err : goal.returns-in_err-so_far-clause-err
+returns-in_err-so_far-clause-err g c =
+    let p = err_from_is_err_and c.from_residual.result c.from_residual.ensures.1 in
+    rw (p.1, p.2) c.in_err-so_far.ensures.err
+
 pub returns-in-Ok-read_log_stage-clause-ok : goal.returns-in-Ok-read_log_stage-clause-ok
 returns-in-Ok-read_log_stage-clause-ok g c =
     let task = task_held c.args.task.now in
@@ -18,8 +29,8 @@ returns-in-Ok-read_log_stage-clause-ok g c =
     let mid = g.I.Inputs.state c.read_rules_stage.new.inputs in
     let next = g.I.Inputs.state c.read_model_stage.new.inputs in
     let first =
-    reads-both (rules_stages task) (model_stages task) c.in-Ok.start c.in-Ok-read_rules_stage.so_far c.in-Ok-read_model_stage.so_far old mid next c.read_rules_stage.ensures.stays
-    c.in-Ok-read_rules_stage.ensures.ok c.in-Ok-read_model_stage.ensures.ok in
+    reads-both (rules_stages task) (model_stages task) c.in-Ok.start c.in_ok-so_far.so_far c.in-Ok-read_model_stage.so_far old mid next c.read_rules_stage.ensures.stays
+    c.in_ok-so_far.ensures.ok c.in-Ok-read_model_stage.ensures.ok in
     task-read task c.in-Ok.start c.in-Ok-read_model_stage.so_far old next (g.I.Inputs.state c.read_log_stage.new.inputs) c.in-Ok-read_log_stage.so_far c.in-Ok.ensures
     (stays-both old mid next c.read_rules_stage.ensures.stays c.read_model_stage.ensures.stays) first c.in-Ok-read_log_stage.ensures.ok
 
@@ -30,8 +41,8 @@ returns-in-Err-read_log_stage-clause-memory g c = λ is.
     let mid = g.I.Inputs.state c.read_rules_stage.new.inputs in
     let next = g.I.Inputs.state c.read_model_stage.new.inputs in
     let first =
-    reads-both (rules_stages task) (model_stages task) c.in-Ok.start c.in-Ok-read_rules_stage.so_far c.in-Ok-read_model_stage.so_far old mid next c.read_rules_stage.ensures.stays
-    c.in-Ok-read_rules_stage.ensures.ok c.in-Ok-read_model_stage.ensures.ok in
+    reads-both (rules_stages task) (model_stages task) c.in-Ok.start c.in_ok-so_far.so_far c.in-Ok-read_model_stage.so_far old mid next c.read_rules_stage.ensures.stays
+    c.in_ok-so_far.ensures.ok c.in-Ok-read_model_stage.ensures.ok in
     let wanted : c.in-Err-read_log_stage.error ≡ refused.Memory = log-memory c.in-Err-read_log_stage.error (sym c.status_of.ensures ∙ cc is) in
     c.in-Err-read_log_stage.ensures.memory (ap Err wanted) ∙ stage-faults task c.in-Ok.start c.in-Ok-read_model_stage.so_far old next c.in-Ok.ensures first
 
@@ -46,26 +57,26 @@ returns-in-Err-read_log_stage-clause-err g c =
     let before = g.P.Patterns.state c.args.patterns.now in
     let after = g.P.Patterns.state c.read_rules_stage.new.patterns in
     let first =
-    reads-both (rules_stages task) (model_stages task) c.in-Ok.start c.in-Ok-read_rules_stage.so_far c.in-Ok-read_model_stage.so_far old mid next c.read_rules_stage.ensures.stays
-    c.in-Ok-read_rules_stage.ensures.ok c.in-Ok-read_model_stage.ensures.ok in
+    reads-both (rules_stages task) (model_stages task) c.in-Ok.start c.in_ok-so_far.so_far c.in-Ok-read_model_stage.so_far old mid next c.read_rules_stage.ensures.stays
+    c.in_ok-so_far.ensures.ok c.in-Ok-read_model_stage.ensures.ok in
     subst (λ (status : Status). Ends status task old new before after) (sym c.status_of.ensures)
     (log-stage-ends law task c.in-Ok.start c.in-Ok-read_model_stage.so_far old next new before after c.in-Err-read_log_stage.error c.in-Ok.ensures
     (stays-both old mid next c.read_rules_stage.ensures.stays c.read_model_stage.ensures.stays) first c.in-Err-read_log_stage.ensures.err)
 
-pub returns-in-Err-read_model_stage-clause-memory : goal.returns-in-Err-read_model_stage-clause-memory
-returns-in-Err-read_model_stage-clause-memory g c = λ is.
-    let wanted : c.in-Err-read_model_stage.halt ≡ halts.Memory = halt-memory c.in-Err-read_model_stage.halt (sym c.halt_status.ensures ∙ cc is) in
-    c.in-Err-read_model_stage.ensures.memory (ap Err wanted)
-    ∙ rules-faults (task_held c.args.task.now) c.in-Ok.start c.in-Ok-read_rules_stage.so_far (g.I.Inputs.state c.args.inputs.now) (g.I.Inputs.state c.read_rules_stage.new.inputs) c.in-Ok.ensures
-    c.in-Ok-read_rules_stage.ensures.ok
+pub returns-in-Err-clause-memory : goal.returns-in-Err-clause-memory
+returns-in-Err-clause-memory g c = λ is.
+    let wanted : c.in-Err.halt ≡ halts.Memory = halt-memory c.in-Err.halt (sym c.halt_status.ensures ∙ cc is) in
+    c.in-Err.ensures.memory (ap Err wanted)
+    ∙ rules-faults (task_held c.args.task.now) c.in-Ok.start c.in_ok-so_far.so_far (g.I.Inputs.state c.args.inputs.now) (g.I.Inputs.state c.read_rules_stage.new.inputs) c.in-Ok.ensures
+    c.in_ok-so_far.ensures.ok
 
-pub returns-in-Err-read_model_stage-clause-err : goal.returns-in-Err-read_model_stage-clause-err
-returns-in-Err-read_model_stage-clause-err g c =
+pub returns-in-Err-clause-err : goal.returns-in-Err-clause-err
+returns-in-Err-clause-err g c =
     let task = task_held c.args.task.now in
     let old = g.I.Inputs.state c.args.inputs.now in
     let new = g.I.Inputs.state c.read_model_stage.new.inputs in
     let before = g.P.Patterns.state c.args.patterns.now in
     let after = g.P.Patterns.state c.read_rules_stage.new.patterns in
     subst (λ (status : Status). Ends status task old new before after) (sym c.halt_status.ensures)
-    (model-stage-ends task c.in-Ok.start c.in-Ok-read_rules_stage.so_far old (g.I.Inputs.state c.read_rules_stage.new.inputs) new before after c.in-Err-read_model_stage.halt c.in-Ok.ensures
-    c.read_rules_stage.ensures.stays c.in-Ok-read_rules_stage.ensures.ok c.in-Err-read_model_stage.ensures.err)
+    (model-stage-ends task c.in-Ok.start c.in_ok-so_far.so_far old (g.I.Inputs.state c.read_rules_stage.new.inputs) new before after c.in-Err.halt c.in-Ok.ensures
+    c.read_rules_stage.ensures.stays c.in_ok-so_far.ensures.ok c.in-Err.ensures.err)
