@@ -4,10 +4,10 @@ use Rattle.partition_graph.specs.Parts.{Parts, start_of}
 use Rattle.partition_model.specs.Assignments.{inner_words}
 use Rattle.partition_model.specs.Laws.{HoldAll}
 use Rattle.splitter.proofs.Mining.{mined-hold}
-use Rattle.splitter.proofs.tests.refine_counted.Goals as goal
+use Rattle.splitter.proofs.tests.refined.Goals as goal
 
-pub refine-result-requires-clause-hold : goal.refine-result-requires-clause-hold
-refine-result-requires-clause-hold g c =
+pub run-end-requires-clause-hold : goal.run-end-requires-clause-hold
+run-end-requires-clause-hold c =
     subst (λ (p : Parts). HoldAll (inner_words p.traces) c.as_slice.result.now) (sym c.in_ok-graph.ensures)
     (subst (λ (invs : List Invariant). HoldAll (inner_words (start_of c.args.set.now).traces) invs) (sym (c.as_slice.ensures ∙ c.in_ok-invs.ensures))
     (mined-hold c.args.set.now (length c.args.set.now.types)))
