@@ -1,6 +1,5 @@
 ghost use Rattle.std.specs.Prelude.{◌≡◌, ◌<◌, ◌≤◌};
 ghost use Rattle.std.specs.Bool.{OnTrue};
-ghost use Rattle.partition_graph.specs.Seen.{IsSound};
 ghost use Rattle.partition_model.specs.Assignments.{G};
 ghost use Rattle.partition_model.specs.Coarsening.{IsPair};
 
@@ -8,9 +7,8 @@ use crate::Finder;
 use invariants::{Invariant, Kind, Merge, candidate, candidate_count};
 use limits::{FIRST_TYPE, MAX_PARTITIONS, MAX_TYPE_BYTES, TERMINAL};
 use partition_graph::{PartGraph, View};
-use std::alloc::Global;
+use std::alloc::{AllocError, Global};
 use std::marker::Brand;
-use std::process::Abort;
 use std::sync::ledger::{Blank, Ledger};
 use std::test::Fail;
 use steps::Steps;
@@ -37,106 +35,88 @@ fn graph_of(alloc: Global, traces: &str) -> Result<PartGraph, Fail> {
     Ok(PartGraph::open(alloc, &builder.finish()?)?)
 }
 
-/// Asks with a counter that nobody reads.
+/// Whether p and q are two partitions of one type, p before q.
+fn is_pair(graph: &PartGraph, p: u32, q: u32) -> bool
+    ensures { OnTrue result (IsPair (G (graph.now).traces) p q) }
+{
+    p >= FIRST_TYPE
+        && p < q
+        && graph.is_live(p)
+        && graph.is_live(q)
+        && graph.type_of(p) == graph.type_of(q)
+}
+
+/// The ids of a path, or none.
+fn ids_of(alloc: Global, path: Option<&[u32]>) -> Result<Vec<u32>, AllocError> {
+    match path {
+        Some(path) => path.to_vec(alloc),
+        None => Ok(Vec::new(alloc)),
+    }
+}
+
+/// Asks with a counter that nobody reads, before a merge where one is given. There are no ids where it is of no pair.
 fn ask<L: Ledger>(
     alloc: Global,
     finder: &mut Finder,
-    view: &View<'_>,
+    graph: &PartGraph,
+    merge: Option<Merge>,
     inv: Invariant,
     blank: Blank,
-) -> Result<Vec<u32>, Fail>
-    requires sound { IsSound view.now }
+) -> Result<Vec<u32>, AllocError>
     requires name { blank.name ≡ L.name }
     requires parts { blank.parts ≡ L.parts }
     requires stands { 0 < blank.parts }
 {
     let mut steps = Steps::<L>::open(blank);
-    match finder.least_violation(view, inv, &mut steps) {
-        Some(path) => Ok(path.to_vec(alloc)?),
-        None => Ok(Vec::new(alloc)),
+    let Some(pair) = merge else {
+        return ids_of(alloc, finder.least_violation(&View::Plain(graph), inv, &mut steps));
+    };
+    if !is_pair(graph, pair.p, pair.q) {
+        return Ok(Vec::new(alloc));
     }
+    ids_of(alloc, finder.least_loss(graph, pair, inv, false, &mut steps))
 }
 
-/// The least violation, or no ids where there is none.
+/// The least violation, or that after a merge where one is given. There are no ids where there is none.
 fn find(
     alloc: Global,
     finder: &mut Finder,
     graph: &PartGraph,
+    merge: Option<Merge>,
     inv: Invariant,
-) -> Result<Vec<u32>, Fail> {
-    ask::<Brand>(alloc, finder, &View::Plain(graph), inv, Blank::new(1))
+) -> Result<Vec<u32>, AllocError> {
+    ask::<Brand>(alloc, finder, graph, merge, inv, Blank::new(1))
 }
 
-/// The least violation after a merge of a pair, asked before it, with a counter that nobody reads.
-fn ask_loss<L: Ledger>(
-    alloc: Global,
-    finder: &mut Finder,
-    graph: &PartGraph,
-    pair: Merge,
-    inv: Invariant,
-    blank: Blank,
-) -> Result<Vec<u32>, Fail>
-    requires pair { IsPair (G (graph.now).traces) pair.p pair.q }
-    requires name { blank.name ≡ L.name }
-    requires parts { blank.parts ≡ L.parts }
-    requires stands { 0 < blank.parts }
-{
-    let mut steps = Steps::<L>::open(blank);
-    match finder.least_loss(graph, pair, inv, false, &mut steps) {
-        Some(path) => Ok(path.to_vec(alloc)?),
-        None => Ok(Vec::new(alloc)),
-    }
-}
-
-/// Compares the ids of the least violation, each behind a space.
-fn assert_path(
-    rt: &impl Abort,
-    alloc: Global,
-    graph: &PartGraph,
-    inv: Invariant,
-    path: &str,
-) -> Result<(), Fail> {
+#[test]
+fn least_paths_of_small_graphs(rt: HostRuntime) -> Result<(), Fail> {
+    let alloc = rt.alloc();
     let mut finder = Finder::make(alloc)?;
-    let mut ids = String::new(alloc);
-    for id in find(alloc, &mut finder, graph, inv)? {
-        ids.push_str(&format!(in alloc; " {id}")?)?;
+    for (traces, kind, a, b, wanted) in [
+        ("a c d\nb c e", Kind::AF, 2, 4, "[0, 2, 3, 6, 1]"),
+        ("a c d\nb c e", Kind::NF, 3, 4, "[0, 2, 3, 4, 1]"),
+        ("a c d\nb c e", Kind::NF, 2, 2, "[]"),
+        ("a a a", Kind::NF, 2, 2, "[0, 2, 2, 1]"),
+        ("a a a", Kind::AP, 2, 2, "[0, 2, 1]"),
+        ("a a a", Kind::AF, 0, 2, "[]"),
+    ] {
+        let graph = graph_of(alloc, traces)?;
+        let found = find(alloc, &mut finder, &graph, None, Invariant { kind, a, b })?;
+        let ids = format!(in alloc; "{found:?}")?;
+        assert_eq!(rt; ids.as_str(), wanted, "at {traces}");
     }
-    assert_eq!(rt; ids.as_str(), path, "{inv:?}");
     Ok(())
-}
-
-/// An invariant of a kind between two types.
-fn inv_of(kind: Kind, a: u16, b: u16) -> Invariant {
-    Invariant { kind, a, b }
-}
-
-#[test]
-fn least_paths_of_two_words(rt: HostRuntime) -> Result<(), Fail> {
-    let alloc = rt.alloc();
-    let graph = graph_of(alloc, "a c d\nb c e")?;
-    assert_path(&rt, alloc, &graph, inv_of(Kind::AF, 2, 4), " 0 2 3 6 1")?;
-    assert_path(&rt, alloc, &graph, inv_of(Kind::NF, 3, 4), " 0 2 3 4 1")?;
-    assert_path(&rt, alloc, &graph, inv_of(Kind::NF, 2, 2), "")
-}
-
-#[test]
-fn least_paths_of_one_type(rt: HostRuntime) -> Result<(), Fail> {
-    let alloc = rt.alloc();
-    let graph = graph_of(alloc, "a a a")?;
-    assert_path(&rt, alloc, &graph, inv_of(Kind::NF, 2, 2), " 0 2 2 1")?;
-    assert_path(&rt, alloc, &graph, inv_of(Kind::AP, 2, 2), " 0 2 1")?;
-    assert_path(&rt, alloc, &graph, inv_of(Kind::AF, 0, 2), "")
 }
 
 /// Whether the word breaks the invariant, by its places.
 fn breaks(inv: Invariant, word: &[u16]) -> bool {
-    for (i, x) in word.iter().enumerate() {
+    for i in 0..word.len() {
         let before = word[..i].contains(&inv.a);
-        let after = word[i..].iter().skip(1).any(|y| *y == inv.b);
+        let after = word[i + 1..].contains(&inv.b);
         let broken = match inv.kind {
-            Kind::AF => *x == inv.a && !after,
-            Kind::NF => *x == inv.a && after,
-            Kind::AP => *x == inv.b && !before,
+            Kind::AF => word[i] == inv.a && !after,
+            Kind::NF => word[i] == inv.a && after,
+            Kind::AP => word[i] == inv.b && !before,
         };
         if broken {
             return true;
@@ -250,8 +230,7 @@ fn random_graph(alloc: Global, random: &mut Random, types: u64) -> Result<PartGr
 }
 
 /// Compares each answer with the first violation by lengths of fewer edges than the limit.
-fn assert_answers(
-    rt: &impl Abort,
+fn compare_answers(
     alloc: Global,
     finder: &mut Finder,
     graph: &PartGraph,
@@ -262,9 +241,11 @@ fn assert_answers(
 {
     for index in 0..candidate_count(types) {
         if let Some(inv) = candidate(types, index) {
-            let found = find(alloc, finder, graph, inv)?;
+            let found = find(alloc, finder, graph, None, inv)?;
             let wanted = first_by_length(alloc, graph, inv, limit)?;
-            assert_eq!(rt; found, wanted, "{inv:?}");
+            if found != wanted {
+                return Err(Fail::from(inv));
+            }
         }
     }
     Ok(())
@@ -282,41 +263,9 @@ fn answers_as_all_paths_in_order(rt: HostRuntime) -> Result<(), Fail> {
         let types = graph.ids_used() - 2;
         assert!(rt; types <= 3);
         let limit = if types < 3 { 13 } else { 10 };
-        assert_answers(&rt, alloc, &mut finder, &graph, types, limit)?;
+        compare_answers(alloc, &mut finder, &graph, types, limit)?;
     }
     Ok(())
-}
-
-/// Whether p and q are two partitions of one type, p before q.
-fn is_pair(graph: &PartGraph, p: u32, q: u32) -> bool
-    ensures { OnTrue result (IsPair (G (graph.now).traces) p q) }
-{
-    p >= FIRST_TYPE
-        && p < q
-        && graph.is_live(p)
-        && graph.is_live(q)
-        && graph.type_of(p) == graph.type_of(q)
-}
-
-/// Merges a pair.
-fn merge(graph: &mut PartGraph, p: u32, q: u32) {
-    if is_pair(graph, p, q) {
-        graph.merge(p, q);
-    }
-}
-
-/// The least violation after a merge of a pair, or no ids where it is none.
-fn find_loss(
-    alloc: Global,
-    finder: &mut Finder,
-    graph: &PartGraph,
-    pair: Merge,
-    inv: Invariant,
-) -> Result<Vec<u32>, Fail> {
-    if !is_pair(graph, pair.p, pair.q) {
-        return Ok(Vec::new(alloc));
-    }
-    ask_loss::<Brand>(alloc, finder, graph, pair, inv, Blank::new(1))
 }
 
 /// A random graph of two types in which some partitions were divided.
@@ -331,9 +280,18 @@ fn divided_graph(alloc: Global, seed: u64) -> Result<PartGraph, Fail> {
     Ok(graph)
 }
 
+/// That graph after a merge, if it is of a pair.
+fn merged_graph(alloc: Global, seed: u64, p: u32, q: u32) -> Result<Option<PartGraph>, Fail> {
+    let mut graph = divided_graph(alloc, seed)?;
+    if !is_pair(&graph, p, q) {
+        return Ok(None);
+    }
+    graph.merge(p, q);
+    Ok(Some(graph))
+}
+
 /// Compares what is asked before a merge with what is asked after it, and says how many invariants are broken.
-fn assert_losses(
-    rt: &impl Abort,
+fn compare_losses(
     alloc: Global,
     before: &PartGraph,
     pair: Merge,
@@ -343,10 +301,12 @@ fn assert_losses(
     let mut losses = 0u32;
     for index in 0..candidate_count(2) {
         if let Some(inv) = candidate(2, index) {
-            let found = find_loss(alloc, &mut finder, before, pair, inv)?;
-            let wanted = find(alloc, &mut finder, after, inv)?;
+            let found = find(alloc, &mut finder, before, Some(pair), inv)?;
+            let wanted = find(alloc, &mut finder, after, None, inv)?;
             losses = losses.wrapping_add(u32::from(!found.is_empty()));
-            assert_eq!(rt; found, wanted);
+            if found != wanted {
+                return Err(Fail::from(inv));
+            }
         }
     }
     Ok(losses)
@@ -361,10 +321,8 @@ fn merges_answer_as_merged_graphs(rt: HostRuntime) -> Result<(), Fail> {
         let before = divided_graph(alloc, seed)?;
         let q = 4 + (seed % 4) as u32;
         let p = u32::from(before.type_of(q));
-        let mut after = divided_graph(alloc, seed)?;
-        if is_pair(&before, p, q) {
-            merge(&mut after, p, q);
-            let found = assert_losses(&rt, alloc, &before, Merge { p, q }, &after)?;
+        if let Some(after) = merged_graph(alloc, seed, p, q)? {
+            let found = compare_losses(alloc, &before, Merge { p, q }, &after)?;
             losses = losses.wrapping_add(found);
         }
     }
@@ -372,42 +330,26 @@ fn merges_answer_as_merged_graphs(rt: HostRuntime) -> Result<(), Fail> {
     Ok(())
 }
 
-/// The graph of one trace of as many types as there can be, each once.
-fn chain(alloc: Global) -> Result<PartGraph, Fail> {
-    let mut trace = String::new(alloc);
-    for number in 2..130u32 {
-        trace.push_str(&format!(in alloc; "{number} ")?)?;
-    }
-    graph_of(alloc, &trace)
-}
+/// One trace of as many types as there can be, each once.
+const CHAIN: &str =
+    "2 3 4 5 6 7 8 9 10 11 12 13 14 15 16 17 18 19 20 21 22 23 24 25 26 27 28 29 30 31 32 33 34 \
+35 36 37 38 39 40 41 42 43 44 45 46 47 48 49 50 51 52 53 54 55 56 57 58 59 60 61 62 63 64 \
+65 66 67 68 69 70 71 72 73 74 75 76 77 78 79 80 81 82 83 84 85 86 87 88 89 90 91 92 93 94 \
+95 96 97 98 99 100 101 102 103 104 105 106 107 108 109 110 111 112 113 114 115 116 117 118 \
+119 120 121 122 123 124 125 126 127 128 129";
 
-/// Compares how many ids the least violation has, 0 where there is none.
-fn assert_length(
-    rt: &impl Abort,
+/// Compares how many ids least violations have, 0 where there is none.
+fn compare_lengths(
     alloc: Global,
     finder: &mut Finder,
     graph: &PartGraph,
-    inv: Invariant,
-    wanted: usize,
+    cases: &[(Kind, u16, u16, usize)],
 ) -> Result<(), Fail> {
-    let found = find(alloc, finder, graph, inv)?;
-    assert_eq!(rt; found.len(), wanted, "{inv:?}");
-    Ok(())
-}
-
-/// Compares the answers for two types in the graph of one trace of 128 types, each once.
-fn assert_chain(
-    rt: &impl Abort,
-    alloc: Global,
-    finder: &mut Finder,
-    graph: &PartGraph,
-    a: u16,
-    b: u16,
-) -> Result<(), Fail> {
-    for kind in [Kind::AF, Kind::NF, Kind::AP] {
-        let breaks = (kind == Kind::NF) == (a < b);
-        let wanted = if breaks { 130 } else { 0 };
-        assert_length(rt, alloc, finder, graph, inv_of(kind, a, b), wanted)?;
+    for (kind, a, b, wanted) in cases {
+        let inv = Invariant { kind: *kind, a: *a, b: *b };
+        if find(alloc, finder, graph, None, inv)?.len() != *wanted {
+            return Err(Fail::from(inv));
+        }
     }
     Ok(())
 }
@@ -417,12 +359,18 @@ fn assert_chain(
 #[test]
 fn thousands_of_asks_of_a_long_graph(rt: HostRuntime) -> Result<(), Fail> {
     let alloc = rt.alloc();
-    let graph = chain(alloc)?;
+    let graph = graph_of(alloc, CHAIN)?;
     assert!(rt; graph.ids_used() == 130);
     let mut finder = Finder::make(alloc)?;
     for a in (2..130u16).step_by(6) {
         for b in (2..130u16).step_by(8) {
-            assert_chain(&rt, alloc, &mut finder, &graph, a, b)?;
+            let (later, other) = if a < b { (130, 0) } else { (0, 130) };
+            let cases = [
+                (Kind::AF, a, b, other),
+                (Kind::NF, a, b, later),
+                (Kind::AP, a, b, other),
+            ];
+            compare_lengths(alloc, &mut finder, &graph, &cases)?;
         }
     }
     Ok(())
@@ -452,28 +400,17 @@ fn divided_rows(alloc: Global, letters: u32) -> Result<PartGraph, Fail> {
     Ok(graph)
 }
 
-/// Eight asks of the graph of two rows.
-fn assert_rows(
-    rt: &impl Abort,
-    alloc: Global,
-    finder: &mut Finder,
-    graph: &PartGraph,
-) -> Result<(), Fail> {
-    let cases = [
-        (Kind::AF, 2, 4, 0),
-        (Kind::AF, 5, 4, 1021),
-        (Kind::NF, 2, 6, 0),
-        (Kind::NF, 5, 3, 1021),
-        (Kind::AP, 2, 6, 1021),
-        (Kind::AP, 5, 6, 0),
-        (Kind::NF, 2, 4, 5),
-        (Kind::AF, 3, 4, 1021),
-    ];
-    for (kind, a, b, wanted) in cases {
-        assert_length(rt, alloc, finder, graph, inv_of(kind, a, b), wanted)?;
-    }
-    Ok(())
-}
+/// What is asked of the graph of two rows, and how many ids the least violation has.
+const ROWS: [(Kind, u16, u16, usize); 8] = [
+    (Kind::AF, 2, 4, 0),
+    (Kind::AF, 5, 4, 1021),
+    (Kind::NF, 2, 6, 0),
+    (Kind::NF, 5, 3, 1021),
+    (Kind::AP, 2, 6, 1021),
+    (Kind::AP, 5, 6, 0),
+    (Kind::NF, 2, 4, 5),
+    (Kind::AF, 3, 4, 1021),
+];
 
 /// In the end all ids are used, and no edge leads from one row to the other. The second row has one path, of
 /// 1,021 ids: its own, with the two ends.
@@ -484,7 +421,7 @@ fn a_thousand_asks_of_a_graph_of_all_ids(rt: HostRuntime) -> Result<(), Fail> {
     assert!(rt; graph.ids_used() == MAX_PARTITIONS);
     let mut finder = Finder::make(alloc)?;
     for _ in 0..125 {
-        assert_rows(&rt, alloc, &mut finder, &graph)?;
+        compare_lengths(alloc, &mut finder, &graph, &ROWS)?;
     }
     Ok(())
 }
