@@ -1,43 +1,40 @@
 -- The next set, as far as the ids of the set in hand were gone through.
-use Rattle.std.proofs.Common.{◌≡◌, ◌↔◌, ℕ, ◌+◌, ◌<◌, ◌≤◌, ◌&&◌, ◌||◌, Bool, true, false, List, refl, sym, ◌∙◌, ap, arith, inl, inr, true≢false}
+use Rattle.std.proofs.Common.{◌≡◌, ◌↔◌, ℕ, ◌+◌, ◌<◌, ◌≤◌, ◌&&◌, ◌||◌, Bool, true, false, refl, sym, ◌∙◌, ap, arith, inl, inr, true≢false}
 use Rattle.std.proofs.lemmas.Bool.{and_parts, cases_eq, cases_lt, or_cases, or_left, or_right}
 use Rattle.limits.specs.declared.TheConstants.{MAX_PARTITIONS}
-use Rattle.bit_rows.specs.Tables.{HasShape}
-use Rattle.model_check.specs.declared.sets.TheConstants.{MEMBERS, NOW, NEXT, ROWS, TYPES}
+use Rattle.model_check.specs.declared.rows.IdRows.{IdRows}
+use Rattle.model_check.specs.declared.sets.TheConstants.{MEMBERS, NOW, NEXT, TYPES}
 use Rattle.model_check.specs.Rows.{bit}
 
 -- an id below the bound leads to q
-abbrev pub IsEnteredBelow : List (List Bool) → ℕ → ℕ → ℕ → Type 0
+abbrev pub IsEnteredBelow : IdRows → ℕ → ℕ → ℕ → Type 0
 IsEnteredBelow rows typ bound q =
     (p : ℕ) × (p < bound) × (bit rows NOW p ≡ true) × (bit rows p q ≡ true) × (bit rows (MEMBERS + typ) q ≡ true)
 
 -- the rows below the next set are as they were, and the next set has what the ids below the bound lead to
-pub record IsAdvancing (old rows : List (List Bool)) (typ from : ℕ) : Type 0 where
-  pub shape : HasShape rows ROWS MAX_PARTITIONS
+pub record IsAdvancing (old rows : IdRows) (typ from : ℕ) : Type 0 where
   pub bound : from ≤ MAX_PARTITIONS
   pub others : (r k : ℕ) → r < NEXT → bit rows r k ≡ bit old r k
   pub next : (q : ℕ) → (bit rows NEXT q ≡ true) ↔ IsEnteredBelow old typ from q
 
 -- so it is before any id, where the next set is empty
-pub advance_none : (old rows : List (List Bool)) (typ : ℕ) → HasShape rows ROWS MAX_PARTITIONS → ((r k : ℕ) → r < NEXT → bit rows r k ≡ bit old r k)
+pub advance_none : (old rows : IdRows) (typ : ℕ) → ((r k : ℕ) → r < NEXT → bit rows r k ≡ bit old r k)
     → ((k : ℕ) → bit rows NEXT k ≡ false) → IsAdvancing old rows typ 0
-advance_none old rows typ shape others blank =
+advance_none old rows typ others blank =
     record {
-      shape = shape;
       bound = omega arith;
       others = others;
       next = λ q. (λ e. absurd (true≢false (sym e ∙ blank q)), λ o. absurd (let l : o.0 < 0 = o.1 in omega arith));
     }
 
 -- and so it is past the next id in hand, once its row is joined to the next set
-pub advance_more : (old rows new : List (List Bool)) (typ from p : ℕ) → HasShape new ROWS MAX_PARTITIONS → p < MAX_PARTITIONS → from ≤ p → typ < TYPES
+pub advance_more : (old rows new : IdRows) (typ from p : ℕ) → p < MAX_PARTITIONS → from ≤ p → typ < TYPES
     → ((r k : ℕ) → r < NEXT → bit new r k ≡ bit rows r k)
     → ((k : ℕ) → bit new NEXT k ≡ (bit rows NEXT k || (bit rows p k && bit rows (MEMBERS + typ) k)))
     → bit rows NOW p ≡ true → ((k : ℕ) → from ≤ k → k < p → bit rows NOW k ≡ false)
     → IsAdvancing old rows typ from → IsAdvancing old new typ (p + 1)
-advance_more old rows new typ from p shape within behind small others joined set first a =
+advance_more old rows new typ from p within behind small others joined set first a =
     record {
-      shape = shape;
       bound = omega arith;
       others = λ r k l. others r k l ∙ a.others r k l;
       next = λ q. (

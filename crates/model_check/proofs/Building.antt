@@ -7,13 +7,13 @@ use Rattle.limits.specs.declared.TheConstants.{FIRST_TYPE, MAX_TYPES, MAX_PARTIT
 use Rattle.invariants.specs.declared.records.Partition.{Partition}
 use Rattle.invariants.specs.declared.records.Edge.{Edge}
 use Rattle.invariants.specs.declared.records.Model.{Model}
-use Rattle.bit_rows.specs.Tables.{HasShape}
 use Rattle.partition_model.proofs.Lists.{all_in, all_from}
 use Rattle.model_shape.specs.Ascending.{Ascends, PartitionBefore}
 use Rattle.model_shape.specs.Shapes.{is_listed, listed_type, IsEventPartition, IsShapedEdge, IsWellShaped}
 use Rattle.models.specs.Models.{has_edge, graph_of}
 use Rattle.models.proofs.Formed.{shaped_are_formed}
-use Rattle.model_check.specs.declared.sets.TheConstants.{MEMBERS, LISTED, ROWS, TYPES}
+use Rattle.model_check.specs.declared.rows.IdRows.{IdRows}
+use Rattle.model_check.specs.declared.sets.TheConstants.{MEMBERS, LISTED, TYPES}
 use Rattle.model_check.specs.Rows.{bit, shown, marked, IsMarkable, IsEdgeWithin, AreApart, IsLaid}
 use Rattle.model_check.proofs.Tabling.{unlisted-type}
 
@@ -104,18 +104,16 @@ no-edge r k (x ∷ xs) w l =
     rw f (no-edge r k xs w.1 l)
 
 -- the tables have the types of the partitions, and in the rows what was marked for partitions and edges
-pub record IsBuilt (m : Model) (types : List ℕ) (rows : List (List Bool)) : Type 0 where
+pub record IsBuilt (m : Model) (types : List ℕ) (rows : IdRows) : Type 0 where
   pub size : length types ≡ MAX_PARTITIONS
-  pub shape : HasShape rows ROWS MAX_PARTITIONS
   pub types_are : (p : ℕ) → get_or types p 0 ≡ listed_type p m.partitions
   pub rows_are : (r k : ℕ) → bit rows r k ≡ (marked r k m.partitions || has_edge r k m.edges)
 
 -- in tables that are built so, the row of each type has the ids of this type
-pub built-laid : (m : Model) (types : List ℕ) (rows : List (List Bool)) → IsWellShaped m → IsBuilt m types rows → IsLaid types rows
+pub built-laid : (m : Model) (types : List ℕ) (rows : IdRows) → IsWellShaped m → IsBuilt m types rows → IsLaid types rows
 built-laid m types rows w b =
     record {
       size = b.size;
-      shape = b.shape;
       members = λ x q low high.
           b.rows_are (MEMBERS + x) q
           ∙ ap₂ (λ a c. a || c) (marked-type x q m.partitions low high (ascends-apart m.partitions w.partitions.order)) (no-edge (MEMBERS + x) q m.edges (edges-within m w) (omega arith))
@@ -124,7 +122,7 @@ built-laid m types rows w b =
     }
 
 -- tables that are built so show the graph of the model
-pub built-shown : (m : Model) (types : List ℕ) (rows : List (List Bool)) → IsWellShaped m → IsBuilt m types rows → shown (record { types = types; rows = rows }) ≡ graph_of m
+pub built-shown : (m : Model) (types : List ℕ) (rows : IdRows) → IsWellShaped m → IsBuilt m types rows → shown (record { types = types; rows = rows.bits }) ≡ graph_of m
 built-shown m types rows w b =
     λ i. record { typ = λ p. b.types_are p i; edge = λ p q. edges p q i; listed = λ p. all p i }
   where

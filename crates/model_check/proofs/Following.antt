@@ -1,15 +1,15 @@
 -- The word of a trace, followed by sets of ids.
-use Rattle.std.proofs.Common.{◌≡◌, ◌↔◌, ℕ, ◌+◌, ◌<◌, ◌&&◌, nat_lt, Bool, true, false, List, [], ◌∷◌, ◌++◌, Option, Some, None, length, refl, sym, ◌∙◌, ap, ap₂, inl, inr, arith, get_or, eq-eqb, eqb-true, lt-ltb, le-ltb}
+use Rattle.std.proofs.Common.{◌≡◌, ◌↔◌, ℕ, ◌+◌, ◌<◌, ◌&&◌, nat_lt, Bool, true, false, List, [], ◌∷◌, ◌++◌, Option, Some, None, length, refl, sym, ◌∙◌, ap, ap₂, inl, inr, arith, get_or, true≢false, eq-eqb, eqb-true, lt-ltb, le-ltb}
 use Rattle.std.specs.Prelude.{IfSome}
 use Rattle.std.proofs.lemmas.Bool.{and_parts, cases_lt}
-use Rattle.std.proofs.lemmas.List.{get_or_past}
 use Rattle.limits.specs.declared.TheConstants.{INITIAL, TERMINAL, MAX_PARTITIONS}
-use Rattle.bit_rows.specs.Tables.{row_at, HasShape}
 use Rattle.partition_model.specs.Graphs.{Graph, Walk, IsPath, word, Accepts}
 use Rattle.partition_model.specs.Assignments.{with_ends}
+use Rattle.model_check.specs.declared.rows.IdRows.{IdRows}
 use Rattle.model_check.specs.declared.sets.TheConstants.{MEMBERS, LISTED, NOW, ROWS, TYPES}
 use Rattle.model_check.specs.Rows.{bit, shown, IsLaid}
 use Rattle.model_check.specs.InHand.{in_hand, IsEnteredFrom}
+use Rattle.model_check.proofs.Bits.{none-past}
 
 -- from some id of the set goes a walk with these types that ends at TERMINAL
 abbrev pub Continues : Graph → (ℕ → Bool) → List ℕ → Type 0
@@ -57,35 +57,35 @@ follow_end g set = (λ o. there o, λ e. (TERMINAL, [], e, refl, refl))
     there (p, x ∷ xs, s, w, e) = absurd (cc e)
 
 -- what lies in the rows, the set in hand, and the word as far as it was followed
-pub record IsFollowed (g : Graph) (whole : List ℕ) (types : List ℕ) (rows : List (List Bool)) (hand : Option ℕ) (rest : List ℕ) : Type 0 where
+pub record IsFollowed (g : Graph) (whole : List ℕ) (types : List ℕ) (rows : IdRows) (hand : Option ℕ) (rest : List ℕ) : Type 0 where
   pub laid : IsLaid types rows
-  pub shows : shown (record { types = types; rows = rows }) ≡ g
+  pub shows : shown (record { types = types; rows = rows.bits }) ≡ g
   pub within : IfSome hand (λ p. p < MAX_PARTITIONS)
   pub tells : Accepts g (with_ends whole) ↔ Continues g (in_hand rows hand) rest
 
 -- an id that is on has a place in the row
-pub bit-within : (rows : List (List Bool)) (r q : ℕ) → HasShape rows ROWS MAX_PARTITIONS → r < ROWS → bit rows r q ≡ true → q < MAX_PARTITIONS
-bit-within rows r q shape h e =
+pub bit-within : (rows : IdRows) (r q : ℕ) → r < ROWS → bit rows r q ≡ true → q < MAX_PARTITIONS
+bit-within rows r q h e =
     elim (cases_lt q MAX_PARTITIONS) [
       | inl l ↦ l
-      | inr p ↦ absurd (let long : length (row_at rows r) ≡ MAX_PARTITIONS = shape.long r h in let f : bit rows r q ≡ false = get_or_past (row_at rows r) q false (omega arith) in cc)
+      | inr p ↦ absurd (true≢false (sym e ∙ none-past rows r q h p))
     ]
 
 -- an id in hand has a place in the rows
-in-hand-within : (rows : List (List Bool)) (hand : Option ℕ) (p : ℕ) → HasShape rows ROWS MAX_PARTITIONS → IfSome hand (λ q. q < MAX_PARTITIONS) → in_hand rows hand p ≡ true → p < MAX_PARTITIONS
-in-hand-within rows None p shape w e = bit-within rows NOW p shape (omega arith) e
-in-hand-within rows (Some q) p shape w e =
+in-hand-within : (rows : IdRows) (hand : Option ℕ) (p : ℕ) → IfSome hand (λ q. q < MAX_PARTITIONS) → in_hand rows hand p ≡ true → p < MAX_PARTITIONS
+in-hand-within rows None p w e = bit-within rows NOW p (omega arith) e
+in-hand-within rows (Some q) p w e =
     let same : p ≡ q = eqb-true p q e in
     let l : q < MAX_PARTITIONS = w in
     omega arith
 
 -- what the next set has, in the words of the graph
-entered-is : (g : Graph) (types : List ℕ) (rows : List (List Bool)) (hand : Option ℕ) (x q : ℕ) → IsLaid types rows → shown (record { types = types; rows = rows }) ≡ g → IfSome hand (λ p. p < MAX_PARTITIONS)
+entered-is : (g : Graph) (types : List ℕ) (rows : IdRows) (hand : Option ℕ) (x q : ℕ) → IsLaid types rows → shown (record { types = types; rows = rows.bits }) ≡ g → IfSome hand (λ p. p < MAX_PARTITIONS)
     → 0 < x → x < TYPES
     → IsEnteredFrom (in_hand rows hand) rows x q ↔ ((p : ℕ) × (in_hand rows hand p ≡ true) × (g.edge p q ≡ true) × (g.typ q ≡ x))
 entered-is g types rows hand x q laid s within low high = (
   λ o.
-      let l : o.0 < MAX_PARTITIONS = in-hand-within rows hand o.0 laid.shape within o.1 in
+      let l : o.0 < MAX_PARTITIONS = in-hand-within rows hand o.0 within o.1 in
       (o.0, o.1, sym (edges o.0) ∙ rw (lt-ltb o.0 MAX_PARTITIONS l) o.2, sym (ap (λ (h : Graph). h.typ q) s) ∙ eqb-true _ x (sym (laid.members x q low high) ∙ o.3)),
   λ o.
       let both = and_parts (nat_lt o.0 MAX_PARTITIONS) (bit rows o.0 q) (edges o.0 ∙ o.2) in
@@ -96,7 +96,7 @@ entered-is g types rows hand x q laid s within low high = (
     edges p = ap (λ (h : Graph). h.edge p q) s
 
 -- rows that agree below the sets show the same graph
-pub still-shown : (types : List ℕ) (old new : List (List Bool)) → ((r k : ℕ) → r < NOW → bit new r k ≡ bit old r k) → shown (record { types = types; rows = new }) ≡ shown (record { types = types; rows = old })
+pub still-shown : (types : List ℕ) (old new : IdRows) → ((r k : ℕ) → r < NOW → bit new r k ≡ bit old r k) → shown (record { types = types; rows = new.bits }) ≡ shown (record { types = types; rows = old.bits })
 still-shown types old new same =
     λ i. record {
       typ = λ p. get_or types p 0;
@@ -112,25 +112,24 @@ still-shown types old new same =
         ]
 
 -- rows that agree below the sets have the same ids in the row of each type
-pub still-laid : (types : List ℕ) (old new : List (List Bool)) → IsLaid types old → HasShape new ROWS MAX_PARTITIONS → ((r k : ℕ) → r < NOW → bit new r k ≡ bit old r k) → IsLaid types new
-still-laid types old new laid shape same =
+pub still-laid : (types : List ℕ) (old new : IdRows) → IsLaid types old → ((r k : ℕ) → r < NOW → bit new r k ≡ bit old r k) → IsLaid types new
+still-laid types old new laid same =
     record {
       size = laid.size;
-      shape = shape;
       members = λ x q low high. same (MEMBERS + x) q (omega arith) ∙ laid.members x q low high;
     }
 
 -- one type further the set in hand is the next one, and the word goes on from it
-pub follow_more : (g : Graph) (whole types : List ℕ) (old new : List (List Bool)) (from to : Option ℕ) (x : ℕ) (rest : List ℕ) → 0 < x → x < TYPES
-    → HasShape new ROWS MAX_PARTITIONS → ((r k : ℕ) → r < NOW → bit new r k ≡ bit old r k) → IfSome to (λ p. p < MAX_PARTITIONS)
+pub follow_more : (g : Graph) (whole types : List ℕ) (old new : IdRows) (from to : Option ℕ) (x : ℕ) (rest : List ℕ) → 0 < x → x < TYPES
+    → ((r k : ℕ) → r < NOW → bit new r k ≡ bit old r k) → IfSome to (λ p. p < MAX_PARTITIONS)
     → ((q : ℕ) → (in_hand new to q ≡ true) ↔ IsEnteredFrom (in_hand old from) old x q)
     → IsFollowed g whole types old from (x ∷ rest) → IsFollowed g whole types new to rest
-follow_more g whole types old new from to x rest low high shape same within set f =
+follow_more g whole types old new from to x rest low high same within set f =
     let next : IsNextSet g (in_hand old from) x (in_hand new to) = λ q.
     let e = entered-is g types old from x q f.laid f.shows f.within low high in
     (λ b. e.0 ((set q).0 b), λ o. (set q).1 (e.1 o)) in
     record {
-      laid = still-laid types old new f.laid shape same;
+      laid = still-laid types old new f.laid same;
       shows = still-shown types old new same ∙ f.shows;
       within = within;
       tells = (
@@ -140,7 +139,7 @@ follow_more g whole types old new from to x rest low high shape same within set 
     }
 
 -- before the first type the set in hand is INITIAL alone
-pub follow_first : (g : Graph) (whole types : List ℕ) (rows : List (List Bool)) → IsLaid types rows → shown (record { types = types; rows = rows }) ≡ g → g.typ INITIAL ≡ INITIAL
+pub follow_first : (g : Graph) (whole types : List ℕ) (rows : IdRows) → IsLaid types rows → shown (record { types = types; rows = rows.bits }) ≡ g → g.typ INITIAL ≡ INITIAL
     → IsFollowed g whole types rows (Some INITIAL) (whole ++ TERMINAL ∷ [])
 follow_first g whole types rows laid shows ty =
     record {

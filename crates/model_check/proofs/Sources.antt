@@ -1,5 +1,5 @@
 -- Sources of sets of states.
-use Rattle.std.proofs.Common.{◌≡◌, ℕ, ◌+◌, ◌<◌, ◌≤◌, ◌==◌, ◌||◌, true, false, sym, ◌∙◌, ap, inl, inr, arith, eq-eqb, ne_eqb}
+use Rattle.std.proofs.Common.{◌≡◌, ℕ, zero, suc, ◌+◌, ◌<◌, ◌≤◌, ◌==◌, ◌||◌, true, false, refl, sym, ◌∙◌, ap, inl, inr, arith, eq-eqb, ne_eqb}
 use Rattle.std.proofs.lemmas.Bool.{cases_eq}
 use Rattle.std.proofs.Math.Bool.{or-false, or-true}
 use Rattle.invariants.specs.declared.Invariant.{Invariant}
@@ -10,6 +10,20 @@ use Rattle.models.specs.Models.{has_state}
 pub record IsSourceBelow (inv : Invariant) (typ set bound source : ℕ) : Type 0 where
   pub below : (s : ℕ) → s < bound → has_state source s ≡ has_state set (step inv s typ)
   pub behind : (s : ℕ) → bound ≤ s → has_state source s ≡ false
+
+-- before any state the source has none
+pub source_none : (inv : Invariant) (typ set : ℕ) → IsSourceBelow inv typ set 0 0
+source_none inv typ set =
+    record {
+      below = λ s l. absurd (let low : s < 0 = l in omega arith);
+      behind = λ s l. nothing s;
+    }
+  where
+    nothing : (s : ℕ) → has_state 0 s ≡ false
+    nothing zero = refl
+    nothing (suc zero) = refl
+    nothing (suc (suc zero)) = refl
+    nothing (suc (suc (suc s))) = refl
 
 -- a state that leads into the set is taken into the source
 pub source_more : (inv : Invariant) (typ set bound old new : ℕ) → has_state set (step inv bound typ) ≡ true

@@ -55,6 +55,11 @@ table_none listed rest table p z u =
       | inr f ↦ rw f (z ∙ sym (u f))
     ]
 
+-- an edge that is marked is one less to come
+pub edge_more : (l old new rest W : Bool) → new ≡ (old || l) → (old || (l || rest)) ≡ W → (new || rest) ≡ W
+edge_more l true new rest W e h = rw e h
+edge_more l false new rest W e h = rw e h
+
 -- a partition that is marked is one less to come
 pub mark_more : (l m : Bool) (old mid new rest : Bool) (W : Bool) → mid ≡ (old || l) → new ≡ (mid || m) → (old || (l || m || rest)) ≡ W → (new || rest) ≡ W
 mark_more l m old mid new rest W e f h = rw (f, e) (again l m old rest ∙ h)

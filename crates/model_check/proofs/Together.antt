@@ -1,9 +1,8 @@
 -- Columns: what is put into them, and what edges between them tell of labels.
-use Rattle.std.proofs.Common.{◌≡◌, ◌≢◌, ℕ, ◌+◌, ◌-◌, ◌<◌, ◌≤◌, ◌==◌, ◌&&◌, if◌then◌else◌, true, List, length, get_or, replicate, slice_get, Some, refl, sym, ◌∙◌, ap, subst, subst₂, inl, inr, arith, eq-eqb, ne_eqb}
+use Rattle.std.proofs.Common.{◌≡◌, ◌≢◌, ℕ, ◌+◌, ◌-◌, ◌<◌, ◌≤◌, ◌==◌, ◌&&◌, if◌then◌else◌, true, List, length, get_or, slice_get, Some, refl, sym, ◌∙◌, ap, subst, subst₂, inl, inr, arith, eq-eqb, ne_eqb}
 use Rattle.std.specs.List.{All}
 use Rattle.std.proofs.lemmas.Bool.{cases_eq, cases_lt}
 use Rattle.std.proofs.lemmas.Option.{slice_get_within, get_or_from_slice_get}
-use Rattle.std.proofs.lemmas.List.{get_or-replicate, length-replicate}
 use Rattle.std.proofs.lemmas.List.Elements.{recursion_from_All}
 use Rattle.limits.specs.declared.TheConstants.{INITIAL, TERMINAL}
 use Rattle.invariants.specs.declared.Invariant.{Invariant}
@@ -14,7 +13,7 @@ use Rattle.invariants.specs.declared.records.Model.{Model}
 use Rattle.invariants.specs.Monitors.{step}
 use Rattle.partition_model.specs.Graphs.{Graph}
 use Rattle.partition_model.proofs.Lists.{In, all_in}
-use Rattle.model_shape.specs.Shapes.{is_listed, listed_type, IsLabel, IsShapedEdge, IsWellShaped}
+use Rattle.model_shape.specs.Shapes.{is_listed, listed_type, IsShapedEdge, IsWellShaped}
 use Rattle.models.specs.Models.{graph_of, has_state, label_at, IsLabelled}
 use Rattle.models.proofs.Agreeing.{edge-in}
 use Rattle.models.proofs.Valid.{three-states}
@@ -23,25 +22,19 @@ use Rattle.model_check.specs.Columns.{at, AreLabelledBefore, AreWithin, IsInColu
 use Rattle.model_check.specs.declared.columns.TheConstants.{TOGETHER}
 use Rattle.model_check.proofs.Opening.{place-of}
 
--- zeros are empty sets
-pub empty-sets : (n : ℕ) (sets : List ℕ) → sets ≡ replicate n 0 → All IsLabel sets
-empty-sets n sets e k d l =
-    let within : k < n = omega (arith, l, ap length e, length-replicate {A = ℕ} n 0) in
-    let zero : get_or sets k d ≡ 0 = ap (λ xs. get_or xs k d) e ∙ get_or-replicate n k 0 d within in
-    omega arith
-
 -- a partition that is in a column stays there while another is put with what belongs to its id
-pub filled-more : (inv : Invariant) (g : Graph) (given old-labels old-sources labels sources : List ℕ) (k id source : ℕ) (x : Partition) → k < TOGETHER
-    → ((c q : ℕ) → c < TOGETHER → at labels c q ≡ (if c == k && q == id then get_or given id 0 else at old-labels c q))
+pub filled-more : (inv : Invariant) (g : Graph) (given old-labels old-sources labels sources : List ℕ) (k id label source : ℕ) (x : Partition) → k < TOGETHER
+    → ((c q : ℕ) → c < TOGETHER → at labels c q ≡ (if c == k && q == id then label else at old-labels c q))
     → ((c q : ℕ) → c < TOGETHER → at sources c q ≡ (if c == k && q == id then source else at old-sources c q))
-    → IsSource inv (g.typ id) (get_or given id 0) source
+    → label ≡ get_or given id 0 → IsSource inv (g.typ id) label source
     → (x.id ≢ id → IsInColumn inv g given old-labels old-sources k x) → IsInColumn inv g given labels sources k x
-filled-more inv g given old-labels old-sources labels sources k id source x l put put-sources right before =
+filled-more inv g given old-labels old-sources labels sources k id label source x l put put-sources is right before =
     elim (cases_eq x.id id) [
       | inl e ↦ (
-        put k x.id l ∙ rw (eq-eqb k k refl, eq-eqb x.id id e) (ap (λ q. get_or given q 0) (sym e)),
+        put k x.id l ∙ rw (eq-eqb k k refl, eq-eqb x.id id e) (is ∙ ap (λ q. get_or given q 0) (sym e)),
         (let there : at sources k x.id ≡ source = put-sources k x.id l ∙ rw (eq-eqb k k refl, eq-eqb x.id id e) refl in
-            let here : IsSource inv (g.typ x.id) (get_or given x.id 0) source = subst (λ q. IsSource inv (g.typ q) (get_or given q 0) source) (sym e) right in
+            let from : IsSource inv (g.typ id) (get_or given id 0) source = subst (λ (n : ℕ). IsSource inv (g.typ id) n source) is right in
+            let here : IsSource inv (g.typ x.id) (get_or given x.id 0) source = subst (λ q. IsSource inv (g.typ q) (get_or given q 0) source) (sym e) from in
             subst (λ (n : ℕ). IsSource inv (g.typ x.id) (get_or given x.id 0) n) (sym there) here),
       )
       | inr n ↦

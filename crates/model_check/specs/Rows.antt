@@ -1,16 +1,28 @@
 -- The rows of ids, and the graph that lies in them.
-use Rattle.std.specs.Prelude.{ℕ, ◌≡◌, ◌+◌, ◌<◌, ◌==◌, ◌&&◌, ◌||◌, nat_lt, Bool, true, false, List, [], ◌∷◌, length, slice_index}
+use Rattle.std.specs.Prelude.{ℕ, ◌≡◌, ◌+◌, ◌<◌, ◌≤◌, ◌==◌, ◌&&◌, ◌||◌, nat_lt, Bool, true, false, List, [], ◌∷◌, length, slice_index}
 use Rattle.limits.specs.declared.TheConstants.{INITIAL, MAX_PARTITIONS}
 use Rattle.invariants.specs.declared.records.Partition.{Partition}
 use Rattle.invariants.specs.declared.records.Edge.{Edge}
-use Rattle.bit_rows.specs.Tables.{row_at, is_set, HasShape}
+use Rattle.bit_rows.specs.Tables.{row_at, is_set}
 use Rattle.partition_model.specs.Graphs.{Graph}
 use Rattle.model_shape.specs.Shapes.{is_listed}
-use Rattle.model_check.specs.declared.sets.TheConstants.{MEMBERS, LISTED, NOW, ROWS, TYPES}
+use Rattle.model_check.specs.declared.rows.IdRows.{IdRows}
+use Rattle.model_check.specs.declared.sets.TheConstants.{MEMBERS, LISTED, NOW, TYPES}
+
+-- the truth value at place k of row r
+abbrev pub cell : List (List Bool) → ℕ → ℕ → Bool
+cell rows r k = is_set (row_at rows r) k
 
 -- whether the id k is in row r
-abbrev pub bit : List (List Bool) → ℕ → ℕ → Bool
-bit rows r k = is_set (row_at rows r) k
+abbrev pub bit : IdRows → ℕ → ℕ → Bool
+bit rows r k = cell rows.bits r k
+
+-- an id of the row that is not below a number, and no id between is in the row
+pub record IsNextIn (rows : IdRows) (r from p : ℕ) : Type 0 where
+  pub behind : from ≤ p
+  pub within : p < MAX_PARTITIONS
+  pub set : bit rows r p ≡ true
+  pub first : (k : ℕ) → from ≤ k → k < p → bit rows r k ≡ false
 
 -- a partition that has a place in the rows
 abbrev pub IsMarkable : Partition → Type 0
@@ -32,7 +44,7 @@ marked r k (x ∷ xs) =
     (LISTED == r && x.id == k) || (MEMBERS + x.typ == r && x.id == k) || marked r k xs
 
 -- the ids of the type to which edges lead from the set in hand
-abbrev pub IsEntered : List (List Bool) → ℕ → ℕ → Type 0
+abbrev pub IsEntered : IdRows → ℕ → ℕ → Type 0
 IsEntered rows typ q =
     (p : ℕ) × (bit rows NOW p ≡ true) × (bit rows p q ≡ true) × (bit rows (MEMBERS + typ) q ≡ true)
 
@@ -46,12 +58,11 @@ abbrev pub shown : Tables → Graph
 shown t =
     record {
       typ = λ p. slice_index t.types p;
-      edge = λ p q. nat_lt p MAX_PARTITIONS && bit t.rows p q;
-      listed = λ p. bit t.rows LISTED p;
+      edge = λ p q. nat_lt p MAX_PARTITIONS && cell t.rows p q;
+      listed = λ p. cell t.rows LISTED p;
     }
 
--- each id has a type, each row its ids, and the row of a type the ids of this type
-pub record IsLaid (types : List ℕ) (rows : List (List Bool)) : Type 0 where
+-- each id has a type, and the row of a type the ids of this type
+pub record IsLaid (types : List ℕ) (rows : IdRows) : Type 0 where
   pub size : length types ≡ MAX_PARTITIONS
-  pub shape : HasShape rows ROWS MAX_PARTITIONS
   pub members : (x q : ℕ) → INITIAL < x → x < TYPES → bit rows (MEMBERS + x) q ≡ (slice_index types q == x)

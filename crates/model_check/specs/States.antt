@@ -5,7 +5,6 @@ use Rattle.invariants.specs.declared.records.Edge.{Edge}
 use Rattle.limits.specs.declared.TheConstants.{INITIAL, TERMINAL}
 use Rattle.invariants.specs.Monitors.{step, is_bad}
 use Rattle.partition_model.specs.Graphs.{Graph}
-use Rattle.model_shape.specs.Shapes.{IsLabel}
 use Rattle.models.specs.Models.{has_state}
 use Rattle.model_check.specs.declared.states.TheConstants.{SETS, STATES}
 
@@ -16,8 +15,7 @@ IsSource inv typ set source = (s : ℕ) → s < STATES → has_state source s �
 -- one for each set
 pub record AreSources (inv : Invariant) (typ : ℕ) (sources : List ℕ) : Type 0 where
   pub count : length sources ≡ SETS
-  pub labels : (set : ℕ) → IsLabel set → IsLabel (slice_index sources set)
-  pub each : (set : ℕ) → IsLabel set → IsSource inv typ set (slice_index sources set)
+  pub each : (set : ℕ) → set < SETS → IsSource inv typ set (slice_index sources set)
 
 -- the type leads each state of the first set to one of the second
 abbrev pub StaysWithin : Invariant → ℕ → ℕ → ℕ → Type 0

@@ -1,16 +1,17 @@
 //! Labels in columns, one for each of many invariants, so that an edge is tested for all of them at once.
 ghost use Rattle.std.specs.Prelude.{◌≡◌, ◌↔◌, ◌<◌, ◌≤◌, ◌*◌, ◌==◌, ◌&&◌, ℕ, length, if◌then◌else◌, IfOk, IsTrue, All};
 ghost use Rattle.limits.specs.declared.TheConstants.{MAX_PARTITIONS};
-ghost use Rattle.model_shape.specs.Shapes.{IsLabel, IsShapedListed, IsWellShaped};
+ghost use Rattle.model_shape.specs.Shapes.{IsShapedListed, IsWellShaped};
 ghost use Rattle.models.specs.Models.{graph_of};
 ghost use Rattle.model_check.specs.declared.columns.TheConstants.{TOGETHER};
 ghost use Rattle.model_check.specs.Rows.{shown, IsEdgeWithin, IsMarkable};
 ghost use Rattle.model_check.specs.Columns.{at, AreColumnsOf, AreLabelledBefore, AreWithin, IsColumnOf, IsInColumn, SameOthers};
 
 use crate::graph::ModelGraph;
-use crate::labels::{has_right_ends, lay_labels};
+use crate::label_table::LabelTable;
+use crate::labels::has_right_ends;
 use crate::sets::IDS;
-use crate::states::{Sources, is_within};
+use crate::states::{Sources, StateSet};
 use invariants::{Edge, Invariant, Listed, Model, Partition};
 use std::alloc::{AllocError, Global};
 
@@ -20,29 +21,25 @@ pub(crate) const TOGETHER: usize = 32;
 /// In each column the label of each id, and the states from which the type of the id leads into this label.
 #[derive(Drop)]
 pub struct Columns {
-    labels: Vec<u8>,
-    sources: Vec<u8>,
+    labels: Vec<StateSet>,
+    sources: Vec<StateSet>,
     ghost labels_size: { length labels.items ≡ MAX_PARTITIONS * TOGETHER },
     ghost sources_size: { length sources.items ≡ MAX_PARTITIONS * TOGETHER },
-    ghost are_labels: { All IsLabel labels.items },
-    ghost are_sources: { All IsLabel sources.items },
 }
 
 impl Columns {
     /// Columns of empty sets.
     pub fn make(alloc: Global) -> Result<Columns, AllocError> {
         Ok(Columns {
-            labels: vec![in alloc; 0; IDS * TOGETHER]?,
-            sources: vec![in alloc; 0; IDS * TOGETHER]?,
+            labels: vec![in alloc; StateSet::none(); IDS * TOGETHER]?,
+            sources: vec![in alloc; StateSet::none(); IDS * TOGETHER]?,
         })
     }
 
     /// Puts both sets of an id into a column.
-    pub fn put(&mut self, k: usize, p: usize, label: u8, source: u8)
+    pub fn put(&mut self, k: usize, p: usize, label: StateSet, source: StateSet)
         requires column { k < TOGETHER }
         requires id { p < MAX_PARTITIONS }
-        requires label { IsLabel label }
-        requires source { IsLabel source }
 
         // Both sets of the id are in the column, and all else stays.
         ensures labels { (c q : ℕ) → c < TOGETHER → at (self.new).labels.items c q
@@ -63,11 +60,7 @@ impl Columns {
     {
         let mut all = true;
         for k in 0..TOGETHER {
-            all = all
-                & is_within(
-                    self.labels[from * TOGETHER + k],
-                    self.sources[to * TOGETHER + k],
-                );
+            all = all & self.labels[from * TOGETHER + k].is_within(self.sources[to * TOGETHER + k]);
         }
         all
     }
@@ -80,12 +73,10 @@ fn fill_column(
     inv: Invariant,
     graph: &ModelGraph,
     partitions: &[Partition],
-    labels: &[u8],
+    labels: &LabelTable,
 )
     requires column { k < TOGETHER }
     requires markable { All IsMarkable partitions.now }
-    requires size { length labels.now ≡ MAX_PARTITIONS }
-    requires labels { All IsLabel labels.now }
 
     // The column has what belongs to the partitions, and all others stay.
     ensures column { All (IsInColumn inv (shown graph.now) labels.now (columns.new).labels.items
@@ -95,7 +86,7 @@ fn fill_column(
 {
     let sources = Sources::of(inv);
     for partition in partitions {
-        let label = labels[partition.id as usize];
+        let label = labels.get(partition.id);
         let source = sources.leading_into(label, graph.type_of(partition.id));
         columns.put(k, partition.id as usize, label, source);
     }
@@ -109,14 +100,13 @@ fn lay_column(
     model: &Model,
     graph: &ModelGraph,
     listed: &Listed,
-    labels: &mut [u8],
+    labels: &mut LabelTable,
 ) -> bool
     requires column { k < TOGETHER }
     requires shaped { IsWellShaped model.now }
     requires graph { shown graph.now ≡ graph_of model.now }
     requires listed { IsShapedListed (length (model.now).types) (length (model.now).partitions)
         listed.now }
-    requires size { length labels.old ≡ MAX_PARTITIONS }
 
     // Where both ends are right, the column is that of the invariant, and all others stay.
     ensures column { IsTrue result → IsColumnOf model.now listed.now (columns.new).labels.items
@@ -124,11 +114,7 @@ fn lay_column(
     ensures other_labels { SameOthers (columns.old).labels.items (columns.new).labels.items k }
     ensures other_sources { SameOthers (columns.old).sources.items (columns.new).sources.items k }
 {
-    lay_labels(
-        labels,
-        model.partitions.as_slice(),
-        listed.labels.as_slice(),
-    );
+    labels.lay(model, listed);
     fill_column(
         columns,
         k,
@@ -147,12 +133,11 @@ fn lay_columns(
     model: &Model,
     graph: &ModelGraph,
     from: usize,
-    labels: &mut [u8],
+    labels: &mut LabelTable,
 ) -> bool
     requires shaped { IsWellShaped model.now }
     requires graph { shown graph.now ≡ graph_of model.now }
     requires from { from ≤ length (model.now).invariants }
-    requires size { length labels.old ≡ MAX_PARTITIONS }
 
     // What the columns are where all ends are right.
     ensures { IsTrue result
@@ -192,11 +177,10 @@ pub fn count_labelled(
     columns: &mut Columns,
     model: &Model,
     graph: &ModelGraph,
-    labels: &mut [u8],
+    labels: &mut LabelTable,
 ) -> usize
     requires shaped { IsWellShaped model.now }
     requires graph { shown graph.now ≡ graph_of model.now }
-    requires size { length labels.old ≡ MAX_PARTITIONS }
     ensures within { result ≤ length (model.now).invariants }
     ensures labelled { AreLabelledBefore model.now result }
 {

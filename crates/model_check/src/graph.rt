@@ -8,9 +8,9 @@ ghost use Rattle.partition_model.specs.Graphs.{Accepts, merged_edge};
 ghost use Rattle.traces.specs.Kept.{IsTypeNumber};
 ghost use Rattle.model_check.specs.Rows.{shown, IsMarkable, AreApart};
 
-use crate::sets::{IDS, ROWS, mark_edges, mark_partitions};
+use crate::rows::IdRows;
+use crate::sets::{IDS, mark_edges, mark_partitions};
 use crate::steps::{Targets, is_in_hand, step};
-use bit_rows::Rows;
 use invariants::Partition;
 use limits::{INITIAL, MAX_PARTITIONS, TERMINAL};
 use std::alloc::{AllocError, Global};
@@ -48,7 +48,7 @@ pub struct ModelGraph {
     /// The type of each id.
     types: Vec<u16>,
     /// Where edges lead, the ids of each type, and the sets of ids in hand.
-    rows: Rows,
+    rows: IdRows,
     /// To which id each type leads from each id.
     targets: Targets,
 }
@@ -59,7 +59,7 @@ impl Model for ModelGraph {
 
     ghost Value = { Tables };
 
-    ghost view = { λ g. record { types = g.types.items; rows = g.rows } };
+    ghost view = { λ g. record { types = g.types.items; rows = g.rows.bits } };
 
     ghost invariant = { λ g. IsLaid g.types.items g.rows × AreTargets g.rows g.targets.ids.items };
 }
@@ -71,7 +71,7 @@ impl ModelGraph {
         ensures { IfOk result (λ graph. shown graph ≡ graph_of model.now) }
     {
         let types = types_of(alloc, model.partitions.as_slice())?;
-        let mut rows = Rows::make(alloc, ROWS, IDS)?;
+        let mut rows = IdRows::make(alloc)?;
         mark_partitions(&mut rows, model.partitions.as_slice());
         mark_edges(&mut rows, model.edges.as_slice());
         let targets = Targets::make(alloc, id_count(model.partitions.as_slice()))?;
@@ -86,7 +86,7 @@ impl ModelGraph {
     pub fn has_edge(&self, p: u32, q: u32) -> bool
         ensures { result ≡ (shown self.now).edge p q }
     {
-        p < MAX_PARTITIONS && q < MAX_PARTITIONS && self.rows.get(p as usize, q as usize)
+        p < MAX_PARTITIONS && self.rows.has(p as usize, q as usize)
     }
 
     /// Whether there is an edge from u to v where q is replaced by p.

@@ -1,4 +1,4 @@
-//! Sets of the three states of a monitor, as numbers from 0 to 7, and what becomes of them along edges.
+//! Sets of the three states of a monitor, and what becomes of them along edges.
 ghost use Rattle.std.specs.Prelude.{◌≡◌, ◌↔◌, ◌<◌, ◌==◌, ◌||◌, ℕ, true, IsTrue};
 ghost use Rattle.invariants.specs.Monitors.{step};
 ghost use Rattle.models.specs.Models.{has_state};
@@ -6,6 +6,7 @@ ghost use Rattle.model_shape.specs.Shapes.{IsLabel};
 ghost use Rattle.model_check.specs.States.{IsSource, AreSources};
 
 use invariants::{Invariant, Monitor};
+use std::marker::Model;
 
 /// How many states a monitor has.
 pub(crate) const STATES: u8 = 3;
@@ -13,72 +14,95 @@ pub(crate) const STATES: u8 = 3;
 /// How many sets of states there are.
 const SETS: usize = 8;
 
-/// Whether the state, one of 0 to 2, is in the set.
-pub fn has_state(set: u8, state: u8) -> bool
-    requires { state < STATES }
-    ensures { result ≡ has_state set state }
-{
-    match state {
-        0 => set % 2 == 1,
-        1 => set / 2 % 2 == 1,
-        _ => set / 4 % 2 == 1,
+/// A set of states. Contracts see it as a label: a number from 0 to 7.
+#[derive(Clone, Copy)]
+pub struct StateSet(u8);
+
+impl Model for StateSet {
+    ghost Value = { ℕ };
+
+    ghost view = { λ set. set.0 };
+
+    ghost invariant = { λ set. IsLabel set.0 };
+
+    ghost inverse = { λ number. record { 0 = number } };
+}
+
+impl StateSet {
+    /// No state.
+    pub fn none() -> StateSet
+        ensures { result ≡ 0 }
+    {
+        StateSet(0)
     }
-}
 
-/// The set of one state, which is one of 0 to 2.
-fn alone(state: u8) -> u8
-    requires { state < STATES }
-    ensures set { IsLabel result }
-    ensures states { (s : ℕ) → has_state result s ≡ (state == s) }
-{
-    match state {
-        0 => 1,
-        1 => 2,
-        _ => 4,
+    /// The states that a label says.
+    pub fn of(label: u8) -> StateSet
+        requires { IsLabel label }
+        ensures { result ≡ label }
+    {
+        StateSet(label)
     }
-}
 
-/// The states of both sets.
-fn either(set: u8, other: u8) -> u8
-    requires set { IsLabel set }
-    requires other { IsLabel other }
-    ensures set { IsLabel result }
-    ensures states { (s : ℕ) → has_state result s ≡ (has_state set s || has_state other s) }
-{
-    set | other
-}
+    /// One state, which is one of 0 to 2.
+    fn alone(state: u8) -> StateSet
+        requires { state < STATES }
+        ensures { (s : ℕ) → has_state result s ≡ (state == s) }
+    {
+        match state {
+            0 => StateSet(1),
+            1 => StateSet(2),
+            _ => StateSet(4),
+        }
+    }
 
-/// Whether each state of the set is one of the other.
-pub fn is_within(set: u8, other: u8) -> bool
-    requires set { IsLabel set }
-    requires other { IsLabel other }
-    ensures { IsTrue result ↔ ((s : ℕ) → has_state set s ≡ true → has_state other s ≡ true) }
-{
-    set & other == set
+    /// The states of both sets.
+    fn either(self, other: StateSet) -> StateSet
+        ensures { (s : ℕ) → has_state result s ≡ (has_state self s || has_state other s) }
+    {
+        StateSet(self.0 | other.0)
+    }
+
+    /// Whether the state, one of 0 to 2, is in the set.
+    pub fn has(self, state: u8) -> bool
+        requires { state < STATES }
+        ensures { result ≡ has_state self state }
+    {
+        match state {
+            0 => self.0 % 2 == 1,
+            1 => self.0 / 2 % 2 == 1,
+            _ => self.0 / 4 % 2 == 1,
+        }
+    }
+
+    /// Whether each state of the set is one of the other.
+    pub fn is_within(self, other: StateSet) -> bool
+        ensures { IsTrue result ↔ ((s : ℕ) → has_state self s ≡ true → has_state other s ≡ true) }
+    {
+        self.0 & other.0 == self.0
+    }
 }
 
 /// The states from which the type leads a monitor into the set.
-fn source(inv: Invariant, set: u8, typ: u16) -> u8
-    requires { IsLabel set }
-    ensures set { IsLabel result }
-    ensures states { IsSource inv typ set result }
+fn source(inv: Invariant, set: StateSet, typ: u16) -> StateSet
+    ensures { IsSource inv typ set result }
 {
-    let mut source = 0;
+    let mut source = StateSet::none();
     for state in 0..STATES {
-        if has_state(set, Monitor::step(inv, state, typ)) {
-            source = either(source, alone(state));
+        if set.has(Monitor::step(inv, state, typ)) {
+            source = source.either(StateSet::alone(state));
         }
     }
     source
 }
 
 /// The sources of all sets.
-fn source_of_each(inv: Invariant, typ: u16) -> [u8; SETS]
+fn source_of_each(inv: Invariant, typ: u16) -> [StateSet; SETS]
     ensures { AreSources inv typ result }
 {
-    let mut sources = [0; SETS];
+    let mut sources = [StateSet::none(); SETS];
     for set in 0..SETS {
-        sources[set] = source(inv, set as u8, typ);
+        sources[set] = source(inv, StateSet::of(set as u8), typ);
     }
     sources
 }
@@ -88,8 +112,8 @@ fn source_of_each(inv: Invariant, typ: u16) -> [u8; SETS]
 #[derive(Drop)]
 pub struct Sources {
     inv: Invariant,
-    by_a: [u8; SETS],
-    by_b: [u8; SETS],
+    by_a: [StateSet; SETS],
+    by_b: [StateSet; SETS],
     ghost first: { AreSources inv inv.a by_a },
     ghost second: { AreSources inv inv.b by_b },
 }
@@ -107,16 +131,14 @@ impl Sources {
     }
 
     /// The states from which the type leads into the set.
-    pub fn leading_into(&self, set: u8, typ: u16) -> u8
-        requires { IsLabel set }
-        ensures set { IsLabel result }
-        ensures states { IsSource (self.now).inv typ set result }
+    pub fn leading_into(&self, set: StateSet, typ: u16) -> StateSet
+        ensures { IsSource (self.now).inv typ set result }
     {
         if typ == self.inv.a {
-            return self.by_a[set as usize];
+            return self.by_a[set.0 as usize];
         }
         if typ == self.inv.b {
-            return self.by_b[set as usize];
+            return self.by_b[set.0 as usize];
         }
         set
     }

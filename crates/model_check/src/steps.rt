@@ -2,12 +2,11 @@
 //! kept, so that the same step costs one look the next time.
 ghost use Rattle.std.specs.Prelude.{◌≡◌, ◌↔◌, ◌<◌, ◌≤◌, ◌==◌, ◌⊎◌, ℕ, true, IfOk, IfSome};
 ghost use Rattle.limits.specs.declared.TheConstants.{MAX_PARTITIONS};
-ghost use Rattle.bit_rows.specs.Tables.{HasShape};
 ghost use Rattle.model_check.specs.Rows.{bit};
 ghost use Rattle.model_check.specs.InHand.{known, in_hand, AreTargets, IsEnteredFrom};
 
-use crate::sets::{IDS, NOW, ROWS, TYPES, advance, only_one, take_up};
-use bit_rows::Rows;
+use crate::rows::IdRows;
+use crate::sets::{IDS, NOW, TYPES, advance, only_one, take_up};
 use std::alloc::{AllocError, Global};
 
 /// For each id and type the one id to which the type leads from it, where that is known, and else 0.
@@ -57,14 +56,12 @@ impl Targets {
 }
 
 /// The same as `step` from one id, where it is not known to what it leads.
-fn step_anew(rows: &mut Rows, targets: &mut Targets, p: usize, typ: usize) -> Option<usize>
-    requires shape { HasShape rows.old ROWS IDS }
+fn step_anew(rows: &mut IdRows, targets: &mut Targets, p: usize, typ: usize) -> Option<usize>
     requires id { p < IDS }
     requires typ { typ < TYPES }
     requires targets { AreTargets rows.old (targets.old).ids.items }
 
     // The graph in the rows stays, and what is kept of it is right.
-    ensures shape { HasShape rows.new ROWS IDS }
     ensures others { (r k : ℕ) → r < NOW → bit rows.new r k ≡ bit rows.old r k }
     ensures targets { AreTargets rows.new (targets.new).ids.items }
 
@@ -84,18 +81,16 @@ fn step_anew(rows: &mut Rows, targets: &mut Targets, p: usize, typ: usize) -> Op
 
 /// Exchanges the set in hand, which is of one id or else in its row, for the ids of the type to which edges lead from it.
 pub fn step(
-    rows: &mut Rows,
+    rows: &mut IdRows,
     targets: &mut Targets,
     hand: Option<usize>,
     typ: usize,
 ) -> Option<usize>
-    requires shape { HasShape rows.old ROWS IDS }
     requires within { IfSome hand (λ p. p < IDS) }
     requires typ { typ < TYPES }
     requires targets { AreTargets rows.old (targets.old).ids.items }
 
     // The graph in the rows stays, and what is kept of it is right.
-    ensures shape { HasShape rows.new ROWS IDS }
     ensures others { (r k : ℕ) → r < NOW → bit rows.new r k ≡ bit rows.old r k }
     ensures targets { AreTargets rows.new (targets.new).ids.items }
 
@@ -116,13 +111,11 @@ pub fn step(
 }
 
 /// Whether the id is in the set in hand.
-pub fn is_in_hand(rows: &Rows, hand: Option<usize>, q: usize) -> bool
-    requires shape { HasShape rows.now ROWS IDS }
-    requires id { q < IDS }
+pub fn is_in_hand(rows: &IdRows, hand: Option<usize>, q: usize) -> bool
     ensures { result ≡ in_hand rows.now hand q }
 {
     match hand {
         Some(p) => q == p,
-        None => rows.get(NOW, q),
+        None => rows.has(NOW, q),
     }
 }

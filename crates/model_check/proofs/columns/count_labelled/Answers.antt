@@ -23,7 +23,6 @@ loop-count-preserved c =
     let few : c.min-count.result ≤ length m.invariants = omega (arith, c.min-count.ensures, ap length c.as_slice-in-loop-count-2.ensures) in
     let next : c.min-count.result ≤ c.loop-count.count + TOGETHER = omega (arith, c.min-count.ensures) in
     record {
-      size = omega (arith, c.lay_columns.auto.labels, c.loop-count.invariant.size);
       within = few;
       labelled =
           group-labelled m labels sources c.loop-count.count c.min-count.result c.requires.shaped next (c.if-not-lay_columns.ensures refl)

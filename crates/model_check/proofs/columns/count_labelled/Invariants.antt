@@ -1,12 +1,10 @@
-use Rattle.std.proofs.Common.{◌≡◌, ◌≤◌, ◌-◌, length}
-use Rattle.limits.specs.declared.TheConstants.{MAX_PARTITIONS}
+use Rattle.std.proofs.Common.{◌≤◌, ◌-◌, length}
 use Rattle.model_check.specs.Columns.{AreLabelledBefore}
 use Rattle.model_check.proofs.columns.count_labelled.Given as goal
 
 abbrev pub invariant-loop-count : goal.invariant-loop-count
 invariant-loop-count l =
     record {
-      size : length l.labels ≡ MAX_PARTITIONS;
       within : l.count ≤ length l.model.invariants;
       labelled : AreLabelledBefore l.model l.count;
     }

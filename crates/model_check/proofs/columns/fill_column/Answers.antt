@@ -15,12 +15,13 @@ loop-partition-preserved c =
     let xs : List Partition = c.args.partitions.now in
     let i : ℕ = c.loop-partition.partition-index in
     let x : Partition = get_or xs i (record { id = 0; typ = 0; count = 0 }) in
-    let right : IsSource c.args.inv ((shown c.args.graph.now).typ x.id) (get_or c.args.labels.now x.id 0) c.leading_into-source.result = λ s u.
-    c.leading_into-source.ensures.states s u ∙ ap₂ (λ (v : Invariant) (t : ℕ). has_state (get_or c.args.labels.now x.id 0) (step v s t)) c.of-sources.ensures c.type_of.ensures in
+    let label : ℕ = c.get-label.result in
+    let right : IsSource c.args.inv ((shown c.args.graph.now).typ x.id) label c.leading_into-source.result = λ s u.
+    c.leading_into-source.ensures s u ∙ ap₂ (λ (v : Invariant) (t : ℕ). has_state label (step v s t)) c.of-sources.ensures c.type_of.ensures in
     record {
       filled = λ j d l.
           filled-more c.args.inv (shown c.args.graph.now) c.args.labels.now c.loop-partition.columns.labels.items c.loop-partition.columns.sources.items c.put.new.self.labels.items c.put.new.self.sources.items c.args.k x.id
-          c.leading_into-source.result (get_or xs j d) c.requires.column c.put.ensures.labels c.put.ensures.sources right
+          label c.leading_into-source.result (get_or xs j d) c.requires.column c.put.ensures.labels c.put.ensures.sources c.get-label.ensures right
           (λ n. elim (cases_eq j i) [
             | inl e ↦ absurd (n (ap (λ (y : Partition). y.id) (ap (λ k. get_or xs k d) e ∙ get_or_default xs i d (record { id = 0; typ = 0; count = 0 }) c.loop-partition-test.true)))
             | inr f ↦ c.loop-partition.invariant.filled j d (omega (arith, l, f))

@@ -1,9 +1,7 @@
 use Rattle.std.proofs.Common.{◌≡◌, ◌<◌, List, Some, slice_get, length, get_or, sym, ◌∙◌, ap, subst, arith, true≢false}
 use Rattle.std.specs.List.{All}
 use Rattle.std.proofs.lemmas.Option.{slice_get_read}
-use Rattle.std.proofs.lemmas.List.{with_items_is}
 use Rattle.std.proofs.lemmas.List.Elements.{All-from_recursion}
-use Rattle.limits.specs.declared.TheConstants.{MAX_PARTITIONS}
 use Rattle.invariants.specs.declared.records.Listed.{Listed}
 use Rattle.model_shape.specs.Shapes.{IsShapedListed}
 use Rattle.models.specs.Models.{IsLabelled}
@@ -23,15 +21,7 @@ there c =
     (read c)
 
 pub loop-i-init : goal.loop-i-init
-loop-i-init c =
-    record {
-      size =
-          let same : length c.deref_mut.result.now ≡ length c.in_ok-labels.labels.items = ap length c.deref_mut.ensures.value in
-          let size : length c.in_ok-labels.labels.items ≡ MAX_PARTITIONS = omega (arith, c.in_ok-labels.ensures.len) in
-          ap length (with_items_is c.in_ok-labels.labels c.count_labelled-count.new.labels (omega (arith, c.count_labelled-count.auto.labels, c.deref_mut.ensures.len)))
-          ∙ omega (arith, c.count_labelled-count.auto.labels, same, size);
-      held = c.count_labelled-count.ensures.labelled;
-    }
+loop-i-init c = c.count_labelled-count.ensures.labelled
 
 pub is_labelled-requires-clause-listed : goal.is_labelled-requires-clause-listed
 is_labelled-requires-clause-listed c =
@@ -44,20 +34,14 @@ pub returns-then-not-is_labelled : goal.returns-then-not-is_labelled
 returns-then-not-is_labelled c =
     let a : After-index-invariants-i = (goal.at.returns-then-not-is_labelled c).After-index-invariants-i in
     fails_first (IsLabelled c.args.model.now) c.args.model.now.invariants c.loop-i.i c.index-invariants-i.result (there a)
-    (λ i. true≢false (sym (c.is_labelled.ensures.1 i) ∙ c.if-not-is_labelled.true)) c.loop-i.invariant.held
+    (λ i. true≢false (sym (c.is_labelled.ensures.1 i) ∙ c.if-not-is_labelled.true)) c.loop-i.invariant
 
 pub loop-i-preserved : goal.loop-i-preserved
 loop-i-preserved c =
     let a : After-index-invariants-i = (goal.at.loop-i-preserved c).After-index-invariants-i in
-    record {
-      size =
-          let same : length c.deref_mut-in-loop-i.result.now ≡ length c.loop-i.labels.items = ap length c.deref_mut-in-loop-i.ensures.value in
-          let size : length c.loop-i.labels.items ≡ MAX_PARTITIONS = c.loop-i.invariant.size in
-          ap length (with_items_is c.loop-i.labels c.is_labelled.new.labels (omega (arith, c.is_labelled.auto.labels, c.deref_mut-in-loop-i.ensures.len))) ∙ omega (arith, c.is_labelled.auto.labels, same, size);
-      held = holds_more (IsLabelled c.args.model.now) c.args.model.now.invariants c.loop-i.i c.index-invariants-i.result (there a) (c.is_labelled.ensures.0 c.if-not-is_labelled.false) c.loop-i.invariant.held;
-    }
+    holds_more (IsLabelled c.args.model.now) c.args.model.now.invariants c.loop-i.i c.index-invariants-i.result (there a) (c.is_labelled.ensures.0 c.if-not-is_labelled.false) c.loop-i.invariant
 
 pub returns : goal.returns
 returns c =
     holds_all (IsLabelled c.args.model.now) c.args.model.now.invariants c.loop-i.i
-    (omega (arith, c.loop-i-test.false, ap length c.as_slice-invariants.ensures)) c.loop-i.invariant.held
+    (omega (arith, c.loop-i-test.false, ap length c.as_slice-invariants.ensures)) c.loop-i.invariant

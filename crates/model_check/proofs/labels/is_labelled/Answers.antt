@@ -1,32 +1,24 @@
-use Rattle.std.proofs.Common.{◌≡◌, ℕ, true≢false, List, sym, ◌∙◌, ap₂, subst, subst₂}
+use Rattle.std.proofs.Common.{◌≡◌, ℕ, true≢false, List, sym, ◌∙◌, subst, subst₂}
 use Rattle.std.proofs.lemmas.List.Elements.{All-from_recursion}
 use Rattle.std.specs.List.{All}
 use Rattle.invariants.specs.declared.Invariant.{Invariant}
 use Rattle.invariants.specs.declared.records.Edge.{Edge}
-use Rattle.invariants.specs.declared.records.Partition.{Partition}
-use Rattle.models.specs.Models.{label_at}
-use Rattle.model_check.specs.Rows.{shown, IsEdgeWithin, AreApart}
+use Rattle.model_check.specs.Rows.{shown, IsEdgeWithin}
 use Rattle.model_check.specs.States.{LeadsWithin}
-use Rattle.model_check.proofs.Building.{ascends-apart, edges-within}
-use Rattle.model_check.proofs.Inductive.{AreLabelsOf, labelled-ends, labelled-leads, labelled-from}
+use Rattle.model_check.proofs.Building.{edges-within}
+use Rattle.model_check.proofs.Inductive.{labelled-ends, labelled-leads, labelled-from}
 use Rattle.model_check.proofs.labels.is_labelled.Goals as goal
 use Rattle.model_check.proofs.labels.is_labelled.Goals.{After-has_right_ends}
 
-pub lay_labels-requires-clause-apart : goal.lay_labels-requires-clause-apart
-lay_labels-requires-clause-apart c = subst (λ (xs : List Partition). AreApart xs) (sym c.as_slice.ensures) (ascends-apart c.args.model.now.partitions c.requires.shaped.partitions.order)
-
-pub keep_along-requires-clause-within : goal.keep_along-requires-clause-within
-keep_along-requires-clause-within c =
-    subst (λ (xs : List Edge). All IsEdgeWithin xs) (sym c.as_slice-3.ensures) (All-from_recursion IsEdgeWithin c.args.model.now.edges (edges-within c.args.model.now c.requires.shaped))
-
-laid : (c : After-has_right_ends) → AreLabelsOf c.args.model.now c.args.listed.now c.lay_labels.new.labels
-laid c p = c.lay_labels.ensures.labels p ∙ ap₂ (λ (xs : List Partition) (ns : List ℕ). label_at p xs ns) c.as_slice.ensures c.as_slice-2.ensures
+pub keep_along-requires : goal.keep_along-requires
+keep_along-requires c =
+    subst (λ (xs : List Edge). All IsEdgeWithin xs) (sym c.as_slice.ensures) (All-from_recursion IsEdgeWithin c.args.model.now.edges (edges-within c.args.model.now c.requires.shaped))
 
 pub returns-then-not-has_right_ends : goal.returns-then-not-has_right_ends
 returns-then-not-has_right_ends c =
     let d : After-has_right_ends = (goal.at.returns-then-not-has_right_ends c).After-has_right_ends in (
       λ f. absurd (true≢false (sym f)),
-      λ i. absurd (true≢false (sym (c.has_right_ends.ensures.1 (labelled-ends c.args.model.now c.args.listed.now c.lay_labels.new.labels (shown c.args.graph.now) c.requires.graph (laid d) i)) ∙ c.if-not-has_right_ends.true)),
+      λ i. absurd (true≢false (sym (c.has_right_ends.ensures.1 (labelled-ends c.args.model.now c.args.listed.now c.lay.new.self (shown c.args.graph.now) c.requires.graph d.lay.ensures i)) ∙ c.if-not-has_right_ends.true)),
     )
 
 pub returns : goal.returns
@@ -35,11 +27,11 @@ returns c =
     let inv : c.of.result.inv ≡ c.args.listed.now.inv = c.of.ensures in
     let m = c.args.model.now in
     let g = shown c.args.graph.now in
-    let labels : List ℕ = c.lay_labels.new.labels in (
+    let labels : List ℕ = c.lay.new.self in (
       λ t.
-          labelled-from m c.args.listed.now labels g c.requires.graph (laid d) (c.has_right_ends.ensures.0 c.if-not-has_right_ends.false)
-          (subst₂ (λ (i : Invariant) (es : List Edge). All (LeadsWithin i g labels) es) inv c.as_slice-3.ensures (c.keep_along.ensures.0 t)),
+          labelled-from m c.args.listed.now labels g c.requires.graph d.lay.ensures (c.has_right_ends.ensures.0 c.if-not-has_right_ends.false)
+          (subst₂ (λ (i : Invariant) (es : List Edge). All (LeadsWithin i g labels) es) inv c.as_slice.ensures (c.keep_along.ensures.0 t)),
       λ i.
           c.keep_along.ensures.1
-          (subst₂ (λ (i : Invariant) (es : List Edge). All (LeadsWithin i g labels) es) (sym inv) (sym c.as_slice-3.ensures) (labelled-leads m c.args.listed.now labels g c.requires.graph (laid d) i)),
+          (subst₂ (λ (i : Invariant) (es : List Edge). All (LeadsWithin i g labels) es) (sym inv) (sym c.as_slice.ensures) (labelled-leads m c.args.listed.now labels g c.requires.graph d.lay.ensures i)),
     )

@@ -22,7 +22,7 @@ right c =
     (c.requires.targets c.in-Some.p c.args.typ (here c) c.requires.typ some)
 
 pub returns-then-target-ne0-clause-within : goal.returns-then-target-ne0-clause-within
-returns-then-target-ne0-clause-within c = target-within c.args.rows.now c.in-Some.p c.args.typ c.get-target.result c.requires.shape (here c) (right c)
+returns-then-target-ne0-clause-within c = target-within c.args.rows.now c.in-Some.p c.args.typ c.get-target.result (here c) (right c)
 
 pub returns-then-target-ne0-clause-set : goal.returns-then-target-ne0-clause-set
 returns-then-target-ne0-clause-set c = rw c.in-Some.is (one-target c.args.rows.now c.in-Some.p c.args.typ c.get-target.result (right c))

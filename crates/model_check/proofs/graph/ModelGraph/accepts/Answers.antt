@@ -27,7 +27,7 @@ loop-typ-preserved c =
     record {
       followed =
           follow_more g xs c.loop-typ.self-inside.types.items old c.step-hand.new.rows c.loop-typ.hand c.step-hand.result (get_or xs i 0) (drop (i + 1) xs ++ TERMINAL ∷ []) (omega arith) (omega arith)
-          c.step-hand.ensures.shape c.step-hand.ensures.others c.step-hand.ensures.within
+          c.step-hand.ensures.others c.step-hand.ensures.within
           (subst (λ x. (q : ℕ) → (in_hand c.step-hand.new.rows c.step-hand.result q ≡ true) ↔ IsEnteredFrom (in_hand old c.loop-typ.hand) old x q) c.from.ensures c.step-hand.ensures.set)
           (subst (λ rest. IsFollowed g xs c.loop-typ.self-inside.types.items old c.loop-typ.hand rest) step c.loop-typ.invariant.followed);
       targets = c.step-hand.ensures.targets;
@@ -42,7 +42,7 @@ returns-clause-accepts c =
     let rest : drop c.loop-typ.typ-index xs ++ TERMINAL ∷ [] ≡ TERMINAL ∷ [] = ap (λ ys. ys ++ TERMINAL ∷ []) (drop_all c.loop-typ.typ-index xs c.loop-typ-test.false) in
     let last : IsFollowed g xs c.loop-typ.self-inside.types.items new c.step-hand-2.result [] =
     follow_more g xs c.loop-typ.self-inside.types.items old new c.loop-typ.hand c.step-hand-2.result TERMINAL [] (omega arith) (omega arith)
-    c.step-hand-2.ensures.shape c.step-hand-2.ensures.others c.step-hand-2.ensures.within c.step-hand-2.ensures.set
+    c.step-hand-2.ensures.others c.step-hand-2.ensures.within c.step-hand-2.ensures.set
     (subst (λ ts. IsFollowed g xs c.loop-typ.self-inside.types.items old c.loop-typ.hand ts) rest c.loop-typ.invariant.followed) in
     let end = follow_end g (in_hand new c.step-hand-2.result) in
     (λ e. last.tells.1 (end.1 (sym c.is_in_hand.ensures ∙ e)), λ a. c.is_in_hand.ensures ∙ end.0 (last.tells.0 a))

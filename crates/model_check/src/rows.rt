@@ -1,0 +1,93 @@
+//! Rows of ids, all of one shape.
+ghost use Rattle.std.specs.Prelude.{◌≡◌, ◌≢◌, ◌<◌, ◌≤◌, ◌==◌, ◌&&◌, ◌||◌, ℕ, false, IfOk, MatchOption};
+ghost use Rattle.limits.specs.declared.TheConstants.{MAX_PARTITIONS};
+ghost use Rattle.bit_rows.specs.Tables.{HasShape};
+ghost use Rattle.model_check.specs.declared.sets.TheConstants.{ROWS};
+
+use crate::sets::{IDS, ROWS};
+use bit_rows::Rows;
+use std::alloc::{AllocError, Global};
+
+/// As many rows as a check takes, each with a bit for each id: whether the id is in the row.
+#[derive(Drop)]
+pub struct IdRows {
+    bits: Rows,
+    ghost shape: { HasShape bits ROWS MAX_PARTITIONS },
+}
+
+impl IdRows {
+    ghost use Rattle.model_check.specs.Rows.{bit, IsNextIn};
+
+    /// Rows without ids.
+    pub fn make(alloc: Global) -> Result<IdRows, AllocError>
+        ensures { IfOk result (λ rows. (r k : ℕ) → bit rows r k ≡ false) }
+    {
+        let bits = Rows::make(alloc, ROWS, IDS)?;
+        Ok(IdRows { bits })
+    }
+
+    /// Whether the id is in the row.
+    pub fn has(&self, r: usize, p: usize) -> bool
+        requires { r < ROWS }
+        ensures { result ≡ bit self.now r p }
+    {
+        if p >= IDS {
+            return false;
+        }
+        self.bits.get(r, p)
+    }
+
+    /// Puts the id into the row.
+    pub fn put(&mut self, r: usize, p: usize)
+        requires row { r < ROWS }
+        requires id { p < IDS }
+        ensures { (s k : ℕ) → bit self.new s k ≡ (bit self.old s k || (r == s && p == k)) }
+    {
+        self.bits.put(r, p, true);
+    }
+
+    /// Takes all ids out of the row. The other rows stay.
+    pub fn clear(&mut self, r: usize)
+        requires { r < ROWS }
+        ensures row { (k : ℕ) → bit self.new r k ≡ false }
+        ensures others { (s k : ℕ) → s ≢ r → bit self.new s k ≡ bit self.old s k }
+    {
+        self.bits.clear(r);
+    }
+
+    /// The least id of the row that is not below `from`; `None` where it has none.
+    pub fn next(&self, r: usize, from: usize) -> Option<usize>
+        requires { r < ROWS }
+        ensures { MatchOption result ((k : ℕ) → from ≤ k → bit self.now r k ≡ false)
+            (IsNextIn self.now r from) }
+    {
+        self.bits.next_set(r, from)
+    }
+
+    /// Puts the ids of row `from` into row `to`, which is another, in the place of its own. The other rows stay.
+    pub fn copy(&mut self, to: usize, from: usize)
+        requires to_row { to < ROWS }
+        requires from_row { from < ROWS }
+        requires apart { to ≢ from }
+        ensures row { (k : ℕ) → bit self.new to k ≡ bit self.old from k }
+        ensures others { (s k : ℕ) → s ≢ to → bit self.new s k ≡ bit self.old s k }
+    {
+        self.bits.copy_into(to, from);
+    }
+
+    /// Puts the ids that are both in row `a` and in row `b` into row `to` as well, which is neither. The other rows stay.
+    pub fn join(&mut self, to: usize, a: usize, b: usize)
+        requires to_row { to < ROWS }
+        requires a_row { a < ROWS }
+        requires b_row { b < ROWS }
+        requires a_apart { to ≢ a }
+        requires b_apart { to ≢ b }
+
+        // The row has the ids of both in addition, and the other rows stay.
+        ensures row { (k : ℕ) → bit self.new to k
+            ≡ (bit self.old to k || (bit self.old a k && bit self.old b k)) }
+        ensures others { (s k : ℕ) → s ≢ to → bit self.new s k ≡ bit self.old s k }
+    {
+        self.bits.or_and_into(to, a, b);
+    }
+}
