@@ -194,7 +194,13 @@ fn put_blocks(alloc: Global, text: &mut String, tools: &Tools) -> Result<(), All
 {
     let blocks = run_history::blocks(alloc, &tools.log, &tools.spans)?;
     for block in blocks.as_slice() {
-        put_block(text, block.p, block.q, block.inv as usize, block.path.as_slice())?;
+        put_block(
+            text,
+            block.p,
+            block.q,
+            block.inv as usize,
+            block.path.as_slice(),
+        )?;
     }
     Ok(())
 }
@@ -336,10 +342,7 @@ const LOGS: [[&str; 2]; 5] = [
     // One word alone has no two partitions of one type.
     ["1 a\n1 b\n2 a\n2 b\n", ""],
     // Two traces with a common type between types of their own, which are divided there.
-    [
-        "1 a\n1 c\n1 d\n2 b\n2 c\n2 e\n",
-        "3-7 3: 0 2 3 6 1, ",
-    ],
+    ["1 a\n1 c\n1 d\n2 b\n2 c\n2 e\n", "3-7 3: 0 2 3 6 1, "],
     // Two rows of two letters: those of the second, which are divided off one by one, are merged again.
     [
         "1 p\n1 a\n1 a\n1 q\n2 r\n2 a\n2 a\n2 s\n",

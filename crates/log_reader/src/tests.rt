@@ -39,7 +39,11 @@ fn inputs_of(
     requires { 1 ≤ piece }
 {
     let mut files = Vec::new(alloc);
-    for (name, text) in [("first.log", first), ("second.log", second), ("", "7 a\n7\n")] {
+    for (name, text) in [
+        ("first.log", first),
+        ("second.log", second),
+        ("", "7 a\n7\n"),
+    ] {
         let bytes = text.as_bytes().to_vec(alloc)?;
         files.push((name.to_string(alloc)?, bytes))?;
     }
@@ -106,7 +110,11 @@ fn assert_told(
     let (words, rest) = log.split_once(" | ").unwrap_or((log, ""));
     let (first, rest) = rest.split_once(" | ").unwrap_or((rest, ""));
     let (second, want) = rest.split_once(" | ").unwrap_or((rest, ""));
-    let form = if words.contains("-t") { Form::Rules(rules) } else { Form::Plain };
+    let form = if words.contains("-t") {
+        Form::Rules(rules)
+    } else {
+        Form::Plain
+    };
     let mut inputs = inputs_of(alloc, first, second, piece, 0)?;
     let answer = told(alloc, &mut inputs, form, words)?;
     assert_eq!(rt; answer.as_str(), want, "in pieces of {piece} at {log}");

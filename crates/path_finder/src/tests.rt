@@ -69,12 +69,18 @@ fn ask<L: Ledger>(
 {
     let mut steps = Steps::<L>::open(blank);
     let Some(pair) = merge else {
-        return ids_of(alloc, finder.least_violation(&View::Plain(graph), inv, &mut steps));
+        return ids_of(
+            alloc,
+            finder.least_violation(&View::Plain(graph), inv, &mut steps),
+        );
     };
     if !is_pair(graph, pair.p, pair.q) {
         return Ok(Vec::new(alloc));
     }
-    ids_of(alloc, finder.least_loss(graph, pair, inv, false, &mut steps))
+    ids_of(
+        alloc,
+        finder.least_loss(graph, pair, inv, false, &mut steps),
+    )
 }
 
 /// The least violation, or that after a merge where one is given. There are no ids where there is none.
@@ -346,7 +352,11 @@ fn compare_lengths(
     cases: &[(Kind, u16, u16, usize)],
 ) -> Result<(), Fail> {
     for (kind, a, b, wanted) in cases {
-        let inv = Invariant { kind: *kind, a: *a, b: *b };
+        let inv = Invariant {
+            kind: *kind,
+            a: *a,
+            b: *b,
+        };
         if find(alloc, finder, graph, None, inv)?.len() != *wanted {
             return Err(Fail::from(inv));
         }

@@ -191,10 +191,7 @@ const LOGS: [[&str; 2]; 9] = [
         "1 a\n1 b\n2 a\n2 b\n",
         "7 mined, 0 numbers, Ok(7)\nids: 2 3 2 3",
     ],
-    [
-        "1 a\n1 a\n1 a\n",
-        "1 mined, 0 numbers, Ok(1)\nids: 2 2 2",
-    ],
+    ["1 a\n1 a\n1 a\n", "1 mined, 0 numbers, Ok(1)\nids: 2 2 2"],
     [
         "1 a\n1 c\n1 d\n2 b\n2 c\n2 e\n",
         "28 mined, 5 numbers, Ok(29)\n3@2: 0 2 3 6 1\nids: 2 3 4 5 7 6",
@@ -282,7 +279,12 @@ fn rows_text(
 const ROWS: [(usize, usize, u32, &str); 3] = [
     (5, 0, 12, "27 mined, 35 numbers, Ok(32)"),
     (1017, 0, 1024, "27 mined, 521721 numbers, Ok(1044)"),
-    (1018, 1, 1024, "27 mined, 521721 numbers, Err(PartitionLimit)"),
+    (
+        1018,
+        1,
+        1024,
+        "27 mined, 521721 numbers, Err(PartitionLimit)",
+    ),
 ];
 
 #[test]
