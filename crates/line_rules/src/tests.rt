@@ -1,197 +1,304 @@
-use crate::{Decision, LineRules, ListedPatterns, Named, Patterns, RegexPatterns};
+use crate::{DecideError, Decision, LineRules, ListedPatterns, Named, RegexPatterns, RuleError};
 use std::alloc::{AllocError, Global};
-use std::process::Abort;
 use std::test::Fail;
 
-/// Files of rules, parted by semicolons. Behind a file stands what is told of it and of an empty
-/// line, or of it and of the line behind ` at `. Three copies of a text are spelled `~3~text~`.
-const FILES: &str = "event (?<TYPE>[a-z]+) | Ok(Undecided) \
-| Ok(Event { name: Part(2, 6), trace_from: 0, trace_to: 0, time: 0 }) at 7 open;\
-event (?P<TYPE>[a-z]+)\r\n | Ok(Undecided);\
-# types\n\n\r\nevent=log in\r\nseparator ^--$ | Ok(Undecided);\
-skip (?<TIME>b)\nevent=a b | Ok(Undecided);\
-skip x\nevent ( | Syntax(2);\
-event (\nx | Syntax(1);\
-event ^a | NoType(1);\
-event (?<TIME>b) | NoType(1);\
-event=a (?<TIME>b) | Ok(Undecided);\
-event=a (?<TIME>b)\nevent=c (?<TIME>d) | Ok(Undecided);\
-event=a (?<TIME>b)\n\nevent=c d | MixedTime(3);\
-event=a b\nevent=c (?<TIME>d) | MixedTime(2);\
-event=a b\nevent=c d\nevent (?<TIME>d)(?<TYPE>e) | MixedTime(3);\
-event=a b\nevent (?<TIME>d) | NoType(2);\
-skip (?<TIME>b)\nseparator (?<TIME>b)\nevent=a b | Ok(Undecided);\
-event=a (?<TIME>b)\nskip b\nseparator b | Ok(Undecided);\
-skip x | NoEvent;\
-\x20| NoEvent;\
-#\n\nEvent=a b | BadLine(3);\
-event=a b\nskip  | BadLine(2);\
-event= b | BadLine(1);\
-\x20skip b | BadLine(1);\
-event ^(?<TRACE>[0-9]+) (?<TYPE>.+)$ \
-| Ok(Event { name: Part(3, 10), trace_from: 0, trace_to: 2, time: 0 }) at 12 read it;\
-event (?<TYPE>x*)\nevent=other a b \
-| Ok(Event { name: Fixed(1), trace_from: 0, trace_to: 0, time: 0 }) at a b;\
-event=one x\nevent=two x \
-| Ok(Event { name: Fixed(0), trace_from: 0, trace_to: 0, time: 0 }) at x;\
-event=a (?<TRACE>b)?c \
-| Ok(Event { name: Fixed(0), trace_from: 0, trace_to: 0, time: 0 }) at c;\
-separator ^--$\nevent=a a | Ok(Separator) at -- | Ok(Undecided) at ---;\
-skip ^--$\nevent=a a | Ok(Skip) at --;\
-event ^(?<TIME>\\S+) (?<TYPE>.+)$\nevent=late (?<TIME>[0-9]) \
-| Ok(Event { name: Part(2, 3), trace_from: 0, trace_to: 0, time: 0 }) at 0 a \
-| Ok(Event { name: Part(4, 5), trace_from: 0, trace_to: 0, time: 7000000000 }) at 007 a \
-| Ok(Event { name: Part(4, 5), trace_from: 0, trace_to: 0, time: 1500000000 }) at 1.5 a \
-| Ok(Event { name: Part(11, 12), trace_from: 0, trace_to: 0, time: 1500000010 }) at 1.50000001 a \
-| Ok(Event { name: Part(12, 13), trace_from: 0, trace_to: 0, time: 1000000001 }) at 1.000000001 a \
-| Ok(Event { name: Part(19, 20), trace_from: 0, trace_to: 0, \
-time: 999999999999999999000000000 }) at 999999999999999999 a \
-| Ok(Event { name: Part(29, 30), trace_from: 0, trace_to: 0, \
-time: 999999999999999999999999999 }) at 999999999999999999.999999999 a \
-| Err(BadTime) at 1000000000000000000 a | Err(BadTime) at 1000000000000000000.5 a \
-| Err(BadTime) at 1. a | Err(BadTime) at .5 a | Err(BadTime) at . a \
-| Err(BadTime) at 1.1234567890 a | Err(BadTime) at 1.2.3 a | Err(BadTime) at 12:00 a \
-| Err(BadTime) at +1 a | Err(BadTime) at -1 a | Err(BadTime) at 1.+5 a | Err(BadTime) at 1e3 a;\
-event=a ^(?<TIME>[0-9]+)?x\nevent=late (?<TIME>[0-9]) | Err(BadTime) at x 7;\
-event=a ^(?<TIME>.*)x\nevent=late (?<TIME>[0-9]) | Err(BadTime) at x 7 \
-| Ok(Event { name: Fixed(0), trace_from: 0, trace_to: 0, time: 12000000000 }) at 12x \
-| Ok(Event { name: Fixed(1), trace_from: 0, trace_to: 0, time: 7000000000 }) at 7;\
-event ^(?<TIME>\\S+) (?<TYPE>x*)\nevent=late (?<TIME>[0-9]) \
-| Ok(Event { name: Fixed(1), trace_from: 0, trace_to: 0, time: 1000000000 }) at 12:00 7;\
-skip ^(?<TIME>.*)x\nevent=late (?<TIME>[0-9]) | Ok(Skip) at ax 7;\
-separator ^(?<TIME>.*)x\nevent=late (?<TIME>[0-9]) | Ok(Separator) at ax 7;\
-# shop front end\nskip ^[0-9]+ DEBUG\n\
-event=leave ^(?<TIME>[0-9]+) INFO s(?<TRACE>[0-9]+) session closed\n\
-event ^(?<TIME>[0-9]+) INFO s(?<TRACE>[0-9]+) (?<TYPE>[a-z]+)\n \
-| Ok(Event { name: Part(12, 17), trace_from: 10, trace_to: 11, \
-time: 100000000000 }) at 100 INFO s1 login user=7 \
-| Ok(Skip) at 101 DEBUG pool 4 of 16 \
-| Ok(Event { name: Fixed(1), trace_from: 10, trace_to: 11, \
-time: 124000000000 }) at 124 INFO s3 session closed after 9 s \
-| Ok(Undecided) at 12:00 INFO s1 login;\
-event=a a~31~\nskip b~ | Ok(Undecided);\
-event=a a~32~\nskip b~\nx | TooMany(33);\
-event=a a\n#~65525~b~ | Ok(Undecided);\
-event=a a\n#~65526~b~ | TooLong;\
-event=~257~n~ a | BadLine(1);\
-event=a ~300~(~a~300~)~ | Syntax(1);\
-event=a ~5000~(~a~5000~)~ | Syntax(1);\
-event=a ((a{1000}){1000}){1000} | TooLarge(1);\
-event=a (a*)*b | Ok(Undecided) at ~10000~a~";
-
-/// Appends so many copies of a text.
-fn push_copies(text: &mut String, part: &str, copies: usize) -> Result<(), AllocError> {
-    for _ in 0..copies {
-        text.push_str(part)?;
+/// Why the file is refused over `regex`, if it is.
+fn refusal(alloc: Global, file: &[u8]) -> Option<RuleError> {
+    match LineRules::read(alloc, file, &mut RegexPatterns::new(alloc)) {
+        Ok(_) => None,
+        Err(fault) => Some(fault),
     }
+}
+
+/// The text that stands so many times between the two ends.
+fn around(
+    alloc: Global,
+    start: &str,
+    text: &str,
+    count: usize,
+    end: &str,
+) -> Result<String, AllocError> {
+    let mut file = start.to_string(alloc)?;
+    for _ in 0..count {
+        file.push_str(text)?;
+    }
+    file.push_str(end)?;
+    Ok(file)
+}
+
+/// A rule whose pattern nests so deep.
+fn nested(alloc: Global, depth: usize) -> Result<String, AllocError> {
+    let closed = around(alloc, "a", ")", depth, "")?;
+    around(alloc, "event=a ", "(", depth, &closed)
+}
+
+#[test]
+fn files_are_refused_by_their_first_fault(rt: HostRuntime) -> Result<(), Fail> {
+    let cases = [
+        ("event (?<TYPE>[a-z]+)", None),
+        ("event (?P<TYPE>[a-z]+)\r\n", None),
+        ("# types\n\n\r\nevent=log in\r\nseparator ^--$", None),
+        ("skip (?<TIME>b)\nevent=a b", None),
+        ("skip x\nevent (", Some(RuleError::Syntax(2))),
+        ("event (\nx", Some(RuleError::Syntax(1))),
+        ("event ^a", Some(RuleError::NoType(1))),
+        ("event (?<TIME>b)", Some(RuleError::NoType(1))),
+        ("event=a (?<TIME>b)", None),
+        ("event=a (?<TIME>b)\nevent=c (?<TIME>d)", None),
+        (
+            "event=a (?<TIME>b)\n\nevent=c d",
+            Some(RuleError::MixedTime(3)),
+        ),
+        (
+            "event=a b\nevent=c (?<TIME>d)",
+            Some(RuleError::MixedTime(2)),
+        ),
+        (
+            "event=a b\nevent=c d\nevent (?<TIME>d)(?<TYPE>e)",
+            Some(RuleError::MixedTime(3)),
+        ),
+        ("event=a b\nevent (?<TIME>d)", Some(RuleError::NoType(2))),
+        ("skip (?<TIME>b)\nseparator (?<TIME>b)\nevent=a b", None),
+        ("event=a (?<TIME>b)\nskip b\nseparator b", None),
+        ("skip x", Some(RuleError::NoEvent)),
+        ("", Some(RuleError::NoEvent)),
+        ("#\n\nEvent=a b", Some(RuleError::BadLine(3))),
+        ("event=a b\nskip ", Some(RuleError::BadLine(2))),
+        ("event= b", Some(RuleError::BadLine(1))),
+        (" skip b", Some(RuleError::BadLine(1))),
+    ];
+    for (file, want) in cases {
+        assert_eq!(rt; refusal(rt.alloc(), file.as_bytes()), want, "at {file}");
+    }
+    assert_eq!(rt;
+        refusal(rt.alloc(), b"#\nskip \xff"),
+        Some(RuleError::BadLine(2))
+    );
     Ok(())
 }
 
-/// The text that is spelled so, where `~3~text~` stands for three copies of a text.
-fn unfolded(alloc: Global, spelled: &str) -> Result<String, AllocError> {
-    let mut text = String::new(alloc);
-    let mut copies = 1usize;
-    for (place, part) in spelled.split('~').enumerate() {
-        if place % 3 == 1 {
-            copies = part.parse::<usize>().unwrap_or(0);
-        } else {
-            push_copies(&mut text, part, copies)?;
-            copies = 1;
-        }
-    }
-    Ok(text)
-}
-
-/// What is told of a file and a line: why the file is refused, or what the line is, where the rules
-/// and twice what searches for them in many lines say the same.
-fn told<P: Patterns>(
-    alloc: Global,
-    patterns: &mut P,
-    file: &[u8],
-    line: &str,
-) -> Result<String, AllocError> {
-    let rules = match LineRules::read(alloc, file, patterns) {
-        Ok(rules) => rules,
-        Err(fault) => return format!(in alloc; "{fault:?}"),
+#[test]
+fn lines_are_decided_by_the_first_rule(rt: HostRuntime) -> Result<(), Fail> {
+    let event = |name, trace_from, trace_to| Decision::Event {
+        name,
+        trace_from,
+        trace_to,
+        time: 0,
     };
-    let decision = rules.decide(line);
-    let mut matchers = rules.matchers()?;
-    if matchers.decide(line) != decision || matchers.decide(line) != decision {
-        return "not one answer".to_string(alloc);
-    }
-    format!(in alloc; "{decision:?}")
-}
-
-/// Compares what is told of a file, and of the file and lines, with what is to be told.
-fn assert_told<P: Patterns>(
-    rt: &impl Abort,
-    alloc: Global,
-    patterns: &mut P,
-    file: &str,
-    cases: &str,
-) -> Result<(), Fail> {
-    let file = unfolded(alloc, file)?;
-    for case in cases.split(" | ") {
-        let (want, line) = case.split_once(" at ").unwrap_or((case, ""));
-        let line = unfolded(alloc, line)?;
-        let answer = told(alloc, patterns, file.as_bytes(), &line)?;
-        assert_eq!(rt; answer.as_str(), want, "at {line} by {file}");
+    let cases = [
+        (
+            "event (?<TYPE>[a-z]+)",
+            "7 open",
+            event(Named::Part(2, 6), 0, 0),
+        ),
+        (
+            "event ^(?<TRACE>[0-9]+) (?<TYPE>.+)$",
+            "12 read it",
+            event(Named::Part(3, 10), 0, 2),
+        ),
+        (
+            "event (?<TYPE>x*)\nevent=other a b",
+            "a b",
+            event(Named::Fixed(1), 0, 0),
+        ),
+        (
+            "event=one x\nevent=two x",
+            "x",
+            event(Named::Fixed(0), 0, 0),
+        ),
+        ("event=a (?<TRACE>b)?c", "c", event(Named::Fixed(0), 0, 0)),
+        ("separator ^--$\nevent=a a", "--", Decision::Separator),
+        ("skip ^--$\nevent=a a", "--", Decision::Skip),
+        ("separator ^--$\nevent=a a", "---", Decision::Undecided),
+    ];
+    for (file, line, want) in cases {
+        let mut patterns = RegexPatterns::new(rt.alloc());
+        let Ok(rules) = LineRules::read(rt.alloc(), file.as_bytes(), &mut patterns) else {
+            return Err(Fail::from("refused"));
+        };
+        assert_eq!(rt; rules.decide(line), Ok(want), "at {file}");
+        let mut matchers = rules.matchers()?;
+        assert_eq!(rt; matchers.decide(line), Ok(want), "at {file}");
+        assert_eq!(rt; matchers.decide(line), Ok(want), "again at {file}");
     }
     Ok(())
 }
 
 #[test]
-fn files_and_lines_are_answered(rt: HostRuntime) -> Result<(), Fail> {
-    let alloc = rt.alloc();
-    for row in FILES.split(';') {
-        let (file, cases) = row.split_once(" | ").unwrap_or((row, ""));
-        assert_told(&rt, alloc, &mut RegexPatterns::new(alloc), file, cases)?;
+fn times_are_billionths(rt: HostRuntime) -> Result<(), Fail> {
+    let cases = [
+        ("0", Some(0)),
+        ("007", Some(7_000_000_000)),
+        ("1.5", Some(1_500_000_000)),
+        ("1.50000001", Some(1_500_000_010)),
+        ("1.000000001", Some(1_000_000_001)),
+        (
+            "999999999999999999",
+            Some(999_999_999_999_999_999_000_000_000),
+        ),
+        (
+            "999999999999999999.999999999",
+            Some(999_999_999_999_999_999_999_999_999u128),
+        ),
+        ("1000000000000000000", None),
+        ("1000000000000000000.5", None),
+        ("1.", None),
+        (".5", None),
+        (".", None),
+        ("1.1234567890", None),
+        ("1.2.3", None),
+        ("12:00", None),
+        ("+1", None),
+        ("-1", None),
+        ("1.+5", None),
+        ("1e3", None),
+    ];
+    let mut patterns = RegexPatterns::new(rt.alloc());
+    let file = b"event ^(?<TIME>\\S+) (?<TYPE>.+)$\nevent=late (?<TIME>[0-9])";
+    let Ok(rules) = LineRules::read(rt.alloc(), file, &mut patterns) else {
+        return Err(Fail::from("refused"));
+    };
+    let mut matchers = rules.matchers()?;
+    for (text, want) in cases {
+        let line = format!(in rt.alloc(); "{text} a")?;
+        let answer = match want {
+            Some(time) => Ok(Decision::Event {
+                name: Named::Part(text.len() + 1, text.len() + 2),
+                trace_from: 0,
+                trace_to: 0,
+                time,
+            }),
+            None => Err(DecideError::BadTime),
+        };
+        assert_eq!(rt; matchers.decide(&line), answer, "at {text}");
+        assert_eq!(rt; rules.decide(&line), answer, "once more at {text}");
+    }
+    Ok(())
+}
+
+#[test]
+fn a_bad_time_ends_the_search(rt: HostRuntime) -> Result<(), Fail> {
+    let event = |rule, time| {
+        Ok(Decision::Event {
+            name: Named::Fixed(rule),
+            trace_from: 0,
+            trace_to: 0,
+            time,
+        })
+    };
+    let late = "event=late (?<TIME>[0-9])";
+    let cases = [
+        (
+            "event=a ^(?<TIME>[0-9]+)?x",
+            "x 7",
+            Err(DecideError::BadTime),
+        ),
+        ("event=a ^(?<TIME>.*)x", "x 7", Err(DecideError::BadTime)),
+        ("event=a ^(?<TIME>.*)x", "12x", event(0, 12_000_000_000)),
+        ("event=a ^(?<TIME>.*)x", "7", event(1, 7_000_000_000)),
+        (
+            "event ^(?<TIME>\\S+) (?<TYPE>x*)",
+            "12:00 7",
+            event(1, 1_000_000_000),
+        ),
+        ("skip ^(?<TIME>.*)x", "ax 7", Ok(Decision::Skip)),
+        ("separator ^(?<TIME>.*)x", "ax 7", Ok(Decision::Separator)),
+    ];
+    for (first, line, want) in cases {
+        let mut patterns = RegexPatterns::new(rt.alloc());
+        let file = format!(in rt.alloc(); "{first}\n{late}")?;
+        let Ok(rules) = LineRules::read(rt.alloc(), file.as_bytes(), &mut patterns) else {
+            return Err(Fail::from("refused"));
+        };
+        assert_eq!(rt; rules.decide(line), want, "at {first}");
+        let mut matchers = rules.matchers()?;
+        assert_eq!(rt; matchers.decide(line), want, "at {first}");
+    }
+    Ok(())
+}
+
+/// The rules of a shop's log.
+#[test]
+fn shop_rules_are_taken(rt: HostRuntime) -> Result<(), Fail> {
+    let file =
+        b"# shop front end\nskip ^[0-9]+ DEBUG\nevent=leave ^(?<TIME>[0-9]+) INFO s(?<TRACE>[0-9]+) session closed\nevent ^(?<TIME>[0-9]+) INFO s(?<TRACE>[0-9]+) (?<TYPE>[a-z]+)\n";
+    let mut patterns = RegexPatterns::new(rt.alloc());
+    let Ok(rules) = LineRules::read(rt.alloc(), file, &mut patterns) else {
+        return Err(Fail::from("refused"));
+    };
+    let event = |name, time| Decision::Event {
+        name,
+        trace_from: 10,
+        trace_to: 11,
+        time,
+    };
+    let cases = [
+        (
+            "100 INFO s1 login user=7",
+            event(Named::Part(12, 17), 100_000_000_000),
+        ),
+        ("101 DEBUG pool 4 of 16", Decision::Skip),
+        (
+            "124 INFO s3 session closed after 9 s",
+            event(Named::Fixed(1), 124_000_000_000),
+        ),
+        ("12:00 INFO s1 login", Decision::Undecided),
+    ];
+    for (line, want) in cases {
+        assert_eq!(rt; rules.decide(line), Ok(want), "at {line}");
     }
     Ok(())
 }
 
 #[test]
 fn listed_builds_are_refused(rt: HostRuntime) -> Result<(), Fail> {
-    let alloc = rt.alloc();
-    for (failing, file, want) in [
-        (1u64, "event (?<TYPE>a)", "TooLarge(1)"),
-        (2, "#\nskip b\n\nevent (?<TYPE>a)", "TooLarge(4)"),
-        (2, "event (?<TYPE>a)", "Ok(Undecided)"),
-        (2, "event ^a\nskip b", "NoType(1)"),
-    ] {
-        let inner = RegexPatterns::new(alloc);
-        let mut patterns = ListedPatterns::new(inner, vec![in alloc; failing]?);
-        assert_told(&rt, alloc, &mut patterns, file, want)?;
-    }
-    Ok(())
-}
-
-/// Files that are meant to harm are refused or read within seconds.
-#[test]
-fn any_byte_and_a_long_pattern_are_answered(rt: HostRuntime) -> Result<(), Fail> {
-    let alloc = rt.alloc();
-    let mut patterns = RegexPatterns::new(alloc);
-    for byte in 0..=255u8 {
-        let want = match byte {
-            b'\n' | b'\r' | b'#' => "NoEvent",
-            _ => "BadLine(1)",
+    let cases = [
+        ("event (?<TYPE>a)", 1u64, Some(RuleError::TooLarge(1))),
+        (
+            "#\nskip b\n\nevent (?<TYPE>a)",
+            2,
+            Some(RuleError::TooLarge(4)),
+        ),
+        ("event (?<TYPE>a)", 2, None),
+        ("event ^a\nskip b", 2, Some(RuleError::NoType(1))),
+    ];
+    for (file, failing, want) in cases {
+        let inner = RegexPatterns::new(rt.alloc());
+        let mut patterns = ListedPatterns::new(inner, vec![in rt.alloc(); failing]?);
+        let answer = match LineRules::read(rt.alloc(), file.as_bytes(), &mut patterns) {
+            Ok(_) => None,
+            Err(fault) => Some(fault),
         };
-        let answer = told(alloc, &mut patterns, &[byte], "")?;
-        assert_eq!(rt; answer.as_str(), want, "at {byte}");
+        assert_eq!(rt; answer, want, "at {file}");
     }
-    let not_text = told(alloc, &mut patterns, b"#\nskip \xff", "")?;
-    assert_eq!(rt; not_text.as_str(), "BadLine(2)");
-    let long = unfolded(alloc, "event=a ~65000~a~")?;
-    let answer = told(alloc, &mut patterns, long.as_bytes(), "")?;
-    assert!(rt; answer.as_str() == "Ok(Undecided)" || answer.as_str() == "TooLarge(1)");
     Ok(())
 }
 
 #[test]
-fn a_type_of_256_bytes_is_kept(rt: HostRuntime) -> Result<(), Fail> {
-    let file = unfolded(rt.alloc(), "event=~256~n~ a")?;
-    let mut patterns = RegexPatterns::new(rt.alloc());
-    let Ok(rules) = LineRules::read(rt.alloc(), file.as_bytes(), &mut patterns) else {
+fn limits_are_kept(rt: HostRuntime) -> Result<(), Fail> {
+    let alloc = rt.alloc();
+    let cases = [
+        (around(alloc, "event=a a", "\nskip b", 31, "")?, None),
+        (
+            around(alloc, "event=a a", "\nskip b", 32, "\nx")?,
+            Some(RuleError::TooMany(33)),
+        ),
+        (around(alloc, "event=a a\n#", "b", 65_525, "")?, None),
+        (
+            around(alloc, "event=a a\n#", "b", 65_526, "")?,
+            Some(RuleError::TooLong),
+        ),
+        (
+            around(alloc, "event=", "n", 257, " a")?,
+            Some(RuleError::BadLine(1)),
+        ),
+    ];
+    for (file, want) in &cases {
+        assert_eq!(rt; refusal(alloc, file.as_bytes()), *want, "at {file}");
+    }
+    let file = around(alloc, "event=", "n", 256, " a")?;
+    let mut patterns = RegexPatterns::new(alloc);
+    let Ok(rules) = LineRules::read(alloc, file.as_bytes(), &mut patterns) else {
         return Err(Fail::from("refused"));
     };
     match rules.decide("a") {
@@ -203,5 +310,45 @@ fn a_type_of_256_bytes_is_kept(rt: HostRuntime) -> Result<(), Fail> {
         ) => assert_eq!(rt; rules.fixed(rule).len(), 256),
         _ => return Err(Fail::from("no type of the rule's own")),
     }
+    Ok(())
+}
+
+/// Files that are meant to harm: each is refused or read within seconds.
+#[test]
+fn hostile_files_are_answered(rt: HostRuntime) -> Result<(), Fail> {
+    let alloc = rt.alloc();
+    for byte in 0..=255u8 {
+        let want = match byte {
+            b'\n' | b'\r' | b'#' => RuleError::NoEvent,
+            _ => RuleError::BadLine(1),
+        };
+        assert_eq!(rt; refusal(alloc, &[byte]), Some(want), "at {byte}");
+    }
+    let cases = [
+        (nested(alloc, 300)?, RuleError::Syntax(1)),
+        (nested(alloc, 5_000)?, RuleError::Syntax(1)),
+        (
+            "event=a ((a{1000}){1000}){1000}".to_string(alloc)?,
+            RuleError::TooLarge(1),
+        ),
+    ];
+    for (file, want) in &cases {
+        assert_eq!(rt; refusal(alloc, file.as_bytes()), Some(*want), "at {file}");
+    }
+    let long = around(alloc, "event=a ", "a", 65_000, "")?;
+    let answer = refusal(alloc, long.as_bytes());
+    assert!(rt; answer.is_none() || answer == Some(RuleError::TooLarge(1)));
+    Ok(())
+}
+
+/// A pattern over which a search that goes back would not end soon.
+#[test]
+fn nested_stars_are_decided(rt: HostRuntime) -> Result<(), Fail> {
+    let mut patterns = RegexPatterns::new(rt.alloc());
+    let Ok(rules) = LineRules::read(rt.alloc(), b"event=a (a*)*b", &mut patterns) else {
+        return Err(Fail::from("refused"));
+    };
+    let line = around(rt.alloc(), "", "a", 10_000, "")?;
+    assert_eq!(rt; rules.decide(&line), Ok(Decision::Undecided));
     Ok(())
 }

@@ -1,105 +1,129 @@
-ghost use Rattle.std.specs.Prelude.{◌≡◌, ◌≤◌, IsSome, false};
+ghost use Rattle.std.specs.Prelude.{◌≡◌, ◌≤◌, OnOk, false};
 
-use crate::Lines;
+use crate::{LineError, Lines};
 use outside::{Inputs, MemInputs};
-use std::alloc::{AllocError, Global};
+use std::alloc::Global;
+use std::process::Abort;
 use std::test::Fail;
 
-/// Inputs, and what is told of their lines; semicolons part them. Three copies of a text are spelled
-/// `~3~text~`. In all but the first and the last input the first line has the greatest length. The
-/// line feed of the second stands before the buffer's last byte, there, or behind it, where its
-/// carriage return is the last byte or stands behind it too.
-const INPUTS: &str = "1 a\r\n\n2 b\r\r\n\r3 c\r \
-| 1 true 1 a, 2 true , 3 true 2 b\r, 4 false \r3 c, 4 in all;\
-~65536~a~\n~65532~b~\r\nc\n | 1 true ~65536~a~, 2 true ~65532~b~, 3 true c, 3 in all;\
-~65536~a~\n~65533~b~\r\nc\n | 1 true ~65536~a~, 2 true ~65533~b~, 3 true c, 3 in all;\
-~65536~a~\n~65534~b~\r\nc\n | 1 true ~65536~a~, 2 true ~65534~b~, 3 true c, 3 in all;\
-~65536~a~\n~65535~b~\r\nc\n | 1 true ~65536~a~, 2 true ~65535~b~, 3 true c, 3 in all;\
-~65537~a~ | TooLong";
-
-/// Appends so many copies of a text.
-fn push_copies(text: &mut String, part: &str, copies: usize) -> Result<(), AllocError> {
-    for _ in 0..copies {
-        text.push_str(part)?;
-    }
-    Ok(())
-}
-
-/// The text that is spelled so, where `~3~text~` stands for three copies of a text.
-fn unfolded(alloc: Global, spelled: &str) -> Result<String, AllocError> {
-    let mut text = String::new(alloc);
-    let mut copies = 1usize;
-    for (place, part) in spelled.split('~').enumerate() {
-        if place % 3 == 1 {
-            copies = part.parse::<usize>().unwrap_or(0);
-        } else {
-            push_copies(&mut text, part, copies)?;
-            copies = 1;
-        }
-    }
-    Ok(text)
-}
-
-/// Standard input with this text, of which a read gives at most a piece, and of which this call
-/// fails.
-fn input_of(alloc: Global, text: &str, piece: usize, failing: u64) -> Result<MemInputs, Fail>
+/// Standard input with these bytes, of which a read gives at most a piece.
+fn input_of(alloc: Global, bytes: &[u8], piece: usize, failing: &[u64]) -> Result<MemInputs, Fail>
     requires { 1 ≤ piece }
 {
     let mut files = Vec::new(alloc);
-    files.push((String::new(alloc), text.as_bytes().to_vec(alloc)?))?;
-    Ok(MemInputs::new(files, piece, vec![in alloc; failing]?))
+    files.push((String::new(alloc), bytes.to_vec(alloc)?))?;
+    Ok(MemInputs::new(files, piece, failing.to_vec(alloc)?))
 }
 
-/// The number of the current line, whether a line feed ends it, and its bytes.
-fn line_text(alloc: Global, lines: &Lines) -> Result<String, AllocError>
-    requires { IsSome (lines.now).line }
-{
-    let line = str::from_utf8(lines.line()).unwrap_or("no text");
-    format!(in alloc; "{} {} {line}, ", lines.number(), lines.ends_with_feed())
-}
-
-/// What is told of up to six lines to come, and of how many there are or why one is refused.
-fn lines_text(alloc: Global, lines: &mut Lines, inputs: &mut MemInputs) -> Result<String, Fail>
+/// Goes on to the next line, and compares its number and its bytes.
+fn assert_next(
+    rt: &impl Abort,
+    lines: &mut Lines,
+    inputs: &mut MemInputs,
+    number: u32,
+    line: &[u8],
+) -> Result<(), Fail>
     requires { (lines.old).refused ≡ false }
+    ensures { OnOk result ((lines.new).refused ≡ false) }
 {
-    let mut text = String::new(alloc);
-    'lines: for _ in 0..6 {
-        match lines.next(inputs) {
-            Ok(true) => text.push_str(&line_text(alloc, lines)?)?,
-            Ok(false) => return Ok(format!(in alloc; "{text}{} in all", lines.number())?),
-            Err(error) => return Ok(format!(in alloc; "{text}{error:?}")?),
+    match lines.next(inputs) {
+        Ok(true) => {
+            assert_eq!(rt; lines.number(), number);
+            assert_eq!(rt; lines.line(), line, "at {number}");
+            Ok(())
         }
+        Ok(false) => {
+            assert_eq!(rt; 0, number, "there is no line");
+            Ok(())
+        }
+        Err(error) => Err(Fail::from(error)),
     }
-    Ok(text)
 }
 
-/// What is told of the lines of standard input.
-fn told(alloc: Global, text: &str, piece: usize, failing: u64) -> Result<String, Fail>
-    requires { 1 ≤ piece }
-{
-    let mut inputs = input_of(alloc, text, piece, failing)?;
-    if inputs.open("").is_err() {
-        return Err(Fail::from("not opened"));
-    }
-    let mut lines = Lines::make(alloc)?;
-    lines.start();
-    lines_text(alloc, &mut lines, &mut inputs)
+/// Makes so many bytes of one kind.
+fn repeated(alloc: Global, byte: u8, count: usize) -> Result<Vec<u8>, Fail> {
+    let mut bytes = Vec::new(alloc);
+    bytes.resize(count, byte)?;
+    Ok(bytes)
 }
 
 #[test]
 fn lines_come_in_any_pieces(rt: HostRuntime) -> Result<(), Fail> {
     let alloc = rt.alloc();
-    for piece in [1usize, 7, 65_536, 1_000_000] {
+    for piece in [1usize, 7, 65_536] {
         assert!(rt; piece > 0);
-        for row in INPUTS.split(';') {
-            let (input, want) = row.split_once(" | ").unwrap_or((row, ""));
-            let (input, want) = (unfolded(alloc, input)?, unfolded(alloc, want)?);
-            let answer = told(alloc, &input, piece, 0)?;
-            assert_eq!(rt; answer, want, "in pieces of {piece} at {row}");
+        let mut inputs = input_of(alloc, b"1 a\r\n\n2 b\r\r\n\r3 c\r", piece, &[])?;
+        assert_eq!(rt; inputs.open(""), Ok(()));
+        let mut lines = Lines::make(alloc)?;
+        lines.start();
+        assert_next(&rt, &mut lines, &mut inputs, 1, b"1 a")?;
+        assert_next(&rt, &mut lines, &mut inputs, 2, b"")?;
+        assert_next(&rt, &mut lines, &mut inputs, 3, b"2 b\r")?;
+        assert_next(&rt, &mut lines, &mut inputs, 4, b"\r3 c")?;
+        assert!(rt; !lines.ends_with_feed());
+        assert_eq!(rt; lines.next(&mut inputs), Ok(false), "at {piece}");
+        assert_eq!(rt; lines.number(), 4);
+    }
+    Ok(())
+}
+
+/// The first line has the greatest length. The line feed of the second stands before the buffer's
+/// last byte, there, or behind it, where its carriage return is the last byte or stands behind it
+/// too.
+#[test]
+fn lines_end_at_the_end_of_the_buffer(rt: HostRuntime) -> Result<(), Fail> {
+    let alloc = rt.alloc();
+    let first = repeated(alloc, b'a', 65_536)?;
+    for length in [65_532usize, 65_533, 65_534, 65_535] {
+        let second = repeated(alloc, b'b', length)?;
+        let mut bytes = first.as_slice().to_vec(alloc)?;
+        bytes.extend_from_slice(b"\n")?;
+        bytes.extend_from_slice(&second)?;
+        bytes.extend_from_slice(b"\r\nc\n")?;
+        for piece in [65_536usize, 1_000_000] {
+            assert!(rt; piece > 0);
+            let mut inputs = input_of(alloc, &bytes, piece, &[])?;
+            assert_eq!(rt; inputs.open(""), Ok(()));
+            let mut lines = Lines::make(alloc)?;
+            lines.start();
+            assert_next(&rt, &mut lines, &mut inputs, 1, &first)?;
+            assert_next(&rt, &mut lines, &mut inputs, 2, &second)?;
+            assert_next(&rt, &mut lines, &mut inputs, 3, b"c")?;
+            assert!(rt; lines.ends_with_feed());
+            assert_eq!(rt; lines.next(&mut inputs), Ok(false), "at {length}");
         }
     }
-    // After two of the three bytes of the second line.
-    let fault = told(alloc, "a\n1 b\n", 4, 3)?;
-    assert_eq!(rt; fault.as_str(), "1 true a, ReadFault");
+    Ok(())
+}
+
+#[test]
+fn a_line_is_refused_at_its_byte_past_the_limit(rt: HostRuntime) -> Result<(), Fail> {
+    let alloc = rt.alloc();
+    let long = repeated(alloc, b'a', 65_537)?;
+    for piece in [7usize, 65_536] {
+        assert!(rt; piece > 0);
+        let mut inputs = input_of(alloc, &long, piece, &[])?;
+        assert_eq!(rt; inputs.open(""), Ok(()));
+        let mut lines = Lines::make(alloc)?;
+        lines.start();
+        assert_eq!(rt;
+            lines.next(&mut inputs),
+            Err(LineError::TooLong),
+            "at {piece}"
+        );
+    }
+    Ok(())
+}
+
+/// The inputs fail at their third call: after two of the three bytes of the second line.
+#[test]
+fn a_read_fails_in_the_middle_of_a_line(rt: HostRuntime) -> Result<(), Fail> {
+    let alloc = rt.alloc();
+    let mut inputs = input_of(alloc, b"a\n1 b\n", 4, &[3])?;
+    assert_eq!(rt; inputs.open(""), Ok(()));
+    let mut lines = Lines::make(alloc)?;
+    lines.start();
+    assert_next(&rt, &mut lines, &mut inputs, 1, b"a")?;
+    assert_eq!(rt; lines.next(&mut inputs), Err(LineError::ReadFault));
     Ok(())
 }
