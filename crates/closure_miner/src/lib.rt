@@ -1,11 +1,10 @@
-//! The invariants that hold of every trace, mined once more: by the sets of the types that come
-//! later and earlier, and not by counts.
+//! The invariants that hold of every trace, mined once more: by the sets of the types that come later and earlier,
+//! and not by counts.
 //!
-//! A candidate stands until a trace breaks it. Each trace is read once from its end, with the set
-//! of the types that come later, and once from its start, with the set of those that came earlier;
-//! an event strikes out of its type's sets what the set at hand denies. An event of a type that
-//! came before, where the set is as it was then, strikes out nothing more. So the work is at most
-//! the events times the types over 64, and in long traces little more than a look at each event.
+//! A candidate stands until a trace breaks it. Each trace is read once from its end, with the set of the types that come
+//! later, and once from its start, with the set of those that came earlier; an event strikes out of its type's sets what
+//! the set at hand denies. An event of a type that came before, where the set is as it was then, strikes out nothing more.
+//! So the work is at most the events times the types over 64, and in long traces little more than a look at each event.
 #![tactic(auto)]
 
 ghost use Rattle.std.specs.Prelude.{◌≡◌, ◌≤◌, length, IfOk};
