@@ -13,8 +13,6 @@ mod regex_patterns;
 mod rule;
 mod spans;
 mod spelling;
-#[cfg(test)]
-mod tests;
 mod time;
 
 pub use decision::{DecideError, Decision, Named};

@@ -5,14 +5,10 @@ mod decider;
 mod form;
 mod law;
 mod line_reader;
-#[cfg(test)]
-mod line_tests;
 mod reader;
 mod reading;
 mod refusal;
 mod so_far;
-#[cfg(test)]
-mod tests;
 
 pub use form::Form;
 pub use law::{

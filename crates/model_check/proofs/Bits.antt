@@ -1,5 +1,5 @@
 -- What a write leaves in the rows, place by place.
-use Rattle.std.proofs.Common.{◌≡◌, ◌≢◌, ◌↔◌, ℕ, ◌+◌, ◌<◌, ◌≤◌, ◌==◌, ◌&&◌, ◌||◌, Bool, true, false, List, [], Option, Some, None, length, set, replicate, refl, sym, ◌∙◌, ap, ap₂, subst, arith, inl, inr, eq-eqb, ne_eqb, true≢false}
+use Rattle.std.proofs.Common.{◌≡◌, ◌≢◌, ℕ, ◌<◌, ◌≤◌, ◌==◌, ◌&&◌, ◌||◌, Bool, true, false, List, [], Option, Some, None, length, set, replicate, refl, sym, ◌∙◌, ap, ap₂, arith, inl, inr, eq-eqb, ne_eqb}
 use Rattle.std.proofs.lemmas.Bool.{cases_eq, cases_lt}
 use Rattle.std.proofs.Math.Bool.{or-false, or-true}
 use Rattle.std.proofs.lemmas.List.{get_or-set_same, get_or-set_other, get_or-replicate, get_or_past, length-replicate}
@@ -94,18 +94,3 @@ next-in rows r from (Some p) l h =
       set = h.set;
       first = h.first;
     }
-
--- the first id of a row, where no other follows, is the only one
-pub only-id : (rows : IdRows) (r p : ℕ) → IsNextIn rows r 0 p → ((k : ℕ) → p + 1 ≤ k → bit rows r k ≡ false)
-    → (q : ℕ) → (bit rows r q ≡ true) ↔ (q ≡ p)
-only-id rows r p one none q = (λ e. here e, λ z. subst (λ k. bit rows r k ≡ true) (sym z) one.set)
-  where
-    here : bit rows r q ≡ true → q ≡ p
-    here e =
-        elim (cases_lt q p) [
-          | inl l ↦ absurd (true≢false (sym e ∙ one.first q (omega arith) l))
-          | inr g ↦ elim (cases_eq q p) [
-            | inl z ↦ z
-            | inr n ↦ absurd (true≢false (sym e ∙ none q (omega (arith, g, n))))
-          ]
-        ]

@@ -13,8 +13,6 @@ mod reading;
 mod refusal;
 mod shape;
 mod table;
-#[cfg(test)]
-mod tests;
 mod writing;
 
 pub use law::{

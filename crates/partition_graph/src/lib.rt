@@ -7,12 +7,8 @@ mod events;
 mod graph;
 mod law;
 mod links;
-#[cfg(test)]
-mod merge_tests;
 mod merged;
 mod tables;
-#[cfg(test)]
-mod tests;
 mod view;
 
 pub use graph::PartGraph;

@@ -1,5 +1,4 @@
-use Rattle.std.proofs.Common.{◌≡◌, ℕ, drop, length}
-use Rattle.limits.specs.declared.TheConstants.{MAX_PARTITIONS}
+use Rattle.std.proofs.Common.{◌≡◌, ℕ, drop}
 use Rattle.model_shape.specs.Shapes.{is_listed}
 use Rattle.models.specs.Models.{label_at}
 use Rattle.model_check.specs.Rows.{AreApart}

@@ -1,5 +1,4 @@
-use Rattle.std.proofs.Common.{◌≢◌, ◌+◌, ◌<◌, arith}
-use Rattle.limits.specs.declared.TheConstants.{MAX_PARTITIONS}
+use Rattle.std.proofs.Common.{◌≢◌, arith}
 use Rattle.model_check.specs.declared.sets.TheConstants.{NEXT}
 use Rattle.model_check.proofs.Advancing.{advance_none, advance_more}
 use Rattle.model_check.proofs.sets.advance.Goals as goal

@@ -1,9 +1,9 @@
 //! A hundred small graphs: their counts, their merged views, and those of shared words.
 ghost use Rattle.partition_graph.specs.Seen.{IsSound};
 
-use crate::tests::{is_pair, log_of, merge, text_of, text_spread};
-use crate::{Links, PartGraph, View};
+use crate::splits::{is_pair, log_of, merge, text_of, text_spread};
 use limits::{FIRST_TYPE, INITIAL, TERMINAL};
+use partition_graph::{Links, PartGraph, View};
 use std::alloc::{AllocError, Global};
 use std::test::Fail;
 

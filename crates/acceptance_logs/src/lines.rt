@@ -1,6 +1,6 @@
 ghost use Rattle.std.specs.Prelude.{◌≡◌, ◌≤◌, OnOk, false};
 
-use crate::{LineError, Lines};
+use log_reader::{LineError, Lines};
 use outside::{Inputs, MemInputs};
 use std::alloc::Global;
 use std::process::Abort;

@@ -1,7 +1,7 @@
 ghost use Rattle.std.specs.Prelude.{◌≤◌, ◌<◌, ◌^◌, length, IfOk};
 
-use crate::{At, Form, ReadError, read_log};
 use line_rules::{LineRules, RegexPatterns};
+use log_reader::{At, Form, ReadError, read_log};
 use outside::{Inputs, MemInputs};
 use std::alloc::Global;
 use std::process::Abort;

@@ -1,7 +1,7 @@
-use crate::{AddError, Builder, TraceSet};
 use limits::{MAX_TRACE_BYTES, MAX_TYPE_BYTES};
 use std::process::Abort;
 use std::test::Fail;
+use traces::{AddError, Builder, TraceSet};
 
 /// Adds an event whose texts are within the limits.
 fn add(

@@ -1,5 +1,5 @@
-use super::*;
 use invariants::{Block, Listed, Model, Split, Text};
+use model_file::{is_well_shaped, read_model, write_model};
 use std::alloc::{AllocError, Global};
 use std::fmt::Write;
 use std::test::Fail;

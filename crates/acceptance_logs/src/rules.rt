@@ -1,4 +1,6 @@
-use crate::{DecideError, Decision, LineRules, ListedPatterns, Named, RegexPatterns, RuleError};
+use line_rules::{
+    DecideError, Decision, LineRules, ListedPatterns, Named, RegexPatterns, RuleError,
+};
 use std::alloc::{AllocError, Global};
 use std::test::Fail;
 

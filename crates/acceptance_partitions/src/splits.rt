@@ -6,8 +6,8 @@ ghost use Rattle.partition_model.specs.Assignments.{events, G};
 ghost use Rattle.partition_model.specs.Coarsening.{IsPair};
 ghost use Rattle.partition_graph.specs.Spread.{spread};
 
-use crate::{PartGraph, View};
 use limits::{FIRST_TYPE, MAX_PARTITIONS, MAX_TYPE_BYTES};
+use partition_graph::{PartGraph, View};
 use std::alloc::{AllocError, Global};
 use std::test::Fail;
 use traces::{Builder, TraceSet};

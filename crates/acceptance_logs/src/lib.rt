@@ -1,0 +1,11 @@
+//! Tests of the reading of logs: events in traces, rules, lines of inputs, and whole logs.
+#![tactic(auto)]
+
+#[cfg(test)]
+mod events;
+#[cfg(test)]
+mod lines;
+#[cfg(test)]
+mod logs;
+#[cfg(test)]
+mod rules;

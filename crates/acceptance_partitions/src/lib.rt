@@ -1,0 +1,7 @@
+//! Tests of graphs of partitions: splits, merges, views, and graphs of shared words.
+#![tactic(auto)]
+
+#[cfg(test)]
+mod merges;
+#[cfg(test)]
+mod splits;
