@@ -28,7 +28,7 @@ fn assert_trace(
     let found = set.key(t);
     assert_eq!(rt; found.file, key.0, "at {t}");
     assert_eq!(rt; found.section, key.1, "at {t}");
-    assert_eq!(rt; found.text.as_str(), key.2, "at {t}");
+    assert_eq!(rt; found.text, key.2.as_bytes(), "at {t}");
     assert_eq!(rt; set.events(t), numbers, "at {t}");
     assert_eq!(rt; set.times(t), times, "at {t}");
 }

@@ -1,8 +1,10 @@
-//! Tests of the reading of logs: events in traces, rules, lines of inputs, and whole logs.
+//! Tests of the reading of logs: keys, events in traces, rules, lines of inputs, and whole logs.
 #![tactic(auto)]
 
 #[cfg(test)]
 mod events;
+#[cfg(test)]
+mod keys;
 #[cfg(test)]
 mod lines;
 #[cfg(test)]

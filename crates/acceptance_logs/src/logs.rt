@@ -57,7 +57,7 @@ fn assert_traces(rt: &impl Abort, set: &TraceSet, traces: &[(u32, &str, &[u16])]
         let key = set.key(t as u32);
         assert_eq!(rt; key.file, trace.0, "at {t}");
         assert_eq!(rt; key.section, 0, "at {t}");
-        assert_eq!(rt; key.text.as_str(), trace.1, "at {t}");
+        assert_eq!(rt; key.text, trace.1.as_bytes(), "at {t}");
         assert_eq!(rt; set.events(t as u32), trace.2, "at {t}");
     }
 }

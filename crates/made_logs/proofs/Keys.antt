@@ -8,8 +8,7 @@ use Rattle.std.proofs.lemmas.Slice.Eq.{bytes_eq-Decides}
 use Rattle.std.specs.List.{fold, list_any, range_with_len}
 use Rattle.std.specs.Str.{bytes_eq}
 use Rattle.limits.specs.declared.TheConstants.{MAX_SESSIONS}
-use Rattle.traces.specs.Words.{Event, keys_of, same_key, with_new}
-use Rattle.traces.specs.declared.key.Key.{Key}
+use Rattle.traces.specs.Words.{Event, Key, keys_of, same_key, with_new}
 use Rattle.load_maker.specs.Sessions.{session_calls, state_after}
 use Rattle.load_maker.specs.declared.call.Call.{Call}
 use Rattle.made_logs.specs.MadeLogs.{call_event, session_events, session_key}

@@ -2,8 +2,7 @@
 use Rattle.std.specs.Prelude.{ℕ, ◌≡◌, ◌≤◌, ◌+◌, ◌*◌, List, [], ◌∷◌, map, length, decimal, None, false}
 use Rattle.std.specs.List.{flat_map, range_with_len}
 use Rattle.limits.specs.declared.TheConstants.{MAX_SESSIONS}
-use Rattle.traces.specs.Words.{Event, Log, event_of, keys_of, log_of, types_of}
-use Rattle.traces.specs.declared.key.Key.{Key}
+use Rattle.traces.specs.Words.{Event, Key, Log, event_of, keys_of, log_of, types_of}
 use Rattle.log_reader.specs.Reading.{Plain, Setting, events_of, first_refusal, setting}
 use Rattle.load_maker.specs.Sessions.{log_text, session_calls, state_after, word_of}
 use Rattle.load_maker.specs.declared.call.Call.{Call}

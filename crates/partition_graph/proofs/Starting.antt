@@ -4,8 +4,7 @@ use Rattle.std.proofs.lemmas.Bool.{cases_Bool, cond-true, cond-false, or_cases, 
 use Rattle.std.proofs.lemmas.Slice.Eq.{bytes_eq-Decides}
 use Rattle.std.specs.List.{list_any, position_or_len}
 use Rattle.std.specs.Str.{bytes_eq}
-use Rattle.traces.specs.Words.{Event as LogEvent, Trace, AreApart, same_key, types_of, keys_of, number_of, insert_by, ordered_by, in_time, events_of_key, trace_of, log_of}
-use Rattle.traces.specs.declared.key.Key.{Key}
+use Rattle.traces.specs.Words.{Event as LogEvent, Key, Trace, AreApart, same_key, types_of, keys_of, number_of, insert_by, ordered_by, in_time, events_of_key, trace_of, log_of}
 use Rattle.traces.proofs.FirstMet.{types-first_met, keys-first_met}
 use Rattle.traces.proofs.Grown.{same_key-refl, same_key-≡, position-within}
 use Rattle.partition_model.specs.Assignments.{Event, events, members, by_type, inner_words}

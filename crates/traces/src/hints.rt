@@ -2,9 +2,9 @@
 //! Nothing is promised of a hint: who takes one looks whether it is right, and else asks an ordered map.
 //! So no proof rests on one, and a log that was written to spoil all hints costs what the map costs.
 
-ghost use Rattle.std.specs.Prelude.{◌≡◌};
-ghost use Rattle.traces.specs.Hashes.{hash_of_bytes};
+ghost use Rattle.std.specs.Prelude.{◌<◌, ◌^◌, length};
 
+use key_table::{KeyParts, Sign};
 use std::alloc::Global;
 
 /// How many bits of a hash choose one of the first buckets.
@@ -17,7 +17,7 @@ const FIRST_BUCKETS: usize = 1 << FIRST_BITS;
 const SLOTS: usize = 4;
 
 /// The multiplier of the hash.
-const FACTOR: u64 = 1_099_511_628_211;
+const FACTOR: u64 = 0x9e37_79b9_7f4a_7c15;
 
 /// A place, and a part of the hash of what stands there, so that most other hashes are told apart without a look at
 /// the place.
@@ -138,13 +138,16 @@ impl Hints {
     }
 }
 
-/// A hash of bytes, from a start.
-pub fn hash_on(start: u64, bytes: &[u8]) -> u64
-    ensures { result ≡ hash_of_bytes start bytes.now }
+/// A hash of a text, each bit of which depends on all of the text's two words.
+pub fn hash_of(text: &str) -> u64
+    requires { length text.now < 2 ^ 32 }
 {
-    let mut hash = start;
-    for b in bytes {
-        hash = (hash ^ u64::from(*b)).wrapping_mul(FACTOR);
-    }
-    hash ^ (hash >> 32)
+    let parts = KeyParts {
+        file: 0,
+        section: 0,
+        text,
+    };
+    let mixed = Sign::of(&parts).mix();
+    let hash = (mixed ^ (mixed >> u32::BITS)).wrapping_mul(FACTOR);
+    hash ^ (hash >> u32::BITS)
 }

@@ -12,7 +12,7 @@ use Rattle.traces.proofs.builder.Builder.finish.Goals as goal
 
 pub lay_in_order-requires-clause-few : goal.lay_in_order-requires-clause-few
 lay_in_order-requires-clause-few c =
-    let keys = c.into_columns-keys.result.0.items in
+    let keys = c.into_columns-keys.result.0 in
     let events = c.into_columns-keys.result.1 in
     omega (
       arith,
@@ -24,7 +24,7 @@ lay_in_order-requires-clause-few c =
 
 pub lay_in_order-requires-clause-traces : goal.lay_in_order-requires-clause-traces
 lay_in_order-requires-clause-traces c =
-    let keys = c.into_columns-keys.result.0.items in
+    let keys = c.into_columns-keys.result.0 in
     let events = c.into_columns-keys.result.1 in
     omega (
       arith,
@@ -36,7 +36,7 @@ lay_in_order-requires-clause-traces c =
 
 pub invariant_of-result : goal.invariant_of-result
 invariant_of-result c =
-    let keys = c.into_columns-keys.result.0.items in
+    let keys = c.into_columns-keys.result.0 in
     let events = c.into_columns-keys.result.1 in
     let done = c.in_ok-events.events in
     let order : laid keys done.starts.items done.numbers.items done.times.items ≡ map trace_in_order c.self.inside.traces =
@@ -63,7 +63,7 @@ invariant_of-result c =
 
 pub returns : goal.returns
 returns c =
-    let keys = c.into_columns-keys.result.0.items in
+    let keys = c.into_columns-keys.result.0 in
     let events = c.into_columns-keys.result.1 in
     let done = c.in_ok-events.events in
     let shown : List (List ℕ) → List Trace → Log = λ types traces. record { types = types; traces = traces } in

@@ -5,14 +5,14 @@ use Rattle.traces.proofs.builder.TraceSet.trace_count.Goals as goal
 pub overflow_cast-result : goal.overflow_cast-result
 overflow_cast-result c =
     let s = c.self.inside in
-    omega (arith, length-laid s.keys.items s.events.starts.items s.events.numbers.items s.events.times.items, c.self.invariant.0.few_traces, c.self.invariant.0.few_events)
+    omega (arith, length-laid s.keys s.events.starts.items s.events.numbers.items s.events.times.items, c.self.invariant.0.few_traces, c.self.invariant.0.few_events)
 
 pub returns-clause-value : goal.returns-clause-value
 returns-clause-value c =
     let s = c.self.inside in
-    omega (arith, count-shown c.args.self.now s.types s.keys.items s.events.starts.items s.events.numbers.items s.events.times.items c.self.view_is)
+    omega (arith, count-shown c.args.self.now s.types s.keys s.events.starts.items s.events.numbers.items s.events.times.items c.self.view_is)
 
 pub returns-clause-few : goal.returns-clause-few
 returns-clause-few c =
     let s = c.self.inside in
-    omega (arith, length-laid s.keys.items s.events.starts.items s.events.numbers.items s.events.times.items, c.self.invariant.0.few_traces, c.self.invariant.0.few_events)
+    omega (arith, length-laid s.keys s.events.starts.items s.events.numbers.items s.events.times.items, c.self.invariant.0.few_traces, c.self.invariant.0.few_events)

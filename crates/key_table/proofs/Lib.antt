@@ -1,0 +1,7 @@
+pub mod Positions
+pub mod Apart
+pub mod Keys
+pub mod Rest
+pub mod Placed
+pub mod KeyLists
+pub mod Told

@@ -1,0 +1,4 @@
+pub mod Keys
+pub mod Signs
+pub mod KeyLists
+pub mod Placed

@@ -1,0 +1,44 @@
+-- Signs of keys.
+use Rattle.std.specs.Prelude.{ℕ, ◌+◌, ◌*◌, ◌-◌, ◌/◌, ◌%◌, ◌^◌, bit_xor, List, length, take, drop, slice_index, nat_lt, if◌then◌else◌}
+use Rattle.std.specs.List.{fold}
+use Rattle.std.specs.Int.{w32, w64, from_le_bytes}
+use Rattle.key_table.specs.Keys.{Key}
+use Rattle.key_table.specs.declared.sign.Sign.{Sign}
+
+-- the hash after one byte more
+abbrev pub hash_step : ℕ → ℕ → ℕ
+hash_step hash b = (bit_xor hash b * 1099511628211) % 2 ^ 64
+
+-- a hash of bytes
+unfoldable pub hash_of_bytes : List ℕ → ℕ
+hash_of_bytes bytes = fold hash_step 0 bytes
+
+-- the first three bytes as a number
+unfoldable pub small_of : List ℕ → ℕ
+small_of bytes = slice_index bytes 0 + slice_index bytes 1 * 256 + slice_index bytes 2 * 65536
+
+-- the first word of a text, or the hash of one that is longer than two words
+unfoldable pub low_of : List ℕ → ℕ
+low_of bytes =
+    if nat_lt 16 (length bytes) then hash_of_bytes bytes else if nat_lt 7 (length bytes) then from_le_bytes w64 (take 8 (drop 0 bytes)) else if nat_lt 3 (length bytes) then from_le_bytes w32 (take 4 (drop 0 bytes)) else small_of bytes
+
+-- the last word of a text
+unfoldable pub high_of : List ℕ → ℕ
+high_of bytes =
+    if nat_lt 7 (length bytes) then from_le_bytes w64 (take 8 (drop (length bytes - 8) bytes)) else if nat_lt 3 (length bytes) then from_le_bytes w32 (take 4 (drop (length bytes - 4) bytes)) else 0
+
+-- the sign of a key: its numbers, and its text's length and words
+abbrev pub sign_of : Key → Sign
+sign_of key = record { low = low_of key.text; high = high_of key.text; file = key.file; section = key.section; length = length key.text }
+
+-- what a sign is mixed to
+unfoldable pub mix_of : Sign → ℕ
+mix_of sign = bit_xor ((sign.low * 11400714819323198485) % 2 ^ 64) ((bit_xor sign.high (sign.file * 2 ^ 32 + sign.section) * 14029467366897019727) % 2 ^ 64)
+
+-- the first slot in which a key may stand: as many of the upper bits as are not shifted out
+unfoldable pub home_of : ℕ → ℕ → ℕ
+home_of shift mix = mix / 2 ^ 32 / 2 ^ shift
+
+-- what a slot has of it: both halves
+unfoldable pub mark_of : ℕ → ℕ
+mark_of mix = bit_xor (mix / 2 ^ 32) (mix % 2 ^ 32)

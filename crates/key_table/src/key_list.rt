@@ -1,0 +1,129 @@
+//! Keys in a list: a sign of each, and the texts of all behind one another.
+ghost use Rattle.std.specs.Prelude.{ℕ, ◌≡◌, ◌++◌, ◌∷◌, [], ◌<◌, false, length, slice_get, slice_index, OnOk, OnErr, Some};
+ghost use Rattle.std.specs.Option.{option_map_or};
+ghost use Rattle.key_table.specs.Keys.{Key, key_in, key_shown, same_key};
+ghost use Rattle.key_table.specs.Signs.{sign_of};
+
+use crate::key::{KeyParts, ShownKey};
+use crate::sign::{MAX_TOLD, Sign};
+use std::alloc::{AllocError, Global};
+use std::marker::Model;
+
+/// Keys, each at its place.
+///
+/// Contracts see the keys.
+#[derive(Drop)]
+pub struct KeyList {
+    signs: Vec<Sign>,
+    /// Where the text of each starts.
+    starts: Vec<usize>,
+    texts: Vec<u8>,
+}
+
+impl Model for KeyList {
+    ghost use Rattle.std.specs.Prelude.{List};
+    ghost use Rattle.key_table.specs.Keys.{Key};
+    ghost use Rattle.key_table.specs.KeyLists.{keys_in, AreKeysIn};
+
+    ghost Value = { List Key };
+
+    ghost view = { λ l. keys_in l.signs.items l.texts.items };
+
+    ghost invariant = { λ l. AreKeysIn l.signs.items l.starts.items l.texts.items };
+}
+
+/// Tells that bytes are below 256, and does nothing.
+#[inline]
+fn are_bytes(bytes: &[u8])
+    ensures { (i : ℕ) → slice_index bytes.now i < 256 }
+{}
+
+impl KeyList {
+    /// No keys. It takes no memory.
+    pub fn new(alloc: Global) -> KeyList
+        ensures { result ≡ [] }
+    {
+        KeyList {
+            signs: Vec::new(alloc),
+            starts: Vec::new(alloc),
+            texts: Vec::new(alloc),
+        }
+    }
+
+    /// How many keys there are.
+    #[inline]
+    pub fn len(&self) -> usize
+        ensures { result ≡ length self.now }
+    {
+        self.signs.len()
+    }
+
+    /// The key at a place.
+    #[inline]
+    pub fn key(&self, place: usize) -> ShownKey<'_>
+        requires within { place < length self.now }
+        ensures { slice_get self.now place ≡ Some (key_shown result) }
+    {
+        let sign = &self.signs[place];
+        let start = self.starts[place];
+        ShownKey {
+            file: sign.file,
+            section: sign.section,
+            text: &self.texts[start..start + sign.length as usize],
+        }
+    }
+
+    /// The sign of the key at a place.
+    #[inline]
+    pub fn sign(&self, place: usize) -> Sign
+        requires within { place < length self.now }
+        ensures { (k : Key) → slice_get self.now place ≡ Some k → result ≡ sign_of k }
+    {
+        self.signs[place]
+    }
+
+    /// Whether the key with these parts and this sign stands at a place.
+    #[inline]
+    pub fn is_key_at(&self, place: usize, sign: &Sign, parts: &KeyParts<'_>) -> bool
+        requires sign { sign.now ≡ sign_of (key_in parts.now) }
+        ensures { result ≡ option_map_or (same_key (key_in parts.now)) (slice_get self.now place) false }
+    {
+        are_bytes(&self.texts);
+        are_bytes(parts.text.as_bytes());
+        match self.signs.get(place) {
+            Some(known) => {
+                known.is(sign)
+                    && (sign.length as usize <= MAX_TOLD
+                        || self.key(place).text == parts.text.as_bytes())
+            }
+            None => false,
+        }
+    }
+
+    /// Whether the key with these parts stands at a place, told without its sign.
+    #[inline]
+    pub fn has_parts_at(&self, place: usize, parts: &KeyParts<'_>) -> bool
+        ensures { result ≡ option_map_or (same_key (key_in parts.now)) (slice_get self.now place) false }
+    {
+        if place >= self.signs.len() {
+            return false;
+        }
+        let key = self.key(place);
+        parts.file == key.file && parts.section == key.section && parts.text.as_bytes() == key.text
+    }
+
+    /// Puts a key at the end.
+    pub fn push(&mut self, sign: Sign, parts: &KeyParts<'_>) -> Result<(), AllocError>
+        requires sign { sign ≡ sign_of (key_in parts.now) }
+        ensures ok { OnOk result (self.new ≡ self.old ++ key_in parts.now ∷ []) }
+        ensures err { OnErr result (self.new ≡ self.old) }
+    {
+        self.signs.reserve(1)?;
+        self.starts.reserve(1)?;
+        let start = self.texts.len();
+        self.texts.extend_from_slice(parts.text.as_bytes())?;
+        self.starts.push_reserved(start);
+        self.signs.push_reserved(sign);
+        Ok(())
+    }
+}

@@ -1,0 +1,13 @@
+//! The keys of traces in the order first met, each at its place.
+#![tactic(auto)]
+
+mod key;
+mod key_list;
+mod sign;
+mod slots;
+mod table;
+
+pub use key::{KeyParts, ShownKey};
+pub use key_list::KeyList;
+pub use sign::Sign;
+pub use table::KeyTable;

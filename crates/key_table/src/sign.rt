@@ -1,0 +1,173 @@
+//! Signs of keys: numbers by which most keys are told apart.
+ghost use Rattle.std.specs.Prelude.{◌≡◌, ◌≤◌, ◌<◌, ◌+◌, ◌^◌, ◌↔◌, true, length, take, drop, slice_index};
+ghost use Rattle.std.specs.Int.{w32, w64, from_le_bytes};
+ghost use Rattle.key_table.specs.Keys.{key_in};
+ghost use Rattle.key_table.specs.Signs.{hash_of_bytes, small_of, low_of, high_of, sign_of, mix_of, home_of, mark_of};
+
+use crate::key::KeyParts;
+
+/// How many bytes of a text are told whole by its two words.
+pub const MAX_TOLD: usize = 16;
+
+/// How many bytes a word has.
+const WORD: usize = 8;
+
+/// How many bytes half a word has.
+const HALF: usize = 4;
+
+/// The multiplier of the hash of a long text.
+const FACTOR: u64 = 1_099_511_628_211;
+
+/// The multipliers of what is mixed of a sign.
+const LOW_FACTOR: u64 = 0x9e37_79b9_7f4a_7c15;
+
+const HIGH_FACTOR: u64 = 0xc2b2_ae3d_27d4_eb4f;
+
+/// The numbers of a key, the length of its text, and two words of it. Short texts of one length have the same words only
+/// where they are equal.
+#[derive(Clone, Copy)]
+pub struct Sign {
+    pub low: u64,
+    pub high: u64,
+    pub file: u32,
+    pub section: u32,
+    pub length: u32,
+}
+
+/// A hash of bytes.
+fn hash_of(bytes: &[u8]) -> u64
+    ensures { result ≡ hash_of_bytes bytes.now }
+{
+    let mut hash = 0u64;
+    for b in bytes {
+        hash = (hash ^ u64::from(*b)).wrapping_mul(FACTOR);
+    }
+    hash
+}
+
+/// Eight bytes as a number, the lowest first.
+fn word_at(bytes: &[u8], at: usize) -> u64
+    requires { at + 8 ≤ length bytes.now }
+    ensures { result ≡ from_le_bytes w64 (take 8 (drop at bytes.now)) }
+{
+    let b = &bytes[at..at + WORD];
+    u64::from_le_bytes([b[0], b[1], b[2], b[3], b[4], b[5], b[6], b[7]])
+}
+
+/// Four bytes as a number, the lowest first.
+fn half_at(bytes: &[u8], at: usize) -> u64
+    requires { at + 4 ≤ length bytes.now }
+    ensures { result ≡ from_le_bytes w32 (take 4 (drop at bytes.now)) }
+{
+    let b = &bytes[at..at + HALF];
+    u64::from(u32::from_le_bytes([b[0], b[1], b[2], b[3]]))
+}
+
+/// The byte at a place, or 0 where there is none.
+fn byte_or(bytes: &[u8], at: usize) -> u64
+    ensures { result ≡ slice_index bytes.now at }
+{
+    match bytes.get(at) {
+        Some(byte) => u64::from(*byte),
+        None => 0,
+    }
+}
+
+/// The first three bytes as a number.
+#[tactic(auto, unfolding(crate::specs::Signs::small_of))]
+fn small_word(bytes: &[u8]) -> u64
+    ensures { result ≡ small_of bytes.now }
+{
+    byte_or(bytes, 0) + byte_or(bytes, 1) * 0x100 + byte_or(bytes, 2) * 0x1_0000
+}
+
+/// The first word of a text; of one that is too long to be told whole, its hash.
+#[tactic(auto, unfolding(crate::specs::Signs::low_of))]
+fn low_word(bytes: &[u8]) -> u64
+    ensures { result ≡ low_of bytes.now }
+{
+    if bytes.len() > MAX_TOLD {
+        return hash_of(bytes);
+    }
+    if bytes.len() >= WORD {
+        return word_at(bytes, 0);
+    }
+    if bytes.len() >= HALF {
+        return half_at(bytes, 0);
+    }
+    small_word(bytes)
+}
+
+/// The last word of a text.
+#[tactic(auto, unfolding(crate::specs::Signs::high_of))]
+fn high_word(bytes: &[u8]) -> u64
+    ensures { result ≡ high_of bytes.now }
+{
+    if bytes.len() >= WORD {
+        return word_at(bytes, bytes.len() - WORD);
+    }
+    if bytes.len() >= HALF {
+        return half_at(bytes, bytes.len() - HALF);
+    }
+    0
+}
+
+impl Sign {
+    /// The sign of the key with these parts.
+    #[inline]
+    pub fn of(parts: &KeyParts<'_>) -> Sign
+        requires short { length parts.now.text.now < 2 ^ 32 }
+        ensures { result ≡ sign_of (key_in parts.now) }
+    {
+        let bytes = parts.text.as_bytes();
+        Sign {
+            low: low_word(bytes),
+            high: high_word(bytes),
+            file: parts.file,
+            section: parts.section,
+            length: bytes.len() as u32,
+        }
+    }
+
+    /// Whether it is this sign.
+    #[inline]
+    pub fn is(&self, other: &Sign) -> bool
+        ensures { (result ≡ true) ↔ (self.now ≡ other.now) }
+    {
+        self.low == other.low
+            && self.high == other.high
+            && self.file == other.file
+            && self.section == other.section
+            && self.length == other.length
+    }
+
+    /// What the sign is mixed to.
+    #[inline]
+    #[tactic(auto, unfolding(crate::specs::Signs::mix_of))]
+    pub fn mix(&self) -> u64
+        ensures { result ≡ mix_of self.now }
+    {
+        let numbers = u64::from(self.file) * 0x1_0000_0000 + u64::from(self.section);
+        self.low.wrapping_mul(LOW_FACTOR) ^ (self.high ^ numbers).wrapping_mul(HIGH_FACTOR)
+    }
+}
+
+/// The first slot in which a key may stand, by what its sign is mixed to.
+#[inline]
+#[tactic(auto, unfolding(crate::specs::Signs::home_of))]
+pub fn home_of_mix(mix: u64, shift: u32) -> usize
+    requires { shift < 32 }
+    ensures value { result ≡ home_of shift mix }
+    ensures few { result < 2 ^ 32 }
+{
+    (((mix >> 32) as u32) >> shift) as usize
+}
+
+/// What a slot has of the mixed sign: both halves, since the lower one does not depend on the last bytes of a word.
+#[inline]
+#[tactic(auto, unfolding(crate::specs::Signs::mark_of))]
+pub fn mark_of_mix(mix: u64) -> u32
+    ensures { result ≡ mark_of mix }
+{
+    (mix >> 32) as u32 ^ (mix % 0x1_0000_0000) as u32
+}

@@ -1,0 +1,339 @@
+//! The table of the keys: slots that say at which place a key stands, and whether it is new.
+ghost use Rattle.std.specs.Prelude.{◌≡◌, ◌++◌, ◌∷◌, [], ◌<◌, ◌-◌, ◌^◌, List, length, IfOk, OnOk, OnErr, IfSome, slice_get, false, Ok, Some, None};
+ghost use Rattle.std.specs.List.{list_any, position_or_len};
+ghost use Rattle.key_table.specs.Keys.{AreApart, key_in, key_shown, same_key, with_new};
+ghost use Rattle.key_table.specs.Signs.{sign_of, mix_of, mark_of};
+ghost use Rattle.key_table.specs.Placed.{AreKeysPlaced, ArePlaced, GrowsAt, KeepsPlaced, RestGrows, StandsNowhere, key_home, rest_place};
+
+use crate::key::{KeyParts, ShownKey};
+use crate::key_list::KeyList;
+use crate::sign::{Sign, home_of_mix, mark_of_mix};
+use crate::slots::{EMPTY, Slot, WINDOW, first_empty};
+use std::alloc::{AllocError, Global};
+use std::collections::BTreeMap;
+use std::marker::Model;
+
+/// How many bits of a mixed sign choose the first homes.
+const FIRST_BITS: u32 = 10;
+
+/// How many bits of a home there are at most.
+const MAX_BITS: u32 = 32;
+
+/// Keys in the order first met, each once.
+///
+/// The place of each is in a slot from its home on, or else, where all of these are taken, among the rest. So a slot that
+/// is found empty says that a key is new, and an ordered map is asked only where many keys have one home.
+///
+/// Contracts see the keys.
+#[derive(Drop)]
+pub struct KeyTable {
+    keys: KeyList,
+    slots: Vec<Slot>,
+    /// How far the upper half of a mixed sign is shifted to give the home.
+    shift: u32,
+    rest: BTreeMap<(u32, u32, String), usize>,
+}
+
+impl Model for KeyTable {
+    ghost use Rattle.std.specs.Prelude.{List, ◌<◌};
+    ghost use Rattle.key_table.specs.Keys.{Key};
+    ghost use Rattle.key_table.specs.Placed.{AreKeysPlaced};
+
+    ghost Value = { List Key };
+
+    ghost view = { λ t. t.keys };
+
+    ghost invariant = { λ t. AreKeysPlaced t.slots.items t.shift t.rest.entries t.keys × (t.shift < 32) };
+}
+
+/// The place of a key to which a slot leads, from its home on.
+#[inline]
+fn find(
+    keys: &KeyList,
+    slots: &[Slot],
+    home: usize,
+    mark: u32,
+    sign: &Sign,
+    parts: &KeyParts<'_>,
+) -> Option<usize>
+    requires sign { sign.now ≡ sign_of (key_in parts.now) }
+    requires mark { mark ≡ mark_of (mix_of sign.now) }
+    requires few { home < 2 ^ 32 }
+    ensures some { IfSome result (λ place. slice_get keys.now place ≡ Some (key_in parts.now)) }
+    ensures none { result ≡ None → StandsNowhere keys.now slots.now home (key_in parts.now) }
+{
+    for i in 0..WINDOW {
+        if let Some(slot) = slots.get(home + i) {
+            let place = slot.place as usize;
+            if slot.mark == mark && keys.is_key_at(place, sign, parts) {
+                return Some(place);
+            }
+        }
+    }
+    None
+}
+
+/// The place that the rest have for the key with these parts.
+fn place_in(
+    alloc: Global,
+    rest: &BTreeMap<(u32, u32, String), usize>,
+    parts: &KeyParts<'_>,
+) -> Result<Option<usize>, AllocError>
+    ensures { IfOk result (λ place. place ≡ rest_place rest.now.entries (key_in parts.now)) }
+{
+    let text = String::from_str(alloc, parts.text)?;
+    match rest.get(&(parts.file, parts.section, text)) {
+        Some(place) => Ok(Some(*place)),
+        None => Ok(None),
+    }
+}
+
+/// The place of a key to which no slot leads, if it is there.
+fn find_in_rest(
+    alloc: Global,
+    keys: &KeyList,
+    slots: &[Slot],
+    shift: u32,
+    rest: &BTreeMap<(u32, u32, String), usize>,
+    sign: &Sign,
+    parts: &KeyParts<'_>,
+) -> Result<Option<usize>, AllocError>
+    requires shift { shift < 32 }
+    requires sign { sign.now ≡ sign_of (key_in parts.now) }
+    requires placed { ArePlaced slots.now shift rest.now.entries keys.now }
+    requires nowhere { StandsNowhere keys.now slots.now (key_home shift (key_in parts.now)) (key_in parts.now) }
+    ensures some { IfOk result (λ found. IfSome found (λ place. slice_get keys.now place ≡ Some (key_in parts.now))) }
+    ensures none { result ≡ Ok None → list_any (same_key (key_in parts.now)) keys.now ≡ false }
+{
+    if let Some(_) = first_empty(slots, home_of_mix(sign.mix(), shift)) {
+        return Ok(None);
+    }
+    match place_in(alloc, rest, parts)? {
+        Some(place) if keys.is_key_at(place, sign, parts) => Ok(Some(place)),
+        _ => Ok(None),
+    }
+}
+
+/// Puts the place of a key among the rest.
+fn put_in(
+    alloc: Global,
+    rest: &mut BTreeMap<(u32, u32, String), usize>,
+    file: u32,
+    section: u32,
+    text: &str,
+    place: usize,
+) -> Result<(), AllocError>
+    ensures ok { OnOk result (RestGrows rest.old.entries rest.new.entries
+        (record { file = file; section = section; text = text.now }) place) }
+    ensures err { OnErr result (rest.new.entries ≡ rest.old.entries) }
+{
+    let text = String::from_str(alloc, text)?;
+    rest.insert((file, section, text), place)?;
+    Ok(())
+}
+
+/// Puts a new key at the end, and its place in a slot, or else among the rest.
+fn begin(
+    alloc: Global,
+    keys: &mut KeyList,
+    slots: &mut Vec<Slot>,
+    shift: u32,
+    rest: &mut BTreeMap<(u32, u32, String), usize>,
+    sign: Sign,
+    parts: &KeyParts<'_>,
+) -> Result<(), AllocError>
+    requires shift { shift < 32 }
+    requires few { length keys.old < 2 ^ 32 - 1 }
+    requires sign { sign ≡ sign_of (key_in parts.now) }
+    requires placed { AreKeysPlaced slots.old.items shift rest.old.entries keys.old }
+    requires new { list_any (same_key (key_in parts.now)) keys.old ≡ false }
+    ensures ok { OnOk result (keys.new ≡ keys.old ++ key_in parts.now ∷ []) }
+    ensures err { OnErr result (keys.new ≡ keys.old) }
+    ensures placed { AreKeysPlaced slots.new.items shift rest.new.entries keys.new }
+{
+    let mix = sign.mix();
+    let place = keys.len();
+    match first_empty(slots.as_slice(), home_of_mix(mix, shift)) {
+        Some(at) => {
+            keys.push(sign, parts)?;
+            slots[at] = Slot {
+                mark: mark_of_mix(mix),
+                place: place as u32,
+            };
+            Ok(())
+        }
+        None => {
+            put_in(alloc, rest, parts.file, parts.section, parts.text, place)?;
+            keys.push(sign, parts)
+        }
+    }
+}
+
+/// Puts the place of a key that is there among the rest.
+fn put_known(
+    alloc: Global,
+    keys: &KeyList,
+    place: usize,
+    rest: &mut BTreeMap<(u32, u32, String), usize>,
+) -> Result<(), AllocError>
+    requires within { place < length keys.now }
+    ensures ok { OnOk result (GrowsAt keys.now rest.old.entries rest.new.entries place) }
+    ensures err { OnErr result (rest.new.entries ≡ rest.old.entries) }
+{
+    let key = keys.key(place);
+    match std::str::from_utf8(key.text) {
+        Ok(text) => put_in(alloc, rest, key.file, key.section, text, place),
+        Err(_) => Err(AllocError),
+    }
+}
+
+/// Slots in which the keys stand by this shift. One whose slots are all taken is put among the rest.
+fn spread(
+    alloc: Global,
+    keys: &KeyList,
+    shift: u32,
+    rest: &mut BTreeMap<(u32, u32, String), usize>,
+) -> Result<Vec<Slot>, AllocError>
+    requires shift { shift < 32 }
+    requires few { length keys.now < 2 ^ 32 - 1 }
+    requires apart { AreApart same_key keys.now }
+    ensures kept { KeepsPlaced keys.now rest.old.entries rest.new.entries }
+    ensures ok { IfOk result (λ slots. ArePlaced slots.items shift rest.new.entries keys.now) }
+{
+    let wanted = (1usize << (MAX_BITS - shift)).saturating_add(WINDOW);
+    let mut slots = vec![in alloc; EMPTY; wanted]?;
+    for place in 0..keys.len() {
+        let mix = keys.sign(place).mix();
+        match first_empty(slots.as_slice(), home_of_mix(mix, shift)) {
+            Some(at) => {
+                slots[at] = Slot {
+                    mark: mark_of_mix(mix),
+                    place: place as u32,
+                };
+            }
+            None => put_known(alloc, keys, place, rest)?,
+        }
+    }
+    Ok(slots)
+}
+
+impl KeyTable {
+    /// No keys. It takes no memory.
+    pub fn new(alloc: Global) -> KeyTable
+        ensures { result ≡ [] }
+    {
+        KeyTable {
+            keys: KeyList::new(alloc),
+            slots: Vec::new(alloc),
+            shift: MAX_BITS - FIRST_BITS,
+            rest: BTreeMap::new(alloc),
+        }
+    }
+
+    /// How many keys there are.
+    pub fn len(&self) -> usize
+        ensures { result ≡ length self.now }
+    {
+        self.keys.len()
+    }
+
+    /// The key at a place.
+    pub fn key(&self, place: usize) -> ShownKey<'_>
+        requires within { place < length self.now }
+        ensures { slice_get self.now place ≡ Some (key_shown result) }
+    {
+        self.keys.key(place)
+    }
+
+    /// Makes more slots where there are fewer than two for each key. Without memory for them it leaves those that there
+    /// are.
+    fn grow(&mut self, alloc: Global)
+        requires few { length self.old < 2 ^ 32 - 1 }
+        ensures { self.new ≡ self.old }
+    {
+        if self.keys.len() < self.slots.len() / 2 {
+            return;
+        }
+        let shift = if self.slots.is_empty() {
+            self.shift
+        } else {
+            self.shift.saturating_sub(2)
+        };
+        if let Ok(slots) = spread(alloc, &self.keys, shift, &mut self.rest) {
+            self.slots = slots;
+            self.shift = shift;
+        }
+    }
+
+    /// Where the key with these parts stands, counted from 0 in the order first met; where it is new it is put at the
+    /// end. A place at which it may well stand is looked at first; which one that is changes only the time. Where memory
+    /// is wanted, the keys are as before. A text has fewer than 2^32 bytes, and there are fewer than 2^32 - 1 keys.
+    pub fn place_or_put(
+        &mut self,
+        alloc: Global,
+        near: usize,
+        parts: &KeyParts<'_>,
+    ) -> Result<usize, AllocError>
+        requires short { length parts.now.text.now < 2 ^ 32 }
+        requires few { length self.old < 2 ^ 32 - 1 }
+        ensures place { IfOk result (λ place. place
+            ≡ position_or_len (same_key (key_in parts.now)) self.old) }
+        ensures ok { OnOk result (self.new ≡ with_new same_key self.old (key_in parts.now)) }
+        ensures err { OnErr result (self.new ≡ self.old) }
+    {
+        if self.keys.has_parts_at(near, parts) {
+            return Ok(near);
+        }
+        let sign = Sign::of(parts);
+        let mix = sign.mix();
+        let home = home_of_mix(mix, self.shift);
+        if let Some(place) = find(
+            &self.keys,
+            self.slots.as_slice(),
+            home,
+            mark_of_mix(mix),
+            &sign,
+            parts,
+        ) {
+            return Ok(place);
+        }
+        if let Some(place) = find_in_rest(
+            alloc,
+            &self.keys,
+            self.slots.as_slice(),
+            self.shift,
+            &self.rest,
+            &sign,
+            parts,
+        )? {
+            return Ok(place);
+        }
+        self.grow(alloc);
+        let end = self.keys.len();
+        begin(
+            alloc,
+            &mut self.keys,
+            &mut self.slots,
+            self.shift,
+            &mut self.rest,
+            sign,
+            parts,
+        )?;
+        Ok(end)
+    }
+
+    /// The keys alone.
+    pub fn into_keys(self) -> KeyList
+        ensures { result ≡ self }
+    {
+        let KeyTable {
+            keys,
+            slots,
+            shift: _,
+            rest,
+        } = self;
+        drop(slots);
+        drop(rest);
+        keys
+    }
+}
