@@ -49,3 +49,10 @@ returns-clause-opens g c =
     let all : k ≡ length (names_in c.args.names.now) =
     all-inputs string_bytes c.args.names.now k c.max-number-end.result c.max-number-end.ensures c.loop-number.auto.number-end c.loop-number-test.false in
     omega (arith, all, opened-few (g.I.Inputs.state c.args.inputs.now).opens (g.I.Inputs.state c.loop-number.inputs).opens k c.loop-number.invariant.inputs.none c.loop-number.invariant.inputs.some)
+
+pub returns-in_err-finish-clause-opens : goal.returns-in_err-finish-clause-opens
+returns-in_err-finish-clause-opens g c =
+    let k = c.loop-number.number in
+    let all : k ≡ length (names_in c.args.names.now) =
+    all-inputs string_bytes c.args.names.now k c.max-number-end.result c.max-number-end.ensures c.loop-number.auto.number-end c.loop-number-test.false in
+    omega (arith, all, opened-few (g.I.Inputs.state c.args.inputs.now).opens (g.I.Inputs.state c.loop-number.inputs).opens k c.loop-number.invariant.inputs.none c.loop-number.invariant.inputs.some)
