@@ -6,7 +6,7 @@ mod events;
 #[cfg(test)]
 mod keys;
 #[cfg(test)]
-mod lines;
+mod line_by_line;
 #[cfg(test)]
 mod logs;
 #[cfg(test)]
