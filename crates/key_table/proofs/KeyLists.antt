@@ -36,19 +36,6 @@ keys_in-at (x ∷ signs) texts (suc i) sign at =
     keys_in-at signs (drop x.length texts) i sign at
     ∙ ap (λ (rest : List ℕ). Some (K rest)) (drop-drop (length_of (take i signs)) x.length texts ∙ ap (λ n. drop n texts) start)
 
--- the text of the key at a place is inside the texts
-pub text-inside : (signs : List Sign) (i : ℕ) (sign : Sign) → slice_get signs i ≡ Some sign → length_of (take i signs) + sign.length ≤ length_of signs
-text-inside [] i sign at = absurd (none-some sign at)
-text-inside (x ∷ signs) zero sign at =
-    let same : x.length ≡ sign.length = ap (λ (s : Sign). s.length) (same_Some x sign at) in
-    let all : length_of (x ∷ signs) ≡ x.length + length_of signs = length_of-cons x signs in
-    omega (arith, same, all)
-text-inside (x ∷ signs) (suc i) sign at =
-    let before : length_of (x ∷ take i signs) ≡ x.length + length_of (take i signs) = length_of-cons x (take i signs) in
-    let all : length_of (x ∷ signs) ≡ x.length + length_of signs = length_of-cons x signs in
-    let rest : length_of (take i signs) + sign.length ≤ length_of signs = text-inside signs i sign at in
-    omega (arith, before, all, rest)
-
 -- the sign at a place is that of the key there
 pub signed-at : (signs : List Sign) (starts texts : List ℕ) (i : ℕ) (sign : Sign) (key : Key) → AreKeysIn signs starts texts → slice_get signs i ≡ Some sign
     → slice_get (keys_in signs texts) i ≡ Some key → sign ≡ sign_of key

@@ -9,6 +9,8 @@ use Rattle.std.specs.List.{slice_get, list_any, position_or_len}
 use Rattle.std.specs.Option.{option_map_or}
 use Rattle.std.specs.Str.{bytes_eq}
 use Rattle.key_table.specs.Keys.{Key, same_key, with_new, AreApart}
+use Rattle.key_table.specs.Signs.{sign_of}
+use Rattle.key_table.specs.declared.sign.Sign.{Sign}
 use Rattle.key_table.proofs.Apart.{apart-place}
 use Rattle.key_table.proofs.Positions.{position-all}
 
@@ -72,6 +74,12 @@ key-at keys i key apart at = sym (apart-place same_key same_key-Decides keys i k
 -- a key stands at one place alone
 pub one-place : (keys : List Key) (i j : ℕ) (key : Key) → AreApart same_key keys → slice_get keys i ≡ Some key → slice_get keys j ≡ Some key → i ≡ j
 one-place keys i j key apart at_i at_j = key-at keys i key apart at_i ∙ sym (key-at keys j key apart at_j)
+
+-- a key by the numbers of its sign and its text
+pub by-sign : (key : Key) (sign : Sign) (text : List ℕ) → sign ≡ sign_of key → text ≡ key.text → record { file = sign.file; section = sign.section; text = text } ≡ key
+by-sign key sign text signed same =
+    let K : ℕ → ℕ → List ℕ → Key = λ f s t. record { file = f; section = s; text = t } in
+    ap (λ t. K sign.file sign.section t) same ∙ ap (λ (s : Sign). K s.file s.section key.text) signed
 
 -- a key at which a test passes
 pub key-told : (found : Option Key) (key : Key) → option_map_or (same_key key) found false ≡ true → found ≡ Some key

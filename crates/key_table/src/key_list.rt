@@ -6,6 +6,7 @@ ghost use Rattle.key_table.specs.Signs.{sign_of};
 
 use crate::key::{KeyParts, ShownKey};
 use crate::sign::{MAX_TOLD, Sign};
+use crate::signed_key::SignedKey;
 use std::alloc::{AllocError, Global};
 use std::marker::Model;
 
@@ -82,19 +83,19 @@ impl KeyList {
         self.signs[place]
     }
 
-    /// Whether the key with these parts and this sign stands at a place.
+    /// Whether a key stands at a place.
     #[inline]
-    pub fn is_key_at(&self, place: usize, sign: &Sign, parts: &KeyParts<'_>) -> bool
-        requires sign { sign.now ≡ sign_of (key_in parts.now) }
-        ensures { result ≡ option_map_or (same_key (key_in parts.now)) (slice_get self.now place) false }
+    pub fn is_key_at(&self, place: usize, key: &SignedKey<'_>) -> bool
+        ensures { result ≡ option_map_or (same_key key.now) (slice_get self.now place) false }
     {
+        let sign = key.sign();
+        let text = key.text().as_bytes();
         are_bytes(&self.texts);
-        are_bytes(parts.text.as_bytes());
+        are_bytes(text);
         match self.signs.get(place) {
             Some(known) => {
-                known.is(sign)
-                    && (sign.length as usize <= MAX_TOLD
-                        || self.key(place).text == parts.text.as_bytes())
+                known.is(&sign)
+                    && (sign.length as usize <= MAX_TOLD || self.key(place).text == text)
             }
             None => false,
         }
@@ -113,17 +114,16 @@ impl KeyList {
     }
 
     /// Puts a key at the end.
-    pub fn push(&mut self, sign: Sign, parts: &KeyParts<'_>) -> Result<(), AllocError>
-        requires sign { sign ≡ sign_of (key_in parts.now) }
-        ensures ok { OnOk result (self.new ≡ self.old ++ key_in parts.now ∷ []) }
+    pub fn push(&mut self, key: &SignedKey<'_>) -> Result<(), AllocError>
+        ensures ok { OnOk result (self.new ≡ self.old ++ key.now ∷ []) }
         ensures err { OnErr result (self.new ≡ self.old) }
     {
         self.signs.reserve(1)?;
         self.starts.reserve(1)?;
         let start = self.texts.len();
-        self.texts.extend_from_slice(parts.text.as_bytes())?;
+        self.texts.extend_from_slice(key.text().as_bytes())?;
         self.starts.push_reserved(start);
-        self.signs.push_reserved(sign);
+        self.signs.push_reserved(key.sign());
         Ok(())
     }
 }

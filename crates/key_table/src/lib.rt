@@ -4,6 +4,7 @@
 mod key;
 mod key_list;
 mod sign;
+mod signed_key;
 mod slots;
 mod table;
 

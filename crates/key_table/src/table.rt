@@ -7,7 +7,8 @@ ghost use Rattle.key_table.specs.Placed.{AreKeysPlaced, ArePlaced, GrowsAt, Keep
 
 use crate::key::{KeyParts, ShownKey};
 use crate::key_list::KeyList;
-use crate::sign::{Sign, home_of_mix, mark_of_mix};
+use crate::sign::{MAX_TOLD, home_of_mix, mark_of_mix};
+use crate::signed_key::SignedKey;
 use crate::slots::{EMPTY, Slot, WINDOW, first_empty};
 use std::alloc::{AllocError, Global};
 use std::collections::BTreeMap;
@@ -53,19 +54,17 @@ fn find(
     slots: &[Slot],
     home: usize,
     mark: u32,
-    sign: &Sign,
-    parts: &KeyParts<'_>,
+    key: &SignedKey<'_>,
 ) -> Option<usize>
-    requires sign { sign.now ≡ sign_of (key_in parts.now) }
-    requires mark { mark ≡ mark_of (mix_of sign.now) }
+    requires mark { mark ≡ mark_of (mix_of (sign_of key.now)) }
     requires few { home < 2 ^ 32 }
-    ensures some { IfSome result (λ place. slice_get keys.now place ≡ Some (key_in parts.now)) }
-    ensures none { result ≡ None → StandsNowhere keys.now slots.now home (key_in parts.now) }
+    ensures some { IfSome result (λ place. slice_get keys.now place ≡ Some key.now) }
+    ensures none { result ≡ None → StandsNowhere keys.now slots.now home key.now }
 {
     for i in 0..WINDOW {
         if let Some(slot) = slots.get(home + i) {
             let place = slot.place as usize;
-            if slot.mark == mark && keys.is_key_at(place, sign, parts) {
+            if slot.mark == mark && keys.is_key_at(place, key) {
                 return Some(place);
             }
         }
@@ -73,16 +72,17 @@ fn find(
     None
 }
 
-/// The place that the rest have for the key with these parts.
+/// The place that the rest have for a key.
 fn place_in(
     alloc: Global,
     rest: &BTreeMap<(u32, u32, String), usize>,
-    parts: &KeyParts<'_>,
+    key: &SignedKey<'_>,
 ) -> Result<Option<usize>, AllocError>
-    ensures { IfOk result (λ place. place ≡ rest_place rest.now.entries (key_in parts.now)) }
+    ensures { IfOk result (λ place. place ≡ rest_place rest.now.entries key.now) }
 {
-    let text = String::from_str(alloc, parts.text)?;
-    match rest.get(&(parts.file, parts.section, text)) {
+    let sign = key.sign();
+    let text = String::from_str(alloc, key.text())?;
+    match rest.get(&(sign.file, sign.section, text)) {
         Some(place) => Ok(Some(*place)),
         None => Ok(None),
     }
@@ -95,21 +95,19 @@ fn find_in_rest(
     slots: &[Slot],
     shift: u32,
     rest: &BTreeMap<(u32, u32, String), usize>,
-    sign: &Sign,
-    parts: &KeyParts<'_>,
+    key: &SignedKey<'_>,
 ) -> Result<Option<usize>, AllocError>
     requires shift { shift < 32 }
-    requires sign { sign.now ≡ sign_of (key_in parts.now) }
     requires placed { ArePlaced slots.now shift rest.now.entries keys.now }
-    requires nowhere { StandsNowhere keys.now slots.now (key_home shift (key_in parts.now)) (key_in parts.now) }
-    ensures some { IfOk result (λ found. IfSome found (λ place. slice_get keys.now place ≡ Some (key_in parts.now))) }
-    ensures none { result ≡ Ok None → list_any (same_key (key_in parts.now)) keys.now ≡ false }
+    requires nowhere { StandsNowhere keys.now slots.now (key_home shift key.now) key.now }
+    ensures some { IfOk result (λ found. IfSome found (λ place. slice_get keys.now place ≡ Some key.now)) }
+    ensures none { result ≡ Ok None → list_any (same_key key.now) keys.now ≡ false }
 {
-    if let Some(_) = first_empty(slots, home_of_mix(sign.mix(), shift)) {
+    if let Some(_) = first_empty(slots, home_of_mix(key.sign().mix(), shift)) {
         return Ok(None);
     }
-    match place_in(alloc, rest, parts)? {
-        Some(place) if keys.is_key_at(place, sign, parts) => Ok(Some(place)),
+    match place_in(alloc, rest, key)? {
+        Some(place) if keys.is_key_at(place, key) => Ok(Some(place)),
         _ => Ok(None),
     }
 }
@@ -139,23 +137,22 @@ fn begin(
     slots: &mut Vec<Slot>,
     shift: u32,
     rest: &mut BTreeMap<(u32, u32, String), usize>,
-    sign: Sign,
-    parts: &KeyParts<'_>,
+    key: &SignedKey<'_>,
 ) -> Result<(), AllocError>
     requires shift { shift < 32 }
     requires few { length keys.old < 2 ^ 32 - 1 }
-    requires sign { sign ≡ sign_of (key_in parts.now) }
     requires placed { AreKeysPlaced slots.old.items shift rest.old.entries keys.old }
-    requires new { list_any (same_key (key_in parts.now)) keys.old ≡ false }
-    ensures ok { OnOk result (keys.new ≡ keys.old ++ key_in parts.now ∷ []) }
+    requires new { list_any (same_key key.now) keys.old ≡ false }
+    ensures ok { OnOk result (keys.new ≡ keys.old ++ key.now ∷ []) }
     ensures err { OnErr result (keys.new ≡ keys.old) }
     ensures placed { AreKeysPlaced slots.new.items shift rest.new.entries keys.new }
 {
+    let sign = key.sign();
     let mix = sign.mix();
     let place = keys.len();
     match first_empty(slots.as_slice(), home_of_mix(mix, shift)) {
         Some(at) => {
-            keys.push(sign, parts)?;
+            keys.push(key)?;
             slots[at] = Slot {
                 mark: mark_of_mix(mix),
                 place: place as u32,
@@ -163,8 +160,8 @@ fn begin(
             Ok(())
         }
         None => {
-            put_in(alloc, rest, parts.file, parts.section, parts.text, place)?;
-            keys.push(sign, parts)
+            put_in(alloc, rest, sign.file, sign.section, key.text(), place)?;
+            keys.push(key)
         }
     }
 }
@@ -265,6 +262,21 @@ impl KeyTable {
         }
     }
 
+    /// The place of a key, if it is there.
+    #[inline]
+    fn place_of(&self, alloc: Global, key: &SignedKey<'_>) -> Result<Option<usize>, AllocError>
+        ensures some { IfOk result (λ found. IfSome found (λ place. slice_get self.now place ≡ Some key.now)) }
+        ensures none { result ≡ Ok None → list_any (same_key key.now) self.now ≡ false }
+    {
+        let mix = key.sign().mix();
+        let home = home_of_mix(mix, self.shift);
+        let slots = self.slots.as_slice();
+        if let Some(place) = find(&self.keys, slots, home, mark_of_mix(mix), key) {
+            return Ok(Some(place));
+        }
+        find_in_rest(alloc, &self.keys, slots, self.shift, &self.rest, key)
+    }
+
     /// Where the key with these parts stands, counted from 0 in the order first met; where it is new it is put at the
     /// end. A place at which it may well stand is looked at first; which one that is changes only the time. Where memory
     /// is wanted, the keys are as before. A text has fewer than 2^32 bytes, and there are fewer than 2^32 - 1 keys.
@@ -281,31 +293,14 @@ impl KeyTable {
         ensures ok { OnOk result (self.new ≡ with_new same_key self.old (key_in parts.now)) }
         ensures err { OnErr result (self.new ≡ self.old) }
     {
-        if self.keys.has_parts_at(near, parts) {
+        if parts.text.len() > MAX_TOLD && self.keys.has_parts_at(near, parts) {
             return Ok(near);
         }
-        let sign = Sign::of(parts);
-        let mix = sign.mix();
-        let home = home_of_mix(mix, self.shift);
-        if let Some(place) = find(
-            &self.keys,
-            self.slots.as_slice(),
-            home,
-            mark_of_mix(mix),
-            &sign,
-            parts,
-        ) {
-            return Ok(place);
+        let key = SignedKey::of(parts);
+        if self.keys.is_key_at(near, &key) {
+            return Ok(near);
         }
-        if let Some(place) = find_in_rest(
-            alloc,
-            &self.keys,
-            self.slots.as_slice(),
-            self.shift,
-            &self.rest,
-            &sign,
-            parts,
-        )? {
+        if let Some(place) = self.place_of(alloc, &key)? {
             return Ok(place);
         }
         self.grow(alloc);
@@ -316,8 +311,7 @@ impl KeyTable {
             &mut self.slots,
             self.shift,
             &mut self.rest,
-            sign,
-            parts,
+            &key,
         )?;
         Ok(end)
     }

@@ -1,15 +1,16 @@
 use Rattle.std.proofs.Common.{◌≡◌, ℕ, List, length, slice_set, true, refl, sym, subst, arith}
-use Rattle.key_table.specs.Keys.{Key, key_in}
+use Rattle.key_table.specs.Keys.{Key}
 use Rattle.key_table.specs.Placed.{is_empty_at, slot_of, IsFull, RestGrows, AreKeysPlaced}
 use Rattle.key_table.specs.declared.slots.Slot.{Slot}
+use Rattle.key_table.proofs.Keys.{by-sign}
 use Rattle.key_table.proofs.Placed.{home-is, slot-is, begun-in-slot, begun-by-rest}
 use Rattle.key_table.proofs.table.begin.Goals as goal
 
 pub returns-in_ok-push-in-Some-clause-placed : goal.returns-in_ok-push-in-Some-clause-placed
 returns-in_ok-push-in-Some-clause-placed c =
-    let key : Key = key_in c.args.parts.now in
-    let home = home-is key c.args.sign c.mix-mix.result c.args.shift c.home_of_mix.result c.requires.sign c.mix-mix.ensures c.home_of_mix.ensures.value in
-    let slot = slot-is key c.args.sign c.mix-mix.result c.mark_of_mix.result c.len-place.result c.requires.sign c.mix-mix.ensures c.mark_of_mix.ensures in
+    let key : Key = c.args.key.now in
+    let home = home-is key c.sign-sign.result c.mix-mix.result c.args.shift c.home_of_mix.result c.sign-sign.ensures c.mix-mix.ensures c.home_of_mix.ensures.value in
+    let slot = slot-is key c.sign-sign.result c.mix-mix.result c.mark_of_mix.result c.len-place.result c.sign-sign.ensures c.mix-mix.ensures c.mark_of_mix.ensures in
     let at = c.in-Some.ensures.some in
     subst (λ (s : Slot). AreKeysPlaced (slice_set c.args.slots.now.items c.in-Some.at s) c.args.shift c.args.rest.now.entries c.push.new.self) (sym slot)
     (subst (λ (n : ℕ). AreKeysPlaced (slice_set c.args.slots.now.items c.in-Some.at (slot_of key n)) c.args.shift c.args.rest.now.entries c.push.new.self) (sym c.len-place.ensures)
@@ -19,7 +20,8 @@ returns-in_ok-push-in-Some-clause-placed c =
 
 pub returns-in_ok-put_in-in-None-clause-placed : goal.returns-in_ok-put_in-in-None-clause-placed
 returns-in_ok-put_in-in-None-clause-placed c =
-    let key : Key = key_in c.args.parts.now in
-    let home = home-is key c.args.sign c.mix-mix.result c.args.shift c.home_of_mix.result c.requires.sign c.mix-mix.ensures c.home_of_mix.ensures.value in
+    let key : Key = c.args.key.now in
+    let home = home-is key c.sign-sign.result c.mix-mix.result c.args.shift c.home_of_mix.result c.sign-sign.ensures c.mix-mix.ensures c.home_of_mix.ensures.value in
     begun-by-rest c.push-in-None.result c.args.slots.now.items c.args.shift c.args.rest.now.entries c.put_in.new.rest.entries c.args.keys.now c.push-in-None.new.self key
-    (subst (IsFull c.args.slots.now.items) home (subst (λ (ss : List Slot). IsFull ss c.home_of_mix.result) c.as_slice.ensures.value (c.in-None.ensures.none refl))) (subst (λ (n : ℕ). RestGrows c.args.rest.now.entries c.put_in.new.rest.entries key n) c.len-place.ensures c.in_ok-put_in-in-None.ensures.ok) c.requires.new c.requires.placed c.push-in-None.ensures.ok c.push-in-None.ensures.err
+    (subst (IsFull c.args.slots.now.items) home (subst (λ (ss : List Slot). IsFull ss c.home_of_mix.result) c.as_slice.ensures.value (c.in-None.ensures.none refl))) (subst (λ (n : ℕ). RestGrows c.args.rest.now.entries c.put_in.new.rest.entries key n) c.len-place.ensures
+    (subst (λ (k : Key). RestGrows c.args.rest.now.entries c.put_in.new.rest.entries k c.len-place.result) (by-sign key c.sign-sign.result c.text.result.now c.sign-sign.ensures c.text.ensures) c.in_ok-put_in-in-None.ensures.ok)) c.requires.new c.requires.placed c.push-in-None.ensures.ok c.push-in-None.ensures.err

@@ -1,8 +1,7 @@
-use Rattle.std.proofs.Common.{◌≡◌, ◌+◌, sym, ◌∙◌, ap, refl, subst, inl, inr, arith, slice_get, Some, true≢false}
+use Rattle.std.proofs.Common.{◌≡◌, ◌+◌, sym, ◌∙◌, refl, subst, inl, inr, arith, slice_get, Some, true≢false}
 use Rattle.std.proofs.lemmas.Bool.{cases_lt}
 use Rattle.std.proofs.lemmas.Option.{slice_get_read, slice_get_past, none-some}
-use Rattle.key_table.specs.Keys.{Key, key_in}
-use Rattle.key_table.specs.Signs.{mark_of, mix_of}
+use Rattle.key_table.specs.Keys.{Key}
 use Rattle.key_table.specs.Placed.{slot_of}
 use Rattle.key_table.proofs.Keys.{told-key}
 use Rattle.key_table.proofs.Placed.{other-slot, inside, outside}
@@ -11,7 +10,7 @@ use Rattle.key_table.proofs.table.find.Goals as goal
 
 pub loop-i-preserved : goal.loop-i-preserved
 loop-i-preserved c = λ k below place is there.
-    let key : Key = key_in c.args.parts.now in
+    let key : Key = c.args.key.now in
     elim (cases_lt k c.loop-i.i) [
       | inl before ↦ c.loop-i.invariant k before place is there
       | inr last ↦
@@ -26,7 +25,7 @@ loop-i-preserved c = λ k below place is there.
                       (λ marked stood. true≢false (sym (told-key _ key stood) ∙ (sym v.is_key_at.ensures ∙ v.if-is_key_at.false))) at there
                   | else-slot-mark-via-else-slot-mark v ↦
                       other-slot c.args.slots.now c.args.keys.now (c.args.home + c.loop-i.i) w.in-Some.slot.now key place stands
-                      (λ marked stood. v.if-slot-mark.false (marked ∙ sym (c.requires.mark ∙ ap (λ s. mark_of (mix_of s)) c.requires.sign))) at there
+                      (λ marked stood. v.if-slot-mark.false (marked ∙ sym c.requires.mark)) at there
                 ]
             | in_default w ↦ none-some _ (sym (slice_get_past c.args.slots.now (c.args.home + c.loop-i.i) (outside _ _ w.in_default.ensures.lookup.0)) ∙ at)
           ]

@@ -1,5 +1,5 @@
 use Rattle.std.proofs.Common.{◌≡◌, ℕ, List, [], ◌∷◌, ◌++◌, length, ap, ◌∙◌, arith}
-use Rattle.key_table.specs.Keys.{Key, key_in}
+use Rattle.key_table.specs.Keys.{Key}
 use Rattle.key_table.specs.declared.sign.Sign.{Sign}
 use Rattle.key_table.proofs.KeyLists.{keys-pushed, keys_in-pushed}
 use Rattle.key_table.proofs.key_list.KeyList.push.Goals as goal
@@ -10,17 +10,17 @@ invariant_of-self-2 c =
     let starts : List ℕ = c.self.inside.starts.items in
     let texts : List ℕ = c.self.inside.texts.items in
     let start : c.len-start.result ≡ length texts = omega (arith, c.len-start.ensures, c.self.inside.texts.ok.0) in
-    keys-pushed signs starts texts (key_in c.args.parts.now) c.push_reserved-2.new.self.items c.push_reserved.new.self.items c.extend_from_slice.new.self.items c.self.invariant
-    (c.push_reserved-2.ensures.items ∙ (ap (λ (ss : List Sign). ss ++ c.args.sign ∷ []) c.reserve.ensures.items ∙ ap (λ (s : Sign). signs ++ s ∷ []) c.requires.sign))
+    keys-pushed signs starts texts (c.args.key.now) c.push_reserved-2.new.self.items c.push_reserved.new.self.items c.extend_from_slice.new.self.items c.self.invariant
+    (c.push_reserved-2.ensures.items ∙ (ap (λ (ss : List Sign). ss ++ c.sign.result ∷ []) c.reserve.ensures.items ∙ ap (λ (s : Sign). signs ++ s ∷ []) c.sign.ensures))
     (c.push_reserved.ensures.items ∙ (ap (λ (ns : List ℕ). ns ++ c.len-start.result ∷ []) c.reserve-2.ensures.items ∙ ap (λ n. starts ++ n ∷ []) start))
-    (c.in_ok-extend_from_slice.ensures.items ∙ ap (λ (ts : List ℕ). texts ++ ts) c.as_bytes.ensures.value)
+    (c.in_ok-extend_from_slice.ensures.items ∙ ap (λ (ts : List ℕ). texts ++ ts) (c.as_bytes.ensures.value ∙ c.text.ensures))
 
 pub returns-clause-ok : goal.returns-clause-ok
 returns-clause-ok c =
     let signs : List Sign = c.self.inside.signs.items in
     let texts : List ℕ = c.self.inside.texts.items in
-    let key : Key = key_in c.args.parts.now in
+    let key : Key = c.args.key.now in
     keys_in-pushed signs texts key c.push_reserved-2.new.self.items c.extend_from_slice.new.self.items c.self.invariant.long
-    (c.push_reserved-2.ensures.items ∙ (ap (λ (ss : List Sign). ss ++ c.args.sign ∷ []) c.reserve.ensures.items ∙ ap (λ (s : Sign). signs ++ s ∷ []) c.requires.sign))
-    (c.in_ok-extend_from_slice.ensures.items ∙ ap (λ (ts : List ℕ). texts ++ ts) c.as_bytes.ensures.value)
+    (c.push_reserved-2.ensures.items ∙ (ap (λ (ss : List Sign). ss ++ c.sign.result ∷ []) c.reserve.ensures.items ∙ ap (λ (s : Sign). signs ++ s ∷ []) c.sign.ensures))
+    (c.in_ok-extend_from_slice.ensures.items ∙ ap (λ (ts : List ℕ). texts ++ ts) (c.as_bytes.ensures.value ∙ c.text.ensures))
     ∙ ap (λ (ks : List Key). ks ++ key ∷ []) c.self.view_is
