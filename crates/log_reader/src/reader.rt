@@ -50,6 +50,7 @@ impl<'r> LogReader<'r> {
     }
 
     /// Takes in the line with this text.
+    #[inline(always)]
     fn read_text(&mut self, at: At, text: &str) -> Result<(), ReadError>
         requires ready { IsReady self.old }
         requires room { self.old.log.section < 2 ^ 32 - 1 }
@@ -68,6 +69,7 @@ impl<'r> LogReader<'r> {
     }
 
     /// Takes in a line. Text that is read as it stands takes no memory of its own.
+    #[inline(always)]
     pub fn read_line(&mut self, alloc: Global, at: At, line: &[u8]) -> Result<(), ReadError>
         requires ready { IsReady self.old }
         requires room { self.old.log.section < 2 ^ 32 - 1 }

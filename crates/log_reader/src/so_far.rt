@@ -28,6 +28,7 @@ pub struct LogSoFar {
 
 impl LogSoFar {
     /// Adds the event of a line, with its time in billionths of whatever unit the log takes.
+    #[inline(always)]
     fn add(
         &mut self,
         at: At,
@@ -75,6 +76,7 @@ impl LogSoFar {
     }
 
     /// Takes in a line in the plain form.
+    #[inline(always)]
     pub fn take_plain(&mut self, at: At, text: &str) -> Result<(), ReadError>
         requires within { IsWithin self.old.builder }
         ensures ok { OnOk result
@@ -89,6 +91,8 @@ impl LogSoFar {
     }
 
     /// Takes in a line by rules. A bad time is refused whether or not undecided lines are skipped.
+    /// It stays a call, so that the way of a plain line is short.
+    #[inline(never)]
     pub fn take_by_rules(
         &mut self,
         kept: &mut KeptRules<'_>,

@@ -3,7 +3,7 @@ use Rattle.std.proofs.lemmas.Option.{slice_get_read, slice_get_past}
 use Rattle.std.specs.Option.{option_map_or}
 use Rattle.std.specs.Str.{bytes_eq}
 use Rattle.traces.proofs.PlaceMaps.{inside, outside}
-use Rattle.traces.proofs.type_table.is_text_at.Goals as goal
+use Rattle.traces.proofs.slots.is_text_at.Goals as goal
 
 pub returns-in-Some : goal.returns-in-Some
 returns-in-Some c =
