@@ -1,2 +1,4 @@
 pub mod Cuts
+pub mod Fields
 pub mod Joins
+pub mod Spaces

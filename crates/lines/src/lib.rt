@@ -4,6 +4,7 @@
 mod law;
 mod pieces;
 mod plain;
+mod space;
 #[cfg(test)]
 mod tests;
 

@@ -1,0 +1,45 @@
+//! The first space of bytes.
+ghost use Rattle.std.specs.Prelude.{◌≡◌, ◌≢◌, ◌==◌, ℕ, ◌+◌, ◌<◌, ◌≤◌, drop, length, take, slice_index, EachIndex, MatchOption};
+ghost use Rattle.std.specs.List.{position_or_len};
+
+use std::simd::prelude::*;
+
+/// How many bytes are looked at together: most lines have their first space among the first of them.
+const LANES: usize = 8;
+
+/// How many of the bytes from here on stand before the first space, and all of them where there is none.
+fn before_space(bytes: &[u8], at: usize) -> usize
+    requires { at + LANES ≤ length bytes.now }
+    ensures { result ≡ position_or_len (λ b. b == 32) (take LANES (drop at bytes.now)) }
+{
+    let spaces = u8x8::from_slice(&bytes[at..])
+        .simd_eq(u8x8::splat(b' '))
+        .to_bitmask();
+    if spaces == 0 {
+        LANES
+    } else {
+        spaces.trailing_zeros() as usize
+    }
+}
+
+/// The place of the first space.
+pub(crate) fn first_space(bytes: &[u8]) -> Option<usize>
+    ensures { MatchOption result (EachIndex bytes.now (λ k. slice_index bytes.now k ≢ 32))
+        (λ at. (at < length bytes.now) × (slice_index bytes.now at ≡ 32)
+        × ((k : ℕ) → k < at → slice_index bytes.now k ≢ 32)) }
+{
+    let mut seen = 0;
+    while bytes.len() - seen >= LANES {
+        let before = before_space(bytes, seen);
+        if before < LANES {
+            return Some(seen + before);
+        }
+        seen += LANES;
+    }
+    for at in seen..bytes.len() {
+        if bytes[at] == b' ' {
+            return Some(at);
+        }
+    }
+    None
+}
