@@ -1,5 +1,5 @@
 -- The texts of invariants and of graphs.
-use Rattle.std.specs.Prelude.{ℕ, ◌==◌, List, [], ◌∷◌, ◌++◌, codes, decimal, slice_get, unwrap_or, Option, Some, None, if◌then◌else◌, ◌-◌}
+use Rattle.std.specs.Prelude.{ℕ, ◌==◌, List, [], ◌∷◌, ◌++◌, map, codes, decimal, slice_get, unwrap_or, Option, Some, None, if◌then◌else◌, ◌-◌}
 use Rattle.std.specs.Option.{option_map, option_or}
 use Rattle.std.specs.Ordering.{nat_cmp}
 use Rattle.std.specs.BTreeMap.{BTreeMap, get_by}
@@ -12,6 +12,10 @@ use Rattle.invariants.specs.declared.Kind.TheVariants.{AF, NF, AP}
 use Rattle.invariants.specs.declared.Invariant.{Invariant}
 use Rattle.invariants.specs.declared.records.Partition.{Partition}
 use Rattle.invariants.specs.declared.records.Edge.{Edge}
+
+-- the text of each type as a JSON string
+abbrev pub json_texts : List (List ℕ) → List (List ℕ)
+json_texts types = map (λ text. compact_text (string text)) types
 
 -- a type's name: its text as a JSON string, or that of an end
 abbrev pub name_of : List (List ℕ) → ℕ → List ℕ

@@ -2,7 +2,7 @@
 ghost use Rattle.std.specs.Prelude.{◌≡◌, ◌++◌, OnOk, IfOk};
 ghost use Rattle.reports.specs.Reports.{shown_as, count_of, edge_text, found_at, graph_report};
 
-use crate::name::push_name;
+use crate::name::Names;
 use crate::number::push_number;
 use crate::partitions::by_id;
 use invariants::{Edge, Partition, Seq, Text};
@@ -12,20 +12,19 @@ use std::collections::BTreeMap;
 
 /// Puts a partition at the end of the text as it is shown: the name of its type and its id, and an end by its name.
 fn push_partition(
-    alloc: Global,
     text: &mut Vec<u8>,
-    types: &Seq<Text>,
+    names: &Names<'_>,
     found: Option<Partition>,
     id: u32,
 ) -> Result<(), AllocError>
-    ensures { OnOk result (text.new.items ≡ text.old.items ++ shown_as types.now found id) }
+    ensures { OnOk result (text.new.items ≡ text.old.items ++ shown_as names.now found id) }
 {
     match id {
         INITIAL => text.extend_from_slice(b"INITIAL"),
         TERMINAL => text.extend_from_slice(b"TERMINAL"),
         _ => {
             if let Some(partition) = found {
-                push_name(alloc, text, types, partition.typ)?;
+                names.push_name(text, partition.typ)?;
             }
             text.push(b'@')?;
             push_number(text, id)
@@ -45,18 +44,17 @@ fn count_of(found: Option<Partition>) -> u32
 
 /// Puts the line of an edge at the end of the text.
 fn push_edge(
-    alloc: Global,
     text: &mut Vec<u8>,
-    types: &Seq<Text>,
+    names: &Names<'_>,
     edge: Edge,
     from: Option<Partition>,
     to: Option<Partition>,
 ) -> Result<(), AllocError>
-    ensures { OnOk result (text.new.items ≡ text.old.items ++ edge_text types.now edge from to) }
+    ensures { OnOk result (text.new.items ≡ text.old.items ++ edge_text names.now edge from to) }
 {
-    push_partition(alloc, text, types, from, edge.from)?;
+    push_partition(text, names, from, edge.from)?;
     text.extend_from_slice(b" -> ")?;
-    push_partition(alloc, text, types, to, edge.to)?;
+    push_partition(text, names, to, edge.to)?;
     text.extend_from_slice(b": ")?;
     push_number(text, edge.count)?;
     text.extend_from_slice(b" of ")?;
@@ -67,18 +65,17 @@ fn push_edge(
 
 /// Puts the line of an edge, whose partitions are found by their ids, at the end of the text.
 fn push_line(
-    alloc: Global,
     text: &mut Vec<u8>,
-    types: &Seq<Text>,
+    names: &Names<'_>,
     places: &BTreeMap<u32, Partition>,
     edge: Edge,
 ) -> Result<(), AllocError>
     ensures { OnOk result (text.new.items ≡ text.old.items
-        ++ edge_text types.now edge (found_at places.now edge.from) (found_at places.now edge.to)) }
+        ++ edge_text names.now edge (found_at places.now edge.from) (found_at places.now edge.to)) }
 {
     let from = places.get(&edge.from).copied();
     let to = places.get(&edge.to).copied();
-    push_edge(alloc, text, types, edge, from, to)
+    push_edge(text, names, edge, from, to)
 }
 
 /// The text of a graph, one edge a line in the order given, as `"a"@2 -> "b"@3: 2 of 5`: the partitions that it
@@ -96,9 +93,10 @@ pub fn graph_report(
     ensures { IfOk result (λ text. text ≡ graph_report types.now partitions.now edges.now) }
 {
     let places = by_id(alloc, partitions)?;
+    let names = Names::new(alloc, types)?;
     let mut text = Vec::new(alloc);
     for edge in edges {
-        push_line(alloc, &mut text, types, &places, *edge)?;
+        push_line(&mut text, &names, &places, *edge)?;
     }
     Ok(Seq::from_vec(text))
 }

@@ -2,7 +2,7 @@
 ghost use Rattle.std.specs.Prelude.{◌≡◌, ◌++◌, OnOk, IfOk};
 ghost use Rattle.reports.specs.Reports.{verb_of, invariant_line, invariant_report};
 
-use crate::name::push_name;
+use crate::name::Names;
 use invariants::{Invariant, Kind, Seq, Text};
 use std::alloc::{AllocError, Global};
 
@@ -16,17 +16,12 @@ fn verb(kind: Kind) -> &'static str
     }
 }
 
-fn push_line(
-    alloc: Global,
-    text: &mut Vec<u8>,
-    types: &Seq<Text>,
-    inv: Invariant,
-) -> Result<(), AllocError>
-    ensures { OnOk result (text.new.items ≡ text.old.items ++ invariant_line types.now inv) }
+fn push_line(text: &mut Vec<u8>, names: &Names<'_>, inv: Invariant) -> Result<(), AllocError>
+    ensures { OnOk result (text.new.items ≡ text.old.items ++ invariant_line names.now inv) }
 {
-    push_name(alloc, text, types, inv.a)?;
+    names.push_name(text, inv.a)?;
     text.extend_from_slice(verb(inv.kind).as_bytes())?;
-    push_name(alloc, text, types, inv.b)?;
+    names.push_name(text, inv.b)?;
     text.push(10)?;
     Ok(())
 }
@@ -42,9 +37,10 @@ pub fn invariant_report(
 ) -> Result<Seq<u8>, AllocError>
     ensures { IfOk result (λ text. text ≡ invariant_report types.now invs.now) }
 {
+    let names = Names::new(alloc, types)?;
     let mut text = Vec::new(alloc);
     for inv in invs {
-        push_line(alloc, &mut text, types, *inv)?;
+        push_line(&mut text, &names, *inv)?;
     }
     Ok(Seq::from_vec(text))
 }

@@ -4,25 +4,19 @@ ghost use Rattle.std.specs.List.{zip};
 ghost use Rattle.traces.specs.Words.{event_count_of};
 ghost use Rattle.reports.specs.Paths.{path_line, path_report, shown, step_text};
 
-use crate::name::push_name;
+use crate::name::Names;
 use crate::number::push_number;
 use crate::taken::{TakenPath, taken_paths};
-use invariants::{Seq, Text};
+use invariants::Seq;
 use std::alloc::{AllocError, Global};
 use traces::TraceSet;
 
 /// Puts an event at the end of the text: a space, the name of its type, and the id of its partition.
-fn push_step(
-    alloc: Global,
-    text: &mut Vec<u8>,
-    types: &Seq<Text>,
-    number: u16,
-    id: u32,
-) -> Result<(), AllocError>
-    ensures { OnOk result (text.new.items ≡ text.old.items ++ step_text types.now (number, id)) }
+fn push_step(text: &mut Vec<u8>, names: &Names<'_>, number: u16, id: u32) -> Result<(), AllocError>
+    ensures { OnOk result (text.new.items ≡ text.old.items ++ step_text names.now (number, id)) }
 {
     text.push(b' ')?;
-    push_name(alloc, text, types, number)?;
+    names.push_name(text, number)?;
     text.push(b'@')?;
     push_number(text, id)?;
     Ok(())
@@ -30,34 +24,28 @@ fn push_step(
 
 /// Puts events with these numbers of types and these ids at the end of the text.
 fn push_steps(
-    alloc: Global,
     text: &mut Vec<u8>,
-    types: &Seq<Text>,
+    names: &Names<'_>,
     numbers: &[u16],
     ids: &[u32],
 ) -> Result<(), AllocError>
     ensures { OnOk result (text.new.items
-        ≡ text.old.items ++ flat_map (step_text types.now) (zip numbers.now ids.now)) }
+        ≡ text.old.items ++ flat_map (step_text names.now) (zip numbers.now ids.now)) }
 {
     for (number, id) in numbers.iter().zip(ids) {
-        push_step(alloc, text, types, *number, *id)?;
+        push_step(text, names, *number, *id)?;
     }
     Ok(())
 }
 
 /// Puts the line of a path at the end of the text.
-fn push_line(
-    alloc: Global,
-    text: &mut Vec<u8>,
-    types: &Seq<Text>,
-    taken: &TakenPath<'_>,
-) -> Result<(), AllocError>
+fn push_line(text: &mut Vec<u8>, names: &Names<'_>, taken: &TakenPath<'_>) -> Result<(), AllocError>
     ensures { OnOk result (text.new.items
-        ≡ text.old.items ++ path_line types.now (shown taken.now)) }
+        ≡ text.old.items ++ path_line names.now (shown taken.now)) }
 {
     push_number(text, taken.count)?;
     text.extend_from_slice(b": INITIAL")?;
-    push_steps(alloc, text, types, taken.types, taken.ids)?;
+    push_steps(text, names, taken.types, taken.ids)?;
     text.extend_from_slice(b" TERMINAL\n")?;
     Ok(())
 }
@@ -77,10 +65,10 @@ pub fn path_report(alloc: Global, traces: &TraceSet, parts: &[u32]) -> Result<Se
     ensures { IfOk result (λ text. text ≡ path_report traces.now parts.now) }
 {
     let paths = taken_paths(alloc, traces, parts)?;
-    let types = traces.types();
+    let names = Names::new(alloc, traces.types())?;
     let mut text = Vec::new(alloc);
     for path in &paths {
-        push_line(alloc, &mut text, types, path)?;
+        push_line(&mut text, &names, path)?;
     }
     Ok(Seq::from_vec(text))
 }

@@ -11,12 +11,12 @@ loop-number-preserved c =
     let ns = c.args.numbers.now in
     let is = c.args.ids.now in
     let t = zip_turn ns is c.loop-number.yielded c.into_iter-number-iterator.result c.loop-number.number-iterator c.next.new.self c.next.result (search rules) (search rules) c.loop-number.yielded_by (c.in-Some.number, c.in-Some.id) c.in-Some.is c.next.ensures.steps in
-    steps-more c.args.types.now ns is c.args.text.now.items c.loop-number.text.items _ (length c.loop-number.yielded) c.in-Some.number.now c.in-Some.id.now t.0 t.1 (t.2 _) (t.3 _) c.loop-number.invariant c.in_ok-push_step.ensures
-    ∙ ap (λ k. c.args.text.now.items ++ flat_map (step_text c.args.types.now) (take k (zip ns is))) (sym (length_push c.loop-number.yielded (c.in-Some.number, c.in-Some.id)))
+    steps-more c.args.names.now ns is c.args.text.now.items c.loop-number.text.items _ (length c.loop-number.yielded) c.in-Some.number.now c.in-Some.id.now t.0 t.1 (t.2 _) (t.3 _) c.loop-number.invariant c.in_ok-push_step.ensures
+    ∙ ap (λ k. c.args.text.now.items ++ flat_map (step_text c.args.names.now) (take k (zip ns is))) (sym (length_push c.loop-number.yielded (c.in-Some.number, c.in-Some.id)))
 
 pub returns : goal.returns
 returns c =
     let ns = c.args.numbers.now in
     let is = c.args.ids.now in
     let t = zip_end ns is c.loop-number.yielded c.into_iter-number-iterator.result c.loop-number.number-iterator c.next.new.self c.next.result (search rules) (search rules) c.loop-number.yielded_by c.in-None.is c.next.ensures.steps in
-    steps-all c.args.types.now ns is c.args.text.now.items c.loop-number.text.items (length c.loop-number.yielded) t c.loop-number.invariant
+    steps-all c.args.names.now ns is c.args.text.now.items c.loop-number.text.items (length c.loop-number.yielded) t c.loop-number.invariant

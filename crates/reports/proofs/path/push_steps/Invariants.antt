@@ -5,4 +5,4 @@ use Rattle.reports.proofs.path.push_steps.Given as goal
 
 abbrev pub invariant-loop-number : goal.invariant-loop-number
 invariant-loop-number l =
-    l.text.items ≡ l.initial.text.items ++ flat_map (step_text l.types) (take (length l.yielded) (zip l.numbers l.ids))
+    l.text.items ≡ l.initial.text.items ++ flat_map (step_text l.names) (take (length l.yielded) (zip l.numbers l.ids))
