@@ -1,8 +1,10 @@
 //! Tests of the reading of logs: keys, events in traces, rules, lines of inputs, and whole logs.
 #![tactic(auto)]
 
+pub mod compared;
 #[cfg(test)]
 mod events;
+pub mod given;
 #[cfg(test)]
 mod keys;
 #[cfg(test)]

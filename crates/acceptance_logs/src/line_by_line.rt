@@ -1,44 +1,9 @@
-ghost use Rattle.std.specs.Prelude.{◌≡◌, ◌≤◌, OnOk, false};
-
+use crate::compared::assert_next;
+use crate::given::input_of;
 use log_reader::{LineError, Lines};
-use outside::{Inputs, MemInputs};
+use outside::Inputs;
 use std::alloc::Global;
-use std::process::Abort;
 use std::test::Fail;
-
-/// Standard input with these bytes, of which a read gives at most a piece.
-fn input_of(alloc: Global, bytes: &[u8], piece: usize, failing: &[u64]) -> Result<MemInputs, Fail>
-    requires { 1 ≤ piece }
-{
-    let mut files = Vec::new(alloc);
-    files.push((String::new(alloc), bytes.to_vec(alloc)?))?;
-    Ok(MemInputs::new(files, piece, failing.to_vec(alloc)?))
-}
-
-/// Goes on to the next line, and compares its number and its bytes.
-fn assert_next(
-    rt: &impl Abort,
-    lines: &mut Lines,
-    inputs: &mut MemInputs,
-    number: u32,
-    line: &[u8],
-) -> Result<(), Fail>
-    requires { (lines.old).refused ≡ false }
-    ensures { OnOk result ((lines.new).refused ≡ false) }
-{
-    match lines.next(inputs) {
-        Ok(true) => {
-            assert_eq!(rt; lines.number(), number);
-            assert_eq!(rt; lines.line(), line, "at {number}");
-            Ok(())
-        }
-        Ok(false) => {
-            assert_eq!(rt; 0, number, "there is no line");
-            Ok(())
-        }
-        Err(error) => Err(Fail::from(error)),
-    }
-}
 
 /// Makes so many bytes of one kind.
 fn repeated(alloc: Global, byte: u8, count: usize) -> Result<Vec<u8>, Fail> {

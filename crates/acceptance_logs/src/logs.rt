@@ -1,45 +1,11 @@
-ghost use Rattle.std.specs.Prelude.{◌≤◌, ◌<◌, ◌^◌, length, IfOk};
-
+use crate::given::{inputs_of, names_of};
 use line_rules::{LineRules, RegexPatterns};
 use log_reader::{At, Form, ReadError, read_log};
-use outside::{Inputs, MemInputs};
+use outside::Inputs;
 use std::alloc::Global;
 use std::process::Abort;
 use std::test::Fail;
 use traces::TraceSet;
-
-/// Two files and standard input, of which a read gives at most a piece.
-fn inputs_of(
-    alloc: Global,
-    first: &str,
-    second: &str,
-    piece: usize,
-    failing: &[u64],
-) -> Result<MemInputs, Fail>
-    requires { 1 ≤ piece }
-{
-    let mut files = Vec::new(alloc);
-    files.push((
-        "first.log".to_string(alloc)?,
-        first.as_bytes().to_vec(alloc)?,
-    ))?;
-    files.push((
-        "second.log".to_string(alloc)?,
-        second.as_bytes().to_vec(alloc)?,
-    ))?;
-    files.push((String::new(alloc), b"7 a\n7\n".to_vec(alloc)?))?;
-    Ok(MemInputs::new(files, piece, failing.to_vec(alloc)?))
-}
-
-/// The names of the two files, of which the second may be another.
-fn names_of(alloc: Global, second: &str) -> Result<Vec<String>, Fail>
-    ensures { IfOk result (λ names. length names.items < 2 ^ 32) }
-{
-    let mut names = Vec::new(alloc);
-    names.push("first.log".to_string(alloc)?)?;
-    names.push(second.to_string(alloc)?)?;
-    Ok(names)
-}
 
 /// The refusal of a log in the plain form.
 fn refusal(answer: Result<TraceSet, ReadError>) -> Option<ReadError> {

@@ -1,7 +1,6 @@
 //! A hundred small graphs: their counts, their merged views, and those of shared words.
-ghost use Rattle.partition_graph.specs.Seen.{IsSound};
-
-use crate::splits::{is_pair, log_of, merge, text_of, text_spread};
+use crate::known::{are_same, is_pair};
+use crate::splits::{log_of, merge, text_of, text_spread};
 use limits::{FIRST_TYPE, INITIAL, TERMINAL};
 use partition_graph::{Links, PartGraph, View};
 use std::alloc::{AllocError, Global};
@@ -62,29 +61,6 @@ fn sample(alloc: Global, seed: u32) -> Result<(PartGraph, bool), Fail> {
     let mut graph = PartGraph::open(alloc, &set)?;
     let counted = divide_by(&mut graph, seed);
     Ok((graph, counted))
-}
-
-/// Whether two views show the same of two ids.
-fn show_same(one: &View<'_>, other: &View<'_>, u: u32, v: u32) -> bool
-    requires one { IsSound one.now }
-    requires other { IsSound other.now }
-{
-    one.has_edge(u, v) == other.has_edge(u, v)
-        && one.next_source(u, v) == other.next_source(u, v)
-        && one.next_target(u, v) == other.next_target(u, v)
-}
-
-/// Whether two views show the same of all ids below 12.
-fn are_same(one: &View<'_>, other: &View<'_>) -> bool
-    requires one { IsSound one.now }
-    requires other { IsSound other.now }
-{
-    for place in 0..144 {
-        if !show_same(one, other, place / 12, place % 12) {
-            return false;
-        }
-    }
-    true
 }
 
 /// Whether these are the links of all edges of the graph.

@@ -1,12 +1,6 @@
 //! Small graphs, told by text.
-ghost use Rattle.std.specs.Prelude.{◌≤◌, ◌<◌, All, length};
-ghost use Rattle.std.specs.Bool.{OnTrue};
-ghost use Rattle.limits.specs.declared.TheConstants.{MAX_EVENTS};
-ghost use Rattle.partition_model.specs.Assignments.{events, G};
-ghost use Rattle.partition_model.specs.Coarsening.{IsPair};
-ghost use Rattle.partition_graph.specs.Spread.{spread};
-
-use limits::{FIRST_TYPE, MAX_PARTITIONS, MAX_TYPE_BYTES};
+use crate::known::{can_be_spread, is_pair};
+use limits::{MAX_PARTITIONS, MAX_TYPE_BYTES};
 use partition_graph::{PartGraph, View};
 use std::alloc::{AllocError, Global};
 use std::test::Fail;
@@ -31,17 +25,6 @@ pub fn log_of(alloc: Global, traces: &str) -> Result<TraceSet, Fail> {
         number = number.wrapping_add(1);
     }
     Ok(builder.finish()?)
-}
-
-/// Whether p and q are two partitions of one type, p before q.
-pub fn is_pair(graph: &PartGraph, p: u32, q: u32) -> bool
-    ensures { OnTrue result (IsPair (G (graph.now).traces) p q) }
-{
-    p >= FIRST_TYPE
-        && p < q
-        && graph.is_live(p)
-        && graph.is_live(q)
-        && graph.type_of(p) == graph.type_of(q)
 }
 
 /// Merges a pair, and says whether it is one, and nothing is left of q.
@@ -221,24 +204,6 @@ fn graphs_of_small_logs(rt: HostRuntime) -> Result<(), Fail> {
         assert_eq!(rt; text.as_str(), wanted);
     }
     Ok(())
-}
-
-/// Whether all numbers are below a bound.
-fn are_below(bound: u32, numbers: &[u32]) -> bool
-    ensures { OnTrue result (All (λ k. k < bound) numbers.now) }
-{
-    numbers.iter().all(|number| *number < bound)
-}
-
-/// Whether a graph of few events can be spread over few traces with these numbers.
-fn can_be_spread(graph: &PartGraph, numbers: &[u32]) -> bool
-    ensures { OnTrue result (All (λ k. k < length (graph.now).traces) numbers.now
-        × length (events (spread numbers.now (graph.now).traces)) ≤ MAX_EVENTS) }
-{
-    if graph.event_count() > 100 || numbers.len() > 100 {
-        return false;
-    }
-    are_below(graph.trace_count(), numbers)
 }
 
 /// What the graph tells that is spread over traces with these numbers: nothing where it can't be spread, or where the
