@@ -14,7 +14,7 @@ use models::{models_are_shaped, models_pass, models_tell};
 use std::alloc::{AllocError, Global};
 
 /// The file of the model that is inferred, where memory is not wanted.
-fn write(alloc: Global, bench: &Workbench) -> Result<Answer, AllocError>
+pub fn write(alloc: Global, bench: &Workbench) -> Result<Answer, AllocError>
     requires { (bench.now).stage ≡ Stage.Inferred }
     ensures { IfOk result (WritesModel (typed_words (bench.now).log)) }
 {
@@ -34,8 +34,12 @@ fn write(alloc: Global, bench: &Workbench) -> Result<Answer, AllocError>
 pub fn answer(alloc: Global, material: Material) -> Result<Answer, NoAnswer>
     ensures { Gives (Answers material) result }
 {
-    let bench = inferred(alloc, material.log)?;
-    match write(alloc, &bench) {
+    let Material { log, model } = material;
+    drop(model);
+    let bench = inferred(alloc, log)?;
+    let written = write(alloc, &bench);
+    drop(bench);
+    match written {
         Ok(answer) => Ok(answer),
         Err(_) => Err(NoAnswer::Memory),
     }

@@ -56,6 +56,9 @@ pub fn inferred(alloc: Global, traces: TraceSet) -> Result<Workbench, NoAnswer>
     };
     match infer::<Brand>(&mut bench, Blank::new(1)) {
         Ok(()) => Ok(bench),
-        Err(kind) => Err(NoAnswer::Limit(kind)),
+        Err(kind) => {
+            drop(bench);
+            Err(NoAnswer::Limit(kind))
+        }
     }
 }

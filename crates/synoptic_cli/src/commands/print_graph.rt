@@ -21,7 +21,9 @@ fn print(alloc: Global, material: &Material) -> Result<Answer, AllocError>
     let graph = PartGraph::open(alloc, &material.log)?;
     let _used = graph.ids_used();
     let partitions = graph.partitions(alloc)?;
-    let edges = graph.edges(alloc)?;
+    let listed = graph.edges(alloc);
+    drop(graph);
+    let edges = listed?;
     let types = material.log.types();
     let text = graph_report(alloc, types, partitions.as_slice(), edges.as_slice())?;
     Ok(Answer {

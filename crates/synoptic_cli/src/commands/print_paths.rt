@@ -35,8 +35,12 @@ fn print(alloc: Global, bench: &Workbench) -> Result<Answer, AllocError>
 pub fn answer(alloc: Global, material: Material) -> Result<Answer, NoAnswer>
     ensures { Gives (Answers material) result }
 {
-    let bench = inferred(alloc, material.log)?;
-    match print(alloc, &bench) {
+    let Material { log, model } = material;
+    drop(model);
+    let bench = inferred(alloc, log)?;
+    let printed = print(alloc, &bench);
+    drop(bench);
+    match printed {
         Ok(answer) => Ok(answer),
         Err(_) => Err(NoAnswer::Memory),
     }

@@ -7,15 +7,16 @@ ghost use Rattle.synoptic_cli.specs.Commands.RunBench.{Answers, AnswersOf, IsChe
 ghost use Rattle.synoptic_cli.specs.Halts.{Gives};
 
 use crate::answer::{Answer, NoAnswer};
+use crate::commands::infer_model::write;
 use crate::commands::inference::inferred;
 use crate::status::Status;
-use infer_core::{Stage, Workbench, log_is_typed};
+use infer_core::{Stage, Workbench};
 use invariants::{Model, Seq};
 use itoa::Buffer;
 use made_logs::read_made_log;
 use model_check::{Verdict, check};
-use model_file::{FileError, read_model, write_model};
-use models::{first_part_fails, models_are_shaped, models_pass, models_tell};
+use model_file::{FileError, read_model};
+use models::first_part_fails;
 use std::alloc::{AllocError, Global};
 use traces::TraceSet;
 
@@ -88,15 +89,10 @@ fn tell(alloc: Global, bench: &Workbench) -> Result<Answer, AllocError>
     requires { (bench.now).stage ≡ Stage.Inferred }
     ensures { IfOk result (TellsRun (bench.now).log) }
 {
-    models_are_shaped();
-    models_pass();
-    models_tell();
     first_part_fails();
     let traces = bench.traces();
-    log_is_typed(traces);
-    let model = bench.model(alloc)?;
-    let file = write_model(alloc, &model)?;
-    let checked = read_and_check(alloc, file.as_slice(), traces)?;
+    let file = write(alloc, bench)?;
+    let checked = read_and_check(alloc, file.text.as_slice(), traces)?;
     match checked.verdict {
         Verdict::Yes => Ok(Answer {
             status: Status::Done,
@@ -111,7 +107,9 @@ fn tell_of(alloc: Global, traces: TraceSet) -> Result<Answer, NoAnswer>
     ensures { Gives (AnswersOf traces) result }
 {
     let bench = inferred(alloc, traces)?;
-    match tell(alloc, &bench) {
+    let told = tell(alloc, &bench);
+    drop(bench);
+    match told {
         Ok(answer) => Ok(answer),
         Err(_) => Err(NoAnswer::Memory),
     }
