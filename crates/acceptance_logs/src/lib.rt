@@ -1,7 +1,8 @@
 //! Tests of the reading of logs: keys, events in traces, rules, lines of inputs, and whole logs.
 #![tactic(auto)]
 
-pub mod compared;
+#[cfg(test)]
+mod compared;
 #[cfg(test)]
 mod events;
 pub mod given;
