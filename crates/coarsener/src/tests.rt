@@ -313,23 +313,54 @@ fn searched(
     Ok(text)
 }
 
-/// The merges and the blocks of these traces after their refinement by the mined invariants, by search or not.
+/// The merges and the blocks of a graph after a run, which are yet to be searched or stand in its log.
+fn text_after(
+    alloc: Global,
+    graph: &mut PartGraph,
+    invs: &[Invariant],
+    tools: &mut Tools,
+    by_search: bool,
+) -> Result<String, AllocError>
+    requires { HoldsPaths tools.old.log tools.old.spans }
+{
+    if by_search {
+        return searched(alloc, graph, &mut tools.finder, invs);
+    }
+    text_of(alloc, tools)
+}
+
+/// The merges and the blocks of a graph after its refinement by the invariants, by search or not.
+fn text_refined(
+    alloc: Global,
+    graph: &mut PartGraph,
+    invs: &[Invariant],
+    by_search: bool,
+) -> Result<String, Fail>
+    requires opened { IsOpened graph.old }
+    requires hold { HoldAll (inner_words (graph.old).traces) invs.now }
+{
+    if !are_named(invs) {
+        return Err(Fail::new("invariants of no type"));
+    }
+    let mut tools = tools_for(alloc, graph, invs)?;
+    if !run::<Brand>(graph, invs, &mut tools, by_search, Blank::new(1)) {
+        return Err(Fail::new("too few ids, or no room for the paths"));
+    }
+    let text = text_after(alloc, graph, invs, &mut tools, by_search);
+    drop(tools);
+    Ok(text?)
+}
+
+/// The same for a graph opened from these traces, by the invariants mined from them.
 fn text_by(alloc: Global, set: &TraceSet, by_search: bool) -> Result<String, Fail> {
     start_is_opened(set);
     let mut graph = PartGraph::open(alloc, set)?;
     let mined = mine(alloc, set)?;
     let invs = mined.as_slice();
-    if !are_named(invs) {
-        return Err(Fail::new("invariants of no type"));
-    }
-    let mut tools = tools_for(alloc, &graph, invs)?;
-    if !run::<Brand>(&mut graph, invs, &mut tools, by_search, Blank::new(1)) {
-        return Err(Fail::new("too few ids, or no room for the paths"));
-    }
-    if by_search {
-        return Ok(searched(alloc, &mut graph, &mut tools.finder, invs)?);
-    }
-    Ok(text_of(alloc, &tools)?)
+    let text = text_refined(alloc, &mut graph, invs, by_search);
+    drop(mined);
+    drop(graph);
+    text
 }
 
 /// The same for the log with these lines.

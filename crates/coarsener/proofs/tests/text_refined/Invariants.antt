@@ -1,4 +1,4 @@
-use Rattle.coarsener.proofs.tests.text_by.Given as goal
+use Rattle.coarsener.proofs.tests.text_refined.Given as goal
 
 -- the ledger of a counter that nobody reads
 abbrev pub ghosts-run : goal.ghosts-run
