@@ -1,6 +1,6 @@
 //! A hundred small graphs: their counts, their merged views, and those of shared words.
 use crate::known::{are_same, is_pair};
-use crate::splits::{log_of, merge, text_of, text_spread};
+use crate::splits::{graph_of, merge, shared_of, text_of, text_spread};
 use limits::{FIRST_TYPE, INITIAL, TERMINAL};
 use partition_graph::{Links, PartGraph, View};
 use std::alloc::{AllocError, Global};
@@ -57,8 +57,7 @@ fn divide_by(graph: &mut PartGraph, seed: u32) -> bool {
 
 /// A graph of three traces, with some splits, by a number, and whether edges are counted well.
 fn sample(alloc: Global, seed: u32) -> Result<(PartGraph, bool), Fail> {
-    let set = log_of(alloc, "a b a a c|b b a|c a b")?;
-    let mut graph = PartGraph::open(alloc, &set)?;
+    let mut graph = graph_of(alloc, "a b a a c|b b a|c a b")?;
     let counted = divide_by(&mut graph, seed);
     Ok((graph, counted))
 }
@@ -94,21 +93,35 @@ fn shows_merge(
     are_links(alloc, links, after)
 }
 
-/// Whether all is well with one pair of a graph, and None where there is no such pair.
+/// Whether all is well with one pair of a graph, which is merged in another one like it, and None where there is no
+/// such pair.
 fn compare(
     alloc: Global,
     links: &mut Links,
     before: &PartGraph,
-    seed: u32,
-) -> Result<Option<bool>, Fail> {
-    let (mut after, _) = sample(alloc, seed)?;
-    let q = 5 + seed % 5;
+    after: &mut PartGraph,
+    q: u32,
+) -> Result<Option<bool>, AllocError> {
     let p = u32::from(before.type_of(q));
-    if !merge(&mut after, p, q) {
+    if !merge(after, p, q) {
         return Ok(None);
     }
-    let shown = shows_merge(alloc, links, before, &after, p, q)?;
-    Ok(Some(shown && is_counted(&after)))
+    let shown = shows_merge(alloc, links, before, after, p, q)?;
+    Ok(Some(shown && is_counted(after)))
+}
+
+/// The same for graphs by a number, and whether edges are counted well.
+fn compare_samples(
+    alloc: Global,
+    links: &mut Links,
+    seed: u32,
+) -> Result<(Option<bool>, bool), Fail> {
+    let (before, counted) = sample(alloc, seed)?;
+    let (mut after, _) = sample(alloc, seed)?;
+    let well = compare(alloc, links, &before, &mut after, 5 + seed % 5);
+    drop(after);
+    drop(before);
+    Ok((well?, counted))
 }
 
 #[test]
@@ -116,24 +129,40 @@ fn merged_views_of_a_hundred_graphs(rt: HostRuntime) -> Result<(), Fail> {
     let mut links = Links::make(rt.alloc())?;
     let mut merged = 0u32;
     for seed in 0..100 {
-        let (before, counted) = sample(rt.alloc(), seed)?;
-        let well = compare(rt.alloc(), &mut links, &before, seed)?;
+        let (well, counted) = compare_samples(rt.alloc(), &mut links, seed)?;
         assert!(rt; counted && well != Some(false));
         merged = merged.wrapping_add(u32::from(well.is_some()));
     }
+    drop(links);
     assert!(rt; merged > 10);
     Ok(())
+}
+
+/// Traces, some of which have the same word.
+const WORDS: &str = "a b a a c|b b a|a b a a c|c a b|b b a";
+
+/// Whether the graph of distinct words, spread over the traces, tells what the graph of all traces does.
+fn tell_the_same(
+    alloc: Global,
+    whole: &PartGraph,
+    shared: &PartGraph,
+    numbers: &[u32],
+) -> Result<bool, AllocError> {
+    let text = text_spread(alloc, shared, numbers)?;
+    Ok(text.as_str() == text_of(alloc, whole)?.as_str())
 }
 
 /// Whether the graph of distinct words, after splits by a number, spread over the traces is the graph of all traces
 /// after the same splits.
 fn spreads(alloc: Global, seed: u32) -> Result<bool, Fail> {
-    let set = log_of(alloc, "a b a a c|b b a|a b a a c|c a b|b b a")?;
-    let mut whole = PartGraph::open(alloc, &set)?;
-    let (mut shared, numbers) = PartGraph::open_shared(alloc, &set)?;
+    let mut whole = graph_of(alloc, WORDS)?;
+    let (mut shared, numbers) = shared_of(alloc, WORDS)?;
     let counted = divide_by(&mut whole, seed) && divide_by(&mut shared, seed);
-    let text = text_spread(alloc, &shared, &numbers)?;
-    Ok(counted && text.as_str() == text_of(alloc, &whole)?.as_str())
+    let same = tell_the_same(alloc, &whole, &shared, &numbers);
+    drop(shared);
+    drop(numbers);
+    drop(whole);
+    Ok(same? && counted)
 }
 
 #[test]

@@ -27,6 +27,22 @@ pub fn log_of(alloc: Global, traces: &str) -> Result<TraceSet, Fail> {
     Ok(builder.finish()?)
 }
 
+/// The graph opened from these traces.
+pub fn graph_of(alloc: Global, traces: &str) -> Result<PartGraph, Fail> {
+    let set = log_of(alloc, traces)?;
+    let graph = PartGraph::open(alloc, &set);
+    drop(set);
+    Ok(graph?)
+}
+
+/// The graph opened from the distinct words of these traces, and the number of each trace's word.
+pub fn shared_of(alloc: Global, traces: &str) -> Result<(PartGraph, Vec<u32>), Fail> {
+    let set = log_of(alloc, traces)?;
+    let shared = PartGraph::open_shared(alloc, &set);
+    drop(set);
+    Ok(shared?)
+}
+
 /// Merges a pair, and says whether it is one, and nothing is left of q.
 pub fn merge(graph: &mut PartGraph, p: u32, q: u32) -> bool {
     if !is_pair(graph, p, q) {
@@ -127,11 +143,14 @@ pub fn text_of(alloc: Global, graph: &PartGraph) -> Result<String, AllocError> {
 
 /// What the graph of these traces tells after the steps.
 fn text_after(alloc: Global, traces: &str, steps: &str) -> Result<String, Fail> {
-    let mut graph = PartGraph::open(alloc, &log_of(alloc, traces)?)?;
-    if !take_steps(&mut graph, steps) {
-        return Ok(String::new(alloc));
-    }
-    Ok(text_of(alloc, &graph)?)
+    let mut graph = graph_of(alloc, traces)?;
+    let text = if take_steps(&mut graph, steps) {
+        text_of(alloc, &graph)
+    } else {
+        Ok(String::new(alloc))
+    };
+    drop(graph);
+    Ok(text?)
 }
 
 /// Traces, steps of their graph, and what it tells then: its partitions, its edges, the id of each event, the first event
@@ -206,6 +225,17 @@ fn graphs_of_small_logs(rt: HostRuntime) -> Result<(), Fail> {
     Ok(())
 }
 
+/// What a graph tells whose events have these ids: nothing where they have others.
+fn text_with(alloc: Global, graph: &PartGraph, ids: &[u32]) -> Result<String, AllocError> {
+    let parts = graph.parts(alloc)?;
+    let same = parts.as_slice() == ids;
+    drop(parts);
+    if !same {
+        return Ok(String::new(alloc));
+    }
+    text_of(alloc, graph)
+}
+
 /// What the graph tells that is spread over traces with these numbers: nothing where it can't be spread, or where the
 /// ids of its events are not those that are told beforehand.
 pub fn text_spread(
@@ -216,21 +246,24 @@ pub fn text_spread(
     if !can_be_spread(graph, numbers) {
         return Ok(String::new(alloc));
     }
-    let whole = graph.spread(alloc, numbers)?;
     let ids = graph.spread_parts(alloc, numbers)?;
-    if whole.parts(alloc)?.as_slice() != ids.as_slice() {
-        return Ok(String::new(alloc));
-    }
-    text_of(alloc, &whole)
+    let whole = graph.spread(alloc, numbers)?;
+    let text = text_with(alloc, &whole, ids.as_slice());
+    drop(whole);
+    text
 }
 
 /// What the graph of the distinct words of these traces tells after the steps, spread over the traces.
 fn text_shared(alloc: Global, traces: &str, steps: &str) -> Result<String, Fail> {
-    let (mut graph, numbers) = PartGraph::open_shared(alloc, &log_of(alloc, traces)?)?;
-    if !take_steps(&mut graph, steps) {
-        return Ok(String::new(alloc));
-    }
-    Ok(text_spread(alloc, &graph, &numbers)?)
+    let (mut graph, numbers) = shared_of(alloc, traces)?;
+    let text = if take_steps(&mut graph, steps) {
+        text_spread(alloc, &graph, &numbers)
+    } else {
+        Ok(String::new(alloc))
+    };
+    drop(graph);
+    drop(numbers);
+    Ok(text?)
 }
 
 #[test]
@@ -245,19 +278,24 @@ fn graphs_of_shared_words(rt: HostRuntime) -> Result<(), Fail> {
 /// A word that comes again has the number of the first one, and no events of its own.
 #[test]
 fn words_are_shared(rt: HostRuntime) -> Result<(), Fail> {
-    let set = log_of(rt.alloc(), "a b|c|a b|c a|c")?;
-    let (graph, numbers) = PartGraph::open_shared(rt.alloc(), &set)?;
+    let (graph, numbers) = shared_of(rt.alloc(), "a b|c|a b|c a|c")?;
+    let counts = [graph.trace_count(), graph.event_count()];
+    drop(graph);
     assert_eq!(rt; numbers.as_slice(), [0, 1, 0, 2, 1].as_slice());
-    assert_eq!(rt; [graph.trace_count(), graph.event_count()], [3, 5]);
+    drop(numbers);
+    assert_eq!(rt; counts, [3, 5]);
     Ok(())
 }
 
 #[test]
 fn what_a_view_shows(rt: HostRuntime) -> Result<(), Fail> {
-    let graph = PartGraph::open(rt.alloc(), &log_of(rt.alloc(), "a b|a b")?)?;
+    let graph = graph_of(rt.alloc(), "a b|a b")?;
     let view = View::Plain(&graph);
-    assert!(rt; view.has_edge(2, 3) && !view.has_edge(3, 2) && !view.has_edge(2, 5000));
-    assert_eq!(rt; [u32::from(view.type_of(3)), view.ids_used()], [3, 4]);
+    let shown = view.has_edge(2, 3) && !view.has_edge(3, 2) && !view.has_edge(2, 5000);
+    let numbers = [u32::from(view.type_of(3)), view.ids_used()];
+    drop(graph);
+    assert!(rt; shown);
+    assert_eq!(rt; numbers, [3, 4]);
     Ok(())
 }
 
@@ -273,17 +311,24 @@ fn divide_on(graph: &mut PartGraph, p: u32, last: u32) -> Option<u32> {
     Some(next)
 }
 
+/// Two rows of 1,017 letters, each between two types of its own.
+fn two_rows(alloc: Global) -> Result<PartGraph, Fail> {
+    let letters = " a".repeat(alloc, 1017)?;
+    let traces = format!(in alloc; "p{letters} q|r{letters} s");
+    drop(letters);
+    graph_of(alloc, traces?.as_str())
+}
+
 /// Each split takes one more place of the second row: the a before s, the a before that, and so on, until all ids are used.
 #[test]
 fn a_row_that_is_divided_to_the_last_id(rt: HostRuntime) -> Result<(), Fail> {
-    let letters = " a".repeat(rt.alloc(), 1017)?;
-    let traces = format!(in rt.alloc(); "p{letters} q|r{letters} s")?;
-    let mut graph = PartGraph::open(rt.alloc(), &log_of(rt.alloc(), traces.as_str())?)?;
-    assert_eq!(rt; divide_on(&mut graph, 3, 6), Some(1023));
-    assert_eq!(rt; graph.split(3, 1023), None);
-    assert_eq!(rt;
-        [graph.ids_used(), graph.size(3), graph.size(1023)],
-        [MAX_PARTITIONS, 1017, 1]
-    );
+    let mut graph = two_rows(rt.alloc())?;
+    let last = divide_on(&mut graph, 3, 6);
+    let more = graph.split(3, 1023);
+    let counts = [graph.ids_used(), graph.size(3), graph.size(1023)];
+    drop(graph);
+    assert_eq!(rt; last, Some(1023));
+    assert_eq!(rt; more, None);
+    assert_eq!(rt; counts, [MAX_PARTITIONS, 1017, 1]);
     Ok(())
 }
