@@ -68,11 +68,11 @@ fn are_named(invs: &[Invariant]) -> bool
 /// What a run needs beside a graph and invariants, and what it writes.
 #[derive(Drop)]
 struct Tools {
-    finder: Finder,
     stitcher: Stitcher,
-    planes: Planes,
     spans: Spans,
     log: RunLog,
+    finder: Finder,
+    planes: Planes,
 }
 
 /// The tools for this graph and these invariants.
@@ -94,11 +94,11 @@ fn tools_for(alloc: Global, graph: &PartGraph, invs: &[Invariant]) -> Result<Too
     }) }
 {
     Ok(Tools {
-        finder: Finder::make(alloc)?,
         stitcher: Stitcher::make(alloc, graph)?,
-        planes: Planes::make(alloc, invs)?,
         spans: Spans::make(alloc, MAX_PATH_NUMBERS)?,
         log: RunLog::make(alloc, MAX_STEPS, MAX_STEPS, MAX_PAIRS)?,
+        finder: Finder::make(alloc)?,
+        planes: Planes::make(alloc, invs)?,
     })
 }
 
@@ -320,13 +320,13 @@ fn text_after(
     invs: &[Invariant],
     tools: &mut Tools,
     by_search: bool,
-) -> Result<String, AllocError>
+) -> Result<String, Fail>
     requires { HoldsPaths tools.old.log tools.old.spans }
 {
     if by_search {
-        return searched(alloc, graph, &mut tools.finder, invs);
+        return Ok(searched(alloc, graph, &mut tools.finder, invs)?);
     }
-    text_of(alloc, tools)
+    Ok(text_of(alloc, tools)?)
 }
 
 /// The merges and the blocks of a graph after its refinement by the invariants, by search or not.
@@ -343,12 +343,13 @@ fn text_refined(
         return Err(Fail::new("invariants of no type"));
     }
     let mut tools = tools_for(alloc, graph, invs)?;
-    if !run::<Brand>(graph, invs, &mut tools, by_search, Blank::new(1)) {
-        return Err(Fail::new("too few ids, or no room for the paths"));
-    }
-    let text = text_after(alloc, graph, invs, &mut tools, by_search);
+    let text = if run::<Brand>(graph, invs, &mut tools, by_search, Blank::new(1)) {
+        text_after(alloc, graph, invs, &mut tools, by_search)
+    } else {
+        Err(Fail::new("too few ids, or no room for the paths"))
+    };
     drop(tools);
-    Ok(text?)
+    text
 }
 
 /// The same for a graph opened from these traces, by the invariants mined from them.
