@@ -222,14 +222,13 @@ fn are_pair(graph: &PartGraph, p: u32, q: u32) -> bool
     p >= FIRST_TYPE && p < q && is_pair(graph, p, q)
 }
 
-/// Puts a block behind the text where the merge of the pair loses the invariant with number k, by a search of the merged
-/// graph. Whether it does.
+/// Puts a block behind the text where the merge of the pair loses an invariant, which comes with its number, by a search
+/// of the merged graph. Whether it does.
 fn put_loss<L: Ledger>(
     text: &mut String,
     graph: &PartGraph,
     finder: &mut Finder,
-    inv: Invariant,
-    k: usize,
+    numbered: (usize, Invariant),
     pair: Pair,
     blank: Blank,
 ) -> Result<bool, AllocError>
@@ -238,6 +237,7 @@ fn put_loss<L: Ledger>(
     requires parts { blank.parts ≡ L.parts }
     requires stands { 0 < blank.parts }
 {
+    let (k, inv) = numbered;
     let mut steps = Steps::<L>::open(blank);
     let merged = View::Merged(graph, pair.p, pair.q);
     let Some(path) = finder.least_violation(&merged, inv, &mut steps) else {
@@ -258,7 +258,7 @@ fn put_first_loss(
     requires { IsPair (G (graph.now).traces) pair.p pair.q }
 {
     for (k, inv) in invs.iter().enumerate() {
-        if put_loss::<Brand>(text, graph, finder, *inv, k, pair, Blank::new(1))? {
+        if put_loss::<Brand>(text, graph, finder, (k, *inv), pair, Blank::new(1))? {
             return Ok(true);
         }
     }
