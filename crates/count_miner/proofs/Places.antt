@@ -1,22 +1,22 @@
--- The list of the places of flags.
-use Rattle.std.proofs.Common.{◌≡◌, ◌≢◌, ℕ, ◌+◌, ◌<◌, ◌≤◌, Bool, true, false, List, length, get_or, set, take, cond, eqb, sym, ap, ◌∙◌, ⊎_elim, arith}
-use Rattle.std.proofs.lemmas.Bool.{cases_eq, ne_eqb}
+-- Counts at the places of types.
+use Rattle.std.proofs.Common.{◌≡◌, ◌≢◌, ℕ, ◌+◌, ◌<◌, true, ◌&&◌, List, length, get_or, set, cond, eqb, sym, ap, ◌∙◌, ⊎_elim, arith}
+use Rattle.std.proofs.lemmas.Bool.{and_from, and_left, cases_eq, ne_eqb}
 use Rattle.std.proofs.lemmas.Bool.Decides.{Decides-eqb}
 use Rattle.std.proofs.lemmas.List.{get_or-set_same, get_or-set_other}
-use Rattle.std.proofs.lemmas.List.Sums.{sum_by_more, sum_by-take-le}
-use Rattle.std.specs.List.{count_by}
 
--- how often a place is listed
-abbrev pub times : ℕ → List ℕ → ℕ
-times k places = count_by (λ p. eqb p k) places
+-- the test of a place is the test of its type
+pub same-test : (a x place : ℕ) → x ≡ place + 2 → eqb a place ≡ eqb x (a + 2)
+same-test a x place is = ⊎_elim
+    (λ (here : a ≡ place). (Decides-eqb a place).1 here ∙ sym ((Decides-eqb x (a + 2)).1 (omega arith)))
+    (λ (other : a ≢ place). ne_eqb a place other ∙ sym (ne_eqb x (a + 2) (λ same. other (omega arith))))
+    (cases_eq a place)
 
--- one place more of a front is listed once more
-pub times-more : (k : ℕ) (places : List ℕ) (i : ℕ) → i < length places → times k (take (i + 1) places) ≡ times k (take i places) + cond (eqb (get_or places i 0) k) 1 0
-times-more k places i inside = sum_by_more (λ p. cond (eqb p k) 1 0) places i 0 inside
-
--- a front lists a place no more often than the whole
-pub times-le : (k : ℕ) (places : List ℕ) (i : ℕ) → times k (take i places) ≤ times k places
-times-le k places i = sum_by-take-le (λ p. cond (eqb p k) 1 0) places i
+-- the test of the place is that of the type, the other way round
+pub place-test : (b x place : ℕ) → x ≡ place + 2 → eqb place b ≡ eqb x (b + 2)
+place-test b x place is = ⊎_elim
+    (λ (here : place ≡ b). (Decides-eqb place b).1 here ∙ sym ((Decides-eqb x (b + 2)).1 (omega arith)))
+    (λ (other : place ≢ b). ne_eqb place b other ∙ sym (ne_eqb x (b + 2) (λ same. other (omega arith))))
+    (cases_eq place b)
 
 -- what stands after a write at a place
 set-at : (xs : List ℕ) (p v k : ℕ) → p < length xs → get_or (set xs p v) k 0 ≡ cond (eqb p k) v (get_or xs k 0)
@@ -34,16 +34,14 @@ more-at xs p k inside = set-at xs p (get_or xs p 0 + 1) k inside ∙ ⊎_elim
     ∙ (omega arith ∙ ap (λ t. get_or xs k 0 + cond t 1 0) (sym (ne_eqb p k other))))
     (cases_eq p k)
 
--- a flag that was cleared stays cleared, and one that was not is cleared where its place comes next
-keeps : (t : Bool) (n old : ℕ) → cond t 0 (cond (eqb n 0) old 0) ≡ cond (eqb (n + cond t 1 0) 0) old 0
-keeps true n old = ap (λ s. cond s old 0) (sym (ne_eqb (n + 1) 0 (λ e. absurd (omega arith))))
-keeps false n old = ap (λ m. cond (eqb m 0) old 0) (omega arith)
-
--- one place more whose flag is cleared
-pub clear-more : (flags old places : List ℕ) (i k : ℕ) → i < length places → get_or places i 0 < length flags → get_or flags k 0 ≡ cond (eqb (times k (take i places)) 0) (get_or old k 0) 0
-    → get_or (set flags (get_or places i 0) 0) k 0 ≡ cond (eqb (times k (take (i + 1) places)) 0) (get_or old k 0) 0
-clear-more flags old places i k inside within so_far =
-    let p : ℕ = get_or places i 0 in
-    set-at flags p 0 k within
-    ∙ (ap (cond (eqb p k) 0) so_far
-    ∙ (keeps (eqb p k) (times k (take i places)) (get_or old k 0) ∙ ap (λ n. cond (eqb n 0) (get_or old k 0) 0) (sym (times-more k places i inside))))
+-- the counts of the place of an event that is the first of its type are equal
+pub first-only : (b r n : ℕ) (left all : List ℕ) → get_or left r 0 ≡ get_or all r 0 → cond (eqb b r) n 0 ≡ cond (eqb b r && eqb (get_or left b 0) (get_or all b 0)) n 0
+first-only b r n left all equal = ⊎_elim
+    (λ (here : b ≡ r).
+    let hit = (Decides-eqb b r).1 here in
+    let too : eqb (get_or left b 0) (get_or all b 0) ≡ true = (Decides-eqb _ _).1 (ap (λ k. get_or left k 0) here ∙ (equal ∙ ap (λ k. get_or all k 0) (sym here))) in
+    ap (λ t. cond t n 0) (hit ∙ sym (and_from _ _ hit too)))
+    (λ (other : b ≢ r).
+    let miss = ne_eqb b r other in
+    ap (λ t. cond t n 0) (miss ∙ sym (and_left _ _ miss)))
+    (cases_eq b r)

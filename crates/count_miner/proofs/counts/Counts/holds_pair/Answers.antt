@@ -21,7 +21,7 @@ returns-in-AF c = λ traces counted.
     let second : b + 2 ≡ c.args.inv.b = omega (arith, c.requires.pair.b_low) in
     let f : List ℕ → ℕ = followed_count (a + 2) (b + 2) in
     let g : List ℕ → ℕ = type_count (a + 2) in
-    let left : c.index.result.now ≡ sum_by f words = c.index.ensures ∙ (any-default c.args.self.now.followed.items (a * types + b) c.index.result.now (omega (arith, row-place types a b in_a in_b, c.args.self.now.followed_square)) ∙ counted.followed a b in_a in_b) in
+    let left : c.index.result.now ≡ sum_by f words = c.index.ensures ∙ (any-default c.args.self.now.followed.items (b * types + a) c.index.result.now (omega (arith, row-place types b a in_b in_a, c.args.self.now.followed_square)) ∙ counted.followed b a in_b in_a) in
     let right : c.index-in-AF.result.now ≡ sum_by g words = c.index-in-AF.ensures ∙ (any-default c.args.self.now.occurring.items a c.index-in-AF.result.now (omega (arith, in_a, c.args.self.now.occurring_row)) ∙ counted.occurring a in_a) in
     ap (λ n. nat_eq n c.index-in-AF.result.now) left
     ∙ (ap (nat_eq (sum_by f words)) right
@@ -40,7 +40,7 @@ returns-in-NF c = λ traces counted.
     let first : a + 2 ≡ c.args.inv.a = omega (arith, c.requires.pair.a_low) in
     let second : b + 2 ≡ c.args.inv.b = omega (arith, c.requires.pair.b_low) in
     let f : List ℕ → ℕ = followed_count (a + 2) (b + 2) in
-    let left : c.index-in-NF.result.now ≡ sum_by f words = c.index-in-NF.ensures ∙ (any-default c.args.self.now.followed.items (a * types + b) c.index-in-NF.result.now (omega (arith, row-place types a b in_a in_b, c.args.self.now.followed_square)) ∙ counted.followed a b in_a in_b) in
+    let left : c.index-in-NF.result.now ≡ sum_by f words = c.index-in-NF.ensures ∙ (any-default c.args.self.now.followed.items (b * types + a) c.index-in-NF.result.now (omega (arith, row-place types b a in_b in_a, c.args.self.now.followed_square)) ∙ counted.followed b a in_b in_a) in
     ap (λ n. nat_eq n 0) left
     ∙ (sum_by-zero f words
     ∙ (all-traces (λ w. eqb (f w) 0) (never_followed (a + 2) (b + 2)) (λ w. never-holds (a + 2) (b + 2) w (omega arith) (omega arith)) traces
@@ -58,7 +58,7 @@ returns-in-AP c = λ traces counted.
     let second : b + 2 ≡ c.args.inv.b = omega (arith, c.requires.pair.b_low) in
     let f : List ℕ → ℕ = λ w. followed_count (b + 2) (a + 2) (reverse w) in
     let g : List ℕ → ℕ = type_count (b + 2) in
-    let left : c.index-in-AP.result.now ≡ sum_by f words = c.index-in-AP.ensures ∙ (any-default c.args.self.now.preceded.items (b * types + a) c.index-in-AP.result.now (omega (arith, row-place types b a in_b in_a, c.args.self.now.preceded_square)) ∙ counted.preceded b a in_b in_a) in
+    let left : c.index-in-AP.result.now ≡ sum_by f words = c.index-in-AP.ensures ∙ (any-default c.args.self.now.preceded.items (a * types + b) c.index-in-AP.result.now (omega (arith, row-place types a b in_a in_b, c.args.self.now.preceded_square)) ∙ counted.preceded a b in_a in_b) in
     let right : c.index-in-AP-2.result.now ≡ sum_by g words = c.index-in-AP-2.ensures ∙ (any-default c.args.self.now.occurring.items b c.index-in-AP-2.result.now (omega (arith, in_b, c.args.self.now.occurring_row)) ∙ counted.occurring b in_b) in
     ap (λ n. nat_eq n c.index-in-AP-2.result.now) left
     ∙ (ap (nat_eq (sum_by f words)) right
