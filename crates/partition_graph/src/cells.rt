@@ -15,11 +15,11 @@ use traces::TraceSet;
 #[derive(Clone, Copy, Debug)]
 pub struct Cell {
     /// The number of its type.
-    pub typ: u16,
+    pub typ: u8,
     /// Whether it is the last event of its trace.
     pub last: bool,
     /// The id of its partition.
-    pub id: u32,
+    pub id: u16,
 }
 
 impl Cell {
@@ -27,7 +27,7 @@ impl Cell {
     pub fn before_next(&self) -> u32
         ensures { result ≡ before_next self.now }
     {
-        if self.last { INITIAL } else { self.id }
+        if self.last { INITIAL } else { self.id as u32 }
     }
 }
 
@@ -37,6 +37,8 @@ pub fn gather(alloc: Global, traces: &TraceSet) -> Result<(Vec<Cell>, Vec<u32>),
         (λ pair. IsGatheredOf traces.now (length traces.now.traces) pair.0.items pair.1.items) }
     ensures few { IfOk result (λ pair. length pair.0.items ≤ MAX_EVENTS) }
 {
+    // There are so few types that their numbers fit a byte.
+    let _types = traces.types();
     let event_count = traces.event_count();
     let mut cells = Vec::with_capacity(alloc, event_count as usize)?;
     let mut firsts = Vec::with_capacity(alloc, traces.trace_count() as usize)?;
@@ -64,9 +66,12 @@ pub fn gather_shared(alloc: Global, traces: &TraceSet) -> Result<SharedCells, Al
         (λ s. (words : List (List ℕ)) × AreShared traces.now (length traces.now.traces) words s.cells.items s.firsts.items s.numbers.items) }
     ensures few { IfOk result (λ s. length s.cells.items ≤ MAX_EVENTS) }
 {
+    // There are so few types that their numbers fit a byte.
+    let _types = traces.types();
     let event_count = traces.event_count();
     let mut words = IndexSet::new(alloc);
-    let mut cells = Vec::new(alloc);
+    // Room that no event needs is never touched.
+    let mut cells = Vec::with_capacity(alloc, event_count as usize)?;
     let mut firsts = Vec::new(alloc);
     let mut numbers = Vec::with_capacity(alloc, traces.trace_count() as usize)?;
     for t in 0..traces.trace_count() {
@@ -89,7 +94,8 @@ fn note<'a>(
     firsts: &mut Vec<u32>,
     word: &'a [u16],
 ) -> Result<usize, AllocError>
-    requires { length cells.old.items < 2 ^ 32 }
+    requires few { length cells.old.items < 2 ^ 32 }
+    requires numbers { All (λ n. n < 256) word.now }
     ensures { IfOk result (λ place. IsNoted word.now place (words_in words.old.keys) (words_in words.new.keys)
         cells.old.items cells.new.items firsts.old.items firsts.new.items) }
 {
@@ -152,13 +158,14 @@ fn part(cells: &[Cell], from: usize, to: usize) -> &[Cell]
 
 /// Puts the cells of a trace behind the others.
 fn push_cells(cells: &mut Vec<Cell>, numbers: &[u16]) -> Result<(), AllocError>
+    requires { All (λ n. n < 256) numbers.now }
     ensures { OnOk result (cells.new.items ≡ cells.old.items ++ cells_of numbers.now) }
 {
     for (i, number) in numbers.iter().enumerate() {
         cells.push(Cell {
-            typ: *number,
+            typ: *number as u8,
             last: i + 1 == numbers.len(),
-            id: u32::from(*number),
+            id: *number,
         })?;
     }
     Ok(())
@@ -192,5 +199,5 @@ pub fn id_behind(cells: &[Cell], i: usize) -> u32
     if cells[i].last || i + 1 >= cells.len() {
         return TERMINAL;
     }
-    cells[i + 1].id
+    cells[i + 1].id as u32
 }

@@ -229,7 +229,7 @@ impl PartGraph {
         ensures value { result ≡ slice_index (parts_of (self.now).traces) event }
         ensures there { slice_get (parts_of (self.now).traces) event ≡ Some result }
     {
-        self.events.cell(event).id
+        self.events.cell(event).id as u32
     }
 
     /// How many events all traces have.
@@ -336,6 +336,6 @@ impl PartGraph {
 fn ids_of(alloc: Global, cells: &[Cell]) -> Result<Seq<u32>, AllocError>
     ensures { IfOk result (λ list. list ≡ map (λ c. c.id) cells.now) }
 {
-    let ids = cells.iter().map(|cell| cell.id).collect(alloc)?;
+    let ids = cells.iter().map(|cell| cell.id as u32).collect(alloc)?;
     Ok(Seq::from_vec(ids))
 }

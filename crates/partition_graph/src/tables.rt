@@ -56,8 +56,8 @@ impl Tables {
     {
         let cell = cells[place];
         self.uncount_cell(cell);
-        self.counts.remove(id_before(cells, place), cell.id);
-        self.counts.remove(cell.id, id_behind(cells, place));
+        self.counts.remove(id_before(cells, place), cell.id as u32);
+        self.counts.remove(cell.id as u32, id_behind(cells, place));
     }
 
     /// Counts the cell at this place too, where all the others are counted, with the edge to it and the edge from it.
@@ -74,8 +74,8 @@ impl Tables {
     {
         let cell = cells[place];
         self.count_cell(cell);
-        self.counts.add(id_before(cells, place), cell.id);
-        self.counts.add(cell.id, id_behind(cells, place));
+        self.counts.add(id_before(cells, place), cell.id as u32);
+        self.counts.add(cell.id as u32, id_behind(cells, place));
     }
 
     /// Counts the cells of q as cells of p, with the edges to them and from them.
@@ -178,7 +178,7 @@ impl Tables {
             → size_at self.new p ≡ size_at self.old p + (if cell.id == p then 1 else 0) }
         ensures counts { (self.new).counts ≡ (self.old).counts }
     {
-        self.types[cell.id as usize] = cell.typ;
+        self.types[cell.id as usize] = cell.typ as u16;
         self.sizes[cell.id as usize] += 1;
     }
 
@@ -212,9 +212,9 @@ impl Tables {
         ensures types { (self.new).types ≡ (self.old).types }
         ensures sizes { (self.new).sizes ≡ (self.old).sizes }
     {
-        self.counts.add(before, cell.id);
+        self.counts.add(before, cell.id as u32);
         if cell.last {
-            self.counts.add(cell.id, TERMINAL);
+            self.counts.add(cell.id as u32, TERMINAL);
         }
     }
 }
