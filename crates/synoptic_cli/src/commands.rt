@@ -25,12 +25,15 @@ pub fn answer(alloc: Global, task: &Task<'_>, material: Material) -> Result<Answ
     ensures { Gives (Answers (task_held task.now) material) result }
 {
     match task.command {
-        Command::Invariants => print_invariants::answer(alloc, &material),
-        Command::Graph => print_graph::answer(alloc, &material),
-        Command::GraphOfModel => print_graph_of_model::answer(alloc, &material),
+        Command::Invariants => print_invariants::answer(alloc, material),
+        Command::Graph => print_graph::answer(alloc, material),
+        Command::GraphOfModel => print_graph_of_model::answer(alloc, material),
         Command::Infer => infer_model::answer(alloc, material),
-        Command::Check => check_model::answer(alloc, &material),
+        Command::Check => check_model::answer(alloc, material),
         Command::Paths => print_paths::answer(alloc, material),
-        Command::Bench => run_bench::answer(alloc, task.number),
+        Command::Bench => {
+            drop(material);
+            run_bench::answer(alloc, task.number)
+        }
     }
 }

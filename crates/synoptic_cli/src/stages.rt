@@ -104,11 +104,21 @@ fn read_rules_stage<I: Inputs, P: Patterns>(
     let Some(name) = rules_name(task.form) else {
         return Ok(so_far);
     };
-    let rules = read_rules(alloc, name, inputs, patterns)?;
-    Ok(SoFar {
-        rules: Some(rules),
-        material: so_far.material,
-    })
+    let SoFar {
+        rules: empty,
+        material,
+    } = so_far;
+    drop(empty);
+    match read_rules(alloc, name, inputs, patterns) {
+        Ok(rules) => Ok(SoFar {
+            rules: Some(rules),
+            material,
+        }),
+        Err(status) => {
+            drop(material);
+            Err(status)
+        }
+    }
 }
 
 /// The stage of the model: reads its file, where the task has one.
@@ -134,14 +144,20 @@ fn read_model_stage<I: Inputs>(
     let Some(name) = task.model else {
         return Ok(so_far);
     };
-    let model = read_model_file(alloc, name, inputs)?;
-    Ok(SoFar {
-        rules: so_far.rules,
-        material: Material {
-            log: so_far.material.log,
-            model,
-        },
-    })
+    let SoFar { rules, material } = so_far;
+    let Material { log, model: empty } = material;
+    drop(empty);
+    match read_model_file(alloc, name, inputs) {
+        Ok(model) => Ok(SoFar {
+            rules,
+            material: Material { log, model },
+        }),
+        Err(halt) => {
+            drop(rules);
+            drop(log);
+            Err(halt)
+        }
+    }
 }
 
 /// What decides the lines: the rules that were read, where some were.
@@ -215,14 +231,20 @@ fn read_log_stage<I: Inputs>(
     let Some(_) = task.form else {
         return Ok(so_far);
     };
-    let log = read_files(alloc, task, &so_far.rules, inputs)?;
-    Ok(SoFar {
-        rules: so_far.rules,
-        material: Material {
-            log,
-            model: so_far.material.model,
-        },
-    })
+    let SoFar { rules, material } = so_far;
+    let Material { log: empty, model } = material;
+    drop(empty);
+    match read_files(alloc, task, &rules, inputs) {
+        Ok(log) => Ok(SoFar {
+            rules,
+            material: Material { log, model },
+        }),
+        Err(error) => {
+            drop(rules);
+            drop(model);
+            Err(error)
+        }
+    }
 }
 
 /// What the task's command is to work on, read from the inputs.

@@ -88,11 +88,13 @@ fn print(alloc: Global, material: &Material) -> Result<Answer, AllocError>
 }
 
 /// Whether the file's model is valid for the log: `yes`, or `no` with the first part that fails.
-pub fn answer(alloc: Global, material: &Material) -> Result<Answer, NoAnswer>
-    requires { IsWellShaped material.now.model }
-    ensures { Gives (Answers material.now) result }
+pub fn answer(alloc: Global, material: Material) -> Result<Answer, NoAnswer>
+    requires { IsWellShaped material.model }
+    ensures { Gives (Answers material) result }
 {
-    match print(alloc, material) {
+    let printed = print(alloc, &material);
+    drop(material);
+    match printed {
         Ok(answer) => Ok(answer),
         Err(_) => Err(NoAnswer::Memory),
     }

@@ -23,7 +23,9 @@ pub fn write(alloc: Global, bench: &Workbench) -> Result<Answer, AllocError>
     models_tell();
     log_is_typed(bench.traces());
     let model = bench.model(alloc)?;
-    let text = write_model(alloc, &model)?;
+    let written = write_model(alloc, &model);
+    drop(model);
+    let text = written?;
     Ok(Answer {
         status: Status::Done,
         text,

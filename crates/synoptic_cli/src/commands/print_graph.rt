@@ -20,10 +20,11 @@ fn print(alloc: Global, material: &Material) -> Result<Answer, AllocError>
     graphs_are_formed();
     let graph = PartGraph::open(alloc, &material.log)?;
     let _used = graph.ids_used();
-    let partitions = graph.partitions(alloc)?;
-    let listed = graph.edges(alloc);
+    let parts = graph.partitions(alloc);
+    let links = graph.edges(alloc);
     drop(graph);
-    let edges = listed?;
+    let partitions = parts?;
+    let edges = links?;
     let types = material.log.types();
     let text = graph_report(alloc, types, partitions.as_slice(), edges.as_slice())?;
     Ok(Answer {
@@ -33,10 +34,12 @@ fn print(alloc: Global, material: &Material) -> Result<Answer, AllocError>
 }
 
 /// The edges of the graph, one a line. They are exactly those of the log, and each trace is a path of it.
-pub fn answer(alloc: Global, material: &Material) -> Result<Answer, NoAnswer>
-    ensures { Gives (Answers material.now) result }
+pub fn answer(alloc: Global, material: Material) -> Result<Answer, NoAnswer>
+    ensures { Gives (Answers material) result }
 {
-    match print(alloc, material) {
+    let printed = print(alloc, &material);
+    drop(material);
+    match printed {
         Ok(answer) => Ok(answer),
         Err(_) => Err(NoAnswer::Memory),
     }

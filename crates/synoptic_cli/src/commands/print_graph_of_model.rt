@@ -27,10 +27,12 @@ fn print(alloc: Global, material: &Material) -> Result<Answer, AllocError>
 }
 
 /// The edges of the file's graph, one a line.
-pub fn answer(alloc: Global, material: &Material) -> Result<Answer, NoAnswer>
-    ensures { Gives (Answers material.now) result }
+pub fn answer(alloc: Global, material: Material) -> Result<Answer, NoAnswer>
+    ensures { Gives (Answers material) result }
 {
-    match print(alloc, material) {
+    let printed = print(alloc, &material);
+    drop(material);
+    match printed {
         Ok(answer) => Ok(answer),
         Err(_) => Err(NoAnswer::Memory),
     }

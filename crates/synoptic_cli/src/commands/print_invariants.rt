@@ -28,10 +28,12 @@ fn print(alloc: Global, material: &Material) -> Result<Answer, AllocError>
 }
 
 /// The invariants that hold in every trace, one a line. They are exactly the candidates that do.
-pub fn answer(alloc: Global, material: &Material) -> Result<Answer, NoAnswer>
-    ensures { Gives (Answers material.now) result }
+pub fn answer(alloc: Global, material: Material) -> Result<Answer, NoAnswer>
+    ensures { Gives (Answers material) result }
 {
-    match print(alloc, material) {
+    let printed = print(alloc, &material);
+    drop(material);
+    match printed {
         Ok(answer) => Ok(answer),
         Err(_) => Err(NoAnswer::Memory),
     }

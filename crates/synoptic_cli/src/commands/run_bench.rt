@@ -92,12 +92,19 @@ fn tell(alloc: Global, bench: &Workbench) -> Result<Answer, AllocError>
     first_part_fails();
     let traces = bench.traces();
     let file = write(alloc, bench)?;
-    let checked = read_and_check(alloc, file.text.as_slice(), traces)?;
-    match checked.verdict {
-        Verdict::Yes => Ok(Answer {
-            status: Status::Done,
-            text: summary(alloc, traces, &checked.model)?,
-        }),
+    let read = read_and_check(alloc, file.text.as_slice(), traces);
+    drop(file);
+    let checked = read?;
+    let Checked { model, verdict } = checked;
+    match verdict {
+        Verdict::Yes => {
+            let summed = summary(alloc, traces, &model);
+            drop(model);
+            Ok(Answer {
+                status: Status::Done,
+                text: summed?,
+            })
+        }
         Verdict::No(_) => unreachable!(),
     }
 }

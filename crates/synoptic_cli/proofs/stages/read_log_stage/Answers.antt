@@ -1,22 +1,20 @@
 use Rattle.std.proofs.Common.{refl, subst, sym}
-use Rattle.std.proofs.lemmas.Result.{err_from_is_err_and}
 use Rattle.std.specs.Prelude.{IsSome}
 use Rattle.std.specs.Option.{option_map}
 use Rattle.command_line.specs.Task.{form_held, task_held}
 use Rattle.synoptic_cli.proofs.LogStage.{ReadAlike, log-held}
 use Rattle.synoptic_cli.proofs.stages.read_log_stage.Goals as goal
 
-pub returns-clause-ok : goal.returns-clause-ok
-returns-clause-ok g c =
+pub returns-in-Ok-clause-ok : goal.returns-in-Ok-clause-ok
+returns-in-Ok-clause-ok g c =
     let law : ReadAlike = λ rs ss ignore join files alike. (c.alike_rules_read_alike.ensures.refusal rs ss ignore join files alike, c.alike_rules_read_alike.ensures.events rs ss ignore join files alike) in
     let reads : IsSome (option_map form_held c.args.task.now.form) = subst (λ f. IsSome (option_map form_held f)) (sym c.in-Some.is) refl in
-    log-held law (task_held c.args.task.now) c.args.so_far (g.I.Inputs.state c.args.inputs.now) (g.I.Inputs.state c.read_files.new.inputs) c.in_ok-log.log reads c.in_ok-log.ensures.ok
+    log-held law (task_held c.args.task.now) c.args.so_far (g.I.Inputs.state c.args.inputs.now) (g.I.Inputs.state c.read_files.new.inputs) c.in-Ok.log reads c.in-Ok.ensures.ok
 
-pub returns-in_err-log-clause-err : goal.returns-in_err-log-clause-err
-returns-in_err-log-clause-err g c =
-    let p = err_from_is_err_and c.from_residual.result c.from_residual.ensures.1 in
-    rw (p.1, p.2) (record {
+pub returns-in-Err-clause-err : goal.returns-in-Err-clause-err
+returns-in-Err-clause-err g c =
+    record {
       reads = subst (λ f. IsSome (option_map form_held f)) (sym c.in-Some.is) refl;
-      cause = c.in_err-log.ensures.err;
+      cause = c.in-Err.ensures.err;
       opens = c.read_files.ensures.opens;
-    })
+    }

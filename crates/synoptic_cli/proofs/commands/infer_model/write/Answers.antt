@@ -6,8 +6,8 @@ use Rattle.models.specs.Models.{typed_words}
 use Rattle.synoptic_cli.proofs.Inferred.{model-written}
 use Rattle.synoptic_cli.proofs.commands.infer_model.write.Goals as goal
 
-pub write_model-requires : goal.write_model-requires
-write_model-requires c =
+pub write_model-written-requires : goal.write_model-written-requires
+write_model-written-requires c =
     c.models_are_shaped.ensures c.in_ok-model.model (typed_words c.args.bench.now.log) (subst (λ (log : Log). IsTypedLog (typed_words log)) c.traces.ensures c.log_is_typed.ensures.typed)
     (subst (λ (log : Log). IsWithinLimits (typed_words log)) c.traces.ensures c.log_is_typed.ensures.within) c.in_ok-model.ensures.within c.in_ok-model.ensures.value
 

@@ -8,8 +8,8 @@ use Rattle.synoptic_cli.specs.Commands.RunBench.{IsChecked, summary}
 use Rattle.synoptic_cli.proofs.Benched.{run-told}
 use Rattle.synoptic_cli.proofs.commands.run_bench.tell.Goals as goal
 
-pub read_and_check-requires : goal.read_and_check-requires
-read_and_check-requires c = (c.in_ok-file.ensures.model, ap reads c.as_slice.ensures ∙ c.in_ok-file.ensures.reads_back)
+pub read_and_check-read-requires : goal.read_and_check-read-requires
+read_and_check-read-requires c = (c.in_ok-file.ensures.model, ap reads c.as_slice.ensures ∙ c.in_ok-file.ensures.reads_back)
 
 pub returns : goal.returns
 returns c =
@@ -19,4 +19,4 @@ returns c =
     let of_file = subst (λ (t : List ℕ). IsChecked t (typed_words c.traces-traces.result.now) read c.in_ok-checked.checked.verdict) c.as_slice.ensures c.in_ok-checked.ensures in
     let of_log = subst (λ (l : Log). IsChecked file.text (typed_words l) read c.in_ok-checked.checked.verdict) c.traces-traces.ensures of_file in
     let yes : IsChecked file.text (typed_words log) read Yes = subst (λ (v : Verdict). IsChecked file.text (typed_words log) read v) c.in-Yes.is of_log in
-    run-told log file read c.in_ok-summary-in-Yes.field-0 c.in_ok-file.ensures yes (c.in_ok-summary-in-Yes.ensures ∙ ap (λ (l : Log). summary l read) c.traces-traces.ensures)
+    run-told log file read c.in_ok-summed-in-Yes.field-0 c.in_ok-file.ensures yes (c.in_ok-summed-in-Yes.ensures ∙ ap (λ (l : Log). summary l read) c.traces-traces.ensures)
