@@ -9,10 +9,11 @@ use limits::{FIRST_TYPE, MAX_PARTITIONS, MAX_TYPE_BYTES, TERMINAL};
 use partition_graph::{PartGraph, View};
 use std::alloc::{AllocError, Global};
 use std::marker::Brand;
+use std::process::Abort;
 use std::sync::ledger::{Blank, Ledger};
 use std::test::Fail;
 use steps::Steps;
-use traces::Builder;
+use traces::{Builder, TraceSet};
 
 /// Adds a trace of types between spaces.
 fn add_trace(builder: &mut Builder, number: u32, trace: &str) -> Result<(), Fail> {
@@ -24,15 +25,29 @@ fn add_trace(builder: &mut Builder, number: u32, trace: &str) -> Result<(), Fail
     Ok(())
 }
 
-/// The graph opened from these traces, each in a line of types between spaces.
-fn graph_of(alloc: Global, traces: &str) -> Result<PartGraph, Fail> {
-    let mut builder = Builder::new(alloc);
+/// Adds these traces, each in a line.
+fn add_traces(builder: &mut Builder, traces: &str) -> Result<(), Fail> {
     let mut number = 0u32;
     for trace in traces.lines() {
-        add_trace(&mut builder, number, trace)?;
+        add_trace(builder, number, trace)?;
         number = number.wrapping_add(1);
     }
-    Ok(PartGraph::open(alloc, &builder.finish()?)?)
+    Ok(())
+}
+
+/// The set of these traces.
+fn set_of(alloc: Global, traces: &str) -> Result<TraceSet, Fail> {
+    let mut builder = Builder::new(alloc);
+    add_traces(&mut builder, traces)?;
+    Ok(builder.finish()?)
+}
+
+/// The graph opened from these traces, each in a line of types between spaces.
+fn graph_of(alloc: Global, traces: &str) -> Result<PartGraph, Fail> {
+    let set = set_of(alloc, traces)?;
+    let graph = PartGraph::open(alloc, &set);
+    drop(set);
+    Ok(graph?)
 }
 
 /// Whether p and q are two partitions of one type, p before q.
@@ -94,10 +109,22 @@ fn find(
     ask::<Brand>(alloc, finder, graph, merge, inv, Blank::new(1))
 }
 
-#[test]
-fn least_paths_of_small_graphs(rt: HostRuntime) -> Result<(), Fail> {
-    let alloc = rt.alloc();
-    let mut finder = Finder::make(alloc)?;
+/// The ids of the least violation in the graph of these traces, as text.
+fn ids_in(
+    alloc: Global,
+    finder: &mut Finder,
+    traces: &str,
+    inv: Invariant,
+) -> Result<String, Fail> {
+    let graph = graph_of(alloc, traces)?;
+    let found = find(alloc, finder, &graph, None, inv);
+    drop(graph);
+    let ids = found?;
+    Ok(format!(in alloc; "{ids:?}")?)
+}
+
+/// Compares the least violations in some small graphs with those that are written here.
+fn compare_small(rt: &impl Abort, alloc: Global, finder: &mut Finder) -> Result<(), Fail> {
     for (traces, kind, a, b, wanted) in [
         ("a c d\nb c e", Kind::AF, 2, 4, "[0, 2, 3, 6, 1]"),
         ("a c d\nb c e", Kind::NF, 3, 4, "[0, 2, 3, 4, 1]"),
@@ -106,12 +133,18 @@ fn least_paths_of_small_graphs(rt: HostRuntime) -> Result<(), Fail> {
         ("a a a", Kind::AP, 2, 2, "[0, 2, 1]"),
         ("a a a", Kind::AF, 0, 2, "[]"),
     ] {
-        let graph = graph_of(alloc, traces)?;
-        let found = find(alloc, &mut finder, &graph, None, Invariant { kind, a, b })?;
-        let ids = format!(in alloc; "{found:?}")?;
+        let ids = ids_in(alloc, finder, traces, Invariant { kind, a, b })?;
         assert_eq!(rt; ids.as_str(), wanted, "at {traces}");
     }
     Ok(())
+}
+
+#[test]
+fn least_paths_of_small_graphs(rt: HostRuntime) -> Result<(), Fail> {
+    let mut finder = Finder::make(rt.alloc())?;
+    let compared = compare_small(&rt, rt.alloc(), &mut finder);
+    drop(finder);
+    compared
 }
 
 /// Whether the word breaks the invariant, by its places.
@@ -257,21 +290,39 @@ fn compare_answers(
     Ok(())
 }
 
+/// Compares all answers in a graph of one to three types, each of which is one partition.
+fn compare_graph(
+    rt: &impl Abort,
+    alloc: Global,
+    finder: &mut Finder,
+    graph: &PartGraph,
+) -> Result<(), Fail> {
+    let types = graph.ids_used() - 2;
+    assert!(rt; types <= 3);
+    let limit = if types < 3 { 13 } else { 10 };
+    compare_answers(alloc, finder, graph, types, limit)
+}
+
+/// Compares all answers in random graphs.
+fn compare_graphs(rt: &impl Abort, alloc: Global, finder: &mut Finder) -> Result<(), Fail> {
+    let mut random = Random { state: 2011 };
+    for round in 0..120u64 {
+        let graph = random_graph(alloc, &mut random, round % 3 + 1)?;
+        let compared = compare_graph(rt, alloc, finder, &graph);
+        drop(graph);
+        compared?;
+    }
+    Ok(())
+}
+
 /// As a walk between two ids can be cut where it meets an id twice, a least violation in a graph of three types has at
 /// most nine edges: three to an event of `a`, three to one of `b`, and three to TERMINAL.
 #[test]
 fn answers_as_all_paths_in_order(rt: HostRuntime) -> Result<(), Fail> {
-    let alloc = rt.alloc();
-    let mut random = Random { state: 2011 };
-    let mut finder = Finder::make(alloc)?;
-    for round in 0..120u64 {
-        let graph = random_graph(alloc, &mut random, round % 3 + 1)?;
-        let types = graph.ids_used() - 2;
-        assert!(rt; types <= 3);
-        let limit = if types < 3 { 13 } else { 10 };
-        compare_answers(alloc, &mut finder, &graph, types, limit)?;
-    }
-    Ok(())
+    let mut finder = Finder::make(rt.alloc())?;
+    let compared = compare_graphs(&rt, rt.alloc(), &mut finder);
+    drop(finder);
+    compared
 }
 
 /// A random graph of two types in which some partitions were divided.
@@ -286,31 +337,43 @@ fn divided_graph(alloc: Global, seed: u64) -> Result<PartGraph, Fail> {
     Ok(graph)
 }
 
-/// That graph after a merge, if it is of a pair.
-fn merged_graph(alloc: Global, seed: u64, p: u32, q: u32) -> Result<Option<PartGraph>, Fail> {
-    let mut graph = divided_graph(alloc, seed)?;
-    if !is_pair(&graph, p, q) {
-        return Ok(None);
+/// Merges two partitions, if they are a pair, and says whether they are.
+fn merge(graph: &mut PartGraph, p: u32, q: u32) -> bool {
+    if !is_pair(graph, p, q) {
+        return false;
     }
     graph.merge(p, q);
-    Ok(Some(graph))
+    true
+}
+
+/// Whether what is asked before a merge is what is asked after it, and whether the invariant is broken.
+fn compare_loss(
+    alloc: Global,
+    finder: &mut Finder,
+    before: &PartGraph,
+    pair: Merge,
+    after: &PartGraph,
+    inv: Invariant,
+) -> Result<(bool, bool), AllocError> {
+    let found = find(alloc, finder, before, Some(pair), inv)?;
+    let wanted = find(alloc, finder, after, None, inv)?;
+    Ok((found == wanted, !found.is_empty()))
 }
 
 /// Compares what is asked before a merge with what is asked after it, and says how many invariants are broken.
 fn compare_losses(
     alloc: Global,
+    finder: &mut Finder,
     before: &PartGraph,
     pair: Merge,
     after: &PartGraph,
 ) -> Result<u32, Fail> {
-    let mut finder = Finder::make(alloc)?;
     let mut losses = 0u32;
     for index in 0..candidate_count(2) {
         if let Some(inv) = candidate(2, index) {
-            let found = find(alloc, &mut finder, before, Some(pair), inv)?;
-            let wanted = find(alloc, &mut finder, after, None, inv)?;
-            losses = losses.wrapping_add(u32::from(!found.is_empty()));
-            if found != wanted {
+            let (same, lost) = compare_loss(alloc, finder, before, pair, after, inv)?;
+            losses = losses.wrapping_add(u32::from(lost));
+            if !same {
                 return Err(Fail::from(inv));
             }
         }
@@ -318,19 +381,41 @@ fn compare_losses(
     Ok(losses)
 }
 
+/// The same with a finder of its own, where the merge is made in a second graph like the first. There are none where it
+/// is of no pair.
+fn compare_merge(
+    alloc: Global,
+    before: &PartGraph,
+    after: &mut PartGraph,
+    q: u32,
+) -> Result<u32, Fail> {
+    let p = u32::from(before.type_of(q));
+    if !merge(after, p, q) {
+        return Ok(0);
+    }
+    let mut finder = Finder::make(alloc)?;
+    let losses = compare_losses(alloc, &mut finder, before, Merge { p, q }, after);
+    drop(finder);
+    losses
+}
+
+/// The same for a divided graph by a number.
+fn compare_divided(alloc: Global, before: &PartGraph, seed: u64) -> Result<u32, Fail> {
+    let mut after = divided_graph(alloc, seed)?;
+    let losses = compare_merge(alloc, before, &mut after, 4 + (seed % 4) as u32);
+    drop(after);
+    losses
+}
+
 /// What a merge brings is found before it is made as it is after.
 #[test]
 fn merges_answer_as_merged_graphs(rt: HostRuntime) -> Result<(), Fail> {
-    let alloc = rt.alloc();
     let mut losses = 0u32;
     for seed in 1..40u64 {
-        let before = divided_graph(alloc, seed)?;
-        let q = 4 + (seed % 4) as u32;
-        let p = u32::from(before.type_of(q));
-        if let Some(after) = merged_graph(alloc, seed, p, q)? {
-            let found = compare_losses(alloc, &before, Merge { p, q }, &after)?;
-            losses = losses.wrapping_add(found);
-        }
+        let before = divided_graph(rt.alloc(), seed)?;
+        let found = compare_divided(rt.alloc(), &before, seed);
+        drop(before);
+        losses = losses.wrapping_add(found?);
     }
     assert!(rt; losses > 10);
     Ok(())
@@ -364,14 +449,8 @@ fn compare_lengths(
     Ok(())
 }
 
-/// There are as many ids as types can be; more come only with splits. The one path goes through all of them, and many
-/// asks have no answer, so each id is looked at in each state.
-#[test]
-fn thousands_of_asks_of_a_long_graph(rt: HostRuntime) -> Result<(), Fail> {
-    let alloc = rt.alloc();
-    let graph = graph_of(alloc, CHAIN)?;
-    assert!(rt; graph.ids_used() == 130);
-    let mut finder = Finder::make(alloc)?;
+/// Compares how many ids the least violations in the graph of the chain have.
+fn compare_chain(alloc: Global, finder: &mut Finder, graph: &PartGraph) -> Result<(), Fail> {
     for a in (2..130u16).step_by(6) {
         for b in (2..130u16).step_by(8) {
             let (later, other) = if a < b { (130, 0) } else { (0, 130) };
@@ -380,10 +459,30 @@ fn thousands_of_asks_of_a_long_graph(rt: HostRuntime) -> Result<(), Fail> {
                 (Kind::NF, a, b, later),
                 (Kind::AP, a, b, other),
             ];
-            compare_lengths(alloc, &mut finder, &graph, &cases)?;
+            compare_lengths(alloc, finder, graph, &cases)?;
         }
     }
     Ok(())
+}
+
+/// The same with a finder of its own.
+fn ask_chain(alloc: Global, graph: &PartGraph) -> Result<(), Fail> {
+    let mut finder = Finder::make(alloc)?;
+    let compared = compare_chain(alloc, &mut finder, graph);
+    drop(finder);
+    compared
+}
+
+/// There are as many ids as types can be; more come only with splits. The one path goes through all of them, and many
+/// asks have no answer, so each id is looked at in each state.
+#[test]
+fn thousands_of_asks_of_a_long_graph(rt: HostRuntime) -> Result<(), Fail> {
+    let graph = graph_of(rt.alloc(), CHAIN)?;
+    let ids = graph.ids_used();
+    let compared = ask_chain(rt.alloc(), &graph);
+    drop(graph);
+    assert!(rt; ids == 130);
+    compared
 }
 
 /// Puts a trace of two types with so many of a between them behind the others.
@@ -395,12 +494,18 @@ fn push_row(traces: &mut String, first: &str, letters: u32, last: &str) -> Resul
     Ok(traces.push_str(last)?)
 }
 
-/// Two rows whose partition of a, with the id 3, is divided one place of the second row after another, from its end on.
-fn divided_rows(alloc: Global, letters: u32) -> Result<PartGraph, Fail> {
+/// Two rows of so many of a, each between two types of its own.
+fn rows(alloc: Global, letters: u32) -> Result<String, Fail> {
     let mut traces = String::new(alloc);
     push_row(&mut traces, "p", letters, "q\n")?;
     push_row(&mut traces, "r", letters, "s")?;
-    let mut graph = graph_of(alloc, &traces)?;
+    Ok(traces)
+}
+
+/// Their graph, whose partition of a, with the id 3, is divided one place of the second row after another, from its end
+/// on.
+fn divided_rows(alloc: Global, letters: u32) -> Result<PartGraph, Fail> {
+    let mut graph = graph_of(alloc, &rows(alloc, letters)?)?;
     let mut next = 6;
     for _ in 0..letters {
         if let Some(id) = graph.split(3, next) {
@@ -422,16 +527,30 @@ const ROWS: [(Kind, u16, u16, usize); 8] = [
     (Kind::AF, 3, 4, 1021),
 ];
 
+/// Compares how many ids the least violations in the graph of two rows have, again and again.
+fn compare_rows(alloc: Global, finder: &mut Finder, graph: &PartGraph) -> Result<(), Fail> {
+    for _ in 0..125 {
+        compare_lengths(alloc, finder, graph, &ROWS)?;
+    }
+    Ok(())
+}
+
+/// The same with a finder of its own.
+fn ask_rows(alloc: Global, graph: &PartGraph) -> Result<(), Fail> {
+    let mut finder = Finder::make(alloc)?;
+    let compared = compare_rows(alloc, &mut finder, graph);
+    drop(finder);
+    compared
+}
+
 /// In the end all ids are used, and no edge leads from one row to the other. The second row has one path, of
 /// 1,021 ids: its own, with the two ends.
 #[test]
 fn a_thousand_asks_of_a_graph_of_all_ids(rt: HostRuntime) -> Result<(), Fail> {
-    let alloc = rt.alloc();
-    let graph = divided_rows(alloc, 1017)?;
-    assert!(rt; graph.ids_used() == MAX_PARTITIONS);
-    let mut finder = Finder::make(alloc)?;
-    for _ in 0..125 {
-        compare_lengths(alloc, &mut finder, &graph, &ROWS)?;
-    }
-    Ok(())
+    let graph = divided_rows(rt.alloc(), 1017)?;
+    let ids = graph.ids_used();
+    let compared = ask_rows(rt.alloc(), &graph);
+    drop(graph);
+    assert!(rt; ids == MAX_PARTITIONS);
+    compared
 }
