@@ -42,6 +42,36 @@ search-none searched bytes inside before none =
     let rest : take (length bytes - searched) (drop searched bytes) ≡ drop searched bytes = take_all _ _ (omega (arith, length-drop searched bytes)) in
     omega (arith, skipped searched bytes inside before, found-none (drop searched bytes) (subst (λ bs. IsFirstByte (is_byte 10) bs None) rest none), length-drop searched bytes)
 
+-- the first line feed of a front is the first of all
+look-is : (n : ℕ) (bytes : List ℕ) → position_or_len is_feed (take n bytes) < n → position_or_len is_feed bytes ≡ position_or_len is_feed (take n bytes)
+look-is zero bytes below = absurd (omega arith)
+look-is (suc n) [] below = refl
+look-is (suc n) (b ∷ bytes) below = ⊎_elim
+    (λ feed. hit b bytes feed ∙ sym (hit b (take n bytes) feed))
+    (λ other. miss b bytes other ∙ (ap (λ k. k + 1) (look-is n bytes (omega (arith, miss b (take n bytes) other))) ∙ sym (miss b (take n bytes) other)))
+    (cases_Bool (b == 10))
+
+-- where a front has no line feed, none stands within as many bytes
+look-past : (n : ℕ) (bytes : List ℕ) → n ≤ length bytes → n ≤ position_or_len is_feed (take n bytes) → n ≤ position_or_len is_feed bytes
+look-past zero bytes long none = omega arith
+look-past (suc n) [] long none = absurd (omega arith)
+look-past (suc n) (b ∷ bytes) long none = ⊎_elim
+    (λ feed. absurd (omega (arith, hit b (take n bytes) feed)))
+    (λ other. omega (arith, miss b bytes other, look-past n bytes (omega arith) (omega (arith, miss b (take n bytes) other))))
+    (cases_Bool (b == 10))
+
+-- where a look at bytes behind others without a line feed finds one, that is the first line feed of all
+pub look-found : (searched n before : ℕ) (bytes : List ℕ) → searched ≤ length bytes → searched ≤ position_or_len is_feed bytes
+    → before ≡ position_or_len is_feed (take n (drop searched bytes)) → before < n → searched + before ≡ position_or_len is_feed bytes
+look-found searched n before bytes inside none is below =
+    omega (arith, is, skipped searched bytes inside none, look-is n (drop searched bytes) (omega (arith, is)))
+
+-- where it finds none, none stands before the bytes behind it
+pub look-none : (searched n before : ℕ) (bytes : List ℕ) → searched + n ≤ length bytes → searched ≤ position_or_len is_feed bytes
+    → before ≡ position_or_len is_feed (take n (drop searched bytes)) → n ≤ before → searched + n ≤ position_or_len is_feed bytes
+look-none searched n before bytes inside none is past =
+    omega (arith, skipped searched bytes (omega arith) none, look-past n (drop searched bytes) (omega (arith, length-drop searched bytes)) (omega (arith, is)))
+
 -- before the first line feed there is none
 pub none-before : (bytes : List ℕ) (n : ℕ) → n ≤ position_or_len is_feed bytes → list_any is_feed (take n bytes) ≡ false
 none-before bytes zero before = refl

@@ -2,7 +2,7 @@
 use Rattle.std.specs.Prelude.{ℕ, ◌≡◌, ◌≤◌, ◌<◌, ◌+◌, ◌-◌, Bool, true, false, IsTrue, ⊤}
 use Rattle.std.specs.Prelude.{List, [], length, take, drop, Option, Some, None, Result, Ok, Err}
 use Rattle.std.specs.Io.KnownBytes.{Consumes, IsAtEnd, Keeps}
-use Rattle.std.specs.List.{position_or_len}
+use Rattle.std.specs.List.{position_or_len, slice_index}
 use Rattle.limits.specs.declared.TheConstants.{MAX_INPUT_BYTES, MAX_LINE_BYTES}
 use Rattle.outside.specs.Counts.{Rose}
 use Rattle.outside.specs.Inputs.{InputState}
@@ -28,13 +28,17 @@ abbrev pub IsLineWithin : ℕ → Option Part → Type 0
 IsLineWithin size None = ⊤
 IsLineWithin size (Some part) = (part.from ≤ part.to) × (part.to ≤ size)
 
+-- where they are said to be clean, all bytes before a place are ASCII
+abbrev pub IsClean : Bool → ℕ → List ℕ → Type 0
+IsClean clean to buf = clean ≡ true → (i : ℕ) → i < to → slice_index buf i < 128
+
 -- a buffer and the counts of its reader: it is never read more than one byte past the limit on all
 -- input
 pub record IsSound (buf : List ℕ) (from to : ℕ) (line : Option Part) (number taken : ℕ) : Type 0 where
   pub size : length buf ≡ BUFFER_BYTES
   pub order : from ≤ to
   pub inside : to ≤ BUFFER_BYTES
-  pub placed : IsLineWithin BUFFER_BYTES line
+  pub placed : IsLineWithin to line
   pub counted : number ≤ taken
   pub limit : taken ≤ MAX_INPUT_BYTES
   pub within : taken + (to - from) ≤ MAX_INPUT_BYTES + 1

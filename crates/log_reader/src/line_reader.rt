@@ -1,6 +1,7 @@
 //! Reads the lines of inputs, one by one, through a buffer of a fixed size.
-ghost use Rattle.std.specs.Prelude.{◌≡◌, ◌<◌, ◌≤◌, ◌+◌, ◌-◌, [], length, take, drop, Some, IfOk, IfErr, IfNone, IfSome, IsSome, false};
+ghost use Rattle.std.specs.Prelude.{ℕ, ◌≡◌, ◌<◌, ◌≤◌, ◌+◌, ◌-◌, [], length, take, drop, Some, IfOk, IfErr, IfNone, IfSome, IsSome, false, true, slice_index};
 ghost use Rattle.std.specs.List.{position_or_len};
+ghost use Rattle.std.specs.Str.{IsAscii};
 ghost use Rattle.limits.specs.declared.TheConstants.{MAX_INPUT_BYTES, MAX_LINE_BYTES};
 ghost use Rattle.lines.specs.Lines.{is_feed, line_of};
 ghost use Rattle.outside.specs.Inputs.{Stays};
@@ -13,10 +14,14 @@ use memchr::memchr;
 use outside::{Failed, Inputs};
 use std::alloc::{AllocError, Global};
 use std::marker::Model;
+use std::simd::prelude::*;
 
 /// How many bytes the buffer has: a piece of the greatest length with its line feed, and room to
 /// read many more at once.
 const BUFFER_BYTES: usize = 131_072;
+
+/// How many bytes are looked at together.
+const LANES: usize = 16;
 
 /// Why a line is not given.
 #[derive(Clone, Copy, Debug, PartialEq, Eq)]
@@ -76,6 +81,8 @@ pub struct Lines {
     from: usize,
     /// Where it ends.
     to: usize,
+    /// Whether all bytes before that are known to be ASCII.
+    clean: bool,
     line: Option<Part>,
     fed: bool,
     number: u32,
@@ -88,7 +95,7 @@ impl Model for Lines {
 
     ghost Value = { SeenLines };
 
-    ghost use Rattle.log_reader.specs.Buffers.{IsSound, line_in, part_of};
+    ghost use Rattle.log_reader.specs.Buffers.{IsClean, IsSound, line_in, part_of};
 
     ghost view = { λ l. record {
       buffered = part_of l.buf.items l.from l.to;
@@ -99,12 +106,13 @@ impl Model for Lines {
       refused = l.refused;
     } };
 
-    ghost invariant = { λ l. IsSound l.buf.items l.from l.to l.line l.number l.taken };
+    ghost invariant = { λ l.
+        IsSound l.buf.items l.from l.to l.line l.number l.taken
+        × IsClean l.clean l.to l.buf.items };
 }
 
-/// Where the first line feed stands, if there is one. None stands before the place from which the
-/// search begins.
-fn first_feed(bytes: &[u8], searched: usize) -> Option<usize>
+/// Where the first line feed stands, if there is one, by a search from a place before which none stands.
+fn search_feed(bytes: &[u8], searched: usize) -> Option<usize>
     requires inside { searched ≤ length bytes.now }
     requires before { searched ≤ position_or_len is_feed bytes.now }
     ensures some { IfSome result (λ n. n ≡ position_or_len is_feed bytes.now) }
@@ -115,6 +123,42 @@ fn first_feed(bytes: &[u8], searched: usize) -> Option<usize>
         Some(n) => Some(searched + n),
         None => None,
     }
+}
+
+/// How many bytes stand before the first line feed, of those that are looked at together from a place on.
+#[inline(always)]
+fn before_feed(bytes: &[u8], at: usize) -> usize
+    requires { at + LANES ≤ length bytes.now }
+    ensures { result ≡ position_or_len is_feed (take LANES (drop at bytes.now)) }
+{
+    let feeds = u8x16::from_slice(&bytes[at..])
+        .simd_eq(u8x16::splat(10))
+        .to_bitmask();
+    if feeds == 0 {
+        LANES
+    } else {
+        feeds.trailing_zeros() as usize
+    }
+}
+
+/// Where the first line feed stands, if there is one. None stands before the place from which the
+/// search begins. The end of a short line is found at the first look.
+#[inline(always)]
+fn first_feed(bytes: &[u8], searched: usize) -> Option<usize>
+    requires inside { searched ≤ length bytes.now }
+    requires before { searched ≤ position_or_len is_feed bytes.now }
+    ensures some { IfSome result (λ n. n ≡ position_or_len is_feed bytes.now) }
+    ensures found { IfSome result (λ n. n < length bytes.now) }
+    ensures none { IfNone result (position_or_len is_feed bytes.now ≡ length bytes.now) }
+{
+    if bytes.len() - searched < LANES {
+        return search_feed(bytes, searched);
+    }
+    let before = before_feed(bytes, searched);
+    if before < LANES {
+        return Some(searched + before);
+    }
+    search_feed(bytes, searched + LANES)
 }
 
 /// The cut of a piece that is within the limits, after lines that have taken so many bytes.
@@ -131,6 +175,17 @@ fn within_limits(taken: usize, cut: Cut) -> Result<Cut, LineError>
         return Err(LineError::InputLimit);
     }
     Ok(cut)
+}
+
+/// The greatest of the bytes.
+fn greatest(bytes: &[u8]) -> u8
+    ensures { (i : ℕ) → slice_index bytes.now i ≤ result }
+{
+    let mut greatest = 0;
+    for i in 0..bytes.len() {
+        greatest = bytes[i].max(greatest);
+    }
+    greatest
 }
 
 /// Moves the bytes between two places to the front of a buffer.
@@ -177,6 +232,7 @@ impl Lines {
             buf,
             from: 0,
             to: 0,
+            clean: true,
             line: None,
             fed: false,
             number: 0,
@@ -206,6 +262,13 @@ impl Lines {
             Some(part) => &self.buf[part.from..part.to],
             None => &[],
         }
+    }
+
+    /// Whether the current line is known to be ASCII: it is, where it was read with nothing else.
+    pub fn is_known_ascii(&self) -> bool
+        ensures { result ≡ true → IfSome (self.now).line (λ line. IsAscii line) }
+    {
+        self.clean
     }
 
     /// The number of the current line in its input, from 1: how many of the input's lines were
@@ -249,9 +312,11 @@ impl Lines {
         to_front(&mut self.buf, self.from, self.to);
         self.from = 0;
         self.to = held;
+        self.clean = false;
         let room = (BUFFER_BYTES - held).min(MAX_INPUT_BYTES + 1 - self.taken - held);
         let count = read_behind(inputs, &mut self.buf, held, room)?;
         self.to = held + count;
+        self.clean = greatest(&self.buf[..self.to]) < 128;
         Ok(count > 0)
     }
 

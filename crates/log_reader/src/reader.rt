@@ -1,5 +1,6 @@
 //! Takes in the lines of the files of a log.
-ghost use Rattle.std.specs.Prelude.{◌≡◌, ◌<◌, ◌≤◌, ◌-◌, ◌^◌, OnOk, IfOk, IfErr, []};
+ghost use Rattle.std.specs.Prelude.{◌≡◌, ◌<◌, ◌≤◌, ◌-◌, ◌^◌, OnOk, IfOk, IfErr, IfSome, [], true};
+ghost use Rattle.std.specs.Str.{IsAscii, IsUtf8};
 ghost use Rattle.traces.specs.Words.{gathered_of, in_order};
 ghost use Rattle.log_reader.specs.Views.{form_view};
 ghost use Rattle.log_reader.specs.Reading.{decided, next_section, setting};
@@ -21,6 +22,21 @@ pub struct LogReader<'r> {
     pub decider: Decider<'r>,
     /// The lines that were read.
     pub log: LogSoFar,
+}
+
+/// The text that a line is as it stands, if it is UTF-8. One that is known to be ASCII needs no look.
+#[inline(always)]
+fn text_of(line: &[u8], ascii: bool) -> Option<&str>
+    requires { ascii ≡ true → IsAscii line.now }
+    ensures { IfSome result (λ text. (text.now ≡ line.now) × IsUtf8 line.now) }
+{
+    if ascii {
+        return Some(unsafe { str::from_utf8_unchecked(line) });
+    }
+    match str::from_utf8(line) {
+        Ok(text) => Some(text),
+        Err(_) => None,
+    }
 }
 
 impl<'r> LogReader<'r> {
@@ -68,9 +84,16 @@ impl<'r> LogReader<'r> {
         }
     }
 
-    /// Takes in a line. Text that is read as it stands takes no memory of its own.
+    /// Takes in a line, which may be known to be ASCII. Text that is read as it stands takes no memory of its own.
     #[inline(always)]
-    pub fn read_line(&mut self, alloc: Global, at: At, line: &[u8]) -> Result<(), ReadError>
+    pub fn read_line(
+        &mut self,
+        alloc: Global,
+        at: At,
+        line: &[u8],
+        ascii: bool,
+    ) -> Result<(), ReadError>
+        requires ascii { ascii ≡ true → IsAscii line.now }
         requires ready { IsReady self.old }
         requires room { self.old.log.section < 2 ^ 32 - 1 }
 
@@ -84,7 +107,7 @@ impl<'r> LogReader<'r> {
         if line.is_empty() {
             return Ok(());
         }
-        if let Ok(text) = str::from_utf8(line) {
+        if let Some(text) = text_of(line, ascii) {
             return self.read_text(at, text);
         }
         match line.to_str_lossy(alloc) {

@@ -69,7 +69,7 @@ fn read_lines<I: Inputs>(
             file: number,
             line: lines.number(),
         };
-        reader.read_line(alloc, at, lines.line())?;
+        reader.read_line(alloc, at, lines.line(), lines.is_known_ascii())?;
         if !lines.ends_with_feed() {
             return Ok(());
         }

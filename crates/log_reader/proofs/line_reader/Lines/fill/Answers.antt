@@ -23,5 +23,5 @@ returns-clause-gives g c =
     (ap (take held) front_is ∙ (c.to_front.ensures.front ∙ ap (λ bs. take held (drop inside.from bs)) c.deref_mut.ensures.value)) gives.1 none
     ∙ ap (λ s. with_more s (take count (drop held read))) c.self.view_is) in
     reads-more c.args.self.now _ _ _ read held count is
-    (omega (arith, gives.0, c.min-room.ensures, c.read_behind.ensures.size, c.deref_mut-2.ensures.len, c.self.invariant.size))
+    (omega (arith, gives.0, c.min-room.ensures, c.read_behind.ensures.size, c.deref_mut-2.ensures.len, c.self.invariant.0.size))
     gives.2 gives.3 gives.4

@@ -21,7 +21,7 @@ returns-in_err-within_limits-clause-err g c =
     let cut : Cut = record { length = c.in-Some.length; fed = true } in
     let inside : c.in-Some.length + 1 ≤ length now.buffered = omega (arith, c.in-Some.ensures.found, ap length held) in
     let p = err_from_is_err_and c.from_residual.result c.from_residual.ensures.1 in
-    rw (p.1, p.2) (misses-end c.args.self.now now _ _ c.loop-length.searched c.self.inside.taken cut _ c.requires.line c.loop-length.invariant taken c.self.invariant.limit
+    rw (p.1, p.2) (misses-end c.args.self.now now _ _ c.loop-length.searched c.self.inside.taken cut _ c.requires.line c.loop-length.invariant taken c.self.invariant.0.limit
     (omega (arith, taken, c.buffered-held.ensures.within, ap length held)) (c.in-Some.ensures.some ∙ ap (position_or_len is_feed) held) inside c.in_err-within_limits.ensures.err)
 
 pub returns-in_err-whole-clause-err : goal.returns-in_err-whole-clause-err
@@ -32,5 +32,5 @@ returns-in_err-whole-clause-err g c =
     let cut : Cut = record { length = length c.buffered-held.result.now; fed = false } in
     let inside : length c.buffered-held.result.now + 0 ≤ length now.buffered = omega (arith, ap length held) in
     let p = err_from_is_err_and c.from_residual-in_err-whole.result c.from_residual-in_err-whole.ensures.1 in
-    rw (p.1, p.2) (misses-end c.args.self.now now _ _ c.loop-length.searched c.self.inside.taken cut _ c.requires.line c.loop-length.invariant taken c.self.invariant.limit
+    rw (p.1, p.2) (misses-end c.args.self.now now _ _ c.loop-length.searched c.self.inside.taken cut _ c.requires.line c.loop-length.invariant taken c.self.invariant.0.limit
     (omega (arith, taken, c.buffered-held.ensures.within, ap length held)) (sym c.in_default.ensures.none ∙ ap (position_or_len is_feed) held) inside c.in_err-whole.ensures.err)
