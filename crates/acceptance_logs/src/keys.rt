@@ -59,26 +59,39 @@ fn keys_of_one_sign_are_told_apart(rt: HostRuntime) -> Result<(), Fail> {
     Ok(())
 }
 
-#[test]
-fn keys_stand_in_the_order_first_met(rt: HostRuntime) -> Result<(), Fail> {
-    let alloc = rt.alloc();
-    let mut table = KeyTable::new(alloc);
+/// Puts the numbers below 4,000 as texts, and compares their places.
+fn put_numbers(rt: &impl Abort, alloc: Global, table: &mut KeyTable) -> Result<(), Fail> {
     for number in 0..4_000usize {
         let text = format!(in alloc; "{number}")?;
-        let found = place(&rt, alloc, &mut table, 0, 7, &text)?;
+        let found = place(rt, alloc, table, 0, 7, &text)?;
         assert_eq!(rt; found, number);
     }
-    assert_eq!(rt; place(&rt, alloc, &mut table, 9, 8, "9")?, 4_000);
+    Ok(())
+}
+
+/// Compares the places of these numbers once more, and the keys at them.
+fn assert_found(rt: &impl Abort, alloc: Global, table: &mut KeyTable) -> Result<(), Fail> {
     for number in 0..4_000usize {
         let text = format!(in alloc; "{number}")?;
-        assert_eq!(rt;
-            place(&rt, alloc, &mut table, number / 2, 7, &text)?,
-            number
-        );
+        let found = place(rt, alloc, table, number / 2, 7, &text)?;
+        assert_eq!(rt; found, number);
         assert!(rt; number < table.len());
         let key = table.key(number);
         assert_eq!(rt; (key.file, key.section), (0, 7));
         assert_eq!(rt; key.text, text.as_bytes());
     }
+    Ok(())
+}
+
+#[test]
+fn keys_stand_in_the_order_first_met(rt: HostRuntime) -> Result<(), Fail> {
+    let alloc = rt.alloc();
+    let mut table = KeyTable::new(alloc);
+    put_numbers(&rt, alloc, &mut table)?;
+    let next = place(&rt, alloc, &mut table, 9, 8, "9")?;
+    let told = assert_found(&rt, alloc, &mut table);
+    drop(table);
+    told?;
+    assert_eq!(rt; next, 4_000);
     Ok(())
 }

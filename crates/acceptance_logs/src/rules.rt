@@ -2,6 +2,7 @@ use line_rules::{
     DecideError, Decision, LineRules, ListedPatterns, Named, RegexPatterns, RuleError,
 };
 use std::alloc::{AllocError, Global};
+use std::process::Abort;
 use std::test::Fail;
 
 /// Why the file is refused over `regex`, if it is.
@@ -10,6 +11,32 @@ fn refusal(alloc: Global, file: &[u8]) -> Option<RuleError> {
         Ok(_) => None,
         Err(fault) => Some(fault),
     }
+}
+
+/// The rules of a file.
+fn rules_of(alloc: Global, file: &[u8]) -> Result<LineRules, Fail> {
+    match LineRules::read(alloc, file, &mut RegexPatterns::new(alloc)) {
+        Ok(rules) => Ok(rules),
+        Err(_) => Err(Fail::from("refused")),
+    }
+}
+
+/// Compares what rules decide of a line: by themselves, and twice by what is kept from line to line.
+fn assert_decides(
+    rt: &impl Abort,
+    rules: &LineRules,
+    line: &str,
+    want: Result<Decision, DecideError>,
+    at: &str,
+) -> Result<(), Fail> {
+    let mut matchers = rules.matchers()?;
+    let first = matchers.decide(line);
+    let again = matchers.decide(line);
+    drop(matchers);
+    assert_eq!(rt; first, want, "at {at}");
+    assert_eq!(rt; again, want, "again at {at}");
+    assert_eq!(rt; rules.decide(line), want, "once more at {at}");
+    Ok(())
 }
 
 /// The text that stands so many times between the two ends.
@@ -114,14 +141,33 @@ fn lines_are_decided_by_the_first_rule(rt: HostRuntime) -> Result<(), Fail> {
         ("separator ^--$\nevent=a a", "---", Decision::Undecided),
     ];
     for (file, line, want) in cases {
-        let mut patterns = RegexPatterns::new(rt.alloc());
-        let Ok(rules) = LineRules::read(rt.alloc(), file.as_bytes(), &mut patterns) else {
-            return Err(Fail::from("refused"));
+        let rules = rules_of(rt.alloc(), file.as_bytes())?;
+        let told = assert_decides(&rt, &rules, line, Ok(want), file);
+        drop(rules);
+        told?;
+    }
+    Ok(())
+}
+
+/// Compares what rules decide of lines that have these times and the type `a`, of which some are bad.
+fn assert_times(
+    rt: &impl Abort,
+    alloc: Global,
+    rules: &LineRules,
+    cases: &[(&str, Option<u128>)],
+) -> Result<(), Fail> {
+    for (text, want) in cases {
+        let line = format!(in alloc; "{text} a")?;
+        let answer = match want {
+            Some(time) => Ok(Decision::Event {
+                name: Named::Part(text.len() + 1, text.len() + 2),
+                trace_from: 0,
+                trace_to: 0,
+                time: *time,
+            }),
+            None => Err(DecideError::BadTime),
         };
-        assert_eq!(rt; rules.decide(line), Ok(want), "at {file}");
-        let mut matchers = rules.matchers()?;
-        assert_eq!(rt; matchers.decide(line), Ok(want), "at {file}");
-        assert_eq!(rt; matchers.decide(line), Ok(want), "again at {file}");
+        assert_decides(rt, rules, &line, answer, text)?;
     }
     Ok(())
 }
@@ -155,27 +201,11 @@ fn times_are_billionths(rt: HostRuntime) -> Result<(), Fail> {
         ("1.+5", None),
         ("1e3", None),
     ];
-    let mut patterns = RegexPatterns::new(rt.alloc());
     let file = b"event ^(?<TIME>\\S+) (?<TYPE>.+)$\nevent=late (?<TIME>[0-9])";
-    let Ok(rules) = LineRules::read(rt.alloc(), file, &mut patterns) else {
-        return Err(Fail::from("refused"));
-    };
-    let mut matchers = rules.matchers()?;
-    for (text, want) in cases {
-        let line = format!(in rt.alloc(); "{text} a")?;
-        let answer = match want {
-            Some(time) => Ok(Decision::Event {
-                name: Named::Part(text.len() + 1, text.len() + 2),
-                trace_from: 0,
-                trace_to: 0,
-                time,
-            }),
-            None => Err(DecideError::BadTime),
-        };
-        assert_eq!(rt; matchers.decide(&line), answer, "at {text}");
-        assert_eq!(rt; rules.decide(&line), answer, "once more at {text}");
-    }
-    Ok(())
+    let rules = rules_of(rt.alloc(), file)?;
+    let told = assert_times(&rt, rt.alloc(), &rules, &cases);
+    drop(rules);
+    told
 }
 
 #[test]
@@ -207,14 +237,11 @@ fn a_bad_time_ends_the_search(rt: HostRuntime) -> Result<(), Fail> {
         ("separator ^(?<TIME>.*)x", "ax 7", Ok(Decision::Separator)),
     ];
     for (first, line, want) in cases {
-        let mut patterns = RegexPatterns::new(rt.alloc());
         let file = format!(in rt.alloc(); "{first}\n{late}")?;
-        let Ok(rules) = LineRules::read(rt.alloc(), file.as_bytes(), &mut patterns) else {
-            return Err(Fail::from("refused"));
-        };
-        assert_eq!(rt; rules.decide(line), want, "at {first}");
-        let mut matchers = rules.matchers()?;
-        assert_eq!(rt; matchers.decide(line), want, "at {first}");
+        let rules = rules_of(rt.alloc(), file.as_bytes())?;
+        let told = assert_decides(&rt, &rules, line, want, first);
+        drop(rules);
+        told?;
     }
     Ok(())
 }
@@ -224,10 +251,7 @@ fn a_bad_time_ends_the_search(rt: HostRuntime) -> Result<(), Fail> {
 fn shop_rules_are_taken(rt: HostRuntime) -> Result<(), Fail> {
     let file =
         b"# shop front end\nskip ^[0-9]+ DEBUG\nevent=leave ^(?<TIME>[0-9]+) INFO s(?<TRACE>[0-9]+) session closed\nevent ^(?<TIME>[0-9]+) INFO s(?<TRACE>[0-9]+) (?<TYPE>[a-z]+)\n";
-    let mut patterns = RegexPatterns::new(rt.alloc());
-    let Ok(rules) = LineRules::read(rt.alloc(), file, &mut patterns) else {
-        return Err(Fail::from("refused"));
-    };
+    let rules = rules_of(rt.alloc(), file)?;
     let event = |name, time| Decision::Event {
         name,
         trace_from: 10,
@@ -249,6 +273,7 @@ fn shop_rules_are_taken(rt: HostRuntime) -> Result<(), Fail> {
     for (line, want) in cases {
         assert_eq!(rt; rules.decide(line), Ok(want), "at {line}");
     }
+    drop(rules);
     Ok(())
 }
 
@@ -276,6 +301,19 @@ fn listed_builds_are_refused(rt: HostRuntime) -> Result<(), Fail> {
     Ok(())
 }
 
+/// How long the rule's own type is that is decided of the line `a`.
+fn length_of_name(rules: &LineRules) -> Option<usize> {
+    match rules.decide("a") {
+        Ok(
+            Decision::Event {
+                name: Named::Fixed(rule),
+                ..
+            },
+        ) => Some(rules.fixed(rule).len()),
+        _ => None,
+    }
+}
+
 #[test]
 fn limits_are_kept(rt: HostRuntime) -> Result<(), Fail> {
     let alloc = rt.alloc();
@@ -298,20 +336,12 @@ fn limits_are_kept(rt: HostRuntime) -> Result<(), Fail> {
     for (file, want) in &cases {
         assert_eq!(rt; refusal(alloc, file.as_bytes()), *want, "at {file}");
     }
+    drop(cases);
     let file = around(alloc, "event=", "n", 256, " a")?;
-    let mut patterns = RegexPatterns::new(alloc);
-    let Ok(rules) = LineRules::read(alloc, file.as_bytes(), &mut patterns) else {
-        return Err(Fail::from("refused"));
-    };
-    match rules.decide("a") {
-        Ok(
-            Decision::Event {
-                name: Named::Fixed(rule),
-                ..
-            },
-        ) => assert_eq!(rt; rules.fixed(rule).len(), 256),
-        _ => return Err(Fail::from("no type of the rule's own")),
-    }
+    let rules = rules_of(alloc, file.as_bytes())?;
+    let long = length_of_name(&rules);
+    drop(rules);
+    assert_eq!(rt; long, Some(256));
     Ok(())
 }
 
@@ -346,11 +376,10 @@ fn hostile_files_are_answered(rt: HostRuntime) -> Result<(), Fail> {
 /// A pattern over which a search that goes back would not end soon.
 #[test]
 fn nested_stars_are_decided(rt: HostRuntime) -> Result<(), Fail> {
-    let mut patterns = RegexPatterns::new(rt.alloc());
-    let Ok(rules) = LineRules::read(rt.alloc(), b"event=a (a*)*b", &mut patterns) else {
-        return Err(Fail::from("refused"));
-    };
     let line = around(rt.alloc(), "", "a", 10_000, "")?;
-    assert_eq!(rt; rules.decide(&line), Ok(Decision::Undecided));
+    let rules = rules_of(rt.alloc(), b"event=a (a*)*b")?;
+    let decided = rules.decide(&line);
+    drop(rules);
+    assert_eq!(rt; decided, Ok(Decision::Undecided));
     Ok(())
 }
