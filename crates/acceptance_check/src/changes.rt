@@ -82,10 +82,35 @@ fn known_of(alloc: Global, words: &str) -> Result<Known, Fail> {
 /// The verdict on the model of this text, which is that of the plain search.
 fn verdict_of(rt: &impl Abort, alloc: Global, known: &Known, text: &str) -> Result<Verdict, Fail> {
     let model = read_model(alloc, text.as_bytes())?;
-    let verdict = check(alloc, &model, &known.log)?;
-    let wanted = answer(alloc, &model, &known.log, known.kept.as_slice())?;
+    let verdict = check(alloc, &model, &known.log);
+    let wanted = answer(alloc, &model, &known.log, known.kept.as_slice());
+    drop(model);
+    let (wanted, verdict) = (wanted?, verdict?);
     assert_eq!(rt; verdict, wanted, "at {text}");
     Ok(verdict)
+}
+
+/// The verdict on the shop's model with one text in the place of another.
+fn exchanged_verdict(
+    rt: &impl Abort,
+    alloc: Global,
+    known: &Known,
+    old: &str,
+    new: &str,
+) -> Result<Verdict, Fail> {
+    let text = exchanged(alloc, old, new)?;
+    verdict_of(rt, alloc, known, text.as_str())
+}
+
+/// The verdict on the shop's model without the list in which this stands.
+fn verdict_without(
+    rt: &impl Abort,
+    alloc: Global,
+    known: &Known,
+    inner: &str,
+) -> Result<Verdict, Fail> {
+    let text = without(alloc, inner)?;
+    verdict_of(rt, alloc, known, text.as_str())
 }
 
 /// Whether the line of an invariant of this number is good with other labels; where not, its labels are what fails.
@@ -97,13 +122,27 @@ fn is_good(
     line: &str,
     other: &str,
 ) -> Result<bool, Fail> {
-    let text = exchanged(alloc, line, other)?;
-    let verdict = verdict_of(rt, alloc, known, text.as_str())?;
+    let verdict = exchanged_verdict(rt, alloc, known, line, other)?;
     if verdict == Verdict::Yes {
         return Ok(true);
     }
     assert_eq!(rt; verdict, Verdict::No(Part::Label(number)), "at {other}");
     Ok(false)
+}
+
+/// Whether the line of an invariant of this number is good with a digit at a place of its labels.
+fn is_good_with(
+    rt: &impl Abort,
+    alloc: Global,
+    known: &Known,
+    number: u32,
+    line: &str,
+    (place, digit): (usize, char),
+) -> Result<bool, Fail> {
+    let (head, labels) = line.split_once(",\"").unwrap_or(("", ""));
+    let changed = with_digit(alloc, labels, place, digit)?;
+    let other = format!(in alloc; "{head},\"{changed}")?;
+    is_good(rt, alloc, known, number, line, other.as_str())
 }
 
 /// How many lines are good that have one of the digits in the place of another one in the labels of this line.
@@ -115,16 +154,14 @@ fn good_lines(
     line: &str,
     digits: &str,
 ) -> Result<u32, Fail> {
-    let (head, labels) = line.split_once(",\"").unwrap_or(("", ""));
+    let (_, labels) = line.split_once(",\"").unwrap_or(("", ""));
     let mut good = 0u32;
     for (place, old) in labels.chars().enumerate() {
         for digit in digits.chars() {
             if old == '"' || old == digit {
                 continue;
             }
-            let changed = with_digit(alloc, labels, place, digit)?;
-            let other = format!(in alloc; "{head},\"{changed}")?;
-            if is_good(rt, alloc, known, number, line, other.as_str())? {
+            if is_good_with(rt, alloc, known, number, line, (place, digit))? {
                 good = good.saturating_add(1);
             }
         }
@@ -132,17 +169,28 @@ fn good_lines(
     Ok(good)
 }
 
-/// How many lines there are, and how many are good with one of the digits at the place of another one in their labels.
-fn good_digits(rt: &impl Abort, alloc: Global, digits: &str) -> Result<(u32, u32), Fail> {
-    let known = known_of(alloc, WORDS)?;
-    let lines = between(SHOP, "\"invariants\":[[", "]],\"merges")?;
+/// How many of these lines there are, and how many are good with one of the digits at the place of another one in their labels.
+fn good_among(
+    rt: &impl Abort,
+    alloc: Global,
+    known: &Known,
+    lines: &str,
+    digits: &str,
+) -> Result<(u32, u32), Fail> {
     let (mut count, mut good) = (0u32, 0u32);
     for line in lines.split("],[") {
-        let more = good_lines(rt, alloc, &known, count, line, digits)?;
+        let more = good_lines(rt, alloc, known, count, line, digits)?;
         good = good.saturating_add(more);
         count = count.saturating_add(1);
     }
     Ok((count, good))
+}
+
+/// The same for all lines of the shop's model.
+fn good_digits(rt: &impl Abort, alloc: Global, digits: &str) -> Result<(u32, u32), Fail> {
+    let lines = between(SHOP, "\"invariants\":[[", "]],\"merges")?;
+    let known = known_of(alloc, WORDS)?;
+    good_among(rt, alloc, &known, lines, digits)
 }
 
 #[test]
@@ -169,72 +217,108 @@ fn each_label_with_a_six_or_seven(rt: HostRuntime) -> Result<(), Fail> {
     Ok(())
 }
 
+/// The first trace that the shop's model has no path of once it is without this edge.
+fn refused_without(rt: &impl Abort, alloc: Global, known: &Known, edge: &str) -> Result<u32, Fail> {
+    match verdict_without(rt, alloc, known, edge)? {
+        Verdict::No(Part::Trace(t)) => Ok(t),
+        _ => Err(Fail::new("an edge that is not needed")),
+    }
+}
+
+/// The first traces that the shop's model has no path of once it is without one of these edges.
+fn all_refused(
+    rt: &impl Abort,
+    alloc: Global,
+    known: &Known,
+    edges: &str,
+) -> Result<Vec<u32>, Fail> {
+    let mut refused = Vec::new(alloc);
+    for edge in edges.split("],[") {
+        refused.push(refused_without(rt, alloc, known, edge)?)?;
+    }
+    Ok(refused)
+}
+
 #[test]
 fn each_edge_is_needed(rt: HostRuntime) -> Result<(), Fail> {
-    let known = known_of(rt.alloc(), WORDS)?;
     let edges = between(SHOP, "\"edges\":[[", "]],\"inv")?;
-    let mut refused = String::new(rt.alloc());
-    for edge in edges.split("],[") {
-        let text = without(rt.alloc(), edge)?;
-        let verdict = verdict_of(&rt, rt.alloc(), &known, text.as_str())?;
-        let Verdict::No(Part::Trace(t)) = verdict else {
-            return Err(Fail::new("an edge that is not needed"));
-        };
-        refused.push_str(&format!(in rt.alloc(); "{t} ")?)?;
-    }
-    assert_eq!(rt; refused.as_str(), "0 1 0 3 0 1 0 1 4 2 1 2 3 2 ");
+    let known = known_of(rt.alloc(), WORDS)?;
+    let refused = all_refused(&rt, rt.alloc(), &known, edges);
+    drop(known);
+    assert_eq!(rt;
+        refused?.as_slice(),
+        &[0u32, 1, 0, 3, 0, 1, 0, 1, 4, 2, 1, 2, 3, 2][..]
+    );
     Ok(())
+}
+
+/// How many lines there are, each of which is missed.
+fn missed_lines(rt: &impl Abort, alloc: Global, known: &Known, lines: &str) -> Result<u32, Fail> {
+    let mut place = 0u32;
+    for line in lines.split("],[") {
+        let verdict = verdict_without(rt, alloc, known, line)?;
+        assert_eq!(rt; verdict, Verdict::No(Part::Listing(place)));
+        place = place.saturating_add(1);
+    }
+    Ok(place)
 }
 
 #[test]
 fn each_invariant_is_needed(rt: HostRuntime) -> Result<(), Fail> {
-    let known = known_of(rt.alloc(), WORDS)?;
     let lines = between(SHOP, "\"invariants\":[[", "]],\"merges")?;
-    let mut place = 0u32;
-    for line in lines.split("],[") {
-        let text = without(rt.alloc(), line)?;
-        let verdict = verdict_of(&rt, rt.alloc(), &known, text.as_str())?;
-        assert_eq!(rt; verdict, Verdict::No(Part::Listing(place)));
-        place = place.saturating_add(1);
+    let known = known_of(rt.alloc(), WORDS)?;
+    let missed = missed_lines(&rt, rt.alloc(), &known, lines);
+    drop(known);
+    assert_eq!(rt; missed?, 41);
+    Ok(())
+}
+
+/// Asserts that the model fails by its types where others stand in the place of this one.
+fn assert_type(rt: &impl Abort, alloc: Global, known: &Known, typ: &str) -> Result<(), Fail> {
+    let old = format!(in alloc; "\"{typ}\"")?;
+    for new in "\"other\" \"x\" \"Login\"".split(' ') {
+        let verdict = exchanged_verdict(rt, alloc, known, old.as_str(), new)?;
+        assert_eq!(rt; verdict, Verdict::No(Part::Types), "{typ}");
     }
-    assert_eq!(rt; place, 41);
+    Ok(())
+}
+
+/// Asserts that each of these types is needed, and the block.
+fn assert_types(rt: &impl Abort, alloc: Global, known: &Known, types: &str) -> Result<(), Fail> {
+    for typ in types.split("\",\"") {
+        assert_type(rt, alloc, known, typ)?;
+    }
+    let verdict = exchanged_verdict(rt, alloc, known, "[6,10,1,[0,2,3,6,7,1]]", "")?;
+    assert_eq!(rt; verdict, Verdict::No(Part::Block(6, 10)));
     Ok(())
 }
 
 #[test]
 fn each_type_and_the_block_are_needed(rt: HostRuntime) -> Result<(), Fail> {
-    let known = known_of(rt.alloc(), WORDS)?;
     let types = between(SHOP, "\"types\":[\"", "\"],\"version")?;
-    for typ in types.split("\",\"") {
-        let old = format!(in rt.alloc(); "\"{typ}\"")?;
-        for new in "\"other\" \"x\" \"Login\"".split(' ') {
-            let text = exchanged(rt.alloc(), old.as_str(), new)?;
-            let verdict = verdict_of(&rt, rt.alloc(), &known, text.as_str())?;
-            assert_eq!(rt; verdict, Verdict::No(Part::Types), "{typ}");
-        }
-    }
-    let text = exchanged(rt.alloc(), "[6,10,1,[0,2,3,6,7,1]]", "")?;
-    let verdict = verdict_of(&rt, rt.alloc(), &known, text.as_str())?;
-    assert_eq!(rt; verdict, Verdict::No(Part::Block(6, 10)));
-    Ok(())
+    let known = known_of(rt.alloc(), WORDS)?;
+    assert_types(&rt, rt.alloc(), &known, types)
 }
 
 /// The verdict on the model and the log with a further trace.
 fn with_a_trace(rt: &impl Abort, alloc: Global, word: &str) -> Result<Verdict, Fail> {
     let words = format!(in alloc; "{WORDS};{word}")?;
-    let known = known_of(alloc, words.as_str())?;
-    verdict_of(rt, alloc, &known, SHOP)
+    let known = known_of(alloc, words.as_str());
+    drop(words);
+    verdict_of(rt, alloc, &known?, SHOP)
+}
+
+/// Asserts that the model is good, or is not, with each of these words as a further trace.
+fn assert_traces(rt: &impl Abort, alloc: Global, words: &str, is_good: bool) -> Result<(), Fail> {
+    for word in words.split(';') {
+        let verdict = with_a_trace(rt, alloc, word)?;
+        assert_eq!(rt; verdict == Verdict::Yes, is_good, "{word}");
+    }
+    Ok(())
 }
 
 #[test]
 fn further_traces(rt: HostRuntime) -> Result<(), Fail> {
-    for word in MORE.split(';') {
-        let verdict = with_a_trace(&rt, rt.alloc(), word)?;
-        assert_eq!(rt; verdict, Verdict::Yes, "{word}");
-    }
-    for word in NO_PATHS.split(';') {
-        let verdict = with_a_trace(&rt, rt.alloc(), word)?;
-        assert!(rt; verdict != Verdict::Yes, "{word}");
-    }
-    Ok(())
+    assert_traces(&rt, rt.alloc(), MORE, true)?;
+    assert_traces(&rt, rt.alloc(), NO_PATHS, false)
 }

@@ -2,6 +2,7 @@ use invariants::{Block, Listed, Model, Split, Text};
 use model_file::{is_well_shaped, read_model, write_model};
 use std::alloc::{AllocError, Global};
 use std::fmt::Write;
+use std::process::Abort;
 use std::test::Fail;
 
 /// The text of the model of a log without events.
@@ -131,24 +132,29 @@ fn say_blocks(said: &mut String, blocks: &[Block]) -> Result<(), AllocError> {
     Ok(())
 }
 
-/// What a model says.
-fn said(alloc: Global, model: &Model) -> Result<String, AllocError> {
-    let mut said = String::new(alloc);
-    say_types(&mut said, model.types.as_slice())?;
+/// Says what a model says.
+fn say(said: &mut String, model: &Model) -> Result<(), AllocError> {
+    say_types(said, model.types.as_slice())?;
     let partitions = model.partitions.as_slice();
     let edges = model.edges.as_slice();
     let merges = model.merges.as_slice();
     writeln!(said, "{partitions:?}\n{edges:?}\n{merges:?}")?;
-    say_invariants(&mut said, model.invariants.as_slice())?;
-    say_splits(&mut said, model.splits.as_slice())?;
-    say_blocks(&mut said, model.blocks.as_slice())?;
-    Ok(said)
+    say_invariants(said, model.invariants.as_slice())?;
+    say_splits(said, model.splits.as_slice())?;
+    say_blocks(said, model.blocks.as_slice())
+}
+
+/// Whether a model says this.
+fn says_this(alloc: Global, model: &Model, wanted: &str) -> Result<bool, Fail> {
+    let mut said = String::new(alloc);
+    say(&mut said, model)?;
+    Ok(said.as_str() == wanted)
 }
 
 /// Whether the file is read, and says this.
 fn says(alloc: Global, file: &str, wanted: &str) -> Result<bool, Fail> {
     match read_model(alloc, file.as_bytes()) {
-        Ok(model) => Ok(said(alloc, &model)?.as_str() == wanted),
+        Ok(model) => says_this(alloc, &model, wanted),
         Err(_) => Ok(false),
     }
 }
@@ -195,9 +201,10 @@ fn small_files_are_refused(rt: HostRuntime) -> Result<(), Fail> {
     for line in SMALL.split('\n') {
         assert!(rt; line_holds(alloc, "", line)?, "{line}");
     }
-    assert!(rt; gives(alloc, b" ", "NotJson")?);
-    assert!(rt; gives(alloc, b"\"\xff\"", "NotJson")?);
-    assert!(rt; fronts_are_refused(alloc, FIVE.as_bytes())?);
+    let blank = gives(alloc, b" ", "NotJson")?;
+    let no_text = gives(alloc, b"\"\xff\"", "NotJson")?;
+    let fronts = fronts_are_refused(alloc, FIVE.as_bytes())?;
+    assert_eq!(rt; (blank, no_text, fronts), (true, true, true));
     Ok(())
 }
 
@@ -336,14 +343,21 @@ Version(2) | "version":1 | "version":2
 Shape(Version) | "version":2 | "version":"2"
 NotJson | "version":"2" | "version":"2"#;
 
+/// The text after the change of a line, which is refused as the line says.
+fn refused(rt: &impl Abort, alloc: Global, text: &str, line: &str) -> Result<String, Fail> {
+    let (wanted, change) = line.split_once(" | ").unwrap_or(("", ""));
+    let text = changed(alloc, text, change)?;
+    let holds = gives(alloc, text.as_bytes(), wanted)?;
+    assert!(rt; holds, "{line}");
+    Ok(text)
+}
+
 #[test]
 fn the_first_refusal_is_answered(rt: HostRuntime) -> Result<(), Fail> {
     let alloc = rt.alloc();
     let mut text = String::from_str(alloc, FIVE)?;
     for line in PARTS.split('\n') {
-        let (wanted, change) = line.split_once(" | ").unwrap_or(("", ""));
-        text = changed(alloc, &text, change)?;
-        assert!(rt; gives(alloc, text.as_bytes(), wanted)?, "{line}");
+        text = refused(&rt, alloc, &text, line)?;
     }
     Ok(())
 }
@@ -398,21 +412,36 @@ const TEXTS: &str = "\u{22}:\\\"|\
 \u{a}:\\n:\\u000a|\
 \u{22}:\\\":\\u0022";
 
+/// Whether these types are this one alone.
+fn is_only(types: &[Text], text: &str) -> bool {
+    matches!(types, [only] if only.as_str() == text)
+}
+
 /// Whether the file is read, and its only type is this.
 fn has_type(alloc: Global, file: &str, text: &str) -> bool {
     match read_model(alloc, file.as_bytes()) {
-        Ok(model) => matches!(model.types.as_slice(), [only] if only.as_str() == text),
+        Ok(model) => is_only(model.types.as_slice(), text),
         Err(_) => false,
     }
+}
+
+/// The file with one type, that is written so between its quotes.
+fn quoted(alloc: Global, written: &str) -> Result<String, AllocError> {
+    file_with(alloc, &format!(in alloc; "\"{written}\"")?)
+}
+
+/// Whether the file has this type alone, and gives the file that is wanted.
+fn file_holds(alloc: Global, file: &str, text: &str, wanted: &str) -> Result<bool, Fail> {
+    Ok(has_type(alloc, file, text) && gives(alloc, file.as_bytes(), wanted)?)
 }
 
 /// Whether an entry of `TEXTS` holds.
 fn text_holds(alloc: Global, entry: &str) -> Result<bool, Fail> {
     let (text, quotes) = entry.split_once(':').unwrap_or(("", ""));
     let (written, spelled) = quotes.split_once(':').unwrap_or((quotes, quotes));
-    let wanted = file_with(alloc, &format!(in alloc; "\"{written}\"")?)?;
-    let file = file_with(alloc, &format!(in alloc; "\"{spelled}\"")?)?;
-    Ok(has_type(alloc, &file, text) && gives(alloc, file.as_bytes(), &wanted)?)
+    let wanted = quoted(alloc, written)?;
+    let file = quoted(alloc, spelled)?;
+    file_holds(alloc, &file, text, &wanted)
 }
 
 #[test]
