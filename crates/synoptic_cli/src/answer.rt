@@ -13,7 +13,7 @@ pub struct Answer {
 }
 
 /// Why a command has no answer.
-#[derive(Clone, Copy, Debug, PartialEq, Eq)]
+#[derive(Clone, Copy)]
 pub enum NoAnswer {
     /// A quantity passes its limit.
     Limit(LimitKind),

@@ -11,7 +11,7 @@ use outside::{InputError, Inputs, read_input};
 use std::alloc::Global;
 
 /// Why the file of a model gives none.
-#[derive(Clone, Copy, Debug, PartialEq, Eq)]
+#[derive(Clone, Copy)]
 pub enum ModelHalt {
     /// The inputs have none of this name.
     Missing,

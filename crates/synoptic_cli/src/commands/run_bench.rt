@@ -80,8 +80,14 @@ fn read_and_check(alloc: Global, text: &[u8], traces: &TraceSet) -> Result<Check
         Err(FileError::Memory) => return Err(AllocError),
         Err(_) => unreachable!(),
     };
-    let verdict = check(alloc, &model, traces)?;
-    Ok(Checked { model, verdict })
+    let checked = check(alloc, &model, traces);
+    match checked {
+        Ok(verdict) => Ok(Checked { model, verdict }),
+        Err(error) => {
+            drop(model);
+            Err(error)
+        }
+    }
 }
 
 /// How large the log and its model are, once the model was written, read back and checked, where memory is not wanted.
