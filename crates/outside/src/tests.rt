@@ -6,22 +6,76 @@ use crate::{
 };
 use std::alloc::Global;
 use std::fs;
+use std::io::Read;
+use std::process::Abort;
+use std::rt::Files;
 use std::test::Fail;
+
+/// Adds a file of this name and these bytes.
+fn add(
+    alloc: Global,
+    files: &mut Vec<(String, Vec<u8>)>,
+    name: &str,
+    bytes: &[u8],
+) -> Result<(), Fail> {
+    let name = name.to_string(alloc)?;
+    Ok(files.push((name, bytes.to_vec(alloc)?))?)
+}
+
+/// Adds standard input, a file of rules and an empty one.
+fn add_all(alloc: Global, files: &mut Vec<(String, Vec<u8>)>) -> Result<(), Fail> {
+    add(alloc, files, "", b"1 a\n1 b\n")?;
+    add(alloc, files, "shop.rules", b"word")?;
+    add(alloc, files, "empty", b"")
+}
 
 /// Standard input, a file of rules and an empty one, of which a read gives at most a piece.
 fn inputs_of(alloc: Global, piece: usize, failing: &[u64]) -> Result<MemInputs, Fail>
     requires { 1 ≤ piece }
 {
+    let failing = failing.to_vec(alloc)?;
     let mut files = Vec::new(alloc);
-    files.push((String::new(alloc), b"1 a\n1 b\n".to_vec(alloc)?))?;
-    files.push(("shop.rules".to_string(alloc)?, b"word".to_vec(alloc)?))?;
-    files.push(("empty".to_string(alloc)?, Vec::new(alloc)))?;
-    Ok(MemInputs::new(files, piece, failing.to_vec(alloc)?))
+    add_all(alloc, &mut files)?;
+    Ok(MemInputs::new(files, piece, failing))
+}
+
+/// Reads so many times, and puts the bytes, of which there are some each time, behind the others.
+fn read_on(
+    rt: &impl Abort,
+    inputs: &mut MemInputs,
+    name: &str,
+    reads: u32,
+    read: &mut Vec<u8>,
+) -> Result<(), Fail> {
+    let mut buf = [0u8; 7];
+    for _ in 0..reads {
+        let count = inputs.read(&mut buf)?;
+        assert!(rt; count > 0, "at {name}");
+        read.extend_from_slice(&buf[..count])?;
+    }
+    Ok(())
+}
+
+/// Opens an input, and compares what is read in so many pieces with its text, after which nothing is left.
+fn assert_pieces(
+    rt: &impl Abort,
+    alloc: Global,
+    inputs: &mut MemInputs,
+    name: &str,
+    text: &str,
+    reads: u32,
+) -> Result<(), Fail> {
+    inputs.open(name)?;
+    let mut read = Vec::new(alloc);
+    read_on(rt, inputs, name, reads, &mut read)?;
+    assert_eq!(rt; read.as_slice(), text.as_bytes(), "at {name}");
+    drop(read);
+    assert_eq!(rt; inputs.read(&mut [0u8; 7]), Ok(0), "at {name}");
+    Ok(())
 }
 
 #[test]
 fn files_are_read_in_pieces(rt: HostRuntime) -> Result<(), Fail> {
-    let alloc = rt.alloc();
     let cases = [
         (1usize, "", "1 a\n1 b\n", 8),
         (7, "", "1 a\n1 b\n", 2),
@@ -30,26 +84,34 @@ fn files_are_read_in_pieces(rt: HostRuntime) -> Result<(), Fail> {
     ];
     for (piece, name, text, reads) in cases {
         assert!(rt; piece > 0);
-        let mut inputs = inputs_of(alloc, piece, &[])?;
-        assert_eq!(rt; inputs.open(name), Ok(()), "at {name}");
-        let mut read = Vec::new(alloc);
-        let mut buf = [0u8; 7];
-        for _ in 0..reads {
-            let Ok(count) = inputs.read(&mut buf) else {
-                return Err(Fail::from(Failed));
-            };
-            assert!(rt; count > 0, "at {name}");
-            read.extend_from_slice(&buf[..count])?;
-        }
-        assert_eq!(rt; read.as_slice(), text.as_bytes(), "at {name}");
-        assert_eq!(rt; inputs.read(&mut buf), Ok(0), "at {name}");
+        let mut inputs = inputs_of(rt.alloc(), piece, &[])?;
+        let read = assert_pieces(&rt, rt.alloc(), &mut inputs, name, text, reads);
+        drop(inputs);
+        read?;
     }
     Ok(())
 }
 
+/// Opens a file and one that is not there, with a read after each, of which one call fails.
+fn assert_calls(
+    rt: &impl Abort,
+    inputs: &mut MemInputs,
+    failing: u64,
+    first: Result<(), OpenError>,
+    second: Result<usize, Failed>,
+    third: Result<(), OpenError>,
+) {
+    let mut buf = [0u8; 3];
+    let opened = inputs.open("shop.rules");
+    let read = inputs.read(&mut buf);
+    let lost = inputs.open("lost");
+    let end = inputs.read(&mut buf);
+    assert_eq!(rt; [opened, lost], [first, third], "at {failing}");
+    assert_eq!(rt; [read, end], [second, Ok(0)], "at {failing}");
+}
+
 #[test]
 fn calls_fail_by_their_number(rt: HostRuntime) -> Result<(), Fail> {
-    let mut buf = [0u8; 3];
     let cases = [
         (0, Ok(()), Ok(3), Err(OpenError::Missing)),
         (1, Err(OpenError::Failed), Ok(0), Err(OpenError::Missing)),
@@ -58,17 +120,45 @@ fn calls_fail_by_their_number(rt: HostRuntime) -> Result<(), Fail> {
     ];
     for (failing, first, second, third) in cases {
         let mut inputs = inputs_of(rt.alloc(), 7, &[failing])?;
-        assert_eq!(rt; inputs.open("shop.rules"), first, "at {failing}");
-        assert_eq!(rt; inputs.read(&mut buf), second, "at {failing}");
-        assert_eq!(rt; inputs.open("lost"), third, "at {failing}");
-        assert_eq!(rt; inputs.read(&mut buf), Ok(0), "at {failing}");
+        assert_calls(&rt, &mut inputs, failing, first, second, third);
+        drop(inputs);
     }
     Ok(())
 }
 
+/// The bytes that were read, or why they were not.
+fn shown(read: &Result<Vec<u8>, InputError>) -> Result<&[u8], InputError> {
+    match read {
+        Ok(bytes) => Ok(bytes.as_slice()),
+        Err(error) => Err(*error),
+    }
+}
+
+/// Compares what is read of an input up to a limit, where a call fails, and what the next read gives.
+fn assert_front(
+    rt: &impl Abort,
+    alloc: Global,
+    inputs: &mut MemInputs,
+    case: (&str, u32, u64),
+    want: Result<&str, InputError>,
+    left: Option<&str>,
+) {
+    let (name, limit, failing) = case;
+    let read = read_input(alloc, inputs, name, limit as usize);
+    let want = want.map(str::as_bytes);
+    assert_eq!(rt; shown(&read), want, "at {name}, {limit}, {failing}");
+    drop(read);
+    let mut buf = [0u8; 7];
+    let found = match inputs.read(&mut buf) {
+        Ok(count) => Some(&buf[..count]),
+        Err(_) => None,
+    };
+    let left = left.map(str::as_bytes);
+    assert_eq!(rt; found, left, "at {name}, {limit}, {failing}");
+}
+
 #[test]
 fn inputs_are_read_up_to_a_limit(rt: HostRuntime) -> Result<(), Fail> {
-    let alloc = rt.alloc();
     let cases = [
         (1usize, 0u64, "", 9u32, Ok("1 a\n1 b\n"), Some("")),
         (7, 0, "", 9, Ok("1 a\n1 b\n"), Some("")),
@@ -86,64 +176,93 @@ fn inputs_are_read_up_to_a_limit(rt: HostRuntime) -> Result<(), Fail> {
     ];
     for (piece, failing, name, limit, want, left) in cases {
         assert!(rt; piece > 0);
-        let mut inputs = inputs_of(alloc, piece, &[failing])?;
-        let want = match want {
-            Ok(text) => Ok(text.as_bytes().to_vec(alloc)?),
-            Err(error) => Err(error),
-        };
-        let read = read_input(alloc, &mut inputs, name, limit as usize);
-        assert_eq!(rt; read, want, "at {name}, {limit}, {failing}");
-        let mut buf = [0u8; 7];
-        let found = match inputs.read(&mut buf) {
-            Ok(count) => Some(&buf[..count]),
-            Err(_) => None,
-        };
-        let left = left.map(str::as_bytes);
-        assert_eq!(rt; found, left, "at {name}, {limit}, {failing}");
+        let mut inputs = inputs_of(rt.alloc(), piece, &[failing])?;
+        let case = (name, limit, failing);
+        assert_front(&rt, rt.alloc(), &mut inputs, case, want, left);
+        drop(inputs);
     }
     Ok(())
 }
 
-#[test]
-fn real_files_are_read(rt: HostRuntime) -> Result<(), Fail> {
-    let alloc = rt.alloc();
-    let name = "outside_test.bytes";
+/// Two hundred thousand bytes.
+fn many_bytes(alloc: Global) -> Result<Vec<u8>, Fail> {
     let mut content = Vec::new(alloc);
     for i in 0..200_000u32 {
         content.push((i % 251) as u8)?;
     }
-    fs::write(&rt, name, content.as_slice())?;
-    let mut inputs = RealInputs::new(&rt, &b"1 a\n"[..]);
-    assert_eq!(rt; inputs.open(name), Ok(()));
-    let mut read = Vec::new(alloc);
+    Ok(content)
+}
+
+/// Reads 29 pieces of up to 7,000 bytes.
+fn read_pieces<R: Files, S: Read>(
+    inputs: &mut RealInputs<R, S>,
+    read: &mut Vec<u8>,
+) -> Result<(), Fail> {
     let mut buf = [0u8; 7_000];
     for _ in 0..29 {
-        let Ok(count) = inputs.read(&mut buf) else {
-            return Err(Fail::from(Failed));
-        };
+        let count = inputs.read(&mut buf)?;
         read.extend_from_slice(&buf[..count])?;
     }
-    assert!(rt; read == content);
-    assert_eq!(rt; inputs.read(&mut buf), Ok(0));
-    assert!(rt; read_input(alloc, &mut inputs, name, 200_000) == Ok(content));
-    fs::remove_file(&rt, name)?;
-    assert_eq!(rt; inputs.open(name), Err(OpenError::Failed));
-    assert_eq!(rt; inputs.read(&mut buf), Ok(0));
-    assert_eq!(rt;
-        read_input(alloc, &mut inputs, ".", 9),
-        Err(InputError::Fault)
-    );
-    assert_eq!(rt;
-        read_input(alloc, &mut inputs, "", 9),
-        Ok(b"1 a\n".to_vec(alloc)?)
-    );
     Ok(())
 }
 
+/// Compares what is read of a file, in pieces and at once, with its bytes.
+fn assert_file<R: Files, S: Read>(
+    rt: &impl Abort,
+    alloc: Global,
+    inputs: &mut RealInputs<R, S>,
+    name: &str,
+    content: &[u8],
+) -> Result<(), Fail> {
+    inputs.open(name)?;
+    let mut read = Vec::new(alloc);
+    read_pieces(inputs, &mut read)?;
+    let same = read.as_slice() == content;
+    drop(read);
+    let end = inputs.read(&mut [0u8; 7_000]);
+    let whole = read_input(alloc, inputs, name, 200_000)?;
+    let same_at_once = whole.as_slice() == content;
+    drop(whole);
+    assert!(rt; same && same_at_once);
+    assert_eq!(rt; end, Ok(0));
+    Ok(())
+}
+
+/// A file that is gone and a directory are not read; standard input is.
+fn assert_gone<R: Files, S: Read>(
+    rt: &impl Abort,
+    alloc: Global,
+    inputs: &mut RealInputs<R, S>,
+    name: &str,
+) {
+    let gone = inputs.open(name);
+    let end = inputs.read(&mut [0u8; 7_000]);
+    assert_eq!(rt; gone, Err(OpenError::Failed));
+    assert_eq!(rt; end, Ok(0));
+    let directory = read_input(alloc, inputs, ".", 9);
+    assert_eq!(rt; shown(&directory), Err(InputError::Fault));
+    drop(directory);
+    let standard = read_input(alloc, inputs, "", 9);
+    assert_eq!(rt; shown(&standard), Ok(b"1 a\n".as_slice()));
+}
+
 #[test]
-fn a_sink_takes_what_fits(rt: HostRuntime) -> Result<(), Fail> {
-    let alloc = rt.alloc();
-    let mut sink = MemSink::make(alloc, 5, 2, vec![in alloc; 2u64]?)?;
+fn real_files_are_read(rt: HostRuntime) -> Result<(), Fail> {
+    let name = "outside_test.bytes";
+    let content = many_bytes(rt.alloc())?;
+    fs::write(&rt, name, content.as_slice())?;
+    let mut inputs = RealInputs::new(&rt, &b"1 a\n"[..]);
+    let read = assert_file(&rt, rt.alloc(), &mut inputs, name, &content);
+    drop(content);
+    read?;
+    fs::remove_file(&rt, name)?;
+    assert_gone(&rt, rt.alloc(), &mut inputs, name);
+    drop(inputs);
+    Ok(())
+}
+
+/// Compares each answer of a sink with room for five bytes, and what it holds then.
+fn assert_writes(rt: &impl Abort, sink: &mut MemSink) {
     let cases = [
         ("abc", Ok(2), "ab"),
         ("abc", Err(Failed), "ab"),
@@ -157,12 +276,33 @@ fn a_sink_takes_what_fits(rt: HostRuntime) -> Result<(), Fail> {
         assert_eq!(rt; sink.write(piece.as_bytes()), answer, "at {piece}");
         assert_eq!(rt; sink.bytes(), held.as_bytes(), "at {piece}");
     }
+}
+
+#[test]
+fn a_sink_takes_what_fits(rt: HostRuntime) -> Result<(), Fail> {
+    let failing = vec![in rt.alloc(); 2u64]?;
+    let mut sink = MemSink::make(rt.alloc(), 5, 2, failing)?;
+    assert_writes(&rt, &mut sink);
+    drop(sink);
     Ok(())
+}
+
+/// Compares the answer of a sink to a whole text, and what it holds then.
+fn assert_whole(
+    rt: &impl Abort,
+    sink: &mut MemSink,
+    room: usize,
+    failing: u64,
+    answer: Result<(), Failed>,
+    held: &str,
+) {
+    let written = write_whole(sink, b"1234567");
+    assert_eq!(rt; written, answer, "at {room}, {failing}");
+    assert_eq!(rt; sink.bytes(), held.as_bytes(), "at {room}, {failing}");
 }
 
 #[test]
 fn whole_texts_are_written(rt: HostRuntime) -> Result<(), Fail> {
-    let alloc = rt.alloc();
     let cases = [
         (7, 0u64, Ok(()), "1234567"),
         (6, 0, Err(Failed), "123456"),
@@ -171,13 +311,10 @@ fn whole_texts_are_written(rt: HostRuntime) -> Result<(), Fail> {
         (7, 5, Ok(()), "1234567"),
     ];
     for (room, failing, answer, held) in cases {
-        let mut sink = MemSink::make(alloc, room, 2, vec![in alloc; failing]?)?;
-        assert_eq!(rt;
-            write_whole(&mut sink, b"1234567"),
-            answer,
-            "at {room}, {failing}"
-        );
-        assert_eq!(rt; sink.bytes(), held.as_bytes(), "at {room}, {failing}");
+        let numbers = vec![in rt.alloc(); failing]?;
+        let mut sink = MemSink::make(rt.alloc(), room, 2, numbers)?;
+        assert_whole(&rt, &mut sink, room, failing, answer, held);
+        drop(sink);
     }
     Ok(())
 }
