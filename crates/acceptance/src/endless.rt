@@ -3,9 +3,11 @@
 ghost use Rattle.std.specs.Prelude.{◌≡◌, ◌<◌, ◌^◌};
 ghost use Rattle.outside.specs.Inputs.{InputState, Stays, OpenGives, ReadGives};
 
+use crate::faults::assert_told;
 use harness::{PLAIN, repeated, words_of};
 use line_rules::RegexPatterns;
 use outside::{Failed, Inputs, MemSink, OpenError};
+use std::alloc::{AllocError, Global};
 use std::test::Fail;
 use synoptic_cli::{LimitKind, Status, run};
 
@@ -40,18 +42,23 @@ impl Inputs for Endless {
     }
 }
 
+/// Inputs of a line of one event, whose trace has a thousand letters.
+fn make_endless(alloc: Global) -> Result<Endless, AllocError> {
+    let line = repeated(alloc, "t", 1000)?;
+    Ok(Endless {
+        line: format!(in alloc; "{line} a\n")?.into_bytes(),
+        opens: 0,
+    })
+}
+
 #[test]
 fn reading_ends_at_the_limit(rt: HostRuntime) -> Result<(), Fail> {
     let alloc = rt.alloc();
     let words = words_of(alloc, &PLAIN)?;
-    let line = repeated(alloc, "t", 1000)?;
-    let mut inputs = Endless {
-        line: format!(in alloc; "{line} a\n")?.into_bytes(),
-        opens: 0,
-    };
-    let mut patterns = RegexPatterns::new(alloc);
+    let mut inputs = make_endless(alloc)?;
     let mut out = MemSink::make(alloc, 100, 100, Vec::new(alloc))?;
     let mut err = MemSink::make(alloc, 100, 100, Vec::new(alloc))?;
+    let mut patterns = RegexPatterns::new(alloc);
     let status = run(
         alloc,
         &words,
@@ -60,8 +67,13 @@ fn reading_ends_at_the_limit(rt: HostRuntime) -> Result<(), Fail> {
         &mut out,
         &mut err,
     );
-    assert_eq!(rt; status, Status::Limit(LimitKind::Input));
-    assert_eq!(rt; out.bytes().len(), 0);
-    assert_eq!(rt; err.bytes(), &b"synoptic: limit: input 268435456\n"[..]);
+    let told = (status, out.bytes(), err.bytes());
+    let message = "synoptic: limit: input 268435456\n";
+    let wanted = (
+        Status::Limit(LimitKind::Input),
+        "".as_bytes(),
+        message.as_bytes(),
+    );
+    assert_told(&rt, told, wanted, 100);
     Ok(())
 }

@@ -1,7 +1,8 @@
 //! Reports of logs.
 
-use harness::{USAGE, by_rules, make_setting, plain, run_in};
+use harness::{Ended, USAGE, by_rules, make_setting, plain, run_in};
 use std::alloc::{AllocError, Global};
+use std::process::Abort;
 use std::test::Fail;
 use synoptic_cli::Status;
 
@@ -16,6 +17,13 @@ const ONE_REPORT: &str = "INITIAL AlwaysFollowedBy \"a\"\n\"a\" NeverFollowedBy 
 /// The report of the traces a b and a.
 const SECTIONS_REPORT: &str =
     "INITIAL AlwaysFollowedBy \"a\"\n\"a\" NeverFollowedBy \"a\"\n\"a\" AlwaysPrecedes \"b\"\n\"b\" NeverFollowedBy \"a\"\n\"b\" NeverFollowedBy \"b\"\n";
+
+/// Compares what a run wrote with the report at this log or these rules; it has to be done, and to tell nothing.
+pub fn assert_done(rt: &impl Abort, ended: &Ended, report: &str, at: &str) {
+    assert_eq!(rt; ended.err.as_str(), "", "at {at}");
+    assert_eq!(rt; ended.out.as_str(), report, "at {at}");
+    assert_eq!(rt; ended.status, Status::Done, "at {at}");
+}
 
 /// The report of one trace with one event of this type, as it is quoted.
 fn report_of_one(alloc: Global, quoted: &str) -> Result<String, AllocError> {
@@ -37,9 +45,7 @@ fn reports_of_small_logs(rt: HostRuntime) -> Result<(), Fail> {
             let mut setting = plain(log.as_bytes());
             setting.piece = piece;
             let ended = run_in(rt.alloc(), &setting)?;
-            assert_eq!(rt; ended.status, Status::Done, "at {log}");
-            assert_eq!(rt; ended.out.as_str(), report, "at {log}");
-            assert_eq!(rt; ended.err.as_str(), "", "at {log}");
+            assert_done(&rt, &ended, report, log);
         }
     }
     Ok(())
@@ -47,17 +53,15 @@ fn reports_of_small_logs(rt: HostRuntime) -> Result<(), Fail> {
 
 #[test]
 fn types_are_quoted(rt: HostRuntime) -> Result<(), Fail> {
-    let cases: [(&[u8], &[u8]); 3] = [
-        (b"1 INITIAL\n", b"\"INITIAL\""),
-        (b" \"\n", b"\"\\\"\""),
-        (b"1 a\xff\r\n", b"\"a\xef\xbf\xbd\""),
+    let cases: [(&[u8], &str); 3] = [
+        (b"1 INITIAL\n", "\"INITIAL\""),
+        (b" \"\n", "\"\\\"\""),
+        (b"1 a\xff\r\n", "\"a\u{fffd}\""),
     ];
     for (log, quoted) in cases {
+        let report = report_of_one(rt.alloc(), quoted)?;
         let ended = run_in(rt.alloc(), &plain(log))?;
-        let name = String::from_utf8_lossy(rt.alloc(), quoted)?;
-        let report = report_of_one(rt.alloc(), name.as_str())?;
-        assert_eq!(rt; ended.out.as_str(), report.as_str());
-        assert_eq!(rt; ended.status, Status::Done);
+        assert_done(&rt, &ended, report.as_str(), quoted);
     }
     Ok(())
 }
@@ -91,11 +95,17 @@ fn reports_by_rules(rt: HostRuntime) -> Result<(), Fail> {
     ];
     for (rules, log, report) in cases {
         let ended = run_in(rt.alloc(), &by_rules(rules.as_bytes(), log.as_bytes()))?;
-        assert_eq!(rt; ended.err.as_str(), "", "at {rules}");
-        assert_eq!(rt; ended.out.as_str(), report, "at {rules}");
-        assert_eq!(rt; ended.status, Status::Done, "at {rules}");
+        assert_done(&rt, &ended, report, rules);
     }
     Ok(())
+}
+
+/// A run that is refused by its words.
+fn assert_usage(rt: &impl Abort, ended: &Ended) {
+    assert_eq!(rt; ended.status, Status::Usage);
+    assert_eq!(rt; ended.status.code(), 2);
+    assert_eq!(rt; ended.out.as_str(), "");
+    assert_eq!(rt; ended.err.as_str(), USAGE);
 }
 
 #[test]
@@ -122,10 +132,7 @@ fn other_words_are_refused(rt: HostRuntime) -> Result<(), Fail> {
     ];
     for words in usages {
         let ended = run_in(rt.alloc(), &make_setting(words, b"event=a a\n", TWO))?;
-        assert_eq!(rt; ended.status, Status::Usage);
-        assert_eq!(rt; ended.status.code(), 2);
-        assert_eq!(rt; ended.out.as_str(), "");
-        assert_eq!(rt; ended.err.as_str(), USAGE);
+        assert_usage(&rt, &ended);
     }
     Ok(())
 }
