@@ -14,11 +14,10 @@ use std::process::Abort;
 use std::sync::ledger::{Blank, Ledger};
 use std::test::Fail;
 use steps::Steps;
-use traces::Builder;
+use traces::{Builder, TraceSet};
 
-/// The graph opened from these traces, each of types between spaces.
-fn graph_of(alloc: Global, traces: &[&str]) -> Result<PartGraph, Fail> {
-    let mut builder = Builder::new(alloc);
+/// Adds traces of types between spaces.
+fn add_traces(builder: &mut Builder, traces: &[&str]) -> Result<(), Fail> {
     for (t, trace) in traces.iter().enumerate() {
         let file = u32::try_from(t)?;
         for type_text in trace.split_whitespace() {
@@ -27,7 +26,22 @@ fn graph_of(alloc: Global, traces: &[&str]) -> Result<PartGraph, Fail> {
             }
         }
     }
-    Ok(PartGraph::open(alloc, &builder.finish()?)?)
+    Ok(())
+}
+
+/// The set of these traces.
+fn set_of(alloc: Global, traces: &[&str]) -> Result<TraceSet, Fail> {
+    let mut builder = Builder::new(alloc);
+    add_traces(&mut builder, traces)?;
+    Ok(builder.finish()?)
+}
+
+/// The graph opened from these traces.
+fn graph_of(alloc: Global, traces: &[&str]) -> Result<PartGraph, Fail> {
+    let set = set_of(alloc, traces)?;
+    let graph = PartGraph::open(alloc, &set);
+    drop(set);
+    Ok(graph?)
 }
 
 fn invariant(kind: Kind, a: u16, b: u16) -> Invariant {
@@ -75,31 +89,57 @@ fn assert_labels(rt: &impl Abort, planes: &Planes, number: usize, wanted: &[u8])
     }
 }
 
-/// Two traces a c d and b c e, in which a, c, d, b and e have the numbers from 2 on. By type, each way through c is
-/// open; after the split of c each has its own, and a merge would open them again.
-#[test]
-fn labels_before_and_after_a_split(rt: HostRuntime) -> Result<(), Fail> {
-    let mut graph = graph_of(rt.alloc(), &["a c d", "b c e"])?;
+/// Compares the labels by type, and those after the split of c.
+fn assert_split(rt: &impl Abort, alloc: Global, graph: &mut PartGraph) -> Result<(), Fail> {
     let invs = [
         invariant(Kind::AF, 2, 4),
         invariant(Kind::NF, 2, 6),
         invariant(Kind::AP, 2, 4),
     ];
-    let mut planes = planes_of(&rt, rt.alloc(), &invs)?;
-    label(&mut planes, &View::Plain(&graph));
-    assert_labels(&rt, &planes, 0, &[1, 3, 2, 3, 1, 1, 3, 0]);
-    assert_labels(&rt, &planes, 1, &[1, 7, 2, 3, 3, 1, 5, 0]);
-    assert_labels(&rt, &planes, 2, &[1, 7, 2, 3, 6, 1, 3, 0]);
-    assert_eq!(rt; planes.first_bad(), Some(0));
-    assert_eq!(rt; graph.split(3, 6), Some(7));
-    label(&mut planes, &View::Plain(&graph));
-    assert_labels(&rt, &planes, 0, &[1, 1, 2, 2, 1, 1, 1, 1, 0]);
-    assert_labels(&rt, &planes, 1, &[1, 3, 2, 2, 2, 1, 1, 1, 0]);
-    assert_labels(&rt, &planes, 2, &[1, 3, 2, 2, 2, 1, 1, 1, 0]);
-    assert_eq!(rt; planes.first_bad(), None);
-    planes.find_clashes(&graph);
-    assert_eq!(rt; planes.first_clash(3, 7), Some(0));
-    assert_labels(&rt, &planes, 0, &[1, 1, 2, 2, 1, 1, 1, 1, 0]);
+    let mut planes = planes_of(rt, alloc, &invs)?;
+    label(&mut planes, &View::Plain(graph));
+    assert_labels(rt, &planes, 0, &[1, 3, 2, 3, 1, 1, 3, 0]);
+    assert_labels(rt, &planes, 1, &[1, 7, 2, 3, 3, 1, 5, 0]);
+    assert_labels(rt, &planes, 2, &[1, 7, 2, 3, 6, 1, 3, 0]);
+    let by_type = planes.first_bad();
+    let split = graph.split(3, 6);
+    label(&mut planes, &View::Plain(graph));
+    assert_labels(rt, &planes, 0, &[1, 1, 2, 2, 1, 1, 1, 1, 0]);
+    assert_labels(rt, &planes, 1, &[1, 3, 2, 2, 2, 1, 1, 1, 0]);
+    assert_labels(rt, &planes, 2, &[1, 3, 2, 2, 2, 1, 1, 1, 0]);
+    let by_split = planes.first_bad();
+    planes.find_clashes(graph);
+    let clash = planes.first_clash(3, 7);
+    assert_labels(rt, &planes, 0, &[1, 1, 2, 2, 1, 1, 1, 1, 0]);
+    drop(planes);
+    assert_eq!(rt; split, Some(7));
+    assert_eq!(rt; [by_type, by_split, clash], [Some(0), None, Some(0)]);
+    Ok(())
+}
+
+/// Two traces a c d and b c e, in which a, c, d, b and e have the numbers from 2 on. By type, each way through c is
+/// open; after the split of c each has its own, and a merge would open them again.
+#[test]
+fn labels_before_and_after_a_split(rt: HostRuntime) -> Result<(), Fail> {
+    let mut graph = graph_of(rt.alloc(), &["a c d", "b c e"])?;
+    let compared = assert_split(&rt, rt.alloc(), &mut graph);
+    drop(graph);
+    compared
+}
+
+/// Compares the labels of two invariants, of which the graph satisfies one.
+fn assert_rounds(rt: &impl Abort, alloc: Global, graph: &PartGraph) -> Result<(), Fail> {
+    let invs = [invariant(Kind::AF, 0, 2), invariant(Kind::NF, 4, 3)];
+    let mut planes = planes_of(rt, alloc, &invs)?;
+    label(&mut planes, &View::Plain(graph));
+    assert_labels(rt, &planes, 0, &[2, 1, 1, 1, 1]);
+    assert_labels(rt, &planes, 1, &[1, 5, 1, 5, 6]);
+    let bad = planes.first_bad();
+    let mut flags = [false; 2];
+    planes.tell_satisfied(&View::Plain(graph), &mut flags);
+    drop(planes);
+    assert_eq!(rt; bad, Some(1));
+    assert!(rt; flags[0] && !flags[1]);
     Ok(())
 }
 
@@ -107,16 +147,9 @@ fn labels_before_and_after_a_split(rt: HostRuntime) -> Result<(), Fail> {
 #[test]
 fn labels_go_round(rt: HostRuntime) -> Result<(), Fail> {
     let graph = graph_of(rt.alloc(), &["a b c b"])?;
-    let invs = [invariant(Kind::AF, 0, 2), invariant(Kind::NF, 4, 3)];
-    let mut planes = planes_of(&rt, rt.alloc(), &invs)?;
-    label(&mut planes, &View::Plain(&graph));
-    assert_labels(&rt, &planes, 0, &[2, 1, 1, 1, 1]);
-    assert_labels(&rt, &planes, 1, &[1, 5, 1, 5, 6]);
-    assert_eq!(rt; planes.first_bad(), Some(1));
-    let mut flags = [false; 2];
-    planes.tell_satisfied(&View::Plain(&graph), &mut flags);
-    assert!(rt; flags[0] && !flags[1]);
-    Ok(())
+    let compared = assert_rounds(&rt, rt.alloc(), &graph);
+    drop(graph);
+    compared
 }
 
 /// How many ids the graphs by number have at most.
@@ -205,25 +238,57 @@ fn some() -> [Invariant; 9] {
     ]
 }
 
+/// Compares the labels of a graph, and those of its merge of q and the partition of its type's number, with what is
+/// reached. Whether the two are a pair.
+fn assert_graph(
+    rt: &impl Abort,
+    planes: &mut Planes,
+    graph: &PartGraph,
+    invs: &[Invariant],
+    q: u32,
+) -> bool
+    requires { planes.old.invs ≡ invs.now }
+    ensures { planes.new.invs ≡ planes.old.invs }
+{
+    let view = View::Plain(graph);
+    label(planes, &view);
+    assert_reached(rt, planes, &view, invs);
+    let p = u32::from(graph.type_of(q));
+    if !is_pair(graph, p, q) {
+        return false;
+    }
+    let view = View::Merged(graph, p, q);
+    label(planes, &view);
+    assert_reached(rt, planes, &view, invs);
+    true
+}
+
+/// Compares the labels of a hundred graphs, and says how many of them have a pair that is looked at.
+fn assert_graphs(
+    rt: &impl Abort,
+    alloc: Global,
+    planes: &mut Planes,
+    invs: &[Invariant],
+) -> Result<u32, Fail>
+    requires { planes.old.invs ≡ invs.now }
+{
+    let mut merges = 0u32;
+    for seed in 0..100 {
+        let graph = sample(alloc, seed)?;
+        let merged = assert_graph(rt, planes, &graph, invs, 5 + seed % 5);
+        drop(graph);
+        merges = merges.wrapping_add(u32::from(merged));
+    }
+    Ok(merges)
+}
+
 #[test]
 fn labels_of_a_hundred_graphs(rt: HostRuntime) -> Result<(), Fail> {
     let invs = some();
     let mut planes = planes_of(&rt, rt.alloc(), &invs)?;
-    let mut merges = 0u32;
-    for seed in 0..100 {
-        let graph = sample(rt.alloc(), seed)?;
-        let view = View::Plain(&graph);
-        label(&mut planes, &view);
-        assert_reached(&rt, &planes, &view, &invs);
-        let q = 5 + seed % 5;
-        let p = u32::from(graph.type_of(q));
-        if is_pair(&graph, p, q) {
-            let view = View::Merged(&graph, p, q);
-            label(&mut planes, &view);
-            assert_reached(&rt, &planes, &view, &invs);
-            merges += 1;
-        }
-    }
+    let compared = assert_graphs(&rt, rt.alloc(), &mut planes, &invs);
+    drop(planes);
+    let merges = compared?;
     assert!(rt; merges > 20);
     Ok(())
 }
