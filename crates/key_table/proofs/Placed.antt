@@ -52,8 +52,16 @@ slot-kept slots at new i slot empty taken is = elim (cases_eq i at) [
   | inr other ↦ get-set-other slots at new i other ∙ is
 ]
 
+-- a slot that has a place still does when one without is set
+taken-kept : (slots : List Slot) (at : ℕ) (new : Slot) (i : ℕ) → is_empty_at slots at ≡ true → is_empty_at slots i ≡ false → is_empty_at (set slots at new) i ≡ false
+taken-kept slots at new i empty taken = elim (cases_eq i at) [
+  | inl same ↦ absurd (true≢false (sym empty ∙ (ap (λ k. is_empty_at slots k) (sym same) ∙ taken)))
+  | inr other ↦ ap (λ f. option_map_or is_empty f false) (get-set-other slots at new i other) ∙ taken
+]
+
 stands-kept : (slots : List Slot) (at : ℕ) (new : Slot) (home : ℕ) (slot : Slot) → is_empty_at slots at ≡ true → is_empty slot ≡ false → Stands slots home slot → Stands (set slots at new) home slot
-stands-kept slots at new home slot empty taken stands = (stands.0, (stands.1.0, slot-kept slots at new (home + stands.0) slot empty taken stands.1.1))
+stands-kept slots at new home slot empty taken stands =
+    (stands.0, (stands.1.0, slot-kept slots at new (home + stands.0) slot empty taken stands.1.1, λ k before. taken-kept slots at new (home + k) empty (stands.1.2 k before)))
 
 full-kept : (slots : List Slot) (at : ℕ) (new : Slot) (home : ℕ) → is_empty_at slots at ≡ true → is_empty new ≡ false → IsFull slots home → IsFull (set slots at new) home
 full-kept slots at new home empty taken full i within = elim (cases_eq (home + i) at) [
@@ -73,12 +81,20 @@ placed-by-slot slots shift rest at key place q p empty few few_p placed = ⊎_el
 
 -- the key that gets a slot is placed
 pub placed-in-slot : (slots : List Slot) (shift : ℕ) (rest : List ((ℕ × ℕ × String Global) × ℕ)) (at : ℕ) (key : Key) (place : ℕ)
-    → key_home shift key ≤ at → at < key_home shift key + WINDOW → is_empty_at slots at ≡ true → IsPlaced (set slots at (slot_of key place)) shift rest key place
-placed-in-slot slots shift rest at key place low high empty =
+    → key_home shift key ≤ at → at < key_home shift key + WINDOW → is_empty_at slots at ≡ true → ((k : ℕ) → key_home shift key + k < at → is_empty_at slots (key_home shift key + k) ≡ false)
+    → IsPlaced (set slots at (slot_of key place)) shift rest key place
+placed-in-slot slots shift rest at key place low high empty first =
     let home = key_home shift key in
     let there = empty-there slots at empty in
     let here : home + (at - home) ≡ at = omega arith in
-    inl (at - home, (omega arith, ap (λ k. slice_get (set slots at (slot_of key place)) k) here ∙ get-set-same slots at (slot_of key place) there.0 there.1.0))
+    inl (
+      at - home,
+      (
+        omega arith,
+        ap (λ k. slice_get (set slots at (slot_of key place)) k) here ∙ get-set-same slots at (slot_of key place) there.0 there.1.0,
+        λ k before. taken-kept slots at (slot_of key place) (home + k) empty (first k (omega (arith, low, before))),
+      ),
+    )
 
 -- a key that is placed still is with other rest that have its place
 pub placed-by-rest : (slots : List Slot) (shift : ℕ) (old new : List ((ℕ × ℕ × String Global) × ℕ)) (q : Key) (p : ℕ)
@@ -107,13 +123,14 @@ rest-others old new keys key place q i none grows at was = grows q ∙ (cond-fal
 
 -- in a slot
 pub begun-in-slot : (slots : List Slot) (shift : ℕ) (rest : List ((ℕ × ℕ × String Global) × ℕ)) (keys : List Key) (at : ℕ) (key : Key)
-    → length keys < 4294967295 → key_home shift key ≤ at → at < key_home shift key + WINDOW → is_empty_at slots at ≡ true → list_any (same_key key) keys ≡ false
+    → length keys < 4294967295 → key_home shift key ≤ at → at < key_home shift key + WINDOW → is_empty_at slots at ≡ true
+    → ((k : ℕ) → key_home shift key + k < at → is_empty_at slots (key_home shift key + k) ≡ false) → list_any (same_key key) keys ≡ false
     → AreKeysPlaced slots shift rest keys → AreKeysPlaced (set slots at (slot_of key (length keys))) shift rest (keys ++ key ∷ [])
-begun-in-slot slots shift rest keys at key few low high empty none placed = record {
+begun-in-slot slots shift rest keys at key few low high empty first none placed = record {
   placed = λ i q at_q. ⊎_elim
       (λ before. placed-by-slot slots shift rest at key (length keys) q i empty few (let within = slice_get_within keys i q before in omega arith) (placed.placed i q before))
       (λ last. subst (λ k. IsPlaced (set slots at (slot_of key (length keys))) shift rest k i) (sym last.1)
-      (subst (λ n. IsPlaced (set slots at (slot_of key (length keys))) shift rest key n) (sym last.0) (placed-in-slot slots shift rest at key (length keys) low high empty)))
+      (subst (λ n. IsPlaced (set slots at (slot_of key (length keys))) shift rest key n) (sym last.0) (placed-in-slot slots shift rest at key (length keys) low high empty first)))
       (stands-before keys key i q at_q);
   apart = apart-push same_key keys key same_key-swap placed.apart none;
 }
@@ -148,7 +165,7 @@ pub new-by-slot : (slots : List Slot) (shift : ℕ) (rest : List ((ℕ × ℕ ×
 new-by-slot slots shift rest keys key at placed nowhere low high empty = false_from_ne_true (list_any (same_key key) keys) (λ any.
     let stands = any-stands keys key any in
     ⊎_elim
-    (λ slot. nowhere slot.0 slot.1.0 stands.0 slot.1.1 stands.1)
+    (λ slot. nowhere slot.0 slot.1.0 slot.1.2 stands.0 slot.1.1 stands.1)
     (λ elsewhere.
     let home = key_home shift key in
     let here : home + (at - home) ≡ at = omega arith in
@@ -163,7 +180,7 @@ pub new-by-rest : (slots : List Slot) (shift : ℕ) (rest : List ((ℕ × ℕ ×
 new-by-rest slots shift rest keys key placed nowhere lost = false_from_ne_true (list_any (same_key key) keys) (λ any.
     let stands = any-stands keys key any in
     ⊎_elim
-    (λ slot. nowhere slot.0 slot.1.0 stands.0 slot.1.1 stands.1)
+    (λ slot. nowhere slot.0 slot.1.0 slot.1.2 stands.0 slot.1.1 stands.1)
     (λ elsewhere. lost stands.0 elsewhere.1 stands.1)
     (placed stands.0 key stands.1))
 
@@ -186,15 +203,16 @@ ArePlacedTo n slots shift rest keys = (place : ℕ) (key : Key) → place < n �
 -- and one more, in a slot
 pub more-in-slot : (slots : List Slot) (shift : ℕ) (rest : List ((ℕ × ℕ × String Global) × ℕ)) (keys : List Key) (n at : ℕ) (key : Key)
     → length keys < 4294967295 → slice_get keys n ≡ Some key → key_home shift key ≤ at → at < key_home shift key + WINDOW → is_empty_at slots at ≡ true
+    → ((k : ℕ) → key_home shift key + k < at → is_empty_at slots (key_home shift key + k) ≡ false)
     → ArePlacedTo n slots shift rest keys → ArePlacedTo (n + 1) (set slots at (slot_of key n)) shift rest keys
-more-in-slot slots shift rest keys n at key few at_n low high empty placed i q below at_q =
+more-in-slot slots shift rest keys n at key few at_n low high empty first placed i q below at_q =
     let n_few = slice_get_within keys n key at_n in
     let i_few = slice_get_within keys i q at_q in
     elim (cases_eq i n) [
       | inl same ↦
           let is : key ≡ q = same_Some key q (sym at_n ∙ (ap (λ k. slice_get keys k) (sym same) ∙ at_q)) in
           subst (λ k. IsPlaced (set slots at (slot_of key n)) shift rest k i) is
-          (subst (λ m. IsPlaced (set slots at (slot_of key n)) shift rest key m) (sym same) (placed-in-slot slots shift rest at key n low high empty))
+          (subst (λ m. IsPlaced (set slots at (slot_of key n)) shift rest key m) (sym same) (placed-in-slot slots shift rest at key n low high empty first))
       | inr other ↦ placed-by-slot slots shift rest at key n q i empty (omega arith) (omega arith) (placed i q (omega (arith, other)) at_q)
     ]
 

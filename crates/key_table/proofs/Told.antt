@@ -1,5 +1,5 @@
 -- Short texts are told whole by their words.
-use Rattle.std.proofs.Common.{◌≡◌, ℕ, zero, suc, ◌+◌, ◌-◌, ◌*◌, ◌<◌, ◌≤◌, false, List, ◌++◌, length, take, drop, get_or, Bool, ◌&&◌, ◌==◌, refl, sym, ap, ◌∙◌, ⊎_elim, arith, length-drop}
+use Rattle.std.proofs.Common.{◌≡◌, ℕ, zero, suc, ◌+◌, ◌-◌, ◌*◌, ◌/◌, ◌<◌, ◌≤◌, false, List, ◌++◌, length, take, drop, get_or, Bool, ◌&&◌, ◌==◌, refl, sym, ap, ◌∙◌, ⊎_elim, arith, length-drop}
 use Rattle.std.proofs.lemmas.Bool.{cases_lt, cond-true, cond-false, lt-ltb, le-ltb, false_from_ne_true}
 use Rattle.std.proofs.lemmas.Bool.Decides.{same_from_decides, Decides-eqb, Decides-like, Decides-and}
 use Rattle.std.proofs.lemmas.List.{take-append-drop, take-take, take_all, length-take, ext_get_or}
@@ -97,17 +97,30 @@ told-halves t u bytes_t bytes_u same short long low high =
 same-digits : (a b c x y z : ℕ) → a < 256 → b < 256 → c < 256 → x < 256 → y < 256 → z < 256 → a + b * 256 + c * 65536 ≡ x + y * 256 + z * 65536 → (a ≡ x) × (b ≡ y) × (c ≡ z)
 same-digits a b c x y z pa pb pc px py pz same = (omega arith, omega arith, omega arith)
 
-three-at : (t u : List ℕ) → length t < 4 → get_or t 0 0 ≡ get_or u 0 0 → get_or t 1 0 ≡ get_or u 1 0 → get_or t 2 0 ≡ get_or u 2 0 → (i : ℕ) → i < length t → get_or t i 0 ≡ get_or u i 0
-three-at t u short first second third zero inside = first
-three-at t u short first second third (suc zero) inside = second
-three-at t u short first second third (suc (suc zero)) inside = third
-three-at t u short first second third (suc (suc (suc i))) inside = absurd (omega (arith, short, inside))
+-- up to three bytes by the first, the middle and the last
+three-at : (t u : List ℕ) → length t ≡ length u → length t < 4 → get_or t 0 0 ≡ get_or u 0 0 → get_or t (length t / 2) 0 ≡ get_or u (length u / 2) 0 → get_or t (length t - 1) 0 ≡ get_or u (length u - 1) 0
+    → (i : ℕ) → i < length t → get_or t i 0 ≡ get_or u i 0
+three-at t u same short first middle last zero inside = first
+three-at t u same short first middle last (suc zero) inside =
+    let mid_t : length t / 2 ≡ suc zero = omega (arith, short, inside) in
+    let mid_u : length u / 2 ≡ suc zero = omega (arith, same, short, inside) in
+    ap (λ n. get_or t n 0) (sym mid_t) ∙ (middle ∙ ap (λ n. get_or u n 0) mid_u)
+three-at t u same short first middle last (suc (suc zero)) inside =
+    let end_t : length t - 1 ≡ suc (suc zero) = omega (arith, short, inside) in
+    let end_u : length u - 1 ≡ suc (suc zero) = omega (arith, same, short, inside) in
+    ap (λ n. get_or t n 0) (sym end_t) ∙ (last ∙ ap (λ n. get_or u n 0) end_u)
+three-at t u same short first middle last (suc (suc (suc i))) inside = absurd (omega (arith, short, inside))
 
 told-small : (t u : List ℕ) → AreBytes t → AreBytes u → length t ≡ length u → length t < 4 → small_of t ≡ small_of u → t ≡ u
 unfolding small_of
 told-small t u bytes_t bytes_u same short small =
-    let digits = same-digits (get_or t 0 0) (get_or t 1 0) (get_or t 2 0) (get_or u 0 0) (get_or u 1 0) (get_or u 2 0) (bytes_t 0) (bytes_t 1) (bytes_t 2) (bytes_u 0) (bytes_u 1) (bytes_u 2) small in
-    ext_get_or 0 t u same (three-at t u short digits.0 digits.1 digits.2)
+    let mid_t = length t / 2 in
+    let mid_u = length u / 2 in
+    let end_t = length t - 1 in
+    let end_u = length u - 1 in
+    let digits = same-digits (get_or t 0 0) (get_or t mid_t 0) (get_or t end_t 0) (get_or u 0 0) (get_or u mid_u 0) (get_or u end_u 0)
+    (bytes_t 0) (bytes_t mid_t) (bytes_t end_t) (bytes_u 0) (bytes_u mid_u) (bytes_u end_u) small in
+    ext_get_or 0 t u same (three-at t u same short digits.0 digits.1 digits.2)
 
 -- short texts of one length with the same words are equal
 pub told : (t u : List ℕ) → AreBytes t → AreBytes u → length t ≡ length u → length t ≤ 16 → low_of t ≡ low_of u → high_of t ≡ high_of u → t ≡ u

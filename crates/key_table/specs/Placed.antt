@@ -27,18 +27,22 @@ IsFull slots home = (i : ℕ) → i < WINDOW → is_empty_at slots (home + i) �
 abbrev pub slot_of : Key → ℕ → Slot
 slot_of key place = record { mark = mark_of (mix_of (sign_of key)); place = place }
 
--- it stands in one of the slots from a home on
+-- no slot from a home on, before the slot i, is without a place
+abbrev pub IsFullBefore : List Slot → ℕ → ℕ → Type 0
+IsFullBefore slots home i = (k : ℕ) → k < i → is_empty_at slots (home + k) ≡ false
+
+-- it stands in one of the slots from a home on, and none before it is without a place
 abbrev pub Stands : List Slot → ℕ → Slot → Type 0
-Stands slots home slot = (i : ℕ) × ((i < WINDOW) × (slice_get slots (home + i) ≡ Some slot))
+Stands slots home slot = (i : ℕ) × ((i < WINDOW) × (slice_get slots (home + i) ≡ Some slot) × IsFullBefore slots home i)
 
 -- the home of a key
 abbrev pub key_home : ℕ → Key → ℕ
 key_home shift key = home_of shift (mix_of (sign_of key))
 
--- no slot from its home on leads to the key
+-- no slot from its home on, up to the first without a place, leads to the key
 abbrev pub StandsNowhere : List Key → List Slot → ℕ → Key → Type 0
 StandsNowhere keys slots home key =
-    (i : ℕ) → i < WINDOW → (place : ℕ) → slice_get slots (home + i) ≡ Some (slot_of key place) → slice_get keys place ≡ Some key → ⊥
+    (i : ℕ) → i < WINDOW → IsFullBefore slots home i → (place : ℕ) → slice_get slots (home + i) ≡ Some (slot_of key place) → slice_get keys place ≡ Some key → ⊥
 
 -- a file, a section and a text as a key
 abbrev pub key_of : ℕ × ℕ × String Global → Key

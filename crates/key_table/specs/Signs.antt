@@ -13,9 +13,9 @@ hash_step hash b = (bit_xor hash b * 1099511628211) % 2 ^ 64
 unfoldable pub hash_of_bytes : List ℕ → ℕ
 hash_of_bytes bytes = fold hash_step 0 bytes
 
--- the first three bytes as a number
+-- the first, the middle and the last byte as a number
 unfoldable pub small_of : List ℕ → ℕ
-small_of bytes = slice_index bytes 0 + slice_index bytes 1 * 256 + slice_index bytes 2 * 65536
+small_of bytes = slice_index bytes 0 + slice_index bytes (length bytes / 2) * 256 + slice_index bytes (length bytes - 1) * 65536
 
 -- the first word of a text, or the hash of one that is longer than two words
 unfoldable pub low_of : List ℕ → ℕ

@@ -63,22 +63,18 @@ fn half_at(bytes: &[u8], at: usize) -> u64
     u64::from(u32::from_le_bytes([b[0], b[1], b[2], b[3]]))
 }
 
-/// The byte at a place, or 0 where there is none.
-fn byte_or(bytes: &[u8], at: usize) -> u64
-    ensures { result ≡ slice_index bytes.now at }
-{
-    match bytes.get(at) {
-        Some(byte) => u64::from(*byte),
-        None => 0,
-    }
-}
-
-/// The first three bytes as a number.
+/// The first, the middle and the last of up to three bytes as a number, which tells them all, and 0 of none.
 #[tactic(auto, unfolding(crate::specs::Signs::small_of))]
 fn small_word(bytes: &[u8]) -> u64
     ensures { result ≡ small_of bytes.now }
 {
-    byte_or(bytes, 0) + byte_or(bytes, 1) * 0x100 + byte_or(bytes, 2) * 0x1_0000
+    if bytes.is_empty() {
+        return 0;
+    }
+    let first = u64::from(bytes[0]);
+    let middle = u64::from(bytes[bytes.len() / 2]);
+    let last = u64::from(bytes[bytes.len() - 1]);
+    first + middle * 0x100 + last * 0x1_0000
 }
 
 /// The first word of a text; of one that is too long to be told whole, its hash.

@@ -1,5 +1,5 @@
 //! Slots that say where keys stand.
-ghost use Rattle.std.specs.Prelude.{◌≡◌, ◌≤◌, ◌<◌, ◌+◌, ◌^◌, None, IfSome, true};
+ghost use Rattle.std.specs.Prelude.{ℕ, ◌≡◌, ◌≤◌, ◌<◌, ◌+◌, ◌^◌, None, IfSome, true, false};
 ghost use Rattle.key_table.specs.Placed.{is_empty_at, IsFull};
 
 /// In how many slots a key may stand, from its home on.
@@ -23,6 +23,7 @@ pub const EMPTY: Slot = Slot {
 pub fn first_empty(slots: &[Slot], home: usize) -> Option<usize>
     requires { home < 2 ^ 32 }
     ensures some { IfSome result (λ at. (home ≤ at) × (at < home + WINDOW) × (is_empty_at slots.now at ≡ true)) }
+    ensures first { IfSome result (λ at. (k : ℕ) → home + k < at → is_empty_at slots.now (home + k) ≡ false) }
     ensures none { result ≡ None → IsFull slots.now home }
 {
     for i in 0..WINDOW {

@@ -67,6 +67,10 @@ fn find(
             if slot.mark == mark && keys.is_key_at(place, key) {
                 return Some(place);
             }
+            // No key stands behind a slot that was empty when it was put there.
+            if slot.place == u32::MAX {
+                return None;
+            }
         }
     }
     None

@@ -7,6 +7,9 @@ use std::simd::prelude::*;
 /// How many bytes are looked at together: most lines have their first space among the first of them.
 const LANES: usize = 8;
 
+/// How many are looked at together where fewer are left.
+const FEW_LANES: usize = 4;
+
 /// How many of the bytes from here on stand before the first space, and all of them where there is none.
 fn before_space(bytes: &[u8], at: usize) -> usize
     requires { at + LANES ≤ length bytes.now }
@@ -20,6 +23,55 @@ fn before_space(bytes: &[u8], at: usize) -> usize
     } else {
         spaces.trailing_zeros() as usize
     }
+}
+
+/// The same for fewer bytes.
+fn before_space_of_few(bytes: &[u8], at: usize) -> usize
+    requires { at + FEW_LANES ≤ length bytes.now }
+    ensures { result ≡ position_or_len (λ b. b == 32) (take FEW_LANES (drop at bytes.now)) }
+{
+    let few = u8x4::from_slice(&bytes[at..])
+        .simd_eq(u8x4::splat(b' '))
+        .to_bitmask();
+    if few == 0 {
+        FEW_LANES
+    } else {
+        few.trailing_zeros() as usize
+    }
+}
+
+/// The place of the first space, by a look at one byte after the other from a place before which none stands.
+fn first_space_byte_by_byte(bytes: &[u8], seen: usize) -> Option<usize>
+    requires inside { seen ≤ length bytes.now }
+    requires none { (k : ℕ) → k < seen → slice_index bytes.now k ≢ 32 }
+    ensures { MatchOption result (EachIndex bytes.now (λ k. slice_index bytes.now k ≢ 32))
+        (λ at. (at < length bytes.now) × (slice_index bytes.now at ≡ 32)
+        × ((k : ℕ) → k < at → slice_index bytes.now k ≢ 32)) }
+{
+    for at in seen..bytes.len() {
+        if bytes[at] == b' ' {
+            return Some(at);
+        }
+    }
+    None
+}
+
+/// The place of the first space, where few bytes are left behind those before which none stands.
+fn first_space_in_rest(bytes: &[u8], seen: usize) -> Option<usize>
+    requires inside { seen ≤ length bytes.now }
+    requires none { (k : ℕ) → k < seen → slice_index bytes.now k ≢ 32 }
+    ensures { MatchOption result (EachIndex bytes.now (λ k. slice_index bytes.now k ≢ 32))
+        (λ at. (at < length bytes.now) × (slice_index bytes.now at ≡ 32)
+        × ((k : ℕ) → k < at → slice_index bytes.now k ≢ 32)) }
+{
+    if bytes.len() - seen < FEW_LANES {
+        return first_space_byte_by_byte(bytes, seen);
+    }
+    let before = before_space_of_few(bytes, seen);
+    if before < FEW_LANES {
+        return Some(seen + before);
+    }
+    first_space_byte_by_byte(bytes, seen + FEW_LANES)
 }
 
 /// The place of the first space.
@@ -36,10 +88,5 @@ pub(crate) fn first_space(bytes: &[u8]) -> Option<usize>
         }
         seen += LANES;
     }
-    for at in seen..bytes.len() {
-        if bytes[at] == b' ' {
-            return Some(at);
-        }
-    }
-    None
+    first_space_in_rest(bytes, seen)
 }

@@ -265,7 +265,7 @@ impl Lines {
     }
 
     /// Whether the current line is known to be ASCII: it is, where it was read with nothing else.
-    pub fn is_known_ascii(&self) -> bool
+    pub(crate) fn is_known_ascii(&self) -> bool
         ensures { result ≡ true → IfSome (self.now).line (λ line. IsAscii line) }
     {
         self.clean

@@ -6,7 +6,7 @@ ghost use Rattle.synoptic_cli.specs.Halts.{Gives};
 use crate::answer::{Answer, NoAnswer};
 use crate::material::Material;
 use crate::status::Status;
-use count_miner::mine;
+use closure_miner::mine_again;
 use invariants::{candidates_tell, mined_keeps_order, mined_tells};
 use reports::invariant_report;
 use std::alloc::{AllocError, Global};
@@ -19,7 +19,7 @@ fn print(alloc: Global, material: &Material) -> Result<Answer, AllocError>
     mined_keeps_order();
     candidates_tell();
     let types = material.log.types();
-    let mined = mine(alloc, &material.log)?;
+    let mined = mine_again(alloc, &material.log)?;
     let text = invariant_report(alloc, types, mined.as_slice())?;
     Ok(Answer {
         status: Status::Done,

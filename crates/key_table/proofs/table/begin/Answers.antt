@@ -1,6 +1,6 @@
-use Rattle.std.proofs.Common.{◌≡◌, ℕ, List, length, slice_set, true, refl, sym, subst, arith}
+use Rattle.std.proofs.Common.{◌≡◌, ℕ, ◌+◌, ◌<◌, false, List, length, slice_set, true, refl, sym, subst, arith}
 use Rattle.key_table.specs.Keys.{Key}
-use Rattle.key_table.specs.Placed.{is_empty_at, slot_of, IsFull, RestGrows, AreKeysPlaced}
+use Rattle.key_table.specs.Placed.{is_empty_at, key_home, slot_of, IsFull, RestGrows, AreKeysPlaced}
 use Rattle.key_table.specs.declared.slots.Slot.{Slot}
 use Rattle.key_table.proofs.Keys.{by-sign}
 use Rattle.key_table.proofs.Placed.{home-is, slot-is, begun-in-slot, begun-by-rest}
@@ -12,11 +12,14 @@ returns-in_ok-push-in-Some-clause-placed c =
     let home = home-is key c.sign-sign.result c.mix-mix.result c.args.shift c.home_of_mix.result c.sign-sign.ensures c.mix-mix.ensures c.home_of_mix.ensures.value in
     let slot = slot-is key c.sign-sign.result c.mix-mix.result c.mark_of_mix.result c.len-place.result c.sign-sign.ensures c.mix-mix.ensures c.mark_of_mix.ensures in
     let at = c.in-Some.ensures.some in
+    let first : (k : ℕ) → key_home c.args.shift key + k < c.in-Some.at → is_empty_at c.args.slots.now.items (key_home c.args.shift key + k) ≡ false =
+    subst (λ (ss : List Slot). (k : ℕ) → key_home c.args.shift key + k < c.in-Some.at → is_empty_at ss (key_home c.args.shift key + k) ≡ false) c.as_slice.ensures.value
+    (subst (λ (h : ℕ). (k : ℕ) → h + k < c.in-Some.at → is_empty_at c.as_slice.result.now (h + k) ≡ false) home c.in-Some.ensures.first) in
     subst (λ (s : Slot). AreKeysPlaced (slice_set c.args.slots.now.items c.in-Some.at s) c.args.shift c.args.rest.now.entries c.push.new.self) (sym slot)
     (subst (λ (n : ℕ). AreKeysPlaced (slice_set c.args.slots.now.items c.in-Some.at (slot_of key n)) c.args.shift c.args.rest.now.entries c.push.new.self) (sym c.len-place.ensures)
     (subst (λ (ks : List Key). AreKeysPlaced (slice_set c.args.slots.now.items c.in-Some.at (slot_of key (length c.args.keys.now))) c.args.shift c.args.rest.now.entries ks) (sym c.in_ok-push-in-Some.ensures.ok)
     (begun-in-slot c.args.slots.now.items c.args.shift c.args.rest.now.entries c.args.keys.now c.in-Some.at key (omega (arith, c.requires.few))
-    (omega (arith, at.0, home)) (omega (arith, at.1, home)) (subst (λ (ss : List Slot). is_empty_at ss c.in-Some.at ≡ true) c.as_slice.ensures.value at.2) c.requires.new c.requires.placed)))
+    (omega (arith, at.0, home)) (omega (arith, at.1, home)) (subst (λ (ss : List Slot). is_empty_at ss c.in-Some.at ≡ true) c.as_slice.ensures.value at.2) first c.requires.new c.requires.placed)))
 
 pub returns-in_ok-put_in-in-None-clause-placed : goal.returns-in_ok-put_in-in-None-clause-placed
 returns-in_ok-put_in-in-None-clause-placed c =

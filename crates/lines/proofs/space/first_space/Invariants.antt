@@ -6,6 +6,3 @@ invariant-loop-seen l = (l.seen ≤ length l.bytes) × ((k : ℕ) → k < l.seen
 
 abbrev pub decreases-loop-seen : goal.decreases-loop-seen
 decreases-loop-seen l = length l.bytes - l.seen
-
-abbrev pub invariant-loop-at : goal.invariant-loop-at
-invariant-loop-at l = (k : ℕ) → k < l.at → get_or l.bytes k 0 ≢ 32
