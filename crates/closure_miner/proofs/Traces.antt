@@ -1,7 +1,6 @@
 -- One trace more.
-use Rattle.std.proofs.Common.{◌≡◌, ℕ, zero, suc, ◌+◌, ◌*◌, ◌<◌, ◌≤◌, Bool, not, ◌&&◌, ◌||◌, List, [], ◌∷◌, ◌++◌, All, map, length, take, set, Some, refl, sym, ap, ap₂, ◌∙◌, arith}
-use Rattle.std.proofs.lemmas.Bool.{eq-eqb}
-use Rattle.std.proofs.lemmas.List.{take-map}
+use Rattle.std.proofs.Common.{◌≡◌, ℕ, zero, suc, ◌+◌, ◌-◌, ◌^◌, ◌<◌, ◌≤◌, not, ◌&&◌, List, [], ◌∷◌, ◌++◌, All, map, length, take, replicate, Some, sym, ap, ◌∙◌, arith}
+use Rattle.std.proofs.lemmas.List.{take-map, get_or-replicate}
 use Rattle.std.specs.List.{slice_get}
 use Rattle.std.specs.Option.{IfSome}
 use Rattle.invariants.specs.declared.Kind.TheVariants.{AF, NF, AP}
@@ -9,9 +8,10 @@ use Rattle.invariants.specs.Candidates.{invariant}
 use Rattle.invariants.specs.Holds.{occurs, always_followed, never_followed, always_preceded}
 use Rattle.traces.specs.Kept.{IsTypeNumber}
 use Rattle.traces.specs.Words.{Trace, word_of}
-use Rattle.bit_rows.specs.Tables.{row_at, is_set, HasShape, both}
-use Rattle.closure_miner.specs.Standing.{on, word_with, Stands}
-use Rattle.closure_miner.proofs.Bits.{row-other, on-both}
+use Rattle.closure_miner.specs.declared.standing.Standing.{Standing}
+use Rattle.closure_miner.specs.Sets.{has, set_at}
+use Rattle.closure_miner.specs.Standing.{word_with, Stands}
+use Rattle.closure_miner.proofs.Bits.{has-all, has-none}
 use Rattle.closure_miner.proofs.Events.{followed-word, never-word, preceded-word, first-word, one-more}
 use Rattle.invariants.proofs.Fronts.{take-snoc}
 
@@ -27,36 +27,40 @@ pub words-more : (traces : List Trace) (t : ℕ) (events : List ℕ) → t < len
 words-more traces t events inside at =
     sym (take-map word_of (t + 1) traces) ∙ (take-snoc (map word_of traces) t (word_with events) (word-at traces t events inside at) ∙ ap (λ ws. ws ++ word_with events ∷ []) (take-map word_of t traces))
 
--- what a trace leaves standing, read from its end and then from its start
-pub stands-more : (t0 t1 t2 t3 : List (List Bool)) (types : ℕ) (words : List (List ℕ)) (events : List ℕ) → HasShape t1 (3 * types + 2) types → All (IsTypeNumber types) events
-    → ((b : ℕ) → b < types → on t1 (3 * types + 1) b ≡ occurs (b + 2) events)
-    → ((a b : ℕ) → a < types → b < types → on t1 a b ≡ (on t0 a b && always_followed (a + 2) (b + 2) events))
-    → ((a b : ℕ) → a < types → b < types → on t1 (types + a) b ≡ (on t0 (types + a) b && never_followed (a + 2) (b + 2) events))
-    → ((r : ℕ) → 2 * types ≤ r → r < 3 * types + 1 → row_at t1 r ≡ row_at t0 r)
-    → t2 ≡ set t1 (3 * types) (both (row_at t1 (3 * types)) (row_at t1 (3 * types + 1)))
-    → ((a b : ℕ) → a < types → b < types → on t3 (2 * types + b) a ≡ (on t2 (2 * types + b) a && always_preceded (a + 2) (b + 2) events))
-    → ((r : ℕ) → r < 2 * types → row_at t3 r ≡ row_at t2 r) → row_at t3 (3 * types) ≡ row_at t2 (3 * types)
-    → Stands types t0 words → Stands types t3 (words ++ word_with events ∷ [])
-stands-more t0 t1 t2 t3 types words events shape numbers seen followed never others both_is preceded before behind st =
+-- before any trace all candidates stand
+pub stands-first : (new : Standing) → new.types ≤ 128 → new.followed.items ≡ replicate new.types (2 ^ 128 - 1) → new.met.items ≡ replicate new.types 0
+    → new.preceded.items ≡ replicate new.types (2 ^ 128 - 1) → new.everywhere ≡ 2 ^ 128 - 1 → Stands new []
+stands-first new few followed met preceded everywhere = record {
+  followed = λ a b in_a in_b.
+      ap (λ (t : List ℕ). has (set_at t a) b) followed ∙ ap (λ s. has s b) (get_or-replicate new.types a (2 ^ 128 - 1) 0 in_a) ∙ has-all b (omega arith);
+  never = λ a b in_a in_b.
+      ap (λ (t : List ℕ). not (has (set_at t a) b)) met ∙ ap (λ s. not (has s b)) (get_or-replicate new.types a 0 0 in_a) ∙ ap not (has-none b);
+  preceded = λ a b in_a in_b.
+      ap (λ (t : List ℕ). has (set_at t b) a) preceded ∙ ap (λ s. has s a) (get_or-replicate new.types b (2 ^ 128 - 1) 0 in_b) ∙ has-all a (omega arith);
+  everywhere = λ b in_b. ap (λ s. has s b) everywhere ∙ has-all b (omega arith);
+}
+
+-- what a trace leaves standing, read from its end and from its start
+pub stands-more : (old new : Standing) (words : List (List ℕ)) (events : List ℕ) → All (IsTypeNumber old.types) events → new.types ≡ old.types
+    → ((b : ℕ) → has new.everywhere b ≡ (has old.everywhere b && occurs (b + 2) events))
+    → ((a b : ℕ) → has (set_at new.followed.items a) b ≡ (has (set_at old.followed.items a) b && always_followed (a + 2) (b + 2) events))
+    → ((a b : ℕ) → not (has (set_at new.met.items a) b) ≡ (not (has (set_at old.met.items a) b) && never_followed (a + 2) (b + 2) events))
+    → ((a b : ℕ) → has (set_at new.preceded.items b) a ≡ (has (set_at old.preceded.items b) a && always_preceded (a + 2) (b + 2) events))
+    → Stands old words → Stands new (words ++ word_with events ∷ [])
+stands-more old new words events numbers same everywhere followed never preceded st =
     let word : List ℕ = word_with events in
-    let kept : (r : ℕ) → r < 3 * types → row_at t2 r ≡ row_at t1 r = λ r low. row-other t1 t2 (3 * types) r _ both_is (λ e. (let no : ⊥ = omega arith in no)) in
+    let was : (a : ℕ) → a < new.types → a < old.types = λ a h. omega (arith, same) in
     record {
       followed = λ a b in_a in_b.
-          one-more (invariant AF (a + 2) (b + 2)) words word (on t0 a b) (always_followed (a + 2) (b + 2) events) (on t3 a b)
-          (ap (λ row. is_set row b) (before a (omega arith) ∙ kept a (omega arith)) ∙ followed a b in_a in_b) (st.followed a b in_a in_b) (followed-word a b events);
+          one-more (invariant AF (a + 2) (b + 2)) words word (has (set_at old.followed.items a) b) (always_followed (a + 2) (b + 2) events) (has (set_at new.followed.items a) b)
+          (followed a b) (st.followed a b (was a in_a) (was b in_b)) (followed-word a b events);
       never = λ a b in_a in_b.
-          one-more (invariant NF (a + 2) (b + 2)) words word (on t0 (types + a) b) (never_followed (a + 2) (b + 2) events) (on t3 (types + a) b)
-          (ap (λ row. is_set row b) (before (types + a) (omega arith) ∙ kept (types + a) (omega arith)) ∙ never a b in_a in_b) (st.never a b in_a in_b) (never-word a b events);
+          one-more (invariant NF (a + 2) (b + 2)) words word (not (has (set_at old.met.items a) b)) (never_followed (a + 2) (b + 2) events) (not (has (set_at new.met.items a) b))
+          (never a b) (st.never a b (was a in_a) (was b in_b)) (never-word a b events);
       preceded = λ a b in_a in_b.
-          one-more (invariant AP (a + 2) (b + 2)) words word (on t0 (2 * types + b) a) (always_preceded (a + 2) (b + 2) events) (on t3 (2 * types + b) a)
-          (preceded a b in_a in_b
-          ∙ ap (λ row. is_set row a && always_preceded (a + 2) (b + 2) events) (kept (2 * types + b) (omega arith) ∙ others (2 * types + b) (omega arith) (omega arith)))
-          (st.preceded a b in_a in_b) (preceded-word a b events);
+          one-more (invariant AP (a + 2) (b + 2)) words word (has (set_at old.preceded.items b) a) (always_preceded (a + 2) (b + 2) events) (has (set_at new.preceded.items b) a)
+          (preceded a b) (st.preceded a b (was a in_a) (was b in_b)) (preceded-word a b events);
       everywhere = λ b in_b.
-          one-more (invariant AF 0 (b + 2)) words word (on t0 (3 * types) b) (occurs (b + 2) events) (on t3 (3 * types) b)
-          (ap (λ row. is_set row b) behind
-          ∙ on-both t1 t2 (3 * types) (3 * types + 1) (3 * types) b both_is (omega (arith, shape.count)) (shape.long (3 * types) (omega arith) ∙ sym (shape.long (3 * types + 1) (omega arith)))
-          ∙ ap (λ t. on t1 (3 * types) b && (not t || on t1 (3 * types + 1) b)) (eq-eqb (3 * types) (3 * types) refl)
-          ∙ ap₂ (λ row o. is_set row b && o) (others (3 * types) (omega arith) (omega arith)) (seen b in_b))
-          (st.everywhere b in_b) (first-word types b events numbers);
+          one-more (invariant AF 0 (b + 2)) words word (has old.everywhere b) (occurs (b + 2) events) (has new.everywhere b)
+          (everywhere b) (st.everywhere b (was b in_b)) (first-word old.types b events numbers);
     }

@@ -2,9 +2,9 @@
 //! and not by counts.
 //!
 //! A candidate stands until a trace breaks it. Each trace is read once from its end, with the set of the types that come
-//! later, and once from its start, with the set of those that came earlier; an event strikes out of its type's sets what
-//! the set at hand denies. An event of a type that came before, where the set is as it was then, strikes out nothing more.
-//! So the work is at most the events times the types over 64, and in long traces little more than a look at each event.
+//! later, and once from its start, with the set of those that came earlier; each event strikes out of the sets of its type
+//! what the set at hand denies. A set of types is one number with a bit for each, since there are at most 128. So the work
+//! is a few steps for each event, the same ones whatever was read before and however many types there are.
 #![tactic(auto)]
 
 ghost use Rattle.std.specs.Prelude.{◌≡◌, ◌≤◌, length, IfOk};
@@ -27,7 +27,7 @@ fn standing_after(alloc: Global, traces: &TraceSet, types: usize) -> Result<Stan
     requires types { types ≡ length (traces.now).types }
     requires few { types ≤ MAX_TYPES }
     ensures types { IfOk result (λ standing. standing.types ≡ types) }
-    ensures stands { IfOk result (λ standing. Stands types standing.rows (words_of traces.now)) }
+    ensures stands { IfOk result (λ standing. Stands standing (words_of traces.now)) }
 {
     let mut standing = Standing::make(alloc, types)?;
     for t in 0..traces.trace_count() {

@@ -6,7 +6,6 @@ use Rattle.invariants.specs.Candidates.{candidates, IsFirst, IsPair}
 use Rattle.invariants.specs.Mined.{holds_of_all}
 use Rattle.invariants.proofs.CandidatePlaces.{candidate-shape}
 use Rattle.traces.specs.Words.{words_of}
-use Rattle.closure_miner.specs.Standing.{Stands}
 use Rattle.invariants.proofs.Fronts.{kept, dropped, past, none-past}
 use Rattle.closure_miner.proofs.mine_again.Goals as goal
 use Rattle.closure_miner.proofs.mine_again.Goals.{in-Some+then-has+in_ok-push, in-Some+else-has, in_default}
@@ -24,8 +23,7 @@ loop-index-preserved c =
     let words = words_of c.args.traces.now in
     let p = holds_of_all words in
     let count : c.len-types.result ≡ length c.args.traces.now.types = c.len-types.ensures ∙ ap length c.types-2.ensures.value in
-    let stands : Stands c.in_ok-standing.standing.types c.in_ok-standing.standing.rows words =
-    subst (λ n. Stands n c.in_ok-standing.standing.rows words) (sym c.in_ok-standing.ensures.types) c.in_ok-standing.ensures.stands in
+    let stands = c.in_ok-standing.ensures.stands in
     let all = candidates (length c.args.traces.now.types) in
     let i = c.loop-index.index in
     elim c.match-candidate.branch [

@@ -6,5 +6,5 @@ use Rattle.closure_miner.proofs.standing_after.Given as goal
 abbrev pub invariant-loop-t : goal.invariant-loop-t
 invariant-loop-t l = record {
   types : l.standing.types ≡ l.fn.types;
-  stands : Stands l.fn.types l.standing.rows (map word_of (take l.t l.traces.traces));
+  stands : Stands l.standing (map word_of (take l.t l.traces.traces));
 }

@@ -1,26 +1,34 @@
-use Rattle.std.proofs.Common.{◌≡◌, ℕ, List, Bool, ◌+◌, ◌*◌, ◌<◌, ◌&&◌, set, subst}
-use Rattle.invariants.specs.Holds.{always_preceded}
-use Rattle.bit_rows.specs.Tables.{row_at, HasShape, both}
-use Rattle.closure_miner.specs.Standing.{on}
+use Rattle.std.proofs.Common.{◌≡◌, ℕ, List, ◌+◌, ◌&&◌, not, length, arith, ap, refl, ◌∙◌}
+use Rattle.std.proofs.lemmas.List.{with_items_is}
+use Rattle.invariants.specs.Holds.{always_followed, never_followed, always_preceded}
+use Rattle.closure_miner.specs.Sets.{has, set_at}
+use Rattle.closure_miner.proofs.Bits.{has-both}
 use Rattle.closure_miner.proofs.Traces.{stands-more}
 use Rattle.closure_miner.proofs.standing.Standing.read.Goals as goal
 
-pub invariant_of-self : goal.invariant_of-self
-invariant_of-self c = record { few = c.read_from_end.new.self.few; shape = c.and_into.ensures.shape _ _ c.read_from_end.new.self.shape }
+-- equal lists are as long
+lengths : {xs ys : List ℕ} → xs ≡ ys → length xs ≡ length ys
+lengths is = ap (λ (xs : List ℕ). length xs) is
 
 pub returns-clause-stands : goal.returns-clause-stands
 returns-clause-stands c = λ words st.
-    let types = c.args.self.now.types in
-    let same = c.read_from_end.ensures.types in
-    let t1 : List (List Bool) = c.read_from_end.new.self.rows in
-    let t2 : List (List Bool) = c.and_into.new.self in
-    let t3 : List (List Bool) = c.read_from_start.new.self.rows in
-    let shape : HasShape t1 (3 * types + 2) types = subst (λ n. HasShape t1 (3 * n + 2) n) same c.read_from_end.new.self.shape in
-    let into : t2 ≡ set t1 (3 * types) (both (row_at t1 (3 * types)) (row_at t1 (3 * types + 1))) =
-    subst (λ n. t2 ≡ set t1 (3 * n) (both (row_at t1 (3 * n)) (row_at t1 (3 * n + 1)))) same c.and_into.ensures.rows in
-    let preceded : (a b : ℕ) → a < types → b < types → on t3 (2 * types + b) a ≡ (on t2 (2 * types + b) a && always_preceded (a + 2) (b + 2) c.args.events.now) =
-    subst (λ n. (a b : ℕ) → a < n → b < n → on t3 (2 * n + b) a ≡ (on t2 (2 * n + b) a && always_preceded (a + 2) (b + 2) c.args.events.now)) same c.read_from_start.ensures.preceded in
-    let before : (r : ℕ) → r < 2 * types → row_at t3 r ≡ row_at t2 r = subst (λ n. (r : ℕ) → r < 2 * n → row_at t3 r ≡ row_at t2 r) same c.read_from_start.ensures.before in
-    let behind : row_at t3 (3 * types) ≡ row_at t2 (3 * types) = subst (λ n. row_at t3 (3 * n) ≡ row_at t2 (3 * n)) same c.read_from_start.ensures.behind in
-    stands-more c.args.self.now.rows t1 t2 t3 types words c.args.events.now shape c.requires.numbers
-    c.read_from_end.ensures.seen c.read_from_end.ensures.followed c.read_from_end.ensures.never c.read_from_end.ensures.others into preceded before behind st
+    let old = c.args.self.now in
+    let events = c.args.events.now in
+    stands-more old _ words events c.requires.numbers refl
+    (λ b. has-both old.everywhere c.read_from_end.result b ∙ ap (λ o. has old.everywhere b && o) (c.read_from_end.ensures.seen b))
+    (λ a b.
+    ap (λ (t : List ℕ). has (set_at t a) b)
+    (with_items_is old.followed c.read_from_end.new.followed (omega (arith, c.read_from_end.auto.followed, lengths c.deref_mut.ensures.value, old.followed.ok.0)))
+    ∙ c.read_from_end.ensures.followed a b
+    ∙ ap (λ (t : List ℕ). has (set_at t a) b && always_followed (a + 2) (b + 2) events) c.deref_mut.ensures.value)
+    (λ a b.
+    ap (λ (t : List ℕ). not (has (set_at t a) b))
+    (with_items_is old.met c.read_from_end.new.met (omega (arith, c.read_from_end.auto.met, lengths c.deref_mut-2.ensures.value, old.met.ok.0)))
+    ∙ c.read_from_end.ensures.never a b
+    ∙ ap (λ (t : List ℕ). not (has (set_at t a) b) && never_followed (a + 2) (b + 2) events) c.deref_mut-2.ensures.value)
+    (λ a b.
+    ap (λ (t : List ℕ). has (set_at t b) a)
+    (with_items_is old.preceded c.read_from_start.new.preceded (omega (arith, c.read_from_start.auto.preceded, lengths c.deref_mut-3.ensures.value, old.preceded.ok.0)))
+    ∙ c.read_from_start.ensures.preceded a b
+    ∙ ap (λ (t : List ℕ). has (set_at t b) a && always_preceded (a + 2) (b + 2) events) c.deref_mut-3.ensures.value)
+    st
