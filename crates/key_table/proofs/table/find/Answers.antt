@@ -43,15 +43,15 @@ returns-then-slot-clause-none c = λ is i within full place at there.
     elim (cases_lt i c.loop-i.i) [
       | inl before ↦ c.loop-i.invariant i before full place at there
       | inr late ↦ elim (cases_lt c.loop-i.i i) [
-          | inl behind ↦ true≢false (sym empty ∙ full c.loop-i.i behind)
-          | inr last ↦
-              let same : i ≡ c.loop-i.i = omega (arith, late, last) in
-              let at_here = subst (λ n. slice_get slots (c.args.home + n) ≡ Some (slot_of key place)) same at in
-              elim c.else-slot-mark.branch [
-                | else-slot-mark-via-then-slot-mark+else-is_key_at v ↦
-                    other-slot slots c.args.keys.now here c.in-Some.slot.now key place stands (λ marked stood. true≢false (sym (told-key _ key stood) ∙ (sym v.is_key_at.ensures ∙ v.if-is_key_at.false))) at_here there
-                | else-slot-mark-via-else-slot-mark v ↦
-                    other-slot slots c.args.keys.now here c.in-Some.slot.now key place stands (λ marked stood. v.if-slot-mark.false (marked ∙ sym c.requires.mark)) at_here there
-              ]
-        ]
+        | inl behind ↦ true≢false (sym empty ∙ full c.loop-i.i behind)
+        | inr last ↦
+            let same : i ≡ c.loop-i.i = omega (arith, late, last) in
+            let at_here = subst (λ n. slice_get slots (c.args.home + n) ≡ Some (slot_of key place)) same at in
+            elim c.else-slot-mark.branch [
+              | else-slot-mark-via-then-slot-mark+else-is_key_at v ↦
+                  other-slot slots c.args.keys.now here c.in-Some.slot.now key place stands (λ marked stood. true≢false (sym (told-key _ key stood) ∙ (sym v.is_key_at.ensures ∙ v.if-is_key_at.false))) at_here there
+              | else-slot-mark-via-else-slot-mark v ↦
+                  other-slot slots c.args.keys.now here c.in-Some.slot.now key place stands (λ marked stood. v.if-slot-mark.false (marked ∙ sym c.requires.mark)) at_here there
+            ]
+      ]
     ]
