@@ -92,7 +92,9 @@ fn place_in(
     }
 }
 
-/// The place of a key to which no slot leads, if it is there.
+/// The place of a key to which no slot leads, if it is there. It stays a call, as all that new keys alone need, so that the way
+/// of a known key is short.
+#[inline(never)]
 fn find_in_rest(
     alloc: Global,
     keys: &KeyList,
@@ -135,6 +137,7 @@ fn put_in(
 }
 
 /// Puts a new key at the end, and its place in a slot, or else among the rest.
+#[inline(never)]
 fn begin(
     alloc: Global,
     keys: &mut KeyList,
@@ -248,6 +251,7 @@ impl KeyTable {
 
     /// Makes more slots where there are fewer than two for each key. Without memory for them it leaves those that there
     /// are.
+    #[inline(never)]
     fn grow(&mut self, alloc: Global)
         requires few { length self.old < 2 ^ 32 - 1 }
         ensures { self.new ≡ self.old }
@@ -284,6 +288,7 @@ impl KeyTable {
     /// Where the key with these parts stands, counted from 0 in the order first met; where it is new it is put at the
     /// end. A place at which it may well stand is looked at first; which one that is changes only the time. Where memory
     /// is wanted, the keys are as before. A text has fewer than 2^32 bytes, and there are fewer than 2^32 - 1 keys.
+    #[inline(always)]
     pub fn place_or_put(
         &mut self,
         alloc: Global,
