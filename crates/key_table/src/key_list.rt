@@ -84,7 +84,7 @@ impl KeyList {
     }
 
     /// Whether a key stands at a place.
-    #[inline]
+    #[inline(always)]
     pub fn is_key_at(&self, place: usize, key: &SignedKey<'_>) -> bool
         ensures { result ≡ option_map_or (same_key key.now) (slice_get self.now place) false }
     {
@@ -101,16 +101,26 @@ impl KeyList {
         }
     }
 
-    /// Whether the key with these parts stands at a place, told without its sign.
-    #[inline]
-    pub fn has_parts_at(&self, place: usize, parts: &KeyParts<'_>) -> bool
-        ensures { result ≡ option_map_or (same_key (key_in parts.now)) (slice_get self.now place) false }
+    /// Whether the key of these numbers and this text stands at a place, told without its sign. It stays a call, so that the way
+    /// of a short key is short.
+    #[inline(never)]
+    fn has_text_at(&self, place: usize, file: u32, section: u32, text: &str) -> bool
+        ensures { result ≡ option_map_or
+            (same_key (record { file = file; section = section; text = text.now })) (slice_get self.now place) false }
     {
         if place >= self.signs.len() {
             return false;
         }
         let key = self.key(place);
-        parts.file == key.file && parts.section == key.section && parts.text.as_bytes() == key.text
+        file == key.file && section == key.section && text.as_bytes() == key.text
+    }
+
+    /// Whether the key with these parts stands at a place, told without its sign.
+    #[inline(always)]
+    pub fn has_parts_at(&self, place: usize, parts: &KeyParts<'_>) -> bool
+        ensures { result ≡ option_map_or (same_key (key_in parts.now)) (slice_get self.now place) false }
+    {
+        self.has_text_at(place, parts.file, parts.section, parts.text)
     }
 
     /// Puts a key at the end.

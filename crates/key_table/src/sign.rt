@@ -34,7 +34,8 @@ pub struct Sign {
     pub length: u32,
 }
 
-/// A hash of bytes.
+/// A hash of bytes. It stays a call, so that the way of a short text is short.
+#[inline(never)]
 fn hash_of(bytes: &[u8]) -> u64
     ensures { result ≡ hash_of_bytes bytes.now }
 {
@@ -64,6 +65,7 @@ fn half_at(bytes: &[u8], at: usize) -> u64
 }
 
 /// The first, the middle and the last of up to three bytes as a number, which tells them all, and 0 of none.
+#[inline(always)]
 #[tactic(auto, unfolding(crate::specs::Signs::small_of))]
 fn small_word(bytes: &[u8]) -> u64
     ensures { result ≡ small_of bytes.now }
@@ -78,6 +80,7 @@ fn small_word(bytes: &[u8]) -> u64
 }
 
 /// The first word of a text; of one that is too long to be told whole, its hash.
+#[inline(always)]
 #[tactic(auto, unfolding(crate::specs::Signs::low_of))]
 fn low_word(bytes: &[u8]) -> u64
     ensures { result ≡ low_of bytes.now }
@@ -95,6 +98,7 @@ fn low_word(bytes: &[u8]) -> u64
 }
 
 /// The last word of a text.
+#[inline(always)]
 #[tactic(auto, unfolding(crate::specs::Signs::high_of))]
 fn high_word(bytes: &[u8]) -> u64
     ensures { result ≡ high_of bytes.now }
@@ -110,7 +114,7 @@ fn high_word(bytes: &[u8]) -> u64
 
 impl Sign {
     /// The sign of the key with these parts.
-    #[inline]
+    #[inline(always)]
     pub fn of(parts: &KeyParts<'_>) -> Sign
         requires short { length parts.now.text.now < 2 ^ 32 }
         ensures { result ≡ sign_of (key_in parts.now) }
@@ -126,7 +130,7 @@ impl Sign {
     }
 
     /// Whether it is this sign.
-    #[inline]
+    #[inline(always)]
     pub fn is(&self, other: &Sign) -> bool
         ensures { (result ≡ true) ↔ (self.now ≡ other.now) }
     {
@@ -138,7 +142,7 @@ impl Sign {
     }
 
     /// What the sign is mixed to.
-    #[inline]
+    #[inline(always)]
     #[tactic(auto, unfolding(crate::specs::Signs::mix_of))]
     pub fn mix(&self) -> u64
         ensures { result ≡ mix_of self.now }

@@ -30,7 +30,7 @@ impl<'a> Model for SignedKey<'a> {
 
 impl<'a> SignedKey<'a> {
     /// The key with these parts.
-    #[inline]
+    #[inline(always)]
     pub fn of(parts: &KeyParts<'a>) -> SignedKey<'a>
         requires short { length parts.now.text.now < 2 ^ 32 }
         ensures { result ≡ key_in parts.now }
@@ -41,8 +41,19 @@ impl<'a> SignedKey<'a> {
         }
     }
 
+    /// The same key once more. One that is handed to a call has to stand in memory; a copy leaves the first where it is.
+    #[inline(always)]
+    pub fn copy(&self) -> SignedKey<'a>
+        ensures { result ≡ self.now }
+    {
+        SignedKey {
+            sign: self.sign,
+            text: self.text,
+        }
+    }
+
     /// Its sign.
-    #[inline]
+    #[inline(always)]
     pub fn sign(&self) -> Sign
         ensures { result ≡ sign_of self.now }
     {
@@ -50,7 +61,7 @@ impl<'a> SignedKey<'a> {
     }
 
     /// Its text.
-    #[inline]
+    #[inline(always)]
     pub fn text(&self) -> &'a str
         ensures { result.now ≡ (self.now).text }
     {

@@ -48,7 +48,7 @@ impl Model for KeyTable {
 }
 
 /// The place of a key to which a slot leads, from its home on.
-#[inline]
+#[inline(always)]
 fn find(
     keys: &KeyList,
     slots: &[Slot],
@@ -271,7 +271,7 @@ impl KeyTable {
     }
 
     /// The place of a key, if it is there.
-    #[inline]
+    #[inline(always)]
     fn place_of(&self, alloc: Global, key: &SignedKey<'_>) -> Result<Option<usize>, AllocError>
         ensures some { IfOk result (λ found. IfSome found (λ place. slice_get self.now place ≡ Some key.now)) }
         ensures none { result ≡ Ok None → list_any (same_key key.now) self.now ≡ false }
@@ -282,7 +282,14 @@ impl KeyTable {
         if let Some(place) = find(&self.keys, slots, home, mark_of_mix(mix), key) {
             return Ok(Some(place));
         }
-        find_in_rest(alloc, &self.keys, slots, self.shift, &self.rest, key)
+        find_in_rest(
+            alloc,
+            &self.keys,
+            slots,
+            self.shift,
+            &self.rest,
+            &key.copy(),
+        )
     }
 
     /// Where the key with these parts stands, counted from 0 in the order first met; where it is new it is put at the
@@ -320,7 +327,7 @@ impl KeyTable {
             &mut self.slots,
             self.shift,
             &mut self.rest,
-            &key,
+            &key.copy(),
         )?;
         Ok(end)
     }

@@ -45,7 +45,7 @@ impl Columns {
     }
 
     /// The place of the event that was added last, or else 0.
-    #[inline]
+    #[inline(always)]
     pub fn last_place(&self) -> usize {
         match self.places.last() {
             Some(place) => *place as usize,
@@ -54,7 +54,7 @@ impl Columns {
     }
 
     /// Makes room for one event more, with this time. What the columns hold stays.
-    #[inline]
+    #[inline(always)]
     pub fn reserve(&mut self, time: u128) -> Result<(), AllocError>
         requires beside { AreBeside self.old.numbers.items self.old.times.items }
         ensures places { self.new.places.items ≡ self.old.places.items }
@@ -71,7 +71,7 @@ impl Columns {
     }
 
     /// Puts an event at the end, for which there is room. Times are kept from the first on that is not 0.
-    #[inline]
+    #[inline(always)]
     pub fn put(&mut self, place: u32, number: u16, time: u128)
         requires room { HasRoom self.old time }
         ensures places { self.new.places.items ≡ self.old.places.items ++ place ∷ [] }

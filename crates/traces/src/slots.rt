@@ -47,7 +47,8 @@ fn are_bytes(bytes: &[u8])
     ensures { (i : ℕ) → slice_index bytes.now i < 256 }
 {}
 
-/// Whether the text stands at this place.
+/// Whether the text stands at this place. It stays a call, so that the way of a short text is short.
+#[inline(never)]
 fn is_text_at(texts: &[Text], place: usize, text: &str) -> bool
     ensures { result ≡ option_map_or (bytes_eq text.now) (slice_get texts.now place) false }
 {
@@ -58,7 +59,7 @@ fn is_text_at(texts: &[Text], place: usize, text: &str) -> bool
 }
 
 /// The sign of a type's text.
-#[inline]
+#[inline(always)]
 fn sign_of_text(text: &str) -> Sign
     requires { length text.now < 2 ^ 32 }
     ensures { result ≡ sign_of (type_key text.now) }
@@ -71,7 +72,7 @@ fn sign_of_text(text: &str) -> Sign
 }
 
 /// The first slot in which a type with this sign may stand.
-#[inline]
+#[inline(always)]
 fn home_of(sign: &Sign) -> usize
     ensures { result < HOMES }
 {
@@ -79,7 +80,7 @@ fn home_of(sign: &Sign) -> usize
 }
 
 /// Whether a slot leads to the text with this sign.
-#[inline]
+#[inline(always)]
 fn leads_to(slot: &Slot, sign: &Sign, texts: &[Text], text: &str) -> bool
     requires sign { sign.now ≡ sign_of (type_key text.now) }
     requires told { TellsText texts.now slot.now }
@@ -96,7 +97,7 @@ fn leads_to(slot: &Slot, sign: &Sign, texts: &[Text], text: &str) -> bool
 }
 
 /// The place of a text to which a slot leads, from its home on.
-#[inline]
+#[inline(always)]
 pub fn find(slots: &[Slot], texts: &[Text], text: &str) -> Option<usize>
     requires short { length text.now < 2 ^ 32 }
     requires told { All (TellsText texts.now) slots.now }
