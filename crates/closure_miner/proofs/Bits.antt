@@ -1,8 +1,9 @@
 -- The types of a set after writes to its bits.
-use Rattle.std.proofs.Common.{◌≡◌, ℕ, ◌+◌, ◌-◌, ◌*◌, ◌%◌, ◌^◌, ◌<◌, ◌⊎◌, min, max, Bool, true, false, not, ◌&&◌, ◌||◌, eqb, List, length, set, get_or, refl, sym, ap, ◌∙◌, arith, inl, inr}
+use Rattle.std.proofs.Common.{◌≡◌, ℕ, ◌+◌, ◌-◌, ◌*◌, ◌/◌, ◌%◌, ◌^◌, ◌<◌, ◌≤◌, ◌⊎◌, min, max, Bool, true, false, not, ◌&&◌, ◌||◌, eqb, nat_lt, List, length, set, get_or, refl, sym, ap, ◌∙◌, arith, inl, inr}
 use Rattle.std.proofs.lemmas.List.{get_or-set_same, get_or-set_other}
-use Rattle.std.proofs.lemmas.Bool.{cases_eq, eq-eqb, ne_eqb}
-use Rattle.std.proofs.lemmas.Nat.Bits.{bit_at-lt, bit_at-zero, bit_at_ones, bit_at_or, bit_at_and, bit_at_set_same, bit_at_set_other}
+use Rattle.std.proofs.lemmas.Bool.{cases_eq, cases_lt, eq-eqb, ne_eqb, lt-ltb, le-ltb}
+use Rattle.std.proofs.lemmas.Nat.{shr-shr}
+use Rattle.std.proofs.lemmas.Nat.Bits.{bit_at-lt, bit_at-zero, bit_at_ones, bit_at_ones_above, bit_at_or, bit_at_and, bit_at_set_same, bit_at_set_other}
 use Rattle.std.specs.Int.{bit_at, w128}
 use Rattle.std.specs.Int.Bits.{bit_or}
 use lib.Bits.{bit_and}
@@ -109,3 +110,12 @@ has-all b within = ap (λ d. eqb d 1) (bit_at_ones 128 b within)
 -- in a set with no bit no type is
 pub has-none : (b : ℕ) → has 0 b ≡ false
 has-none b = ap (λ d. eqb d 1) (bit_at-zero b)
+
+-- the lowest bits of a set with all bits are those of all types
+pub has-lowest : (types : ℕ) → types ≤ 128 → (b : ℕ) → has ((2 ^ 128 - 1) / 2 ^ (128 - types)) b ≡ nat_lt b types
+has-lowest types few b =
+    ap (λ d. eqb (d % 2) 1) (shr-shr (2 ^ 128 - 1) (128 - types) b)
+    ∙ elim (cases_lt b types) [
+      | inl within ↦ ap (λ d. eqb d 1) (bit_at_ones 128 (128 - types + b) (omega arith)) ∙ sym (lt-ltb b types within)
+      | inr past ↦ ap (λ d. eqb d 1) (bit_at_ones_above 128 (128 - types + b) (omega arith)) ∙ sym (le-ltb b types past)
+    ]

@@ -1,3 +1,4 @@
 pub mod Bits
 pub mod Events
 pub mod Traces
+pub mod Rests

@@ -42,10 +42,10 @@ stands-first new few followed met preceded everywhere = record {
 
 -- what a trace leaves standing, read from its end and from its start
 pub stands-more : (old new : Standing) (words : List (List ℕ)) (events : List ℕ) → All (IsTypeNumber old.types) events → new.types ≡ old.types
-    → ((b : ℕ) → has new.everywhere b ≡ (has old.everywhere b && occurs (b + 2) events))
-    → ((a b : ℕ) → has (set_at new.followed.items a) b ≡ (has (set_at old.followed.items a) b && always_followed (a + 2) (b + 2) events))
-    → ((a b : ℕ) → not (has (set_at new.met.items a) b) ≡ (not (has (set_at old.met.items a) b) && never_followed (a + 2) (b + 2) events))
-    → ((a b : ℕ) → has (set_at new.preceded.items b) a ≡ (has (set_at old.preceded.items b) a && always_preceded (a + 2) (b + 2) events))
+    → ((b : ℕ) → b < old.types → has new.everywhere b ≡ (has old.everywhere b && occurs (b + 2) events))
+    → ((a b : ℕ) → a < old.types → b < old.types → has (set_at new.followed.items a) b ≡ (has (set_at old.followed.items a) b && always_followed (a + 2) (b + 2) events))
+    → ((a b : ℕ) → a < old.types → b < old.types → not (has (set_at new.met.items a) b) ≡ (not (has (set_at old.met.items a) b) && never_followed (a + 2) (b + 2) events))
+    → ((a b : ℕ) → a < old.types → b < old.types → has (set_at new.preceded.items b) a ≡ (has (set_at old.preceded.items b) a && always_preceded (a + 2) (b + 2) events))
     → Stands old words → Stands new (words ++ word_with events ∷ [])
 stands-more old new words events numbers same everywhere followed never preceded st =
     let word : List ℕ = word_with events in
@@ -53,14 +53,14 @@ stands-more old new words events numbers same everywhere followed never preceded
     record {
       followed = λ a b in_a in_b.
           one-more (invariant AF (a + 2) (b + 2)) words word (has (set_at old.followed.items a) b) (always_followed (a + 2) (b + 2) events) (has (set_at new.followed.items a) b)
-          (followed a b) (st.followed a b (was a in_a) (was b in_b)) (followed-word a b events);
+          (followed a b (was a in_a) (was b in_b)) (st.followed a b (was a in_a) (was b in_b)) (followed-word a b events);
       never = λ a b in_a in_b.
           one-more (invariant NF (a + 2) (b + 2)) words word (not (has (set_at old.met.items a) b)) (never_followed (a + 2) (b + 2) events) (not (has (set_at new.met.items a) b))
-          (never a b) (st.never a b (was a in_a) (was b in_b)) (never-word a b events);
+          (never a b (was a in_a) (was b in_b)) (st.never a b (was a in_a) (was b in_b)) (never-word a b events);
       preceded = λ a b in_a in_b.
           one-more (invariant AP (a + 2) (b + 2)) words word (has (set_at old.preceded.items b) a) (always_preceded (a + 2) (b + 2) events) (has (set_at new.preceded.items b) a)
-          (preceded a b) (st.preceded a b (was a in_a) (was b in_b)) (preceded-word a b events);
+          (preceded a b (was a in_a) (was b in_b)) (st.preceded a b (was a in_a) (was b in_b)) (preceded-word a b events);
       everywhere = λ b in_b.
           one-more (invariant AF 0 (b + 2)) words word (has old.everywhere b) (occurs (b + 2) events) (has new.everywhere b)
-          (everywhere b) (st.everywhere b (was b in_b)) (first-word old.types b events numbers);
+          (everywhere b (was b in_b)) (st.everywhere b (was b in_b)) (first-word old.types b events numbers);
     }

@@ -1,12 +1,12 @@
 //! The candidates that hold of every trace that was read, in sets of types.
-ghost use Rattle.std.specs.Prelude.{ℕ, ◌≡◌, ◌≤◌, ◌<◌, ◌+◌, ◌==◌, ◌&&◌, ◌||◌, not, length, All};
+ghost use Rattle.std.specs.Prelude.{ℕ, ◌≡◌, ◌≤◌, ◌<◌, ◌+◌, ◌==◌, ◌&&◌, ◌||◌, ◌↔◌, not, true, nat_lt, length, All, EachIndex};
 ghost use Rattle.limits.specs.declared.TheConstants.{FIRST_TYPE, MAX_TYPES};
 ghost use Rattle.invariants.specs.Holds.{occurs, always_followed, never_followed, always_preceded};
 ghost use Rattle.traces.specs.Kept.{IsTypeNumber};
-ghost use Rattle.closure_miner.specs.Sets.{has, set_at};
+ghost use Rattle.closure_miner.specs.Sets.{has, set_at, HasAll};
 
 use invariants::{Invariant, Kind};
-use limits::{FIRST_TYPE, INITIAL};
+use limits::{FIRST_TYPE, INITIAL, MAX_TYPES};
 use std::alloc::{AllocError, Global};
 
 /// The candidates that still stand: those that hold of every trace that was read. A set of types
@@ -26,11 +26,17 @@ pub struct Standing {
     preceded: Vec<u128>,
     /// The types that every trace has.
     everywhere: u128,
+    /// All types.
+    all: u128,
     ghost few: { types ≤ MAX_TYPES },
     ghost followed_each: { length followed.items ≡ types },
     ghost met_each: { length met.items ≡ types },
     ghost preceded_each: { length preceded.items ≡ types },
+    ghost all_each: { HasAll types all },
 }
+
+/// After how many events it is looked whether the rest of a trace can strike out anything.
+const STRIDE: usize = 128;
 
 /// The place of a type.
 #[inline]
@@ -48,6 +54,29 @@ fn has_place(set: u128, place: usize) -> bool
     ensures { result ≡ has set place }
 {
     (set >> place) & 1 == 1
+}
+
+/// The set of so many types, all that there are.
+fn all_types(types: usize) -> u128
+    requires few { types ≤ MAX_TYPES }
+    ensures { (b : ℕ) → has result b ≡ nat_lt b types }
+{
+    if types == 0 {
+        return 0;
+    }
+    u128::MAX >> (MAX_TYPES as usize - types)
+}
+
+/// Whether each of the sets is the one of all types.
+fn are_all(sets: &[u128], all: u128) -> bool
+    ensures { (result ≡ true) ↔ EachIndex sets.now (λ a. set_at sets.now a ≡ all) }
+{
+    for set in sets {
+        if *set != all {
+            return false;
+        }
+    }
+    true
 }
 
 /// Strikes out what an event breaks that stands before those of the types in `later`, and gives these
@@ -93,41 +122,53 @@ fn strike_later(preceded: &mut [u128], earlier: u128, x: u16) -> u128
 }
 
 /// Strikes out what a trace breaks of what follows what, and gives the types that it has: it is read
-/// from its end.
-fn read_from_end(followed: &mut [u128], met: &mut [u128], events: &[u16]) -> u128
+/// from its end, up to where nothing is left that it could break.
+fn read_from_end(followed: &mut [u128], met: &mut [u128], all: u128, events: &[u16]) -> u128
     requires few { length followed.old ≤ MAX_TYPES }
     requires same { length met.old ≡ length followed.old }
+    requires all { HasAll (length followed.old) all }
     requires numbers { All (IsTypeNumber (length followed.old)) events.now }
 
     // The types are those of the events.
-    ensures seen { (b : ℕ) → has result b ≡ occurs (b + FIRST_TYPE) events.now }
+    ensures seen { (b : ℕ) → b < length followed.old → has result b ≡ occurs (b + FIRST_TYPE) events.now }
 
     // Which pairs of a type and what follows it, always or never, still stand.
-    ensures followed { (a b : ℕ) → has (set_at followed.new a) b ≡ (has (set_at followed.old a) b
+    ensures followed { (a b : ℕ) → a < length followed.old → b < length followed.old
+        → has (set_at followed.new a) b ≡ (has (set_at followed.old a) b
         && always_followed (a + FIRST_TYPE) (b + FIRST_TYPE) events.now) }
-    ensures never { (a b : ℕ) → not (has (set_at met.new a) b) ≡ (not (has (set_at met.old a) b)
+    ensures never { (a b : ℕ) → a < length followed.old → b < length followed.old
+        → not (has (set_at met.new a) b) ≡ (not (has (set_at met.old a) b)
         && never_followed (a + FIRST_TYPE) (b + FIRST_TYPE) events.now) }
 {
     let mut later = 0;
     let mut left = events.len();
     while left > 0 {
+        if left % STRIDE == 0 && later == all && are_all(met, all) {
+            return later;
+        }
         left -= 1;
         later = strike_earlier(followed, met, later, events[left]);
     }
     later
 }
 
-/// Strikes out what a trace breaks of what precedes what: it is read from its start.
-fn read_from_start(preceded: &mut [u128], events: &[u16])
+/// Strikes out what a trace breaks of what precedes what: it is read from its start, up to where each
+/// type has come.
+fn read_from_start(preceded: &mut [u128], all: u128, events: &[u16])
     requires few { length preceded.old ≤ MAX_TYPES }
+    requires all { HasAll (length preceded.old) all }
     requires numbers { All (IsTypeNumber (length preceded.old)) events.now }
 
     // Which pairs of a type and what precedes it still stand.
-    ensures preceded { (a b : ℕ) → has (set_at preceded.new b) a ≡ (has (set_at preceded.old b) a
+    ensures preceded { (a b : ℕ) → a < length preceded.old → b < length preceded.old
+        → has (set_at preceded.new b) a ≡ (has (set_at preceded.old b) a
         && always_preceded (a + FIRST_TYPE) (b + FIRST_TYPE) events.now) }
 {
     let mut earlier = 0;
-    for x in events {
+    for (i, x) in events.iter().enumerate() {
+        if i % STRIDE == 0 && earlier == all {
+            return;
+        }
         earlier = strike_later(preceded, earlier, *x);
     }
 }
@@ -150,6 +191,7 @@ impl Standing {
             met: vec![in alloc; 0; types]?,
             preceded: vec![in alloc; u128::MAX; types]?,
             everywhere: u128::MAX,
+            all: all_types(types),
         })
     }
 
@@ -160,8 +202,8 @@ impl Standing {
         ensures stands { (words : List (List ℕ)) → Stands self.old words
             → Stands self.new (words ++ word_with events.now ∷ []) }
     {
-        self.everywhere &= read_from_end(&mut self.followed, &mut self.met, events);
-        read_from_start(&mut self.preceded, events);
+        self.everywhere &= read_from_end(&mut self.followed, &mut self.met, self.all, events);
+        read_from_start(&mut self.preceded, self.all, events);
     }
 
     /// Whether each trace has the type.

@@ -3,8 +3,8 @@ use Rattle.invariants.specs.Holds.{occurs, always_preceded}
 use Rattle.closure_miner.specs.Sets.{has, set_at}
 use Rattle.closure_miner.proofs.standing.read_from_start.Given as goal
 
-abbrev pub invariant-loop-x : goal.invariant-loop-x
-invariant-loop-x l = record {
-  seen : (a : ℕ) → has l.earlier a ≡ occurs (a + 2) (take l.x-index l.events);
-  preceded : (a b : ℕ) → has (set_at l.preceded b) a ≡ (has (set_at l.fn.preceded b) a && always_preceded (a + 2) (b + 2) (take l.x-index l.events));
+abbrev pub invariant-loop-i : goal.invariant-loop-i
+invariant-loop-i l = record {
+  seen : (a : ℕ) → has l.earlier a ≡ occurs (a + 2) (take l.i l.events);
+  preceded : (a b : ℕ) → has (set_at l.preceded b) a ≡ (has (set_at l.fn.preceded b) a && always_preceded (a + 2) (b + 2) (take l.i l.events));
 }
