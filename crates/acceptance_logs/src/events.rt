@@ -2,9 +2,9 @@ use limits::{MAX_TRACE_BYTES, MAX_TYPE_BYTES};
 use std::alloc::Global;
 use std::process::Abort;
 use std::test::Fail;
-use traces::{AddError, Builder, TraceSet};
+use traces::{AddError, Builder, TraceSet, Worded};
 
-/// Adds an event whose texts are within the limits.
+/// Adds an event whose texts are within the limits; one without a time by the words of its texts.
 fn add(
     rt: &impl Abort,
     builder: &mut Builder,
@@ -13,6 +13,9 @@ fn add(
     time: u128,
 ) -> Result<(), AddError> {
     assert!(rt; key.2.len() <= MAX_TRACE_BYTES && !typ.is_empty() && typ.len() <= MAX_TYPE_BYTES);
+    if time == 0 {
+        return builder.add_worded(key.0, key.1, &Worded::of(key.2), &Worded::of(typ));
+    }
     builder.add(key.0, key.1, key.2, typ, time)
 }
 

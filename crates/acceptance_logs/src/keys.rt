@@ -1,4 +1,4 @@
-use key_table::{KeyParts, KeyTable};
+use key_table::{KeyParts, KeyTable, Worded};
 use std::alloc::{AllocError, Global};
 use std::process::Abort;
 use std::test::Fail;
@@ -75,6 +75,8 @@ fn assert_found(rt: &impl Abort, alloc: Global, table: &mut KeyTable) -> Result<
         let text = format!(in alloc; "{number}")?;
         let found = place(rt, alloc, table, number / 2, 7, &text)?;
         assert_eq!(rt; found, number);
+        let first = table.home_place_of(0, 7, &Worded::of(&text));
+        assert!(rt; first.is_none() || first == Some(number));
         assert!(rt; number < table.len());
         let key = table.key(number);
         assert_eq!(rt; (key.file, key.section), (0, 7));

@@ -4,4 +4,5 @@ pub mod Keys
 pub mod Rest
 pub mod Placed
 pub mod KeyLists
+pub mod Numbers
 pub mod Told

@@ -1,7 +1,7 @@
 -- Signs of keys.
-use Rattle.std.specs.Prelude.{ℕ, ◌+◌, ◌*◌, ◌-◌, ◌/◌, ◌%◌, ◌^◌, bit_xor, List, length, take, drop, slice_index, nat_lt, if◌then◌else◌}
+use Rattle.std.specs.Prelude.{ℕ, ◌≡◌, ◌≤◌, ◌<◌, ◌+◌, ◌*◌, ◌-◌, ◌/◌, ◌%◌, ◌^◌, bit_xor, List, [], ◌∷◌, length, take, drop, slice_index, nat_lt, if◌then◌else◌}
 use Rattle.std.specs.List.{fold}
-use Rattle.std.specs.Int.{w32, w64, from_le_bytes}
+use Rattle.std.specs.Int.{w64, from_le_bytes}
 use Rattle.key_table.specs.Keys.{Key}
 use Rattle.key_table.specs.declared.sign.Sign.{Sign}
 
@@ -13,19 +13,27 @@ hash_step hash b = (bit_xor hash b * 1099511628211) % 2 ^ 64
 unfoldable pub hash_of_bytes : List ℕ → ℕ
 hash_of_bytes bytes = fold hash_step 0 bytes
 
--- the first, the middle and the last byte as a number
-unfoldable pub small_of : List ℕ → ℕ
-small_of bytes = slice_index bytes 0 + slice_index bytes (length bytes / 2) * 256 + slice_index bytes (length bytes - 1) * 65536
+-- bytes as a number, the lowest first
+abbrev pub number_of : List ℕ → ℕ
+number_of [] = 0
+number_of (b ∷ bytes) = b + number_of bytes * 256
 
 -- the first word of a text, or the hash of one that is longer than two words
 unfoldable pub low_of : List ℕ → ℕ
 low_of bytes =
-    if nat_lt 16 (length bytes) then hash_of_bytes bytes else if nat_lt 7 (length bytes) then from_le_bytes w64 (take 8 (drop 0 bytes)) else if nat_lt 3 (length bytes) then from_le_bytes w32 (take 4 (drop 0 bytes)) else small_of bytes
+    if nat_lt 16 (length bytes) then hash_of_bytes bytes else if nat_lt 7 (length bytes) then from_le_bytes w64 (take 8 (drop 0 bytes)) else number_of bytes
 
--- the last word of a text
+-- the last word of a text that has as many bytes
 unfoldable pub high_of : List ℕ → ℕ
-high_of bytes =
-    if nat_lt 7 (length bytes) then from_le_bytes w64 (take 8 (drop (length bytes - 8) bytes)) else if nat_lt 3 (length bytes) then from_le_bytes w32 (take 4 (drop (length bytes - 4) bytes)) else 0
+high_of bytes = if nat_lt 7 (length bytes) then from_le_bytes w64 (take 8 (drop (length bytes - 8) bytes)) else 0
+
+-- a text that its words tell whole: bytes, no more than two words of them
+abbrev pub IsTold : List ℕ → Type 0
+IsTold text = (length text ≤ 16) × ((i : ℕ) → slice_index text i < 256)
+
+-- the words of a text where it is no longer than two
+abbrev pub HasWords : List ℕ → ℕ → ℕ → Type 0
+HasWords bytes low high = length bytes ≤ 16 → (low ≡ low_of bytes) × (high ≡ high_of bytes)
 
 -- the sign of a key: its numbers, and its text's length and words
 abbrev pub sign_of : Key → Sign

@@ -1,11 +1,11 @@
 //! Keys in a list: a sign of each, and the texts of all behind one another.
-ghost use Rattle.std.specs.Prelude.{ℕ, ◌≡◌, ◌++◌, ◌∷◌, [], ◌<◌, false, length, slice_get, slice_index, OnOk, OnErr, Some};
+ghost use Rattle.std.specs.Prelude.{◌≡◌, ◌++◌, ◌∷◌, [], ◌<◌, false, length, slice_get, OnOk, OnErr, Some};
 ghost use Rattle.std.specs.Option.{option_map_or};
 ghost use Rattle.key_table.specs.Keys.{Key, key_in, key_shown, same_key};
-ghost use Rattle.key_table.specs.Signs.{sign_of};
+ghost use Rattle.key_table.specs.Signs.{IsTold, sign_of};
 
 use crate::key::{KeyParts, ShownKey};
-use crate::sign::{MAX_TOLD, Sign};
+use crate::sign::{MAX_TOLD, Sign, are_bytes};
 use crate::signed_key::SignedKey;
 use std::alloc::{AllocError, Global};
 use std::marker::Model;
@@ -32,12 +32,6 @@ impl Model for KeyList {
 
     ghost invariant = { λ l. AreKeysIn l.signs.items l.starts.items l.texts.items };
 }
-
-/// Tells that bytes are below 256, and does nothing.
-#[inline]
-fn are_bytes(bytes: &[u8])
-    ensures { (i : ℕ) → slice_index bytes.now i < 256 }
-{}
 
 impl KeyList {
     /// No keys. It takes no memory.
@@ -97,6 +91,19 @@ impl KeyList {
                 known.is(&sign)
                     && (sign.length as usize <= MAX_TOLD || self.key(place).text == text)
             }
+            None => false,
+        }
+    }
+
+    /// Whether the short key with this sign stands at a place.
+    #[inline(always)]
+    pub fn has_sign_at(&self, place: usize, sign: &Sign) -> bool
+        ensures { (key : Key) → sign.now ≡ sign_of key → IsTold key.text
+            → result ≡ option_map_or (same_key key) (slice_get self.now place) false }
+    {
+        are_bytes(&self.texts);
+        match self.signs.get(place) {
+            Some(known) => known.is(sign),
             None => false,
         }
     }

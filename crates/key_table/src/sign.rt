@@ -1,8 +1,8 @@
 //! Signs of keys: numbers by which most keys are told apart.
-ghost use Rattle.std.specs.Prelude.{◌≡◌, ◌≤◌, ◌<◌, ◌+◌, ◌^◌, ◌↔◌, true, length, take, drop, slice_index};
-ghost use Rattle.std.specs.Int.{w32, w64, from_le_bytes};
+ghost use Rattle.std.specs.Prelude.{ℕ, ◌≡◌, ◌≤◌, ◌<◌, ◌+◌, ◌^◌, ◌↔◌, true, length, take, drop, slice_index};
+ghost use Rattle.std.specs.Int.{w64, from_le_bytes};
 ghost use Rattle.key_table.specs.Keys.{key_in};
-ghost use Rattle.key_table.specs.Signs.{hash_of_bytes, small_of, low_of, high_of, sign_of, mix_of, home_of, mark_of};
+ghost use Rattle.key_table.specs.Signs.{hash_of_bytes, number_of, low_of, high_of, sign_of, mix_of, home_of, mark_of};
 
 use crate::key::KeyParts;
 
@@ -10,10 +10,7 @@ use crate::key::KeyParts;
 pub const MAX_TOLD: usize = 16;
 
 /// How many bytes a word has.
-const WORD: usize = 8;
-
-/// How many bytes half a word has.
-const HALF: usize = 4;
+pub const WORD: usize = 8;
 
 /// The multiplier of the hash of a long text.
 const FACTOR: u64 = 1_099_511_628_211;
@@ -33,6 +30,12 @@ pub struct Sign {
     pub section: u32,
     pub length: u32,
 }
+
+/// Tells that bytes are below 256, and does nothing.
+#[inline]
+pub(crate) fn are_bytes(bytes: &[u8])
+    ensures { (i : ℕ) → slice_index bytes.now i < 256 }
+{}
 
 /// A hash of bytes. It stays a call, so that the way of a short text is short.
 #[inline(never)]
@@ -55,34 +58,38 @@ fn word_at(bytes: &[u8], at: usize) -> u64
     u64::from_le_bytes([b[0], b[1], b[2], b[3], b[4], b[5], b[6], b[7]])
 }
 
-/// Four bytes as a number, the lowest first.
-fn half_at(bytes: &[u8], at: usize) -> u64
-    requires { at + 4 ≤ length bytes.now }
-    ensures { result ≡ from_le_bytes w32 (take 4 (drop at bytes.now)) }
+/// Fewer than eight bytes as a number, the lowest first. It stays a call, since most such texts stand before more bytes, of
+/// which eight are taken at once.
+#[inline(never)]
+fn few_word(bytes: &[u8]) -> u64
+    requires { length bytes.now < 8 }
+    ensures { result ≡ number_of bytes.now }
 {
-    let b = &bytes[at..at + HALF];
-    u64::from(u32::from_le_bytes([b[0], b[1], b[2], b[3]]))
+    are_bytes(bytes);
+    let mut word = 0u64;
+    let mut left = bytes.len();
+    while left > 0 {
+        left -= 1;
+        word = word * 0x100 + u64::from(bytes[left]);
+    }
+    word
 }
 
-/// The first, the middle and the last of up to three bytes as a number, which tells them all, and 0 of none.
+/// The first of eight bytes as a number, fewer than eight, the lowest first.
 #[inline(always)]
-#[tactic(auto, unfolding(crate::specs::Signs::small_of))]
-fn small_word(bytes: &[u8]) -> u64
-    ensures { result ≡ small_of bytes.now }
+pub(crate) fn front_word(bytes: &[u8], count: usize) -> u64
+    requires eight { 8 ≤ length bytes.now }
+    requires fewer { count < 8 }
+    ensures { result ≡ number_of (take count bytes.now) }
 {
-    if bytes.is_empty() {
-        return 0;
-    }
-    let first = u64::from(bytes[0]);
-    let middle = u64::from(bytes[bytes.len() / 2]);
-    let last = u64::from(bytes[bytes.len() - 1]);
-    first + middle * 0x100 + last * 0x1_0000
+    are_bytes(bytes);
+    word_at(bytes, 0) % (1 << (8 * count))
 }
 
 /// The first word of a text; of one that is too long to be told whole, its hash.
 #[inline(always)]
 #[tactic(auto, unfolding(crate::specs::Signs::low_of))]
-fn low_word(bytes: &[u8]) -> u64
+pub(crate) fn low_word(bytes: &[u8]) -> u64
     ensures { result ≡ low_of bytes.now }
 {
     if bytes.len() > MAX_TOLD {
@@ -91,23 +98,17 @@ fn low_word(bytes: &[u8]) -> u64
     if bytes.len() >= WORD {
         return word_at(bytes, 0);
     }
-    if bytes.len() >= HALF {
-        return half_at(bytes, 0);
-    }
-    small_word(bytes)
+    few_word(bytes)
 }
 
-/// The last word of a text.
+/// The last word of a text that has as many bytes.
 #[inline(always)]
 #[tactic(auto, unfolding(crate::specs::Signs::high_of))]
-fn high_word(bytes: &[u8]) -> u64
+pub(crate) fn high_word(bytes: &[u8]) -> u64
     ensures { result ≡ high_of bytes.now }
 {
     if bytes.len() >= WORD {
         return word_at(bytes, bytes.len() - WORD);
-    }
-    if bytes.len() >= HALF {
-        return half_at(bytes, bytes.len() - HALF);
     }
     0
 }

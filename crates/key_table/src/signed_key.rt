@@ -1,10 +1,11 @@
 //! Keys with their signs.
-ghost use Rattle.std.specs.Prelude.{◌≡◌, ◌<◌, ◌^◌, length};
+ghost use Rattle.std.specs.Prelude.{◌≡◌, ◌<◌, ◌^◌, length, IfSome};
 ghost use Rattle.key_table.specs.Keys.{key_in};
 ghost use Rattle.key_table.specs.Signs.{sign_of};
 
 use crate::key::KeyParts;
 use crate::sign::Sign;
+use crate::worded::Worded;
 use std::marker::Model;
 
 /// A key with its sign, which is made once for all looks.
@@ -41,14 +42,18 @@ impl<'a> SignedKey<'a> {
         }
     }
 
-    /// The same key once more. One that is handed to a call has to stand in memory; a copy leaves the first where it is.
+    /// The key with this text, by the words of the text, if that is short.
     #[inline(always)]
-    pub fn copy(&self) -> SignedKey<'a>
-        ensures { result ≡ self.now }
+    pub fn of_worded(file: u32, section: u32, text: &Worded<'a>) -> Option<SignedKey<'a>>
+        ensures some { IfSome result (λ key. key
+            ≡ (record { file = file; section = section; text = text.now })) }
     {
-        SignedKey {
-            sign: self.sign,
-            text: self.text,
+        match text.sign(file, section) {
+            Some(sign) => Some(SignedKey {
+                sign,
+                text: text.text(),
+            }),
+            None => None,
         }
     }
 

@@ -10,12 +10,13 @@ use crate::key_list::KeyList;
 use crate::sign::{MAX_TOLD, home_of_mix, mark_of_mix};
 use crate::signed_key::SignedKey;
 use crate::slots::{EMPTY, Slot, WINDOW, first_empty};
+use crate::worded::Worded;
 use std::alloc::{AllocError, Global};
 use std::collections::BTreeMap;
 use std::marker::Model;
 
 /// How many bits of a mixed sign choose the first homes.
-const FIRST_BITS: u32 = 10;
+const FIRST_BITS: u32 = 12;
 
 /// How many bits of a home there are at most.
 const MAX_BITS: u32 = 32;
@@ -282,20 +283,39 @@ impl KeyTable {
         if let Some(place) = find(&self.keys, slots, home, mark_of_mix(mix), key) {
             return Ok(Some(place));
         }
-        find_in_rest(
-            alloc,
-            &self.keys,
-            slots,
-            self.shift,
-            &self.rest,
-            &key.copy(),
-        )
+        find_in_rest(alloc, &self.keys, slots, self.shift, &self.rest, key)
+    }
+
+    /// The place of a short key, if a slot leads to it.
+    #[inline(always)]
+    pub fn short_place_of(&self, file: u32, section: u32, text: &Worded<'_>) -> Option<usize>
+        ensures place { IfSome result (λ place. place
+            ≡ position_or_len (same_key (record { file = file; section = section; text = text.now })) self.now) }
+        ensures known { IfSome result (λ _. self.now
+            ≡ with_new same_key self.now (record { file = file; section = section; text = text.now })) }
+        ensures few { IfSome result (λ place. place < 2 ^ 32) }
+    {
+        let sign = text.sign(file, section)?;
+        let mix = sign.mix();
+        let mark = mark_of_mix(mix);
+        let home = home_of_mix(mix, self.shift);
+        for step in 0..WINDOW {
+            let slot = self.slots.get(home + step)?;
+            let place = slot.place as usize;
+            if slot.mark == mark && self.keys.has_sign_at(place, &sign) {
+                return Some(place);
+            }
+            if slot.place == u32::MAX {
+                return None;
+            }
+        }
+        None
     }
 
     /// Where the key with these parts stands, counted from 0 in the order first met; where it is new it is put at the
     /// end. A place at which it may well stand is looked at first; which one that is changes only the time. Where memory
     /// is wanted, the keys are as before. A text has fewer than 2^32 bytes, and there are fewer than 2^32 - 1 keys.
-    #[inline(always)]
+    #[inline(never)]
     pub fn place_or_put(
         &mut self,
         alloc: Global,
@@ -316,7 +336,50 @@ impl KeyTable {
         if self.keys.is_key_at(near, &key) {
             return Ok(near);
         }
-        if let Some(place) = self.place_of(alloc, &key)? {
+        self.place_or_put_key(alloc, &key)
+    }
+
+    /// The same by the words of the text, where it is short.
+    #[inline(never)]
+    pub fn place_or_put_worded(
+        &mut self,
+        alloc: Global,
+        near: usize,
+        file: u32,
+        section: u32,
+        text: &Worded<'_>,
+    ) -> Result<usize, AllocError>
+        requires short { length text.now < 2 ^ 32 }
+        requires few { length self.old < 2 ^ 32 - 1 }
+        ensures place { IfOk result (λ place. place
+            ≡ position_or_len (same_key (record { file = file; section = section; text = text.now })) self.old) }
+        ensures ok { OnOk result (self.new
+            ≡ with_new same_key self.old (record { file = file; section = section; text = text.now })) }
+        ensures err { OnErr result (self.new ≡ self.old) }
+    {
+        match SignedKey::of_worded(file, section, text) {
+            Some(key) => self.place_or_put_key(alloc, &key),
+            None => self.place_or_put(
+                alloc,
+                near,
+                &KeyParts {
+                    file,
+                    section,
+                    text: text.text(),
+                },
+            ),
+        }
+    }
+
+    /// Where the key stands; where it is new it is put at the end.
+    fn place_or_put_key(&mut self, alloc: Global, key: &SignedKey<'_>) -> Result<usize, AllocError>
+        requires few { length self.old < 2 ^ 32 - 1 }
+        ensures place { IfOk result (λ place. place ≡ position_or_len (same_key key.now) self.old) }
+        ensures ok { OnOk result (self.new ≡ with_new same_key self.old key.now) }
+        ensures err { OnErr result (self.new ≡ self.old) }
+    {
+        prove!(self.shift < MAX_BITS);
+        if let Some(place) = self.place_of(alloc, key)? {
             return Ok(place);
         }
         self.grow(alloc);
@@ -327,7 +390,7 @@ impl KeyTable {
             &mut self.slots,
             self.shift,
             &mut self.rest,
-            &key.copy(),
+            key,
         )?;
         Ok(end)
     }

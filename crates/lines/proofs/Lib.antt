@@ -2,3 +2,4 @@ pub mod Cuts
 pub mod Fields
 pub mod Joins
 pub mod Spaces
+pub mod Ahead

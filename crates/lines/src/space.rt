@@ -10,6 +10,9 @@ const LANES: usize = 8;
 /// How many are looked at together where fewer are left.
 const FEW_LANES: usize = 4;
 
+/// How many are looked at together where a line has more bytes behind it.
+const MORE_LANES: usize = 16;
+
 /// How many of the bytes from here on stand before the first space, and all of them where there is none.
 fn before_space(bytes: &[u8], at: usize) -> usize
     requires { at + LANES ≤ length bytes.now }
@@ -74,8 +77,9 @@ fn first_space_in_rest(bytes: &[u8], seen: usize) -> Option<usize>
     first_space_byte_by_byte(bytes, seen + FEW_LANES)
 }
 
-/// The place of the first space.
-pub(crate) fn first_space(bytes: &[u8]) -> Option<usize>
+/// The place of the first space. It stays a call, since most lines have theirs among the bytes at which `first_space_ahead` looks.
+#[inline(never)]
+fn first_space(bytes: &[u8]) -> Option<usize>
     ensures { MatchOption result (EachIndex bytes.now (λ k. slice_index bytes.now k ≢ 32))
         (λ at. (at < length bytes.now) × (slice_index bytes.now at ≡ 32)
         × ((k : ℕ) → k < at → slice_index bytes.now k ≢ 32)) }
@@ -89,4 +93,39 @@ pub(crate) fn first_space(bytes: &[u8]) -> Option<usize>
         seen += LANES;
     }
     first_space_in_rest(bytes, seen)
+}
+
+/// How many of the bytes from here on, up to `MORE_LANES`, stand before the first space.
+#[inline(always)]
+fn before_space_of_more(bytes: &[u8]) -> usize
+    requires { MORE_LANES ≤ length bytes.now }
+    ensures { result ≡ position_or_len (λ b. b == 32) (take MORE_LANES bytes.now) }
+{
+    let more = u8x16::from_slice(bytes)
+        .simd_eq(u8x16::splat(b' '))
+        .to_bitmask();
+    if more == 0 {
+        MORE_LANES
+    } else {
+        more.trailing_zeros() as usize
+    }
+}
+
+/// The place of the first space of a line with which these bytes begin: where there are enough of them, those behind a short
+/// line are looked at with it.
+#[inline(always)]
+pub(crate) fn first_space_ahead(line: &[u8], bytes: &[u8]) -> Option<usize>
+    requires begins { take (length line.now) bytes.now ≡ line.now }
+    ensures { MatchOption result (EachIndex line.now (λ k. slice_index line.now k ≢ 32))
+        (λ at. (at < length line.now) × (slice_index line.now at ≡ 32)
+        × ((k : ℕ) → k < at → slice_index line.now k ≢ 32)) }
+{
+    if bytes.len() < MORE_LANES {
+        return first_space(line);
+    }
+    let before = before_space_of_more(bytes);
+    if before < MORE_LANES && before < line.len() {
+        return Some(before);
+    }
+    first_space(line)
 }

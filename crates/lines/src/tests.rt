@@ -1,4 +1,4 @@
-use crate::{next_piece, plain_fields, without_return};
+use crate::{next_piece, plain_fields, plain_fields_ahead, without_return};
 
 /// Each row: bytes, their first piece, its line, and what stands after its line feed.
 #[test]
@@ -34,5 +34,30 @@ fn cuts_lines_at_their_first_space(rt: HostRuntime) {
         (" ", None),
     ] {
         assert_eq!(rt; plain_fields(line), fields, "at {line}");
+    }
+}
+
+#[test]
+fn bytes_behind_a_line_change_no_field(rt: HostRuntime) {
+    for (bytes, size) in [
+        ("1 a\n2 b c\n3 d e f g", 3),
+        ("1a\n2 b\n3 c d e f g h", 2),
+        ("1 \n2 b\n3 c d e f g h", 2),
+        ("\n1 a\n2 b\n3 c d e f ", 0),
+        ("sixteen bytes is ab", 19),
+        ("twentythreebytesinall a\n1 b", 23),
+        ("twentythreebytesinallaa\n1 b", 23),
+        ("1 a\n", 3),
+    ] {
+        let line = &bytes[..size];
+        let found = plain_fields_ahead(line, bytes.as_bytes());
+        assert_eq!(rt;
+            found.map(|fields| (fields.0, fields.1)),
+            plain_fields(line),
+            "at {line}"
+        );
+        if let Some(fields) = found {
+            assert!(rt; fields.2.starts_with(fields.1.as_bytes()), "at {line}");
+        }
     }
 }

@@ -12,7 +12,7 @@ use Rattle.limits.specs.declared.TheConstants.{MAX_INPUT_BYTES, MAX_LINE_BYTES}
 use Rattle.outside.specs.Inputs.{InputState, Stays}
 use Rattle.lines.specs.Lines.{is_feed, line_of, pieces}
 use Rattle.log_reader.specs.LineReader.{SeenLines, with_more, without_line, feed_if, feed_bytes, first_piece_refusal, refusal_to_come, GivesLine, NextGives}
-use Rattle.log_reader.specs.Buffers.{part_of, line_in, ReadsMore, FindsEnd, PassesLimit}
+use Rattle.log_reader.specs.Buffers.{part_of, line_in, ReadsMore, FindsEnd, IsWithinLimits, PassesLimit}
 use Rattle.log_reader.specs.declared.line_reader.Cut.{Cut}
 use Rattle.log_reader.specs.declared.line_reader.LineError.{LineError}
 use Rattle.log_reader.specs.declared.line_reader.LineError.TheVariants.{ReadFault, TooLong, InputLimit}
@@ -147,6 +147,24 @@ pub record IsSearching (first now : SeenLines) (before after : InputState) (sear
   pub leaves : now ≡ with_more first got
   pub inside : searched ≤ length now.buffered
   pub reached : searched ≤ position_or_len is_feed now.buffered
+
+consumes-none : (bytes : Option (List ℕ)) → Consumes bytes bytes []
+consumes-none None = tt
+consumes-none (Some bytes) = refl
+
+-- the end of a short line is found without a read
+pub finds-near : (s : SeenLines) (state : InputState) (n : ℕ) → n ≡ position_or_len is_feed s.buffered → n < length s.buffered
+    → IsWithinLimits s.taken (record { length = n; fed = true }) → FindsEnd s s state state (record { length = n; fed = true })
+finds-near s state n first inside limits = record {
+  got = [];
+  read = consumes-none state.rest;
+  faults = refl;
+  leaves = ap (λ (bs : List ℕ). record s { buffered = bs }) (sym (append-nil s.buffered));
+  first = first;
+  inside = omega (arith, inside);
+  at_end = λ unfed. absurd (true≢false unfed);
+  limits = limits;
+}
 
 -- where no line feed was found and bytes were read, the search goes on behind those that were searched
 pub searches-on : (first now next : SeenLines) (before mid after : InputState) (searched length_is : ℕ) (some : Bool) → IsSearching first now before mid searched

@@ -1,6 +1,6 @@
 -- Pieces of a file, one by one.
 use Rattle.std.proofs.Common.{◌≡◌, ℕ, ◌+◌, ◌<◌, ◌≤◌, ◌&&◌, ◌==◌, Bool, false, List, [], ◌∷◌, ◌++◌, length, nat_lt, cond, Option, Some, None, refl, sym, ap, ap₂, ◌∙◌, subst, arith, inl, ⊎_elim, append_assoc, IsUtf8, encode_utf8_all}
-use Rattle.std.proofs.lemmas.Bool.{cases_Bool, cond-true, cond-false}
+use Rattle.std.proofs.lemmas.Bool.{cases_Bool, cond-true, cond-false, eqb-true, false_from_ne_true}
 use Rattle.std.proofs.lemmas.Bool.Decides.{nat_tests}
 use Rattle.std.proofs.lemmas.Option.{none-some}
 use Rattle.std.proofs.lemmas.Str.{utf8_lossy-IsUtf8}
@@ -29,6 +29,10 @@ read-as_it_stands line text reads utf8 = reads ∙ sym (utf8_lossy-IsUtf8 line u
 -- a line that is decoded is its text
 pub read-as_decoded : (line text : List ℕ) → text ≡ encode_utf8_all (lossy_chars line) → text ≡ utf8_lossy line
 read-as_decoded line text reads = reads ∙ lossy_chars-utf8_lossy line
+
+-- how many bytes a line has that has some
+pub not-none : (n : ℕ) → 0 < n → (n == 0) ≡ false
+not-none n some = false_from_ne_true (n == 0) (λ none. absurd (omega (arith, some, eqb-true n 0 none)))
 
 -- a line with bytes is what its text is
 pub line-decided : (form : Form) (line text : List ℕ) → (length line == 0) ≡ false → text ≡ utf8_lossy line → decided form text ≡ decided_line form line

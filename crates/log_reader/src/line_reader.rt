@@ -161,6 +161,20 @@ fn first_feed(bytes: &[u8], searched: usize) -> Option<usize>
     search_feed(bytes, searched + LANES)
 }
 
+/// Where the first line feed stands, if it is among the first bytes, which are looked at together.
+#[inline(always)]
+fn near_feed(bytes: &[u8]) -> Option<usize>
+    ensures some { IfSome result (λ n. n ≡ position_or_len is_feed bytes.now) }
+    ensures near { IfSome result (λ n. n < LANES) }
+    ensures found { IfSome result (λ n. n < length bytes.now) }
+{
+    if bytes.len() < LANES {
+        return None;
+    }
+    let before = before_feed(bytes, 0);
+    if before < LANES { Some(before) } else { None }
+}
+
 /// The cut of a piece that is within the limits, after lines that have taken so many bytes.
 fn within_limits(taken: usize, cut: Cut) -> Result<Cut, LineError>
     requires taken { taken ≤ MAX_INPUT_BYTES }
@@ -264,6 +278,17 @@ impl Lines {
         }
     }
 
+    /// The bytes from the start of the current line on, with what stands behind it in the buffer: the line is their front.
+    pub(crate) fn line_and_more(&self) -> &[u8]
+        requires { IsSome (self.now).line }
+        ensures { IfSome (self.now).line (λ line. take (length line) result.now ≡ line) }
+    {
+        match self.line {
+            Some(part) => &self.buf[part.from..],
+            None => &[],
+        }
+    }
+
     /// Whether the current line is known to be ASCII: it is, where it was read with nothing else.
     pub(crate) fn is_known_ascii(&self) -> bool
         ensures { result ≡ true → IfSome (self.now).line (λ line. IsAscii line) }
@@ -320,7 +345,9 @@ impl Lines {
         Ok(count > 0)
     }
 
-    /// Reads until the end of the first piece to come is buffered, and says where it is.
+    /// Reads until the end of the first piece to come is buffered, and says where it is. It stays a call, so that the way of a
+    /// short line is short.
+    #[inline(never)]
     fn find_end<I: Inputs>(&mut self, inputs: &mut I) -> Result<Cut, LineError>
         requires line { self.old ≡ without_line self.old }
         ensures stays { Stays (I.state inputs.old) (I.state inputs.new) }
@@ -346,6 +373,22 @@ impl Lines {
                 Ok(false) => return Ok(whole),
                 Err(_) => return Err(LineError::ReadFault),
             }
+        }
+    }
+
+    /// How long the first piece to come is, where a line feed ends it that is among the first bytes that are buffered, and it is
+    /// within the limits.
+    #[inline(always)]
+    fn near_end(&self) -> Option<usize>
+        ensures first { IfSome result (λ n. n ≡ position_or_len is_feed (self.now).buffered) }
+        ensures inside { IfSome result (λ n. n < length (self.now).buffered) }
+        ensures limits { IfSome result (λ n. IsWithinLimits (self.now).taken (record { length = n; fed = true })) }
+    {
+        let length = near_feed(self.buffered())?;
+        if self.taken + length < MAX_INPUT_BYTES {
+            Some(length)
+        } else {
+            None
         }
     }
 
@@ -407,6 +450,10 @@ impl Lines {
     {
         self.line = None;
         self.fed = false;
+        if let Some(length) = self.near_end() {
+            self.take(Cut { length, fed: true });
+            return Ok(true);
+        }
         let cut = match self.find_end(inputs) {
             Ok(cut) => cut,
             Err(error) => {

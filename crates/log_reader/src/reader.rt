@@ -1,5 +1,5 @@
 //! Takes in the lines of the files of a log.
-ghost use Rattle.std.specs.Prelude.{◌≡◌, ◌<◌, ◌≤◌, ◌-◌, ◌^◌, OnOk, IfOk, IfErr, IfSome, [], true};
+ghost use Rattle.std.specs.Prelude.{◌≡◌, ◌<◌, ◌≤◌, ◌-◌, ◌^◌, OnOk, IfOk, IfErr, IfSome, [], true, length, take};
 ghost use Rattle.std.specs.Str.{IsAscii, IsUtf8};
 ghost use Rattle.traces.specs.Words.{gathered_of, in_order};
 ghost use Rattle.log_reader.specs.Views.{form_view};
@@ -65,9 +65,10 @@ impl<'r> LogReader<'r> {
         })
     }
 
-    /// Takes in the line with this text.
+    /// Takes in the line with this text, with which these bytes begin.
     #[inline(always)]
-    fn read_text(&mut self, at: At, text: &str) -> Result<(), ReadError>
+    fn read_text(&mut self, at: At, text: &str, bytes: &[u8]) -> Result<(), ReadError>
+        requires begins { take (length text.now) bytes.now ≡ text.now }
         requires ready { IsReady self.old }
         requires room { self.old.log.section < 2 ^ 32 - 1 }
 
@@ -79,21 +80,44 @@ impl<'r> LogReader<'r> {
             (decided (setting_of self.old).form text.now))) }
     {
         match &mut self.decider {
-            Decider::Plain => self.log.take_plain(at, text),
+            Decider::Plain => self.log.take_plain(at, text, bytes),
             Decider::Rules(kept) => self.log.take_by_rules(kept, at, text),
         }
     }
 
-    /// Takes in a line, which may be known to be ASCII. Text that is read as it stands takes no memory of its own.
+    /// Takes in a line that is not UTF-8. It stays a call, so that the way of others is short.
+    #[inline(never)]
+    fn read_lossy(&mut self, alloc: Global, at: At, line: &[u8]) -> Result<(), ReadError>
+        requires ready { IsReady self.old }
+        requires room { self.old.log.section < 2 ^ 32 - 1 }
+        requires some { 0 < length line.now }
+
+        // The line is taken in, or it is told why not.
+        ensures ok { OnOk result
+            (ReadsText at (decided_line (setting_of self.old).form line.now) self.old self.new) }
+        ensures err { IfErr result (IsRefusal
+            (refusal_in (setting_of self.old).ignore at self.old.log.builder
+            (decided_line (setting_of self.old).form line.now))) }
+    {
+        match line.to_str_lossy(alloc) {
+            Ok(text) => self.read_text(at, &text, text.as_bytes()),
+            Err(_) => Err(ReadError::Memory),
+        }
+    }
+
+    /// Takes in a line, which may be known to be ASCII and with which these bytes begin. Text that is read as it stands takes no
+    /// memory of its own.
     #[inline(always)]
     pub fn read_line(
         &mut self,
         alloc: Global,
         at: At,
         line: &[u8],
+        bytes: &[u8],
         ascii: bool,
     ) -> Result<(), ReadError>
         requires ascii { ascii ≡ true → IsAscii line.now }
+        requires begins { take (length line.now) bytes.now ≡ line.now }
         requires ready { IsReady self.old }
         requires room { self.old.log.section < 2 ^ 32 - 1 }
 
@@ -107,12 +131,9 @@ impl<'r> LogReader<'r> {
         if line.is_empty() {
             return Ok(());
         }
-        if let Some(text) = text_of(line, ascii) {
-            return self.read_text(at, text);
-        }
-        match line.to_str_lossy(alloc) {
-            Ok(text) => self.read_text(at, &text),
-            Err(_) => Err(ReadError::Memory),
+        match text_of(line, ascii) {
+            Some(text) => self.read_text(at, text, bytes),
+            None => self.read_lossy(alloc, at, line),
         }
     }
 

@@ -69,7 +69,13 @@ fn read_lines<I: Inputs>(
             file: number,
             line: lines.number(),
         };
-        reader.read_line(alloc, at, lines.line(), lines.is_known_ascii())?;
+        reader.read_line(
+            alloc,
+            at,
+            lines.line(),
+            lines.line_and_more(),
+            lines.is_known_ascii(),
+        )?;
         if !lines.ends_with_feed() {
             return Ok(());
         }

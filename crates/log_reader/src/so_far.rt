@@ -1,5 +1,5 @@
 //! The log of the lines so far.
-ghost use Rattle.std.specs.Prelude.{◌≡◌, ◌<◌, ◌-◌, ◌^◌, length, OnOk, IfErr};
+ghost use Rattle.std.specs.Prelude.{◌≡◌, ◌<◌, ◌-◌, ◌^◌, length, take, OnOk, IfErr};
 ghost use Rattle.lines.specs.Lines.{plain_fields_of};
 ghost use Rattle.line_rules.specs.Views.{rules_in, matched_rules};
 ghost use Rattle.log_reader.specs.Reading as spec;
@@ -10,8 +10,8 @@ use crate::decider::{KeptRules, type_text_of};
 use crate::refusal::{At, ReadError};
 use limits::{MAX_TRACE_BYTES, MAX_TYPE_BYTES};
 use line_rules::{DecideError, Decision};
-use lines::plain_fields;
-use traces::{AddError, Builder};
+use lines::plain_fields_ahead;
+use traces::{AddError, Builder, Worded};
 
 /// The log of the lines so far.
 #[derive(Drop)]
@@ -28,7 +28,6 @@ pub struct LogSoFar {
 
 impl LogSoFar {
     /// Adds the event of a line, with its time in billionths of whatever unit the log takes.
-    #[inline(always)]
     fn add(
         &mut self,
         at: At,
@@ -75,17 +74,55 @@ impl LogSoFar {
         }
     }
 
-    /// Takes in a line in the plain form.
+    /// Adds the event of a line, which has no time, by texts of which the words are known.
     #[inline(always)]
-    pub fn take_plain(&mut self, at: At, text: &str) -> Result<(), ReadError>
+    fn add_worded(
+        &mut self,
+        at: At,
+        trace_text: &Worded<'_>,
+        type_text: &Worded<'_>,
+    ) -> Result<(), ReadError>
+        requires within { IsWithin self.old.builder }
+        requires stands { 0 < length type_text.now }
+        ensures ok { OnOk result
+            (TakesLine at (spec.Event type_text.now trace_text.now 0) self.old self.new) }
+        ensures err { IfErr result (IsRefusal (refusal_in self.old.ignore at self.old.builder
+            (spec.Event type_text.now trace_text.now 0))) }
+    {
+        if type_text.text().len() > MAX_TYPE_BYTES {
+            return Err(ReadError::TypeTooLong(at));
+        }
+        if trace_text.text().len() > MAX_TRACE_BYTES {
+            return Err(ReadError::TraceTooLong(at));
+        }
+        let file = if self.join { 0 } else { at.file };
+        match self
+            .builder
+            .add_worded(file, self.section, trace_text, type_text)
+        {
+            Ok(()) => Ok(()),
+            Err(AddError::TypeLimit) => Err(ReadError::TypeLimit(at)),
+            Err(AddError::EventLimit) => Err(ReadError::EventLimit(at)),
+            Err(AddError::Memory) => Err(ReadError::Memory),
+        }
+    }
+
+    /// Takes in a line in the plain form, with which these bytes begin.
+    #[inline(always)]
+    pub fn take_plain(&mut self, at: At, text: &str, bytes: &[u8]) -> Result<(), ReadError>
+        requires begins { take (length text.now) bytes.now ≡ text.now }
         requires within { IsWithin self.old.builder }
         ensures ok { OnOk result
             (TakesLine at (by_fields (plain_fields_of text.now)) self.old self.new) }
         ensures err { IfErr result (IsRefusal (refusal_in self.old.ignore at self.old.builder
             (by_fields (plain_fields_of text.now)))) }
     {
-        match plain_fields(text) {
-            Some((trace_text, type_text)) => self.add(at, trace_text, type_text, 0),
+        match plain_fields_ahead(text, bytes) {
+            Some((trace_text, type_text, from_type)) => self.add_worded(
+                at,
+                &Worded::at_start(trace_text, bytes),
+                &Worded::at_start(type_text, from_type),
+            ),
             None => self.pass(at),
         }
     }

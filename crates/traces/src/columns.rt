@@ -1,5 +1,5 @@
 //! Events in columns, in the order added.
-ghost use Rattle.std.specs.Prelude.{◌≡◌, ◌<◌, ◌≤◌, ◌++◌, ◌∷◌, [], ℕ, List, length, OnOk, vec_len, vec_capacity};
+ghost use Rattle.std.specs.Prelude.{◌≡◌, ◌<◌, ◌≤◌, ◌++◌, ◌∷◌, [], ℕ, List, length, OnOk, vec_len, vec_capacity, true};
 ghost use Rattle.traces.specs.Columns.{times_beside, AreBeside};
 ghost use Rattle.traces.specs.Room.{times_in, HasRoom};
 
@@ -54,7 +54,6 @@ impl Columns {
     }
 
     /// Makes room for one event more, with this time. What the columns hold stays.
-    #[inline(always)]
     pub fn reserve(&mut self, time: u128) -> Result<(), AllocError>
         requires beside { AreBeside self.old.numbers.items self.old.times.items }
         ensures places { self.new.places.items ≡ self.old.places.items }
@@ -68,6 +67,17 @@ impl Columns {
             return Ok(());
         }
         reserve_time(&mut self.times, self.numbers.len())
+    }
+
+    /// Whether there is room for one event more without a time, where no time is kept.
+    #[inline(always)]
+    pub fn has_room(&self) -> bool
+        requires beside { AreBeside self.now.numbers.items self.now.times.items }
+        ensures { result ≡ true → HasRoom self.now 0 }
+    {
+        self.times.is_empty()
+            && self.places.len() < self.places.capacity()
+            && self.numbers.len() < self.numbers.capacity()
     }
 
     /// Puts an event at the end, for which there is room. Times are kept from the first on that is not 0.

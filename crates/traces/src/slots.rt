@@ -7,14 +7,14 @@ ghost use Rattle.key_table.specs.Signs.{sign_of};
 ghost use Rattle.traces.specs.Slots.{TellsText, type_key};
 
 use invariants::Text;
-use key_table::{KeyParts, Sign};
+use key_table::{KeyParts, Sign, Worded};
 use std::alloc::Global;
 
 /// How many homes there are: many more than types, so that most types have a home of their own.
-const HOMES: usize = 1024;
+const HOMES: usize = 4096;
 
 /// How far what a sign is mixed to is shifted to give the home.
-const SHIFT: u32 = 54;
+const SHIFT: u32 = 52;
 
 /// In how many slots a type may stand, from its home on.
 const WINDOW: usize = 4;
@@ -96,8 +96,24 @@ fn leads_to(slot: &Slot, sign: &Sign, texts: &[Text], text: &str) -> bool
     true
 }
 
-/// The place of a text to which a slot leads, from its home on.
+/// The place of a short text, if a slot leads to it.
 #[inline(always)]
+pub fn find_short(slots: &[Slot], text: &Worded<'_>) -> Option<usize>
+    ensures { (texts : List (List ℕ)) → All (TellsText texts) slots.now
+        → IfSome result (λ place. slice_get texts place ≡ Some text.now) }
+{
+    let sign = text.sign(0, 0)?;
+    let home = home_of(&sign);
+    for i in 0..WINDOW {
+        let slot = slots.get(home + i)?;
+        if slot.sign.is(&sign) {
+            return Some(slot.place);
+        }
+    }
+    None
+}
+
+/// The place of a text to which a slot leads, from its home on.
 pub fn find(slots: &[Slot], texts: &[Text], text: &str) -> Option<usize>
     requires short { length text.now < 2 ^ 32 }
     requires told { All (TellsText texts.now) slots.now }

@@ -2,7 +2,8 @@ use Rattle.std.proofs.Common.{◌≡◌, ◌≤◌, ℕ, List, length, Some, sym
 use Rattle.key_table.specs.Keys.{Key}
 use Rattle.key_table.specs.Signs.{sign_of}
 use Rattle.key_table.specs.declared.sign.Sign.{Sign}
-use Rattle.key_table.proofs.Told.{AreBytes, same-told}
+use Rattle.key_table.proofs.Numbers.{AreBytes}
+use Rattle.key_table.proofs.Told.{same-told}
 use Rattle.traces.specs.Slots.{type_key}
 use Rattle.traces.proofs.slots.leads_to.Goals as goal
 

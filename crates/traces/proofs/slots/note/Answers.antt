@@ -1,6 +1,6 @@
 use Rattle.std.proofs.Common.{ℕ, List, subst}
 use Rattle.std.proofs.lemmas.List.Elements.{All-set}
-use Rattle.key_table.proofs.Told.{AreBytes}
+use Rattle.key_table.proofs.Numbers.{AreBytes}
 use Rattle.traces.specs.Slots.{TellsText}
 use Rattle.traces.proofs.slots.note.Goals as goal
 

@@ -10,7 +10,8 @@ use Rattle.key_table.specs.KeyLists.{keys_in, length_of}
 use Rattle.key_table.specs.Signs.{sign_of}
 use Rattle.key_table.specs.declared.sign.Sign.{Sign}
 use Rattle.key_table.proofs.KeyLists.{length-keys_in, keys_in-at, key_from, part-bytes, sign-read, signed-at, signed-from}
-use Rattle.key_table.proofs.Told.{AreBytes, same-told, tells-same, tells-texts, tells-signs}
+use Rattle.key_table.proofs.Numbers.{AreBytes}
+use Rattle.key_table.proofs.Told.{same-told, tells-same, tells-texts, tells-signs}
 use Rattle.key_table.proofs.key_list.KeyList.is_key_at.Goals as goal
 
 pub returns-then-sign-le-MAX_TOLD : goal.returns-then-sign-le-MAX_TOLD

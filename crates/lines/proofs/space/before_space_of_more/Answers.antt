@@ -1,0 +1,20 @@
+use Rattle.std.proofs.Common.{◌≢◌, ◌==◌, sym, ap, ◌∙◌, arith, w8, map}
+use Rattle.std.proofs.lemmas.Simd.{bitmask_splat, length-chunk, leading_from_mask_l, trailing_mask_l}
+use lib.Count.{count_trailing_zeros}
+use lib.Lanes.{mask_l, chunk}
+use Rattle.lines.proofs.space.before_space_of_more.Goals as goal
+
+pub returns-then-more-eq0 : goal.returns-then-more-eq0
+returns-then-more-eq0 c =
+    let v = chunk 0 16 c.args.bytes.now in
+    let long = length-chunk 0 16 c.args.bytes.now (omega arith) in
+    let mask = bitmask_splat w8 (λ a b. a == b) v 16 32 long (omega arith) in
+    sym long ∙ sym (leading_from_mask_l (λ b. b == 32) v (sym mask ∙ c.if-more-eq0.true))
+
+pub returns-else-more-eq0 : goal.returns-else-more-eq0
+returns-else-more-eq0 c =
+    let v = chunk 0 16 c.args.bytes.now in
+    let long = length-chunk 0 16 c.args.bytes.now (omega arith) in
+    let mask = bitmask_splat w8 (λ a b. a == b) v 16 32 long (omega arith) in
+    let some : mask_l (map (λ b. b == 32) v) ≢ 0 = λ none. c.if-more-eq0.false (mask ∙ none) in
+    ap (count_trailing_zeros 64) mask ∙ trailing_mask_l (λ b. b == 32) 64 v (omega arith) (omega arith)
