@@ -17,7 +17,7 @@ returns-then-before-line c =
     let none = none-before bytes 0 16 before (λ k below. absurd (omega (arith, below))) room counted in (
       inside,
       byte-ahead line bytes before c.requires.begins inside
-      ∙ (ap (λ k. get_or bytes k 0) from
-      ∙ eqb-true _ _ (run_in_chunk_stops (λ b. b == 32) bytes 0 16 before 0 room counted (omega (arith, c.if-before-lt-MORE_LANES.true)))),
+          ∙ (ap (λ k. get_or bytes k 0) from
+          ∙ eqb-true _ _ (run_in_chunk_stops (λ b. b == 32) bytes 0 16 before 0 room counted (omega (arith, c.if-before-lt-MORE_LANES.true)))),
       λ k below is. none k (omega (arith, below)) (sym (byte-ahead line bytes k c.requires.begins (omega (arith, below, inside))) ∙ is),
     )
