@@ -12,7 +12,7 @@ const PAIRS: [(&str, &str); 4] = [
     ("2mjXZdXqG4g", "zvTLYz4Rbuf"),
 ];
 
-/// Where the key stands, or is put.
+/// Where the key stands, or is put: by the words of its text where the place that is near is odd.
 fn place(
     rt: &impl Abort,
     alloc: Global,
@@ -22,6 +22,9 @@ fn place(
     text: &str,
 ) -> Result<usize, AllocError> {
     assert!(rt; table.len() < 100_000 && text.len() < 1_000);
+    if near % 2 == 1 {
+        return table.place_or_put_worded(alloc, near, 0, section, &Worded::of(text));
+    }
     let parts = KeyParts {
         file: 0,
         section,
@@ -75,7 +78,7 @@ fn assert_found(rt: &impl Abort, alloc: Global, table: &mut KeyTable) -> Result<
         let text = format!(in alloc; "{number}")?;
         let found = place(rt, alloc, table, number / 2, 7, &text)?;
         assert_eq!(rt; found, number);
-        let first = table.home_place_of(0, 7, &Worded::of(&text));
+        let first = table.short_place_of(0, 7, &Worded::of(&text));
         assert!(rt; first.is_none() || first == Some(number));
         assert!(rt; number < table.len());
         let key = table.key(number);
