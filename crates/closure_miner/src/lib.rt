@@ -17,7 +17,7 @@ mod standing;
 #[cfg(test)]
 mod tests;
 
-use invariants::{Invariant, Seq, candidate, candidate_count};
+use invariants::{Invariant, Seq};
 use standing::Standing;
 use std::alloc::{AllocError, Global};
 use traces::TraceSet;
@@ -42,14 +42,8 @@ pub fn mine_again(alloc: Global, traces: &TraceSet) -> Result<Seq<Invariant>, Al
     ensures { IfOk result (λ list. list ≡ mined (length (traces.now).types) (words_of traces.now)) }
 {
     let standing = standing_after(alloc, traces, traces.types().len())?;
-    let types = traces.types().len() as u32;
     let mut mined = Vec::new(alloc);
-    for index in 0..candidate_count(types) {
-        if let Some(inv) = candidate(types, index) {
-            if standing.has(inv) {
-                mined.push(inv)?;
-            }
-        }
-    }
+    standing.push_firsts(&mut mined)?;
+    standing.push_pairs(&mut mined)?;
     Ok(Seq::from_vec(mined))
 }

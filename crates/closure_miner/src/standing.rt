@@ -1,5 +1,6 @@
 //! The candidates that hold of every trace that was read, in sets of types.
-ghost use Rattle.std.specs.Prelude.{ℕ, ◌≡◌, ◌≤◌, ◌<◌, ◌+◌, ◌==◌, ◌&&◌, ◌||◌, ◌↔◌, not, true, nat_lt, length, All, EachIndex};
+ghost use Rattle.std.specs.Prelude.{ℕ, ◌≡◌, ◌≤◌, ◌<◌, ◌+◌, ◌==◌, ◌&&◌, ◌||◌, ◌↔◌, not, true, nat_lt, length, All, EachIndex, ◌∷◌, ◌++◌, [], IfOk, cond};
+ghost use Rattle.invariants.specs.Candidates.{invariant};
 ghost use Rattle.limits.specs.declared.TheConstants.{FIRST_TYPE, MAX_TYPES};
 ghost use Rattle.invariants.specs.Holds.{occurs, always_followed, never_followed, always_preceded};
 ghost use Rattle.traces.specs.Kept.{IsTypeNumber};
@@ -45,6 +46,32 @@ fn place_of(number: u16) -> usize
     ensures { number ≡ result + FIRST_TYPE }
 {
     (number - FIRST_TYPE as u16) as usize
+}
+
+/// The number of the type at the place.
+#[inline]
+fn number_of(place: usize) -> u16
+    requires { place < MAX_TYPES }
+    ensures { result ≡ place + FIRST_TYPE }
+{
+    place as u16 + FIRST_TYPE as u16
+}
+
+/// Adds an invariant where it stands.
+#[inline]
+fn push_standing(
+    list: &mut Vec<Invariant>,
+    stands: bool,
+    kind: Kind,
+    a: u16,
+    b: u16,
+) -> Result<(), AllocError>
+    ensures { IfOk result (λ _. list.new.items ≡ list.old.items ++ cond stands (invariant kind a b ∷ []) []) }
+{
+    if stands {
+        list.push(Invariant { kind, a, b })?;
+    }
+    Ok(())
 }
 
 /// Whether the type at the place is in the set.
@@ -174,8 +201,10 @@ fn read_from_start(preceded: &mut [u128], all: u128, events: &[u16])
 }
 
 impl Standing {
-    ghost use Rattle.std.specs.Prelude.{◌⊎◌, ◌∷◌, ◌++◌, [], List, IfOk};
-    ghost use Rattle.invariants.specs.Candidates.{IsFirst, IsPair};
+    ghost use Rattle.std.specs.Prelude.{◌∷◌, ◌++◌, [], List, IfOk, map, filter};
+    ghost use Rattle.std.specs.List.{flat_map};
+    ghost use Rattle.invariants.specs.declared.Kind.TheVariants.{AF};
+    ghost use Rattle.invariants.specs.Candidates.{invariant, types, of_pair, of_first};
     ghost use Rattle.invariants.specs.Mined.{holds_of_all};
     ghost use Rattle.closure_miner.specs.Standing.{word_with, Stands};
 
@@ -206,37 +235,54 @@ impl Standing {
         read_from_start(&mut self.preceded, self.all, events);
     }
 
-    /// Whether each trace has the type.
-    fn has_first(&self, inv: Invariant) -> bool
-        requires first { IsFirst (self.now).types inv }
-        ensures { (words : List (List ℕ)) → Stands self.now words → result ≡ holds_of_all words inv }
+    /// Adds the candidates that each trace has a type, of those that still stand.
+    pub fn push_firsts(&self, list: &mut Vec<Invariant>) -> Result<(), AllocError>
+        ensures { (words : List (List ℕ)) → Stands self.now words → IfOk result (λ _. list.new.items
+            ≡ list.old.items ++ filter (holds_of_all words) (map (invariant AF INITIAL) (types (self.now).types))) }
     {
-        has_place(self.everywhere, place_of(inv.b))
+        for b in 0..self.types {
+            let stands = has_place(self.everywhere, b);
+            push_standing(list, stands, Kind::AF, INITIAL as u16, number_of(b))?;
+        }
+        Ok(())
     }
 
-    /// Whether the candidate between two types still stands.
-    fn has_pair(&self, inv: Invariant) -> bool
-        requires pair { IsPair (self.now).types inv }
-        ensures { (words : List (List ℕ)) → Stands self.now words → result ≡ holds_of_all words inv }
+    /// Adds the candidates between two types, of those that still stand.
+    #[inline]
+    fn push_pair(&self, list: &mut Vec<Invariant>, a: usize, b: usize) -> Result<(), AllocError>
+        requires a { a < (self.now).types }
+        requires b { b < (self.now).types }
+        ensures { (words : List (List ℕ)) → Stands self.now words → IfOk result (λ _. list.new.items
+            ≡ list.old.items ++ filter (holds_of_all words) (of_pair (a + FIRST_TYPE) (b + FIRST_TYPE))) }
     {
-        let a = place_of(inv.a);
-        let b = place_of(inv.b);
-        match inv.kind {
-            Kind::AF => has_place(self.followed[a], b),
-            Kind::NF => !has_place(self.met[a], b),
-            Kind::AP => has_place(self.preceded[b], a),
-        }
+        let followed = has_place(self.followed[a], b);
+        let met = has_place(self.met[a], b);
+        let preceded = has_place(self.preceded[b], a);
+        push_standing(list, followed, Kind::AF, number_of(a), number_of(b))?;
+        push_standing(list, !met, Kind::NF, number_of(a), number_of(b))?;
+        push_standing(list, preceded, Kind::AP, number_of(a), number_of(b))
     }
 
-    /// Whether the candidate still stands.
-    pub fn has(&self, inv: Invariant) -> bool
-        requires candidate { IsFirst (self.now).types inv ⊎ IsPair (self.now).types inv }
-        ensures { (words : List (List ℕ)) → Stands self.now words → result ≡ holds_of_all words inv }
+    /// Adds the candidates from one type to each, of those that still stand.
+    fn push_row(&self, list: &mut Vec<Invariant>, a: usize) -> Result<(), AllocError>
+        requires { a < (self.now).types }
+        ensures { (words : List (List ℕ)) → Stands self.now words → IfOk result (λ _. list.new.items
+            ≡ list.old.items ++ filter (holds_of_all words) (of_first (self.now).types (a + FIRST_TYPE))) }
     {
-        if inv.a == INITIAL as u16 {
-            self.has_first(inv)
-        } else {
-            self.has_pair(inv)
+        for b in 0..self.types {
+            self.push_pair(list, a, b)?;
         }
+        Ok(())
+    }
+
+    /// Adds the candidates between any two types, of those that still stand.
+    pub fn push_pairs(&self, list: &mut Vec<Invariant>) -> Result<(), AllocError>
+        ensures { (words : List (List ℕ)) → Stands self.now words → IfOk result (λ _. list.new.items
+            ≡ list.old.items ++ filter (holds_of_all words) (flat_map (of_first (self.now).types) (types (self.now).types))) }
+    {
+        for a in 0..self.types {
+            self.push_row(list, a)?;
+        }
+        Ok(())
     }
 }

@@ -339,7 +339,7 @@ impl KeyTable {
         self.place_or_put_key(alloc, &key)
     }
 
-    /// The same by the words of the text, where it is short.
+    /// The same by the words of the text, where it is short; no place is then looked at first.
     #[inline(never)]
     pub fn place_or_put_worded(
         &mut self,

@@ -10,7 +10,7 @@ const LANES: usize = 8;
 /// How many are looked at together where fewer are left.
 const FEW_LANES: usize = 4;
 
-/// How many are looked at together where a line has more bytes behind it.
+/// How many are looked at together where there are as many, in the line or behind it.
 const MORE_LANES: usize = 16;
 
 /// How many of the bytes from here on stand before the first space, and all of them where there is none.

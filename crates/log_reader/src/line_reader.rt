@@ -161,7 +161,8 @@ fn first_feed(bytes: &[u8], searched: usize) -> Option<usize>
     search_feed(bytes, searched + LANES)
 }
 
-/// Where the first line feed stands, if it is among the first bytes, which are looked at together.
+/// Where the first line feed stands, if it is among the first `LANES` bytes, which are looked at together; none where there are
+/// fewer.
 #[inline(always)]
 fn near_feed(bytes: &[u8]) -> Option<usize>
     ensures some { IfSome result (λ n. n ≡ position_or_len is_feed bytes.now) }
@@ -376,8 +377,8 @@ impl Lines {
         }
     }
 
-    /// How long the first piece to come is, where a line feed ends it that is among the first bytes that are buffered, and it is
-    /// within the limits.
+    /// How long the first piece to come is, where at least `LANES` bytes are buffered, a line feed that is among the first of them
+    /// ends it, and it is within the limits.
     #[inline(always)]
     fn near_end(&self) -> Option<usize>
         ensures first { IfSome result (λ n. n ≡ position_or_len is_feed (self.now).buffered) }

@@ -1,5 +1,6 @@
 //! The log of the lines so far.
-ghost use Rattle.std.specs.Prelude.{◌≡◌, ◌<◌, ◌-◌, ◌^◌, length, take, OnOk, IfErr};
+ghost use Rattle.std.specs.Prelude.{◌≡◌, ◌<◌, ◌-◌, ◌^◌, nat_lt, length, take, OnOk, IfErr, Some, None, if◌then◌else◌};
+ghost use Rattle.limits.specs.declared.TheConstants.{MAX_TRACE_BYTES, MAX_TYPE_BYTES};
 ghost use Rattle.lines.specs.Lines.{plain_fields_of};
 ghost use Rattle.line_rules.specs.Views.{rules_in, matched_rules};
 ghost use Rattle.log_reader.specs.Reading as spec;
@@ -26,7 +27,45 @@ pub struct LogSoFar {
     pub join: bool,
 }
 
+/// The refusal of an event of which a text is too long.
+#[inline(always)]
+fn too_long(at: At, trace_text: &str, type_text: &str) -> Option<ReadError>
+    ensures { result ≡ (if nat_lt MAX_TYPE_BYTES (length type_text.now)
+        then Some (ReadError.TypeTooLong at)
+        else if nat_lt MAX_TRACE_BYTES (length trace_text.now) then Some (ReadError.TraceTooLong at)
+        else None) }
+{
+    if type_text.len() > MAX_TYPE_BYTES {
+        return Some(ReadError::TypeTooLong(at));
+    }
+    if trace_text.len() > MAX_TRACE_BYTES {
+        return Some(ReadError::TraceTooLong(at));
+    }
+    None
+}
+
+/// The refusal of an event that was not added.
+fn not_added(at: At, error: AddError) -> ReadError
+    ensures type_limit { error ≡ AddError.TypeLimit → result ≡ ReadError.TypeLimit at }
+    ensures event_limit { error ≡ AddError.EventLimit → result ≡ ReadError.EventLimit at }
+    ensures memory { error ≡ AddError.Memory → result ≡ ReadError.Memory }
+{
+    match error {
+        AddError::TypeLimit => ReadError::TypeLimit(at),
+        AddError::EventLimit => ReadError::EventLimit(at),
+        AddError::Memory => ReadError::Memory,
+    }
+}
+
 impl LogSoFar {
+    /// The file that the keys of a line's events have.
+    #[inline(always)]
+    fn key_file(&self, at: At) -> u32
+        ensures { result ≡ (if (self.now).join then 0 else at.file) }
+    {
+        if self.join { 0 } else { at.file }
+    }
+
     /// Adds the event of a line, with its time in billionths of whatever unit the log takes.
     fn add(
         &mut self,
@@ -42,21 +81,16 @@ impl LogSoFar {
         ensures err { IfErr result (IsRefusal (refusal_in self.old.ignore at self.old.builder
             (spec.Event type_text.now trace_text.now time))) }
     {
-        if type_text.len() > MAX_TYPE_BYTES {
-            return Err(ReadError::TypeTooLong(at));
+        if let Some(refusal) = too_long(at, trace_text, type_text) {
+            return Err(refusal);
         }
-        if trace_text.len() > MAX_TRACE_BYTES {
-            return Err(ReadError::TraceTooLong(at));
-        }
-        let file = if self.join { 0 } else { at.file };
+        let file = self.key_file(at);
         match self
             .builder
             .add(file, self.section, trace_text, type_text, time)
         {
             Ok(()) => Ok(()),
-            Err(AddError::TypeLimit) => Err(ReadError::TypeLimit(at)),
-            Err(AddError::EventLimit) => Err(ReadError::EventLimit(at)),
-            Err(AddError::Memory) => Err(ReadError::Memory),
+            Err(error) => Err(not_added(at, error)),
         }
     }
 
@@ -89,21 +123,16 @@ impl LogSoFar {
         ensures err { IfErr result (IsRefusal (refusal_in self.old.ignore at self.old.builder
             (spec.Event type_text.now trace_text.now 0))) }
     {
-        if type_text.text().len() > MAX_TYPE_BYTES {
-            return Err(ReadError::TypeTooLong(at));
+        if let Some(refusal) = too_long(at, trace_text.text(), type_text.text()) {
+            return Err(refusal);
         }
-        if trace_text.text().len() > MAX_TRACE_BYTES {
-            return Err(ReadError::TraceTooLong(at));
-        }
-        let file = if self.join { 0 } else { at.file };
+        let file = self.key_file(at);
         match self
             .builder
             .add_worded(file, self.section, trace_text, type_text)
         {
             Ok(()) => Ok(()),
-            Err(AddError::TypeLimit) => Err(ReadError::TypeLimit(at)),
-            Err(AddError::EventLimit) => Err(ReadError::EventLimit(at)),
-            Err(AddError::Memory) => Err(ReadError::Memory),
+            Err(error) => Err(not_added(at, error)),
         }
     }
 

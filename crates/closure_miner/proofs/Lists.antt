@@ -1,0 +1,42 @@
+-- Lists of candidates, one type longer at a time, and what stands of them.
+use Rattle.std.proofs.Common.{◌≡◌, ℕ, zero, suc, ◌+◌, Bool, List, [], ◌∷◌, ◌++◌, cond, map, filter, sym, ap, ◌∙◌, arith, append-nil, append_assoc}
+use Rattle.std.proofs.lemmas.List.Concat.{flat_map-append}
+use Rattle.std.proofs.lemmas.List.Elements.{filter-append}
+use Rattle.std.proofs.lemmas.List.FromFn.{filter_of_map_range_with_len_more}
+use Rattle.std.specs.List.{flat_map, range_with_len}
+use Rattle.invariants.specs.declared.Kind.TheVariants.{AF}
+use Rattle.invariants.specs.declared.Invariant.{Invariant}
+use Rattle.invariants.specs.Candidates.{invariant, types}
+
+-- numbers in a row, and the next one
+row-more : (a n j : ℕ) → a + n ≡ j → range_with_len a (suc n) ≡ range_with_len a n ++ j ∷ []
+row-more a zero j e = let same : a ≡ j = omega arith in ap (λ k. k ∷ []) same
+row-more a (suc n) j e = ap (λ l. a ∷ l) (row-more (a + 1) n j (omega arith))
+
+-- the types of a log with one more
+types-more : (n : ℕ) → types (n + 1) ≡ types n ++ (n + 2) ∷ []
+types-more n = let next : n + 1 ≡ suc n = omega arith in ap types next ∙ row-more 2 n (n + 2) (omega arith)
+
+-- what stands of what each type has, with one type more
+all-more : (p : Invariant → Bool) (f : ℕ → List Invariant) (n : ℕ) → filter p (flat_map f (types (n + 1))) ≡ filter p (flat_map f (types n)) ++ filter p (f (n + 2))
+all-more p f n =
+    ap (λ ts. filter p (flat_map f ts)) (types-more n) ∙ ap (filter p) (flat_map-append f (types n) ((n + 2) ∷ []) ∙ ap (λ xs. flat_map f (types n) ++ xs) (append-nil (f (n + 2))))
+    ∙ filter-append p (flat_map f (types n)) (f (n + 2))
+
+-- what was added so far, and what comes behind it
+added : (start so_far more old new : List Invariant) → old ≡ start ++ so_far → new ≡ old ++ more → new ≡ start ++ (so_far ++ more)
+added start so_far more old new before now = now ∙ (ap (λ xs. xs ++ more) before ∙ append_assoc start so_far more)
+
+-- what stands of what each type has is added, for one type more
+pub all-added : (p : Invariant → Bool) (f : ℕ → List Invariant) (n : ℕ) (start old new : List Invariant) → old ≡ start ++ filter p (flat_map f (types n)) → new ≡ old ++ filter p (f (n + 2))
+    → new ≡ start ++ filter p (flat_map f (types (n + 1)))
+all-added p f n start old new before now = added start (filter p (flat_map f (types n))) (filter p (f (n + 2))) old new before now ∙ ap (λ xs. start ++ xs) (sym (all-more p f n))
+
+-- that each trace has a type is added where it stands, for one type more
+pub first-added : (p : Invariant → Bool) (n j : ℕ) (stands : Bool) (start old new : List Invariant) → j ≡ n + 2 → stands ≡ p (invariant AF 0 (n + 2))
+    → old ≡ start ++ filter p (map (invariant AF 0) (types n)) → new ≡ old ++ cond stands (invariant AF 0 j ∷ []) [] → new ≡ start ++ filter p (map (invariant AF 0) (types (n + 1)))
+first-added p n j stands start old new number is before now =
+    let first : List Invariant = invariant AF 0 (n + 2) ∷ [] in
+    let more : List Invariant = cond (p (invariant AF 0 (n + 2))) first [] in
+    added start (filter p (map (invariant AF 0) (types n))) more old new before (now ∙ (ap (λ k. old ++ cond stands (invariant AF 0 k ∷ []) []) number ∙ ap (λ s. old ++ cond s first []) is))
+    ∙ ap (λ xs. start ++ xs) (sym (filter_of_map_range_with_len_more p (invariant AF 0) 2 n (n + 2) (omega arith)))

@@ -1,0 +1,9 @@
+use Rattle.std.proofs.Common.{◌≡◌, ℕ, List, ◌++◌, filter}
+use Rattle.std.specs.List.{flat_map}
+use Rattle.invariants.specs.Candidates.{types, of_first}
+use Rattle.invariants.specs.Mined.{holds_of_all}
+use Rattle.closure_miner.specs.Standing.{Stands}
+use Rattle.closure_miner.proofs.standing.Standing.push_pairs.Given as goal
+
+abbrev pub invariant-loop-a : goal.invariant-loop-a
+invariant-loop-a l = (words : List (List ℕ)) → Stands l.self words → l.list.items ≡ l.fn.list.items ++ filter (holds_of_all words) (flat_map (of_first l.self.types) (types l.a))
