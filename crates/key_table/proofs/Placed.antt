@@ -72,7 +72,7 @@ full-kept slots at new home empty taken full i within = elim (cases_eq (home + i
 ]
 
 -- a key that is placed still is when another gets a slot
-pub placed-by-slot : (slots : List Slot) (shift : ℕ) (rest : List ((ℕ × ℕ × String Global) × ℕ)) (at : ℕ) (key : Key) (place : ℕ) (q : Key) (p : ℕ)
+pub placed-by-slot : (slots : List Slot) (shift : ℕ) (rest : List ((ℕ × ℕ × ℕ × ℕ × String Global) × ℕ)) (at : ℕ) (key : Key) (place : ℕ) (q : Key) (p : ℕ)
     → is_empty_at slots at ≡ true → place < 4294967295 → p < 4294967295 → IsPlaced slots shift rest q p → IsPlaced (set slots at (slot_of key place)) shift rest q p
 placed-by-slot slots shift rest at key place q p empty few few_p placed = ⊎_elim
     (λ stands. inl (stands-kept slots at (slot_of key place) (key_home shift q) (slot_of q p) empty (not-empty q p few_p) stands))
@@ -80,7 +80,7 @@ placed-by-slot slots shift rest at key place q p empty few few_p placed = ⊎_el
     placed
 
 -- the key that gets a slot is placed
-pub placed-in-slot : (slots : List Slot) (shift : ℕ) (rest : List ((ℕ × ℕ × String Global) × ℕ)) (at : ℕ) (key : Key) (place : ℕ)
+pub placed-in-slot : (slots : List Slot) (shift : ℕ) (rest : List ((ℕ × ℕ × ℕ × ℕ × String Global) × ℕ)) (at : ℕ) (key : Key) (place : ℕ)
     → key_home shift key ≤ at → at < key_home shift key + WINDOW → is_empty_at slots at ≡ true → ((k : ℕ) → key_home shift key + k < at → is_empty_at slots (key_home shift key + k) ≡ false)
     → IsPlaced (set slots at (slot_of key place)) shift rest key place
 placed-in-slot slots shift rest at key place low high empty first =
@@ -97,7 +97,7 @@ placed-in-slot slots shift rest at key place low high empty first =
     )
 
 -- a key that is placed still is with other rest that have its place
-pub placed-by-rest : (slots : List Slot) (shift : ℕ) (old new : List ((ℕ × ℕ × String Global) × ℕ)) (q : Key) (p : ℕ)
+pub placed-by-rest : (slots : List Slot) (shift : ℕ) (old new : List ((ℕ × ℕ × ℕ × ℕ × String Global) × ℕ)) (q : Key) (p : ℕ)
     → (rest_place old q ≡ Some p → rest_place new q ≡ Some p) → IsPlaced slots shift old q p → IsPlaced slots shift new q p
 placed-by-rest slots shift old new q p kept placed = ⊎_elim
     (λ stands. inl stands)
@@ -105,7 +105,7 @@ placed-by-rest slots shift old new q p kept placed = ⊎_elim
     placed
 
 -- a key whose slots are all taken is placed by the rest
-pub placed-in-rest : (slots : List Slot) (shift : ℕ) (old new : List ((ℕ × ℕ × String Global) × ℕ)) (key : Key) (place : ℕ)
+pub placed-in-rest : (slots : List Slot) (shift : ℕ) (old new : List ((ℕ × ℕ × ℕ × ℕ × String Global) × ℕ)) (key : Key) (place : ℕ)
     → IsFull slots (key_home shift key) → RestGrows old new key place → IsPlaced slots shift new key place
 placed-in-rest slots shift old new key place full grows = inr (full, grows key ∙ cond-true _ _ _ (same_key-refl key))
 
@@ -117,12 +117,12 @@ other-key keys key q i none at = false_from_ne_true (same_key q key) (λ same.
     true≢false (sym (stands-any keys i key (at ∙ ap (λ k. Some k) (same_key-≡ q key same))) ∙ none))
 
 -- the rest of those that are there are as before
-rest-others : (old new : List ((ℕ × ℕ × String Global) × ℕ)) (keys : List Key) (key : Key) (place : ℕ) (q : Key) (i : ℕ) → list_any (same_key key) keys ≡ false
+rest-others : (old new : List ((ℕ × ℕ × ℕ × ℕ × String Global) × ℕ)) (keys : List Key) (key : Key) (place : ℕ) (q : Key) (i : ℕ) → list_any (same_key key) keys ≡ false
     → RestGrows old new key place → slice_get keys i ≡ Some q → rest_place old q ≡ Some i → rest_place new q ≡ Some i
 rest-others old new keys key place q i none grows at was = grows q ∙ (cond-false _ _ _ (other-key keys key q i none at) ∙ was)
 
 -- in a slot
-pub begun-in-slot : (slots : List Slot) (shift : ℕ) (rest : List ((ℕ × ℕ × String Global) × ℕ)) (keys : List Key) (at : ℕ) (key : Key)
+pub begun-in-slot : (slots : List Slot) (shift : ℕ) (rest : List ((ℕ × ℕ × ℕ × ℕ × String Global) × ℕ)) (keys : List Key) (at : ℕ) (key : Key)
     → length keys < 4294967295 → key_home shift key ≤ at → at < key_home shift key + WINDOW → is_empty_at slots at ≡ true
     → ((k : ℕ) → key_home shift key + k < at → is_empty_at slots (key_home shift key + k) ≡ false) → list_any (same_key key) keys ≡ false
     → AreKeysPlaced slots shift rest keys → AreKeysPlaced (set slots at (slot_of key (length keys))) shift rest (keys ++ key ∷ [])
@@ -136,7 +136,7 @@ begun-in-slot slots shift rest keys at key few low high empty first none placed 
 }
 
 -- among the rest
-pub begun-in-rest : (slots : List Slot) (shift : ℕ) (old new : List ((ℕ × ℕ × String Global) × ℕ)) (keys : List Key) (key : Key)
+pub begun-in-rest : (slots : List Slot) (shift : ℕ) (old new : List ((ℕ × ℕ × ℕ × ℕ × String Global) × ℕ)) (keys : List Key) (key : Key)
     → IsFull slots (key_home shift key) → RestGrows old new key (length keys) → list_any (same_key key) keys ≡ false
     → AreKeysPlaced slots shift old keys → AreKeysPlaced slots shift new (keys ++ key ∷ [])
 begun-in-rest slots shift old new keys key full grows none placed = record {
@@ -149,7 +149,7 @@ begun-in-rest slots shift old new keys key full grows none placed = record {
 }
 
 -- among the rest, where the key itself was not put
-pub kept-by-rest : (slots : List Slot) (shift : ℕ) (old new : List ((ℕ × ℕ × String Global) × ℕ)) (keys : List Key) (key : Key) (place : ℕ)
+pub kept-by-rest : (slots : List Slot) (shift : ℕ) (old new : List ((ℕ × ℕ × ℕ × ℕ × String Global) × ℕ)) (keys : List Key) (key : Key) (place : ℕ)
     → RestGrows old new key place → list_any (same_key key) keys ≡ false → AreKeysPlaced slots shift old keys → AreKeysPlaced slots shift new keys
 kept-by-rest slots shift old new keys key place grows none placed = record {
   placed = λ i q at_q. placed-by-rest slots shift old new q i (rest-others old new keys key place q i none grows at_q) (placed.placed i q at_q);
@@ -159,7 +159,7 @@ kept-by-rest slots shift old new keys key place grows none placed = record {
 -- a key to which no slot leads
 
 -- is not there where a slot is empty
-pub new-by-slot : (slots : List Slot) (shift : ℕ) (rest : List ((ℕ × ℕ × String Global) × ℕ)) (keys : List Key) (key : Key) (at : ℕ)
+pub new-by-slot : (slots : List Slot) (shift : ℕ) (rest : List ((ℕ × ℕ × ℕ × ℕ × String Global) × ℕ)) (keys : List Key) (key : Key) (at : ℕ)
     → ArePlaced slots shift rest keys → StandsNowhere keys slots (key_home shift key) key → key_home shift key ≤ at → at < key_home shift key + WINDOW → is_empty_at slots at ≡ true
     → list_any (same_key key) keys ≡ false
 new-by-slot slots shift rest keys key at placed nowhere low high empty = false_from_ne_true (list_any (same_key key) keys) (λ any.
@@ -173,7 +173,7 @@ new-by-slot slots shift rest keys key at placed nowhere low high empty = false_f
     (placed stands.0 key stands.1))
 
 -- nor where the rest have no place for it at which it stands
-pub new-by-rest : (slots : List Slot) (shift : ℕ) (rest : List ((ℕ × ℕ × String Global) × ℕ)) (keys : List Key) (key : Key)
+pub new-by-rest : (slots : List Slot) (shift : ℕ) (rest : List ((ℕ × ℕ × ℕ × ℕ × String Global) × ℕ)) (keys : List Key) (key : Key)
     → ArePlaced slots shift rest keys → StandsNowhere keys slots (key_home shift key) key
     → ((place : ℕ) → rest_place rest key ≡ Some place → slice_get keys place ≡ Some key → ⊥)
     → list_any (same_key key) keys ≡ false
@@ -187,7 +187,7 @@ new-by-rest slots shift rest keys key placed nowhere lost = false_from_ne_true (
 -- other rest
 
 -- the keys are placed as before once the place of one of them is among the rest
-pub kept-at : (keys : List Key) (old new : List ((ℕ × ℕ × String Global) × ℕ)) (place : ℕ) (key : Key) → AreApart same_key keys → slice_get keys place ≡ Some key → GrowsAt keys old new place
+pub kept-at : (keys : List Key) (old new : List ((ℕ × ℕ × ℕ × ℕ × String Global) × ℕ)) (place : ℕ) (key : Key) → AreApart same_key keys → slice_get keys place ≡ Some key → GrowsAt keys old new place
     → KeepsPlaced keys old new
 kept-at keys old new place key apart at grows = λ slots shift placed i q at_q. placed-by-rest slots shift old new q i
     (λ was. grows key at q ∙ ⊎_elim
@@ -197,11 +197,11 @@ kept-at keys old new place key apart at grows = λ slots shift placed i q at_q. 
     (placed i q at_q)
 
 -- the first keys are placed
-abbrev pub ArePlacedTo : ℕ → List Slot → ℕ → List ((ℕ × ℕ × String Global) × ℕ) → List Key → Type 0
+abbrev pub ArePlacedTo : ℕ → List Slot → ℕ → List ((ℕ × ℕ × ℕ × ℕ × String Global) × ℕ) → List Key → Type 0
 ArePlacedTo n slots shift rest keys = (place : ℕ) (key : Key) → place < n → slice_get keys place ≡ Some key → IsPlaced slots shift rest key place
 
 -- and one more, in a slot
-pub more-in-slot : (slots : List Slot) (shift : ℕ) (rest : List ((ℕ × ℕ × String Global) × ℕ)) (keys : List Key) (n at : ℕ) (key : Key)
+pub more-in-slot : (slots : List Slot) (shift : ℕ) (rest : List ((ℕ × ℕ × ℕ × ℕ × String Global) × ℕ)) (keys : List Key) (n at : ℕ) (key : Key)
     → length keys < 4294967295 → slice_get keys n ≡ Some key → key_home shift key ≤ at → at < key_home shift key + WINDOW → is_empty_at slots at ≡ true
     → ((k : ℕ) → key_home shift key + k < at → is_empty_at slots (key_home shift key + k) ≡ false)
     → ArePlacedTo n slots shift rest keys → ArePlacedTo (n + 1) (set slots at (slot_of key n)) shift rest keys
@@ -217,7 +217,7 @@ more-in-slot slots shift rest keys n at key few at_n low high empty first placed
     ]
 
 -- or among the rest
-pub more-in-rest : (slots : List Slot) (shift : ℕ) (old new : List ((ℕ × ℕ × String Global) × ℕ)) (keys : List Key) (n : ℕ) (key : Key)
+pub more-in-rest : (slots : List Slot) (shift : ℕ) (old new : List ((ℕ × ℕ × ℕ × ℕ × String Global) × ℕ)) (keys : List Key) (n : ℕ) (key : Key)
     → AreApart same_key keys → slice_get keys n ≡ Some key → IsFull slots (key_home shift key) → GrowsAt keys old new n
     → ArePlacedTo n slots shift old keys → ArePlacedTo (n + 1) slots shift new keys
 more-in-rest slots shift old new keys n key apart at_n full grows placed i q below at_q = elim (cases_eq i n) [
@@ -253,7 +253,7 @@ other-slot slots keys at slot key place stands other is there =
     other (ap (λ (s : Slot). s.mark) same) (ap (λ (s : Slot). slice_get keys s.place) same ∙ there)
 
 -- what is kept where a key is put behind the rest, or memory is wanted
-pub begun-by-rest : {E : Type 0} (r : Result (Unit {0}) E) (slots : List Slot) (shift : ℕ) (old new : List ((ℕ × ℕ × String Global) × ℕ)) (keys after : List Key) (key : Key)
+pub begun-by-rest : {E : Type 0} (r : Result (Unit {0}) E) (slots : List Slot) (shift : ℕ) (old new : List ((ℕ × ℕ × ℕ × ℕ × String Global) × ℕ)) (keys after : List Key) (key : Key)
     → IsFull slots (key_home shift key) → RestGrows old new key (length keys) → list_any (same_key key) keys ≡ false → AreKeysPlaced slots shift old keys
     → OnOk r (after ≡ keys ++ key ∷ []) → OnErr r (after ≡ keys) → AreKeysPlaced slots shift new after
 begun-by-rest (Ok x) slots shift old new keys after key full grows none placed grown kept = subst (AreKeysPlaced slots shift new) (sym grown) (begun-in-rest slots shift old new keys key full grows none placed)
@@ -276,5 +276,5 @@ key-there (k ∷ keys) zero within = (k, refl)
 key-there (k ∷ keys) (suc place) within = key-there keys place (omega (arith, within))
 
 -- all keys are placed
-pub placed-all : (keys : List Key) (n : ℕ) (slots : List Slot) (shift : ℕ) (rest : List ((ℕ × ℕ × String Global) × ℕ)) → length keys ≤ n → ArePlacedTo n slots shift rest keys → ArePlaced slots shift rest keys
+pub placed-all : (keys : List Key) (n : ℕ) (slots : List Slot) (shift : ℕ) (rest : List ((ℕ × ℕ × ℕ × ℕ × String Global) × ℕ)) → length keys ≤ n → ArePlacedTo n slots shift rest keys → ArePlaced slots shift rest keys
 placed-all keys n slots shift rest all placed place key at = let within = slice_get_within keys place key at in placed place key (omega (arith, all, within)) at

@@ -1,5 +1,5 @@
 -- Where keys stand.
-use Rattle.std.specs.Prelude.{ℕ, ◌≡◌, ◌+◌, ◌<◌, ◌==◌, Bool, false, List, slice_get, String, Option, Some, ◌⊎◌, if◌then◌else◌}
+use Rattle.std.specs.Prelude.{ℕ, ◌≡◌, ◌+◌, ◌<◌, ◌==◌, ◌&&◌, Bool, false, List, slice_get, String, Option, Some, ◌⊎◌, if◌then◌else◌}
 use Rattle.std.specs.Map.{lookup}
 use Rattle.std.specs.Option.{option_map_or}
 use Rattle.std.specs.Ordering.{nat_cmp, ordering_then}
@@ -7,7 +7,7 @@ use Rattle.std.specs.String.{string_bytes, string_cmp}
 use Rattle.std.specs.declared.alloc.Global.{Global}
 use Rattle.std.specs.declared.cmp.Ordering.{Ordering}
 use Rattle.key_table.specs.Keys.{Key, same_key, AreApart}
-use Rattle.key_table.specs.Signs.{sign_of, mix_of, home_of, mark_of}
+use Rattle.key_table.specs.Signs.{low_of, high_of, sign_of, mix_of, home_of, mark_of}
 use Rattle.key_table.specs.declared.slots.Slot.{Slot}
 use Rattle.key_table.specs.declared.slots.TheConstants.{WINDOW}
 
@@ -44,40 +44,45 @@ abbrev pub StandsNowhere : List Key → List Slot → ℕ → Key → Type 0
 StandsNowhere keys slots home key =
     (i : ℕ) → i < WINDOW → IsFullBefore slots home i → (place : ℕ) → slice_get slots (home + i) ≡ Some (slot_of key place) → slice_get keys place ≡ Some key → ⊥
 
--- a file, a section and a text as a key
-abbrev pub key_of : ℕ × ℕ × String Global → Key
-key_of k = record { file = k.0; section = k.1; text = string_bytes k.2 }
+-- two words, a file, a section and a text as a key
+abbrev pub key_of : ℕ × ℕ × ℕ × ℕ × String Global → Key
+key_of k = record { file = k.2; section = k.3; text = string_bytes k.4 }
 
--- the order of such keys: by file, then by section, then by text
-abbrev pub key_cmp : ℕ × ℕ × String Global → ℕ × ℕ × String Global → Ordering
-key_cmp k l = ordering_then (ordering_then (nat_cmp k.0 l.0) (nat_cmp k.1 l.1)) (string_cmp k.2 l.2)
+-- the order of such keys: by the two words, then by file, by section and by text
+abbrev pub key_cmp : ℕ × ℕ × ℕ × ℕ × String Global → ℕ × ℕ × ℕ × ℕ × String Global → Ordering
+key_cmp k l =
+    ordering_then (ordering_then (ordering_then (ordering_then (nat_cmp k.0 l.0) (nat_cmp k.1 l.1)) (nat_cmp k.2 l.2)) (nat_cmp k.3 l.3)) (string_cmp k.4 l.4)
+
+-- these are a key's, with the words of its sign
+abbrev pub is_key_of : Key → ℕ × ℕ × ℕ × ℕ × String Global → Bool
+is_key_of key k = low_of key.text == k.0 && high_of key.text == k.1 && same_key key (key_of k)
 
 -- the place that the entries have for a key
-abbrev pub rest_place : List ((ℕ × ℕ × String Global) × ℕ) → Key → Option ℕ
-rest_place rest key = lookup (λ k. same_key key (key_of k)) rest
+abbrev pub rest_place : List ((ℕ × ℕ × ℕ × ℕ × String Global) × ℕ) → Key → Option ℕ
+rest_place rest key = lookup (is_key_of key) rest
 
 -- the rest after a key's place was put among them
-abbrev pub RestGrows : (old new : List ((ℕ × ℕ × String Global) × ℕ)) → Key → ℕ → Type 0
+abbrev pub RestGrows : (old new : List ((ℕ × ℕ × ℕ × ℕ × String Global) × ℕ)) → Key → ℕ → Type 0
 RestGrows old new key place = (q : Key) → rest_place new q ≡ (if same_key q key then Some place else rest_place old q)
 
 -- a key stands in a slot, or the rest have its place, and all its slots are taken
-abbrev pub IsPlaced : List Slot → ℕ → List ((ℕ × ℕ × String Global) × ℕ) → Key → ℕ → Type 0
+abbrev pub IsPlaced : List Slot → ℕ → List ((ℕ × ℕ × ℕ × ℕ × String Global) × ℕ) → Key → ℕ → Type 0
 IsPlaced slots shift rest key place =
     Stands slots (key_home shift key) (slot_of key place) ⊎ (IsFull slots (key_home shift key) × (rest_place rest key ≡ Some place))
 
 -- each of the keys is placed
-abbrev pub ArePlaced : List Slot → ℕ → List ((ℕ × ℕ × String Global) × ℕ) → List Key → Type 0
+abbrev pub ArePlaced : List Slot → ℕ → List ((ℕ × ℕ × ℕ × ℕ × String Global) × ℕ) → List Key → Type 0
 ArePlaced slots shift rest keys = (place : ℕ) (key : Key) → slice_get keys place ≡ Some key → IsPlaced slots shift rest key place
 
 -- the rest after the place of a key that is there was put among them
-abbrev pub GrowsAt : List Key → (old new : List ((ℕ × ℕ × String Global) × ℕ)) → ℕ → Type 0
+abbrev pub GrowsAt : List Key → (old new : List ((ℕ × ℕ × ℕ × ℕ × String Global) × ℕ)) → ℕ → Type 0
 GrowsAt keys old new place = (key : Key) → slice_get keys place ≡ Some key → RestGrows old new key place
 
 -- whatever the slots are, the keys are placed as before with other rest
-abbrev pub KeepsPlaced : List Key → (old new : List ((ℕ × ℕ × String Global) × ℕ)) → Type 0
+abbrev pub KeepsPlaced : List Key → (old new : List ((ℕ × ℕ × ℕ × ℕ × String Global) × ℕ)) → Type 0
 KeepsPlaced keys old new = (slots : List Slot) (shift : ℕ) → ArePlaced slots shift old keys → ArePlaced slots shift new keys
 
 -- each key stands once, and is placed
-pub record AreKeysPlaced (slots : List Slot) (shift : ℕ) (rest : List ((ℕ × ℕ × String Global) × ℕ)) (keys : List Key) : Type 0 where
+pub record AreKeysPlaced (slots : List Slot) (shift : ℕ) (rest : List ((ℕ × ℕ × ℕ × ℕ × String Global) × ℕ)) (keys : List Key) : Type 0 where
   pub placed : ArePlaced slots shift rest keys
   pub apart : AreApart same_key keys

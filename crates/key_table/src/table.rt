@@ -7,7 +7,7 @@ ghost use Rattle.key_table.specs.Placed.{AreKeysPlaced, ArePlaced, GrowsAt, Keep
 
 use crate::key::{KeyParts, ShownKey};
 use crate::key_list::KeyList;
-use crate::sign::{MAX_TOLD, home_of_mix, mark_of_mix};
+use crate::sign::{MAX_TOLD, Sign, home_of_mix, mark_of_mix};
 use crate::signed_key::SignedKey;
 use crate::slots::{EMPTY, Slot, WINDOW, first_empty};
 use crate::worded::Worded;
@@ -33,7 +33,8 @@ pub struct KeyTable {
     slots: Vec<Slot>,
     /// How far the upper half of a mixed sign is shifted to give the home.
     shift: u32,
-    rest: BTreeMap<(u32, u32, String), usize>,
+    /// By the words of the sign first, which tell most keys apart without a look at a text.
+    rest: BTreeMap<(u64, u64, u32, u32, String), usize>,
 }
 
 impl Model for KeyTable {
@@ -80,14 +81,14 @@ fn find(
 /// The place that the rest have for a key.
 fn place_in(
     alloc: Global,
-    rest: &BTreeMap<(u32, u32, String), usize>,
+    rest: &BTreeMap<(u64, u64, u32, u32, String), usize>,
     key: &SignedKey<'_>,
 ) -> Result<Option<usize>, AllocError>
     ensures { IfOk result (λ place. place ≡ rest_place rest.now.entries key.now) }
 {
     let sign = key.sign();
     let text = String::from_str(alloc, key.text())?;
-    match rest.get(&(sign.file, sign.section, text)) {
+    match rest.get(&(sign.low, sign.high, sign.file, sign.section, text)) {
         Some(place) => Ok(Some(*place)),
         None => Ok(None),
     }
@@ -101,7 +102,7 @@ fn find_in_rest(
     keys: &KeyList,
     slots: &[Slot],
     shift: u32,
-    rest: &BTreeMap<(u32, u32, String), usize>,
+    rest: &BTreeMap<(u64, u64, u32, u32, String), usize>,
     key: &SignedKey<'_>,
 ) -> Result<Option<usize>, AllocError>
     requires shift { shift < 32 }
@@ -119,21 +120,21 @@ fn find_in_rest(
     }
 }
 
-/// Puts the place of a key among the rest.
+/// Puts the place of the key with this sign and this text among the rest.
 fn put_in(
     alloc: Global,
-    rest: &mut BTreeMap<(u32, u32, String), usize>,
-    file: u32,
-    section: u32,
+    rest: &mut BTreeMap<(u64, u64, u32, u32, String), usize>,
+    sign: Sign,
     text: &str,
     place: usize,
 ) -> Result<(), AllocError>
+    requires signed { sign ≡ sign_of (record { file = sign.file; section = sign.section; text = text.now }) }
     ensures ok { OnOk result (RestGrows rest.old.entries rest.new.entries
-        (record { file = file; section = section; text = text.now }) place) }
+        (record { file = sign.file; section = sign.section; text = text.now }) place) }
     ensures err { OnErr result (rest.new.entries ≡ rest.old.entries) }
 {
     let text = String::from_str(alloc, text)?;
-    rest.insert((file, section, text), place)?;
+    rest.insert((sign.low, sign.high, sign.file, sign.section, text), place)?;
     Ok(())
 }
 
@@ -144,7 +145,7 @@ fn begin(
     keys: &mut KeyList,
     slots: &mut Vec<Slot>,
     shift: u32,
-    rest: &mut BTreeMap<(u32, u32, String), usize>,
+    rest: &mut BTreeMap<(u64, u64, u32, u32, String), usize>,
     key: &SignedKey<'_>,
 ) -> Result<(), AllocError>
     requires shift { shift < 32 }
@@ -168,7 +169,7 @@ fn begin(
             Ok(())
         }
         None => {
-            put_in(alloc, rest, sign.file, sign.section, key.text(), place)?;
+            put_in(alloc, rest, sign, key.text(), place)?;
             keys.push(key)
         }
     }
@@ -179,7 +180,7 @@ fn put_known(
     alloc: Global,
     keys: &KeyList,
     place: usize,
-    rest: &mut BTreeMap<(u32, u32, String), usize>,
+    rest: &mut BTreeMap<(u64, u64, u32, u32, String), usize>,
 ) -> Result<(), AllocError>
     requires within { place < length keys.now }
     ensures ok { OnOk result (GrowsAt keys.now rest.old.entries rest.new.entries place) }
@@ -187,7 +188,7 @@ fn put_known(
 {
     let key = keys.key(place);
     match std::str::from_utf8(key.text) {
-        Ok(text) => put_in(alloc, rest, key.file, key.section, text, place),
+        Ok(text) => put_in(alloc, rest, keys.sign(place), text, place),
         Err(_) => Err(AllocError),
     }
 }
@@ -197,7 +198,7 @@ fn spread(
     alloc: Global,
     keys: &KeyList,
     shift: u32,
-    rest: &mut BTreeMap<(u32, u32, String), usize>,
+    rest: &mut BTreeMap<(u64, u64, u32, u32, String), usize>,
 ) -> Result<Vec<Slot>, AllocError>
     requires shift { shift < 32 }
     requires few { length keys.now < 2 ^ 32 - 1 }

@@ -161,15 +161,15 @@ fn first_feed(bytes: &[u8], searched: usize) -> Option<usize>
     search_feed(bytes, searched + LANES)
 }
 
-/// Where the first line feed stands, if it is among the first `LANES` bytes, which are looked at together; none where there are
-/// fewer.
+/// Where the first line feed stands, if it is among the first `LANES` bytes, which are looked at together, and more bytes stand
+/// behind these; else none.
 #[inline(always)]
 fn near_feed(bytes: &[u8]) -> Option<usize>
     ensures some { IfSome result (λ n. n ≡ position_or_len is_feed bytes.now) }
     ensures near { IfSome result (λ n. n < LANES) }
-    ensures found { IfSome result (λ n. n < length bytes.now) }
+    ensures more { IfSome result (λ n. n + 1 < length bytes.now) }
 {
-    if bytes.len() < LANES {
+    if bytes.len() <= LANES {
         return None;
     }
     let before = before_feed(bytes, 0);
@@ -377,20 +377,15 @@ impl Lines {
         }
     }
 
-    /// How long the first piece to come is, where at least `LANES` bytes are buffered, a line feed that is among the first of them
-    /// ends it, and it is within the limits.
+    /// How long the first piece to come is, where more than `LANES` bytes are buffered and a line feed that is among the first
+    /// `LANES` of them ends it. It is then within the limits, since no more than one byte past that on all input is ever buffered.
     #[inline(always)]
     fn near_end(&self) -> Option<usize>
         ensures first { IfSome result (λ n. n ≡ position_or_len is_feed (self.now).buffered) }
         ensures inside { IfSome result (λ n. n < length (self.now).buffered) }
         ensures limits { IfSome result (λ n. IsWithinLimits (self.now).taken (record { length = n; fed = true })) }
     {
-        let length = near_feed(self.buffered())?;
-        if self.taken + length < MAX_INPUT_BYTES {
-            Some(length)
-        } else {
-            None
-        }
+        near_feed(self.buffered())
     }
 
     /// Takes the piece that ends so from the front of what is buffered: its line is the current
@@ -449,12 +444,12 @@ impl Lines {
         ensures number { (self.new).number ≤ (self.new).taken }
         ensures taken { (self.new).taken ≤ MAX_INPUT_BYTES }
     {
-        self.line = None;
-        self.fed = false;
         if let Some(length) = self.near_end() {
             self.take(Cut { length, fed: true });
             return Ok(true);
         }
+        self.line = None;
+        self.fed = false;
         let cut = match self.find_end(inputs) {
             Ok(cut) => cut,
             Err(error) => {

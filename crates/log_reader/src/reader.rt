@@ -24,21 +24,6 @@ pub struct LogReader<'r> {
     pub log: LogSoFar,
 }
 
-/// The text that a line is as it stands, if it is UTF-8. One that is known to be ASCII needs no look.
-#[inline(always)]
-fn text_of(line: &[u8], ascii: bool) -> Option<&str>
-    requires { ascii ≡ true → IsAscii line.now }
-    ensures { IfSome result (λ text. (text.now ≡ line.now) × IsUtf8 line.now) }
-{
-    if ascii {
-        return Some(unsafe { str::from_utf8_unchecked(line) });
-    }
-    match str::from_utf8(line) {
-        Ok(text) => Some(text),
-        Err(_) => None,
-    }
-}
-
 impl<'r> LogReader<'r> {
     /// A reader before the first line. It takes memory where the form does.
     pub fn make(
@@ -85,8 +70,7 @@ impl<'r> LogReader<'r> {
         }
     }
 
-    /// Takes in a line that is not UTF-8. It stays a call, so that the way of others is short.
-    #[inline(never)]
+    /// Takes in a line that is not UTF-8.
     fn read_lossy(&mut self, alloc: Global, at: At, line: &[u8]) -> Result<(), ReadError>
         requires ready { IsReady self.old }
         requires room { self.old.log.section < 2 ^ 32 - 1 }
@@ -102,6 +86,34 @@ impl<'r> LogReader<'r> {
         match line.to_str_lossy(alloc) {
             Ok(text) => self.read_text(at, &text, text.as_bytes()),
             Err(_) => Err(ReadError::Memory),
+        }
+    }
+
+    /// Takes in a line of which it is not known whether it is UTF-8, and with which these bytes begin. It stays a call, so that the
+    /// way of a line that is known to be ASCII is short.
+    #[inline(never)]
+    fn read_unknown(
+        &mut self,
+        alloc: Global,
+        at: At,
+        line: &[u8],
+        bytes: &[u8],
+    ) -> Result<(), ReadError>
+        requires begins { take (length line.now) bytes.now ≡ line.now }
+        requires ready { IsReady self.old }
+        requires room { self.old.log.section < 2 ^ 32 - 1 }
+        requires some { 0 < length line.now }
+
+        // The line is taken in, or it is told why not.
+        ensures ok { OnOk result
+            (ReadsText at (decided_line (setting_of self.old).form line.now) self.old self.new) }
+        ensures err { IfErr result (IsRefusal
+            (refusal_in (setting_of self.old).ignore at self.old.log.builder
+            (decided_line (setting_of self.old).form line.now))) }
+    {
+        match str::from_utf8(line) {
+            Ok(text) => self.read_text(at, text, bytes),
+            Err(_) => self.read_lossy(alloc, at, line),
         }
     }
 
@@ -131,10 +143,11 @@ impl<'r> LogReader<'r> {
         if line.is_empty() {
             return Ok(());
         }
-        match text_of(line, ascii) {
-            Some(text) => self.read_text(at, text, bytes),
-            None => self.read_lossy(alloc, at, line),
+        if ascii {
+            let text = unsafe { str::from_utf8_unchecked(line) };
+            return self.read_text(at, text, bytes);
         }
+        self.read_unknown(alloc, at, line, bytes)
     }
 
     /// Ends a file: the sections of the next one are counted anew, unless files are joined.

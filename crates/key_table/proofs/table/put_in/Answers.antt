@@ -1,13 +1,19 @@
-use Rattle.std.proofs.Common.{ap, ◌∙◌, ℕ, String, cond, Some}
+use Rattle.std.proofs.Common.{ap, ◌∙◌, sym, ℕ, String, cond, Some}
 use Rattle.std.specs.declared.alloc.Global.{Global}
 use Rattle.key_table.specs.Keys.{same_key}
 use Rattle.key_table.specs.Placed.{rest_place}
-use Rattle.key_table.proofs.Rest.{lookup-put}
+use Rattle.key_table.specs.Signs.{low_of, high_of}
+use Rattle.key_table.specs.declared.sign.Sign.{Sign}
+use Rattle.key_table.proofs.Rest.{lookup-put, own-words}
 use Rattle.key_table.proofs.table.put_in.Goals as goal
 
 pub returns-clause-ok : goal.returns-clause-ok
 returns-clause-ok c = λ q.
-    let known : ℕ × ℕ × String Global = (c.args.file, c.args.section, c.in_ok-text.text) in
+    let sign : Sign = c.args.sign in
+    let known : ℕ × ℕ × ℕ × ℕ × String Global = (sign.low, sign.high, sign.file, sign.section, c.in_ok-text.text) in
+    let text = c.in_ok-text.ensures.ok in
     ap (λ es. rest_place es q) c.in_ok-insert.ensures.entries
     ∙ (lookup-put q c.args.rest.now.entries known c.args.place
-    ∙ ap (λ t. cond (same_key q (record { file = c.args.file; section = c.args.section; text = t })) (Some c.args.place) (rest_place c.args.rest.now.entries q)) c.in_ok-text.ensures.ok)
+    ∙ (ap (λ b. cond b (Some c.args.place) (rest_place c.args.rest.now.entries q))
+    (own-words q known (ap low_of text ∙ sym (ap (λ (s : Sign). s.low) c.requires.signed), ap high_of text ∙ sym (ap (λ (s : Sign). s.high) c.requires.signed)))
+    ∙ ap (λ t. cond (same_key q (record { file = sign.file; section = sign.section; text = t })) (Some c.args.place) (rest_place c.args.rest.now.entries q)) text))

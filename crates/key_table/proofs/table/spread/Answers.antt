@@ -25,8 +25,8 @@ loop-place-preserved c =
           let first : (k : ℕ) → key_home c.args.shift key + k < w.in-Some.at → is_empty_at c.loop-place.slots.items (key_home c.args.shift key + k) ≡ false =
           subst (λ (ss : List Slot). (k : ℕ) → key_home c.args.shift key + k < w.in-Some.at → is_empty_at ss (key_home c.args.shift key + k) ≡ false) c.as_slice.ensures.value
           (subst (λ (h : ℕ). (k : ℕ) → h + k < w.in-Some.at → is_empty_at c.as_slice.result.now (h + k) ≡ false) home w.in-Some.ensures.first) in (
-            subst (λ (r : List ((ℕ × ℕ × String Global) × ℕ)). KeepsPlaced c.args.keys.now c.args.rest.now.entries r) (sym (ap (λ (m : BTreeMap (ℕ × ℕ × String Global) ℕ). m.entries) w.rest-is)) c.loop-place.invariant.0,
-            subst (λ (r : List ((ℕ × ℕ × String Global) × ℕ)). ArePlacedTo (c.loop-place.place + 1) c.match-first_empty.slots.items c.args.shift r c.args.keys.now) (sym (ap (λ (m : BTreeMap (ℕ × ℕ × String Global) ℕ). m.entries) w.rest-is))
+            subst (λ (r : List ((ℕ × ℕ × ℕ × ℕ × String Global) × ℕ)). KeepsPlaced c.args.keys.now c.args.rest.now.entries r) (sym (ap (λ (m : BTreeMap (ℕ × ℕ × ℕ × ℕ × String Global) ℕ). m.entries) w.rest-is)) c.loop-place.invariant.0,
+            subst (λ (r : List ((ℕ × ℕ × ℕ × ℕ × String Global) × ℕ)). ArePlacedTo (c.loop-place.place + 1) c.match-first_empty.slots.items c.args.shift r c.args.keys.now) (sym (ap (λ (m : BTreeMap (ℕ × ℕ × ℕ × ℕ × String Global) ℕ). m.entries) w.rest-is))
                 (subst (λ (ss : List Slot). ArePlacedTo (c.loop-place.place + 1) ss c.args.shift c.loop-place.rest.entries c.args.keys.now)
                 (ap (slice_set c.loop-place.slots.items w.in-Some.at) (sym slot) ∙ sym (ap (λ (v : Vec Slot Global). v.items) w.slots-is))
                 (more-in-slot c.loop-place.slots.items c.args.shift c.loop-place.rest.entries c.args.keys.now c.loop-place.place w.in-Some.at key (omega (arith, c.requires.few)) there.1
@@ -36,9 +36,9 @@ loop-place-preserved c =
       | in-None+in_ok-put_known-in-None w ↦
           let grows = w.in_ok-put_known-in-None.ensures.ok in
           let full = subst (IsFull c.loop-place.slots.items) home (subst (λ (ss : List Slot). IsFull ss c.home_of_mix.result) c.as_slice.ensures.value (w.in-None.ensures.none refl)) in (
-            subst (λ (r : List ((ℕ × ℕ × String Global) × ℕ)). KeepsPlaced c.args.keys.now c.args.rest.now.entries r) (sym (ap (λ (m : BTreeMap (ℕ × ℕ × String Global) ℕ). m.entries) w.rest-is))
+            subst (λ (r : List ((ℕ × ℕ × ℕ × ℕ × String Global) × ℕ)). KeepsPlaced c.args.keys.now c.args.rest.now.entries r) (sym (ap (λ (m : BTreeMap (ℕ × ℕ × ℕ × ℕ × String Global) ℕ). m.entries) w.rest-is))
                 (λ slots shift placed. kept-at c.args.keys.now c.loop-place.rest.entries w.put_known.new.rest.entries c.loop-place.place key c.requires.apart there.1 grows slots shift (c.loop-place.invariant.0 slots shift placed)),
-            subst (λ (r : List ((ℕ × ℕ × String Global) × ℕ)). ArePlacedTo (c.loop-place.place + 1) c.match-first_empty.slots.items c.args.shift r c.args.keys.now) (sym (ap (λ (m : BTreeMap (ℕ × ℕ × String Global) ℕ). m.entries) w.rest-is))
+            subst (λ (r : List ((ℕ × ℕ × ℕ × ℕ × String Global) × ℕ)). ArePlacedTo (c.loop-place.place + 1) c.match-first_empty.slots.items c.args.shift r c.args.keys.now) (sym (ap (λ (m : BTreeMap (ℕ × ℕ × ℕ × ℕ × String Global) ℕ). m.entries) w.rest-is))
                 (subst (λ (ss : List Slot). ArePlacedTo (c.loop-place.place + 1) ss c.args.shift w.put_known.new.rest.entries c.args.keys.now) (sym (ap (λ (v : Vec Slot Global). v.items) w.slots-is))
                 (more-in-rest c.loop-place.slots.items c.args.shift c.loop-place.rest.entries w.put_known.new.rest.entries c.args.keys.now c.loop-place.place key c.requires.apart there.1 full grows
                 c.loop-place.invariant.1)),

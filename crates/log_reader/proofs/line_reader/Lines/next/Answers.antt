@@ -1,8 +1,8 @@
-use Rattle.std.proofs.Common.{None, true, false, arith, subst}
+use Rattle.std.proofs.Common.{true, arith, subst}
 use Rattle.log_reader.specs.LineReader.{without_line}
 use Rattle.log_reader.specs.Buffers.{FindsEnd}
 use Rattle.log_reader.specs.declared.line_reader.Cut.{Cut}
-use Rattle.log_reader.proofs.Buffered.{finds-near, gives-line, seen}
+use Rattle.log_reader.proofs.Buffered.{finds-near, gives-line}
 use Rattle.log_reader.proofs.line_reader.Lines.next.Goals as goal
 
 pub returns-clause-gives : goal.returns-clause-gives
@@ -16,10 +16,8 @@ returns-clause-gives g c =
 pub returns-in-Some-clause-gives : goal.returns-in-Some-clause-gives
 returns-in-Some-clause-gives g c =
     let state = g.I.Inputs.state c.args.inputs.now in
-    let lines = c.self.inside in
-    let mid = seen lines.buf.items lines.from lines.to None false lines.number lines.taken lines.refused in
+    let mid = without_line c.args.self.now in
     let cut : Cut = record { length = c.in-Some.length; fed = true } in
     gives-line c.args.self.now mid c.take.new.self state state cut c.requires
-    (subst (λ s. FindsEnd (without_line s) mid state state cut) c.self.view_is
-    (finds-near mid state c.in-Some.length c.in-Some.ensures.first c.in-Some.ensures.inside c.in-Some.ensures.limits)) c.take.ensures
+    (finds-near mid state c.in-Some.length c.in-Some.ensures.first c.in-Some.ensures.inside c.in-Some.ensures.limits) c.take.ensures
     (omega arith)
