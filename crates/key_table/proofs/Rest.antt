@@ -14,7 +14,7 @@ use Rattle.std.specs.declared.cmp.Ordering.{Ordering}
 use Rattle.std.specs.declared.cmp.Ordering.TheVariants.{Less, Equal, Greater}
 use Rattle.key_table.specs.Keys.{Key, same_key}
 use Rattle.key_table.specs.Placed.{key_of, key_cmp, is_key_of}
-use Rattle.key_table.specs.Signs.{low_of, high_of}
+use Rattle.key_table.specs.Signs.{front_of, end_of}
 use Rattle.key_table.proofs.Keys.{same_key-refl, same_key-≡}
 
 eqb-refl : (n : ℕ) → (n == n) ≡ true
@@ -49,7 +49,7 @@ key-tells k l =
 
 -- the words of a key's sign stand with it
 abbrev pub HasItsWords : ℕ × ℕ × ℕ × ℕ × String Global → Type 0
-HasItsWords k = (low_of (string_bytes k.4) ≡ k.0) × (high_of (string_bytes k.4) ≡ k.1)
+HasItsWords k = (front_of (string_bytes k.4) ≡ k.0) × (end_of (string_bytes k.4) ≡ k.1)
 
 -- a search by order finds what a search by equality finds
 pub key-lookup : (es : List ((ℕ × ℕ × ℕ × ℕ × String Global) × ℕ)) (k : ℕ × ℕ × ℕ × ℕ × String Global) (key : Key) → HasItsWords k → key_of k ≡ key
@@ -66,11 +66,11 @@ told : (n m : ℕ) → (n == m) ≡ true → n ≡ m
 told n m same = grind (arith, nat_tests)
 
 -- where these are a key's, they are told apart from others as the key is
-parts : (key : Key) (k : ℕ × ℕ × ℕ × ℕ × String Global) → is_key_of key k ≡ true → (low_of key.text ≡ k.0) × (high_of key.text ≡ k.1) × (key ≡ key_of k)
+parts : (key : Key) (k : ℕ × ℕ × ℕ × ℕ × String Global) → is_key_of key k ≡ true → (front_of key.text ≡ k.0) × (end_of key.text ≡ k.1) × (key ≡ key_of k)
 parts key k is =
-    let outer = and_parts (low_of key.text == k.0 && high_of key.text == k.1) (same_key key (key_of k)) is in
-    let inner = and_parts (low_of key.text == k.0) (high_of key.text == k.1) outer.0 in
-    (told (low_of key.text) k.0 inner.0, told (high_of key.text) k.1 inner.1, same_key-≡ key (key_of k) outer.1)
+    let outer = and_parts (front_of key.text == k.0 && end_of key.text == k.1) (same_key key (key_of k)) is in
+    let inner = and_parts (front_of key.text == k.0) (end_of key.text == k.1) outer.0 in
+    (told (front_of key.text) k.0 inner.0, told (end_of key.text) k.1 inner.1, same_key-≡ key (key_of k) outer.1)
 
 -- two truth values and false are false
 nothing : (a b : Bool) → (a && b && false) ≡ false
@@ -85,11 +85,11 @@ own-words key k words = by (same_key key (key_of k)) refl
     by : (b : Bool) → same_key key (key_of k) ≡ b → is_key_of key k ≡ b
     by true same =
         let is : key ≡ key_of k = same_key-≡ key (key_of k) same in
-        let low : (low_of key.text == k.0) ≡ true = ap (λ (x : Key). low_of x.text == k.0) is ∙ ap (λ n. n == k.0) words.0 ∙ eqb-refl k.0 in
-        let high : (high_of key.text == k.1) ≡ true = ap (λ (x : Key). high_of x.text == k.1) is ∙ ap (λ n. n == k.1) words.1 ∙ eqb-refl k.1 in
-        ap (λ a. a && high_of key.text == k.1 && same_key key (key_of k)) low ∙ (ap (λ a. a && same_key key (key_of k)) high ∙ same)
+        let low : (front_of key.text == k.0) ≡ true = ap (λ (x : Key). front_of x.text == k.0) is ∙ ap (λ n. n == k.0) words.0 ∙ eqb-refl k.0 in
+        let high : (end_of key.text == k.1) ≡ true = ap (λ (x : Key). end_of x.text == k.1) is ∙ ap (λ n. n == k.1) words.1 ∙ eqb-refl k.1 in
+        ap (λ a. a && end_of key.text == k.1 && same_key key (key_of k)) low ∙ (ap (λ a. a && same_key key (key_of k)) high ∙ same)
     by false other =
-        ap (λ s. low_of key.text == k.0 && high_of key.text == k.1 && s) other ∙ nothing (low_of key.text == k.0) (high_of key.text == k.1)
+        ap (λ s. front_of key.text == k.0 && end_of key.text == k.1 && s) other ∙ nothing (front_of key.text == k.0) (end_of key.text == k.1)
 
 both : (a b : Bool) (n m rest : Option ℕ) → a ≡ b → cond a n rest ≡ cond b n (cond a m rest)
 both true true n m rest same = refl
@@ -120,8 +120,8 @@ lookup-put key (e ∷ es) k n = by (lookup-put key es k n) (key_cmp k e.0) refl
         let outer = and_parts (k.0 == e.0.0 && k.1 == e.0.1) (same_key (key_of k) (key_of e.0)) tells in
         let inner = and_parts (k.0 == e.0.0) (k.1 == e.0.1) outer.0 in
         let same : test e.0 ≡ test k =
-        ap (λ x. low_of key.text == e.0.0 && high_of key.text == e.0.1 && same_key key x) (sym (same_key-≡ (key_of k) (key_of e.0) outer.1))
-        ∙ ap₂ (λ a b. low_of key.text == a && high_of key.text == b && same_key key (key_of k)) (sym (told k.0 e.0.0 inner.0)) (sym (told k.1 e.0.1 inner.1)) in
+        ap (λ x. front_of key.text == e.0.0 && end_of key.text == e.0.1 && same_key key x) (sym (same_key-≡ (key_of k) (key_of e.0) outer.1))
+        ∙ ap₂ (λ a b. front_of key.text == a && end_of key.text == b && same_key key (key_of k)) (sym (told k.0 e.0.0 inner.0)) (sym (told k.1 e.0.1 inner.1)) in
         both (test e.0) (test k) (Some n) (Some e.1) (lookup test es) same
     by rest Greater is =
         ap (λ found. cond (test e.0) (Some e.1) found) rest

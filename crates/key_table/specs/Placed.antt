@@ -7,7 +7,7 @@ use Rattle.std.specs.String.{string_bytes, string_cmp}
 use Rattle.std.specs.declared.alloc.Global.{Global}
 use Rattle.std.specs.declared.cmp.Ordering.{Ordering}
 use Rattle.key_table.specs.Keys.{Key, same_key, AreApart}
-use Rattle.key_table.specs.Signs.{low_of, high_of, sign_of, mix_of, home_of, mark_of}
+use Rattle.key_table.specs.Signs.{front_of, end_of, sign_of, mix_of, home_of, mark_of}
 use Rattle.key_table.specs.declared.slots.Slot.{Slot}
 use Rattle.key_table.specs.declared.slots.TheConstants.{WINDOW}
 
@@ -53,9 +53,9 @@ abbrev pub key_cmp : ℕ × ℕ × ℕ × ℕ × String Global → ℕ × ℕ ×
 key_cmp k l =
     ordering_then (ordering_then (ordering_then (ordering_then (nat_cmp k.0 l.0) (nat_cmp k.1 l.1)) (nat_cmp k.2 l.2)) (nat_cmp k.3 l.3)) (string_cmp k.4 l.4)
 
--- these are a key's, with the words of its sign
+-- these are a key's, with the words of its text
 abbrev pub is_key_of : Key → ℕ × ℕ × ℕ × ℕ × String Global → Bool
-is_key_of key k = low_of key.text == k.0 && high_of key.text == k.1 && same_key key (key_of k)
+is_key_of key k = front_of key.text == k.0 && end_of key.text == k.1 && same_key key (key_of k)
 
 -- the place that the entries have for a key
 abbrev pub rest_place : List ((ℕ × ℕ × ℕ × ℕ × String Global) × ℕ) → Key → Option ℕ

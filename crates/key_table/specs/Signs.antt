@@ -1,7 +1,7 @@
 -- Signs of keys.
 use Rattle.std.specs.Prelude.{ℕ, ◌≡◌, ◌≤◌, ◌<◌, ◌+◌, ◌*◌, ◌-◌, ◌/◌, ◌%◌, ◌^◌, bit_xor, List, [], ◌∷◌, length, take, drop, slice_index, nat_lt, if◌then◌else◌}
 use Rattle.std.specs.List.{fold}
-use Rattle.std.specs.Int.{w64, from_le_bytes}
+use Rattle.std.specs.Int.{w64, from_le_bytes, swap_bytes}
 use Rattle.key_table.specs.Keys.{Key}
 use Rattle.key_table.specs.declared.sign.Sign.{Sign}
 
@@ -26,6 +26,13 @@ low_of bytes =
 -- the last word of a text that has as many bytes
 unfoldable pub high_of : List ℕ → ℕ
 high_of bytes = if nat_lt 7 (length bytes) then from_le_bytes w64 (take 8 (drop (length bytes - 8) bytes)) else 0
+
+-- the two words with their first byte as the highest
+unfoldable pub front_of : List ℕ → ℕ
+front_of bytes = swap_bytes w64 (low_of bytes)
+
+unfoldable pub end_of : List ℕ → ℕ
+end_of bytes = swap_bytes w64 (high_of bytes)
 
 -- a text that its words tell whole: bytes, no more than two words of them
 abbrev pub IsTold : List ℕ → Type 0

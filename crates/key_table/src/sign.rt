@@ -114,6 +114,9 @@ pub(crate) fn high_word(bytes: &[u8]) -> u64
 }
 
 impl Sign {
+    ghost use Rattle.std.specs.Prelude.{List};
+    ghost use Rattle.key_table.specs.Signs.{front_of, end_of};
+
     /// The sign of the key with these parts.
     #[inline(always)]
     pub fn of(parts: &KeyParts<'_>) -> Sign
@@ -140,6 +143,24 @@ impl Sign {
             && self.file == other.file
             && self.section == other.section
             && self.length == other.length
+    }
+
+    /// Its first word with the first byte as the highest, so that short texts come in their own order.
+    #[inline(always)]
+    #[tactic(auto, unfolding(crate::specs::Signs::front_of))]
+    pub fn front(&self) -> u64
+        ensures { (text : List ℕ) → (self.now).low ≡ low_of text → result ≡ front_of text }
+    {
+        self.low.swap_bytes()
+    }
+
+    /// Its second word in the same way.
+    #[inline(always)]
+    #[tactic(auto, unfolding(crate::specs::Signs::end_of))]
+    pub fn end(&self) -> u64
+        ensures { (text : List ℕ) → (self.now).high ≡ high_of text → result ≡ end_of text }
+    {
+        self.high.swap_bytes()
     }
 
     /// What the sign is mixed to.

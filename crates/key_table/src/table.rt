@@ -33,7 +33,8 @@ pub struct KeyTable {
     slots: Vec<Slot>,
     /// How far the upper half of a mixed sign is shifted to give the home.
     shift: u32,
-    /// By the words of the sign first, which tell most keys apart without a look at a text.
+    /// By the words of the sign first, which tell most keys apart without a look at a text, and in the order of the texts, in
+    /// which names often come.
     rest: BTreeMap<(u64, u64, u32, u32, String), usize>,
 }
 
@@ -88,7 +89,7 @@ fn place_in(
 {
     let sign = key.sign();
     let text = String::from_str(alloc, key.text())?;
-    match rest.get(&(sign.low, sign.high, sign.file, sign.section, text)) {
+    match rest.get(&(sign.front(), sign.end(), sign.file, sign.section, text)) {
         Some(place) => Ok(Some(*place)),
         None => Ok(None),
     }
@@ -134,7 +135,10 @@ fn put_in(
     ensures err { OnErr result (rest.new.entries ≡ rest.old.entries) }
 {
     let text = String::from_str(alloc, text)?;
-    rest.insert((sign.low, sign.high, sign.file, sign.section, text), place)?;
+    rest.insert(
+        (sign.front(), sign.end(), sign.file, sign.section, text),
+        place,
+    )?;
     Ok(())
 }
 

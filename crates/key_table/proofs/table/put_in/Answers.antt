@@ -10,10 +10,12 @@ use Rattle.key_table.proofs.table.put_in.Goals as goal
 pub returns-clause-ok : goal.returns-clause-ok
 returns-clause-ok c = λ q.
     let sign : Sign = c.args.sign in
-    let known : ℕ × ℕ × ℕ × ℕ × String Global = (sign.low, sign.high, sign.file, sign.section, c.in_ok-text.text) in
+    let known : ℕ × ℕ × ℕ × ℕ × String Global = (c.front.result, c.end.result, sign.file, sign.section, c.in_ok-text.text) in
     let text = c.in_ok-text.ensures.ok in
     ap (λ es. rest_place es q) c.in_ok-insert.ensures.entries
     ∙ (lookup-put q c.args.rest.now.entries known c.args.place
-    ∙ (ap (λ b. cond b (Some c.args.place) (rest_place c.args.rest.now.entries q))
-    (own-words q known (ap low_of text ∙ sym (ap (λ (s : Sign). s.low) c.requires.signed), ap high_of text ∙ sym (ap (λ (s : Sign). s.high) c.requires.signed)))
+    ∙ (ap (λ b. cond b (Some c.args.place) (rest_place c.args.rest.now.entries q)) (own-words q known (
+      sym (c.front.ensures _ (ap (λ (s : Sign). s.low) c.requires.signed ∙ sym (ap low_of text))),
+      sym (c.end.ensures _ (ap (λ (s : Sign). s.high) c.requires.signed ∙ sym (ap high_of text))),
+    ))
     ∙ ap (λ t. cond (same_key q (record { file = sign.file; section = sign.section; text = t })) (Some c.args.place) (rest_place c.args.rest.now.entries q)) text))
