@@ -6,6 +6,7 @@ pub mod FirstRefusal
 pub mod OneInput
 pub mod InputByInput
 pub mod WhyRefused
+pub mod Deciding
 pub mod Feeds
 pub mod Buffered
 pub mod LineByLine

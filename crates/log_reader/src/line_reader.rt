@@ -168,6 +168,8 @@ fn near_feed(bytes: &[u8]) -> Option<usize>
     ensures some { IfSome result (λ n. n ≡ position_or_len is_feed bytes.now) }
     ensures near { IfSome result (λ n. n < LANES) }
     ensures more { IfSome result (λ n. n + 1 < length bytes.now) }
+    ensures none { IfNone result (LANES < length bytes.now
+        → LANES ≤ position_or_len is_feed bytes.now) }
 {
     if bytes.len() <= LANES {
         return None;
@@ -384,6 +386,8 @@ impl Lines {
         ensures first { IfSome result (λ n. n ≡ position_or_len is_feed (self.now).buffered) }
         ensures inside { IfSome result (λ n. n < length (self.now).buffered) }
         ensures limits { IfSome result (λ n. IsWithinLimits (self.now).taken (record { length = n; fed = true })) }
+        ensures none { IfNone result (LANES < length (self.now).buffered
+            → LANES ≤ position_or_len is_feed (self.now).buffered) }
     {
         near_feed(self.buffered())
     }

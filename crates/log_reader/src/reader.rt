@@ -1,5 +1,5 @@
 //! Takes in the lines of the files of a log.
-ghost use Rattle.std.specs.Prelude.{◌≡◌, ◌<◌, ◌≤◌, ◌-◌, ◌^◌, OnOk, IfOk, IfErr, IfSome, [], true, length, take};
+ghost use Rattle.std.specs.Prelude.{◌≡◌, ◌<◌, ◌≤◌, ◌-◌, ◌^◌, OnOk, IfOk, IfErr, IfSome, [], true, length, take, None, Err};
 ghost use Rattle.std.specs.Str.{IsAscii, IsUtf8};
 ghost use Rattle.traces.specs.Words.{gathered_of, in_order};
 ghost use Rattle.log_reader.specs.Views.{form_view};
@@ -63,6 +63,9 @@ impl<'r> LogReader<'r> {
         ensures err { IfErr result (IsRefusal
             (refusal_in (setting_of self.old).ignore at self.old.log.builder
             (decided (setting_of self.old).form text.now))) }
+        ensures memory { result ≡ Err ReadError.Memory
+            → refusal_in (setting_of self.old).ignore at self.old.log.builder
+            (decided (setting_of self.old).form text.now) ≡ None }
     {
         match &mut self.decider {
             Decider::Plain => self.log.take_plain(at, text, bytes),
@@ -110,6 +113,9 @@ impl<'r> LogReader<'r> {
         ensures err { IfErr result (IsRefusal
             (refusal_in (setting_of self.old).ignore at self.old.log.builder
             (decided_line (setting_of self.old).form line.now))) }
+        ensures memory { result ≡ Err ReadError.Memory → IsUtf8 line.now
+            → refusal_in (setting_of self.old).ignore at self.old.log.builder
+            (decided_line (setting_of self.old).form line.now) ≡ None }
     {
         match str::from_utf8(line) {
             Ok(text) => self.read_text(at, text, bytes),
@@ -117,8 +123,8 @@ impl<'r> LogReader<'r> {
         }
     }
 
-    /// Takes in a line, which may be known to be ASCII and with which these bytes begin. Text that is read as it stands takes no
-    /// memory of its own.
+    /// Takes in a line, which may be known to be ASCII and with which these bytes begin. Want of memory hides no refusal of a line
+    /// that is UTF-8.
     #[inline(always)]
     pub fn read_line(
         &mut self,
@@ -139,6 +145,9 @@ impl<'r> LogReader<'r> {
         ensures err { IfErr result (IsRefusal
             (refusal_in (setting_of self.old).ignore at self.old.log.builder
             (decided_line (setting_of self.old).form line.now))) }
+        ensures memory { result ≡ Err ReadError.Memory → IsUtf8 line.now
+            → refusal_in (setting_of self.old).ignore at self.old.log.builder
+            (decided_line (setting_of self.old).form line.now) ≡ None }
     {
         if line.is_empty() {
             return Ok(());

@@ -1,5 +1,5 @@
 //! The log of the lines so far.
-ghost use Rattle.std.specs.Prelude.{◌≡◌, ◌<◌, ◌-◌, ◌^◌, nat_lt, length, take, OnOk, IfErr, Some, None, if◌then◌else◌};
+ghost use Rattle.std.specs.Prelude.{◌≡◌, ◌≢◌, ◌<◌, ◌-◌, ◌^◌, nat_lt, length, take, OnOk, IfErr, Some, None, Err, if◌then◌else◌};
 ghost use Rattle.limits.specs.declared.TheConstants.{MAX_TRACE_BYTES, MAX_TYPE_BYTES};
 ghost use Rattle.lines.specs.Lines.{plain_fields_of};
 ghost use Rattle.line_rules.specs.Views.{rules_in, matched_rules};
@@ -80,6 +80,8 @@ impl LogSoFar {
             (TakesLine at (spec.Event type_text.now trace_text.now time) self.old self.new) }
         ensures err { IfErr result (IsRefusal (refusal_in self.old.ignore at self.old.builder
             (spec.Event type_text.now trace_text.now time))) }
+        ensures memory { result ≡ Err ReadError.Memory → refusal_in self.old.ignore at self.old.builder
+            (spec.Event type_text.now trace_text.now time) ≡ None }
     {
         if let Some(refusal) = too_long(at, trace_text, type_text) {
             return Err(refusal);
@@ -100,6 +102,7 @@ impl LogSoFar {
         ensures ok { OnOk result (TakesLine at spec.Undecided self.now self.now) }
         ensures err { IfErr result
             (IsRefusal (refusal_in self.now.ignore at self.now.builder spec.Undecided)) }
+        ensures no_memory { result ≢ Err ReadError.Memory }
     {
         if self.ignore {
             Ok(())
@@ -122,6 +125,8 @@ impl LogSoFar {
             (TakesLine at (spec.Event type_text.now trace_text.now 0) self.old self.new) }
         ensures err { IfErr result (IsRefusal (refusal_in self.old.ignore at self.old.builder
             (spec.Event type_text.now trace_text.now 0))) }
+        ensures memory { result ≡ Err ReadError.Memory → refusal_in self.old.ignore at self.old.builder
+            (spec.Event type_text.now trace_text.now 0) ≡ None }
     {
         if let Some(refusal) = too_long(at, trace_text.text(), type_text.text()) {
             return Err(refusal);
@@ -145,6 +150,8 @@ impl LogSoFar {
             (TakesLine at (by_fields (plain_fields_of text.now)) self.old self.new) }
         ensures err { IfErr result (IsRefusal (refusal_in self.old.ignore at self.old.builder
             (by_fields (plain_fields_of text.now)))) }
+        ensures memory { result ≡ Err ReadError.Memory → refusal_in self.old.ignore at self.old.builder
+            (by_fields (plain_fields_of text.now)) ≡ None }
     {
         match plain_fields_ahead(text, bytes) {
             Some((trace_text, type_text, from_type)) => self.add_worded(
@@ -175,6 +182,8 @@ impl LogSoFar {
             self.old self.new) }
         ensures err { IfErr result (IsRefusal (refusal_in self.old.ignore at self.old.builder
             (decided (spec.Rules (rules_in kept.old.rules.now)) text.now))) }
+        ensures memory { result ≡ Err ReadError.Memory → refusal_in self.old.ignore at self.old.builder
+            (decided (spec.Rules (rules_in kept.old.rules.now)) text.now) ≡ None }
         ensures matchers { matched_rules kept.new.matchers ≡ matched_rules kept.old.matchers }
         ensures rules { rules_in kept.new.rules.now ≡ rules_in kept.old.rules.now }
     {

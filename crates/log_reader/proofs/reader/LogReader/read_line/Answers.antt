@@ -1,4 +1,4 @@
-use Rattle.std.proofs.Common.{◌≡◌, sym, ◌∙◌, subst, OnOk, IfErr}
+use Rattle.std.proofs.Common.{◌≡◌, sym, ◌∙◌, subst, None, OnOk, IfErr}
 use Rattle.std.proofs.lemmas.Str.{IsUtf8-from_ascii}
 use Rattle.log_reader.specs.Reading.{decided}
 use Rattle.log_reader.specs.SoFar.{setting_of, decided_line, refusal_in, IsRefusal, ReadsText}
@@ -27,3 +27,13 @@ returns-then-ascii-clause-err c =
     let is : decided s.form text ≡ decided_line s.form line = line-decided s.form line text (sym c.is_empty.ensures ∙ c.if-is_empty.false)
     (read-as_it_stands line text c.from_utf8_unchecked-text.ensures (IsUtf8-from_ascii line (c.requires.ascii c.if-ascii.true))) in
     subst (λ d. IfErr c.read_text.result (IsRefusal (refusal_in s.ignore c.args.at old.log.builder d))) is c.read_text.ensures.err
+
+pub returns-then-ascii-clause-memory : goal.returns-then-ascii-clause-memory
+returns-then-ascii-clause-memory c =
+    let old = c.args.self.now in
+    let s = setting_of old in
+    let line = c.args.line.now in
+    let text = c.from_utf8_unchecked-text.result.now in
+    let is : decided s.form text ≡ decided_line s.form line = line-decided s.form line text (sym c.is_empty.ensures ∙ c.if-is_empty.false)
+    (read-as_it_stands line text c.from_utf8_unchecked-text.ensures (IsUtf8-from_ascii line (c.requires.ascii c.if-ascii.true))) in
+    λ wanted utf8. subst (λ d. refusal_in s.ignore c.args.at old.log.builder d ≡ None) is (c.read_text.ensures.memory wanted)

@@ -1,4 +1,4 @@
-use Rattle.std.proofs.Common.{◌≡◌, subst, OnOk, IfErr}
+use Rattle.std.proofs.Common.{◌≡◌, subst, None, OnOk, IfErr}
 use Rattle.log_reader.specs.Reading.{decided}
 use Rattle.log_reader.specs.SoFar.{setting_of, decided_line, refusal_in, IsRefusal, ReadsText}
 use Rattle.log_reader.proofs.PieceByPiece.{not-none, read-as_it_stands, line-decided}
@@ -21,3 +21,12 @@ returns-in-Ok-clause-err c =
     let text = c.in-Ok.text.now in
     let is : decided s.form text ≡ decided_line s.form line = line-decided s.form line text (not-none _ c.requires.some) (read-as_it_stands line text c.in-Ok.ensures.cases.0 c.in-Ok.ensures.cases.1) in
     subst (λ d. IfErr c.read_text.result (IsRefusal (refusal_in s.ignore c.args.at old.log.builder d))) is c.read_text.ensures.err
+
+pub returns-in-Ok-clause-memory : goal.returns-in-Ok-clause-memory
+returns-in-Ok-clause-memory c =
+    let old = c.args.self.now in
+    let s = setting_of old in
+    let line = c.args.line.now in
+    let text = c.in-Ok.text.now in
+    let is : decided s.form text ≡ decided_line s.form line = line-decided s.form line text (not-none _ c.requires.some) (read-as_it_stands line text c.in-Ok.ensures.cases.0 c.in-Ok.ensures.cases.1) in
+    λ wanted utf8. subst (λ d. refusal_in s.ignore c.args.at old.log.builder d ≡ None) is (c.read_text.ensures.memory wanted)
