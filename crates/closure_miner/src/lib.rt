@@ -4,7 +4,8 @@
 //! A candidate stands until a trace breaks it. Each trace is read once from its end, with the set of the types that come
 //! later, and once from its start, with the set of those that came earlier; each event strikes out of the sets of its type
 //! what the set at hand denies. A set of types is one number with a bit for each, since there are at most 128. So the work
-//! is a few steps for each event, the same ones whatever was read before and however many types there are.
+//! is a few steps for each event; every 128 events it is looked whether the rest of the trace can still strike out anything,
+//! and if not the trace is read no further from that side. At the end each candidate is looked at once.
 #![tactic(auto)]
 
 ghost use Rattle.std.specs.Prelude.{◌≡◌, ◌≤◌, length, IfOk};
