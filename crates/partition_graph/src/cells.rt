@@ -66,24 +66,46 @@ pub fn gather_shared(alloc: Global, traces: &TraceSet) -> Result<SharedCells, Al
         (λ s. (words : List (List ℕ)) × AreShared traces.now (length traces.now.traces) words s.cells.items s.firsts.items s.numbers.items) }
     ensures few { IfOk result (λ s. length s.cells.items ≤ MAX_EVENTS) }
 {
-    // There are so few types that their numbers fit a byte.
-    let _types = traces.types();
-    let event_count = traces.event_count();
-    let mut words = IndexSet::new(alloc);
     // Room that no event needs is never touched.
-    let mut cells = Vec::with_capacity(alloc, event_count as usize)?;
-    let mut firsts = Vec::new(alloc);
+    let mut cells = Vec::with_capacity(alloc, traces.event_count() as usize)?;
     let mut numbers = Vec::with_capacity(alloc, traces.trace_count() as usize)?;
-    for t in 0..traces.trace_count() {
-        prove!(cells.len() <= event_count as usize);
-        let place = note(&mut words, &mut cells, &mut firsts, traces.events(t))?;
-        numbers.push(place as u32)?;
-    }
+    let mut firsts = Vec::new(alloc);
+    let mut words = IndexSet::new(alloc);
+    let noted = note_all(&mut words, &mut cells, &mut firsts, &mut numbers, traces);
+    drop(words);
+    noted?;
     Ok(SharedCells {
         cells,
         firsts,
         numbers,
     })
+}
+
+/// Notes the word of each trace, and puts its place behind the other numbers.
+fn note_all<'a>(
+    words: &mut IndexSet<&'a [u16]>,
+    cells: &mut Vec<Cell>,
+    firsts: &mut Vec<u32>,
+    numbers: &mut Vec<u32>,
+    traces: &'a TraceSet,
+) -> Result<(), AllocError>
+    requires words { words.old.keys ≡ [] }
+    requires cells { cells.old.items ≡ [] }
+    requires firsts { firsts.old.items ≡ [] }
+    requires numbers { numbers.old.items ≡ [] }
+    ensures shared { OnOk result (AreShared traces.now (length traces.now.traces)
+        (words_in words.new.keys) cells.new.items firsts.new.items numbers.new.items) }
+    ensures few { OnOk result (length cells.new.items ≤ MAX_EVENTS) }
+{
+    // There are so few types that their numbers fit a byte.
+    let _types = traces.types();
+    let event_count = traces.event_count();
+    for t in 0..traces.trace_count() {
+        prove!(cells.len() <= event_count as usize);
+        let place = note(words, cells, firsts, traces.events(t))?;
+        numbers.push(place as u32)?;
+    }
+    Ok(())
 }
 
 /// The place of a word among those that were noted: where it is new it is noted as the last one, and its cells stand

@@ -45,6 +45,11 @@ impl PartGraph {
     ghost use Rattle.partition_graph.specs.Parts.{divided, joined, start_of, HasEdgesBelow, IsUsed};
     ghost use Rattle.partition_graph.specs.Nexts.{IsNextAnswer};
     ghost use Rattle.partition_graph.specs.Spread.{spread, SharesWords};
+    ghost use Rattle.partition_graph.specs.declared.tables.Tables.{Tables};
+    ghost use Rattle.partition_graph.specs.Cells.{traces_of};
+    ghost use Rattle.partition_graph.specs.Counts.{HasId};
+    ghost use Rattle.partition_graph.specs.Kept.{IsKept};
+    ghost use Rattle.partition_graph.specs.Tables.{IsCountOf};
     ghost use Rattle.limits.specs.declared.TheConstants.{MAX_EVENTS};
     ghost use Rattle.std.specs.Prelude.{All};
     ghost use Rattle.std.specs.Bool.{OnTrue};
@@ -55,14 +60,7 @@ impl PartGraph {
     {
         let used = traces.types().len() as u32 + FIRST_TYPE;
         let (cells, firsts) = gather(alloc, traces)?;
-        let tables = Tables::open(alloc, &cells)?;
-        let events = Events::open(alloc, cells)?;
-        Ok(PartGraph {
-            events,
-            firsts,
-            tables,
-            used,
-        })
+        PartGraph::of_cells(alloc, cells, firsts, used)
     }
 
     /// The graph of the distinct words of some traces, with one partition for each type as `open` has it, and for each
@@ -75,14 +73,7 @@ impl PartGraph {
     {
         let used = traces.types().len() as u32 + FIRST_TYPE;
         let shared = gather_shared(alloc, traces)?;
-        let tables = Tables::open(alloc, &shared.cells)?;
-        let events = Events::open(alloc, shared.cells)?;
-        let graph = PartGraph {
-            events,
-            firsts: shared.firsts,
-            tables,
-            used,
-        };
+        let graph = PartGraph::of_cells(alloc, shared.cells, shared.firsts, used)?;
         Ok((graph, shared.numbers))
     }
 
@@ -96,13 +87,31 @@ impl PartGraph {
         }) }
     {
         let (cells, firsts) = copy_traces(alloc, self.events.cells(), &self.firsts, numbers)?;
+        PartGraph::of_cells(alloc, cells, firsts, self.used)
+    }
+
+    /// The graph of these cells, of which so many ids are used, where `firsts` has the number of the first event of each
+    /// trace.
+    fn of_cells(
+        alloc: Global,
+        cells: Vec<Cell>,
+        firsts: Vec<u32>,
+        used: u32,
+    ) -> Result<PartGraph, AllocError>
+        requires ids { All HasId cells.items }
+        requires few { length cells.items ≤ MAX_EVENTS }
+        requires kept { (tables : Tables) → IsCountOf tables cells.items
+            → IsKept cells.items firsts.items tables used }
+        ensures { IfOk result
+            (λ graph. graph ≡ record { traces = traces_of cells.items; used = used }) }
+    {
         let tables = Tables::open(alloc, &cells)?;
         let events = Events::open(alloc, cells)?;
         Ok(PartGraph {
             events,
             firsts,
             tables,
-            used: self.used,
+            used,
         })
     }
 

@@ -7,7 +7,7 @@ use Rattle.partition_graph.specs.Parts.{inner_words_of}
 use Rattle.partition_graph.specs.Shared.{words_in}
 use Rattle.partition_graph.proofs.Sharing.{share-more}
 use Rattle.partition_graph.proofs.WordCells.{cells-le, word_at}
-use Rattle.partition_graph.proofs.cells.gather_shared.Goals as goal
+use Rattle.partition_graph.proofs.cells.note_all.Goals as goal
 
 pub prove-unreachable-requires : goal.prove-unreachable-requires
 prove-unreachable-requires c =
