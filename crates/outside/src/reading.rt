@@ -3,7 +3,7 @@
 ghost use Rattle.std.specs.Prelude.{◌≡◌, ◌≢◌, ◌≤◌, ◌<◌, ◌+◌, ◌^◌, IfOk, OnOk, Err, IsTrue, length};
 ghost use Rattle.std.specs.Io.KnownBytes.{Consumes, IsAtEnd};
 ghost use Rattle.outside.specs.Counts.{Rose};
-ghost use Rattle.outside.specs.Inputs.{Stays};
+ghost use Rattle.outside.specs.Inputs.{Stays, ReadGives};
 ghost use Rattle.outside.specs.Reading.{InputGives, LosesFront};
 
 use crate::{Inputs, OpenError};
@@ -18,6 +18,21 @@ pub enum InputError {
     Fault,
     /// Memory was wanted.
     Memory,
+}
+
+/// Reads a piece of the open input. No read that failed is made good by another, and a failure is a fault.
+fn read_piece<I: Inputs>(inputs: &mut I, buf: &mut [u8]) -> Result<usize, InputError>
+    ensures stays { Stays (I.state inputs.old) (I.state inputs.new) }
+    ensures opens { (I.state inputs.new).opens ≡ (I.state inputs.old).opens }
+    ensures mark { (I.state inputs.new).mark ≡ (I.state inputs.old).mark }
+    ensures gives { ReadGives (I.state inputs.old) result buf.new (I.state inputs.new) }
+    ensures missing { result ≢ Err InputError.Missing }
+    ensures memory { result ≢ Err InputError.Memory }
+{
+    match inputs.read(buf) {
+        Ok(count) => Ok(count),
+        Err(_) => Err(InputError::Fault),
+    }
 }
 
 /// Reads the open input to its end, or to one byte past the limit.
@@ -50,9 +65,9 @@ fn read_rest<I: Inputs>(alloc: Global, inputs: &mut I, limit: usize) -> Result<V
     let mut buf = [0u8; 65_536];
     while bytes.len() <= limit {
         let room = buf.len().min(limit + 1 - bytes.len());
-        let count = match inputs.read(&mut buf[..room]) {
+        let count = match read_piece(inputs, &mut buf[..room]) {
             Ok(count) => count,
-            Err(_) => return Err(InputError::Fault),
+            Err(error) => return Err(error),
         };
         if count == 0 {
             return Ok(bytes);

@@ -1,4 +1,4 @@
-use Rattle.std.proofs.Common.{◌∙◌}
+use Rattle.std.proofs.Common.{rules, ◌∙◌}
 use Rattle.outside.proofs.Fronts.{told-read}
 use Rattle.outside.proofs.reading.read_input.Goals as goal
 
@@ -14,3 +14,9 @@ returns-in_ok-read_rest-in-Ok-clause-gives g c =
       told = told-read _ _ _ _ c.in_ok-read_rest-in-Ok.field-0.items _ opened.0 read.read read.short read.at_end;
       at_end = read.at_end;
     }
+
+pub returns-in-Err-Missing-clause-gives : goal.returns-in-Err-Missing-clause-gives
+returns-in-Err-Missing-clause-gives g c = search rules
+
+pub returns-in-Err-Failed-clause-gives : goal.returns-in-Err-Failed-clause-gives
+returns-in-Err-Failed-clause-gives g c = search rules

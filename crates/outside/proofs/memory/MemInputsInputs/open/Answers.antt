@@ -1,0 +1,8 @@
+use Rattle.std.proofs.Common.{rules}
+use Rattle.outside.proofs.memory.MemInputsInputs.open.Goals as goal
+
+pub returns-clause-gives : goal.returns-clause-gives
+returns-clause-gives c = search rules
+
+pub returns-clause-exact : goal.returns-clause-exact
+returns-clause-exact c = search rules
