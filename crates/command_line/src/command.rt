@@ -1,6 +1,6 @@
 //! The command line, as `clap` reads it.
 ghost use Rattle.std.specs.Prelude.{◌≡◌, IfOk, false};
-ghost use Rattle.clap.specs.Words.{app_of, rule_of};
+ghost use Rattle.clap.specs.Words.{App, app_of, rule_of, with_rule};
 ghost use Rattle.command_line.specs.App.{app, bare, command_rule, file_rule, flag_rule, value_rule};
 
 use clap::{Arg, ArgAction, Command};
@@ -50,17 +50,31 @@ fn bare_command<'a>(alloc: Global) -> Command<'a>
         .disable_version_flag(true)
 }
 
+/// The command line with one more argument, where there is one.
+fn add<'a>(
+    command: Result<Command<'a>, AllocError>,
+    arg: Arg<'a>,
+) -> Result<Command<'a>, AllocError>
+    requires { arg.global ≡ false }
+    ensures { (before : App) → IfOk command.entry (λ c. app_of c ≡ before)
+        → IfOk result (λ c. app_of c ≡ with_rule before (rule_of arg.entry)) }
+{
+    match command {
+        Ok(command) => command.arg(arg),
+        Err(e) => Err(e),
+    }
+}
+
 /// The command line of the program: `COMMAND [-e FILE] [-p] [-m FILE] [-i] [-j] [-n N] [--] [FILE]...`.
 pub fn command<'a>(alloc: Global) -> Result<Command<'a>, AllocError>
     ensures { IfOk result (λ c. app_of c ≡ app) }
 {
-    bare_command(alloc)
-        .arg(command_word(alloc))?
-        .arg(value(alloc, "e", 'e'))?
-        .arg(flag(alloc, "p", 'p'))?
-        .arg(value(alloc, "m", 'm'))?
-        .arg(flag(alloc, "i", 'i'))?
-        .arg(flag(alloc, "j", 'j'))?
-        .arg(value(alloc, "n", 'n'))?
-        .arg(files(alloc))
+    let word = add(Ok(bare_command(alloc)), command_word(alloc));
+    let rules = add(word, value(alloc, "e", 'e'));
+    let plain = add(rules, flag(alloc, "p", 'p'));
+    let model = add(plain, value(alloc, "m", 'm'));
+    let ignore = add(model, flag(alloc, "i", 'i'));
+    let join = add(ignore, flag(alloc, "j", 'j'));
+    let number = add(join, value(alloc, "n", 'n'));
+    add(number, files(alloc))
 }

@@ -20,7 +20,7 @@ pub enum ParseError {
 }
 
 /// What the words give of each argument, before the table is asked.
-#[derive(Debug, Drop)]
+#[derive(Drop)]
 pub struct Given<'a> {
     /// The word of the command.
     pub command: Option<&'a str>,
@@ -133,7 +133,9 @@ pub fn read<'a>(alloc: Global, words: &'a [String]) -> Result<Given<'a>, ParseEr
         → is_taken (map string_bytes words.entry.now) ≡ false }
 {
     let matches = matches_of(alloc, words)?;
-    match given_of(alloc, &matches) {
+    let given = given_of(alloc, &matches);
+    drop(matches);
+    match given {
         Ok(given) => Ok(given),
         Err(_) => Err(ParseError::Memory),
     }

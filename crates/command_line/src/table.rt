@@ -27,7 +27,7 @@ pub enum Command {
 }
 
 /// What a command says of something that may be given.
-#[derive(Clone, Copy, Debug, PartialEq, Eq)]
+#[derive(Clone, Copy)]
 pub enum Want {
     /// It must be given.
     Needs,
@@ -38,7 +38,7 @@ pub enum Want {
 }
 
 /// What a command says of the form of a log's lines.
-#[derive(Clone, Copy, Debug, PartialEq, Eq)]
+#[derive(Clone, Copy)]
 pub enum FormWant {
     /// One of `-p` and `-e` must be given, and not both.
     One,
@@ -49,7 +49,7 @@ pub enum FormWant {
 }
 
 /// A row of the table: a command, and what it says of all that may be given beside it.
-#[derive(Clone, Copy, Debug, PartialEq, Eq)]
+#[derive(Clone, Copy)]
 pub struct Row {
     /// The command.
     pub command: Command,

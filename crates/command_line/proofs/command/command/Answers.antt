@@ -1,17 +1,25 @@
-use Rattle.std.proofs.Common.{rules, ◌∙◌, ap₂}
-use Rattle.std.proofs.lemmas.Result.{IfOk-weaker}
-use Rattle.clap.specs.Words.{with_rule}
-use Rattle.command_line.specs.App.{app}
+use Rattle.std.proofs.Common.{◌≡◌, ap, ap₂, subst}
+use Rattle.std.specs.Prelude.{IfOk}
+use Rattle.clap.specs.Words.{App, app_of, rule_of, with_rule}
+use Rattle.command_line.specs.App.{app, bare}
 use Rattle.command_line.proofs.command.command.Goals as goal
 
 pub returns : goal.returns
 unfolding app
 returns c =
-    let a1 = c.in_ok-arg.ensures.shape (search rules) ∙ ap₂ with_rule c.bare_command.ensures c.command_word.ensures.rule in
-    let a2 = c.in_ok-arg-2.ensures.shape (search rules) ∙ ap₂ with_rule a1 c.value.ensures.rule in
-    let a3 = c.in_ok-arg-3.ensures.shape (search rules) ∙ ap₂ with_rule a2 c.flag.ensures.rule in
-    let a4 = c.in_ok-arg-4.ensures.shape (search rules) ∙ ap₂ with_rule a3 c.value-2.ensures.rule in
-    let a5 = c.in_ok-arg-5.ensures.shape (search rules) ∙ ap₂ with_rule a4 c.flag-2.ensures.rule in
-    let a6 = c.in_ok-arg-6.ensures.shape (search rules) ∙ ap₂ with_rule a5 c.flag-3.ensures.rule in
-    let a7 = c.in_ok-arg-7.ensures.shape (search rules) ∙ ap₂ with_rule a6 c.value-3.ensures.rule in
-    IfOk-weaker c.arg-8.result _ _ (λ m h. h.shape (search rules) ∙ ap₂ with_rule a7 c.files.ensures.rule) c.arg-8.ensures
+    let a1 : App = with_rule bare (rule_of c.command_word.result) in
+    let a2 : App = with_rule a1 (rule_of c.value.result) in
+    let a3 : App = with_rule a2 (rule_of c.flag.result) in
+    let a4 : App = with_rule a3 (rule_of c.value-2.result) in
+    let a5 : App = with_rule a4 (rule_of c.flag-2.result) in
+    let a6 : App = with_rule a5 (rule_of c.flag-3.result) in
+    let a7 : App = with_rule a6 (rule_of c.value-3.result) in
+    let last = c.add.ensures a7 (c.add-number.ensures a6 (c.add-join.ensures a5 (c.add-ignore.ensures a4 (c.add-model.ensures a3 (c.add-plain.ensures a2 (c.add-rules.ensures a1 (c.add-word.ensures bare c.bare_command.ensures))))))) in
+    let e1 = ap (λ r. with_rule bare r) c.command_word.ensures.rule in
+    let e2 = ap₂ with_rule e1 c.value.ensures.rule in
+    let e3 = ap₂ with_rule e2 c.flag.ensures.rule in
+    let e4 = ap₂ with_rule e3 c.value-2.ensures.rule in
+    let e5 = ap₂ with_rule e4 c.flag-2.ensures.rule in
+    let e6 = ap₂ with_rule e5 c.flag-3.ensures.rule in
+    let e7 = ap₂ with_rule e6 c.value-3.ensures.rule in
+    subst (λ a. IfOk c.add.result (λ k. app_of k ≡ a)) (ap₂ with_rule e7 c.files.ensures.rule) last
