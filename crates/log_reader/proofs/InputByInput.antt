@@ -198,6 +198,6 @@ pub count-inputs : (names : List (List ℕ)) → length (inputs_of names) ≡ ma
 count-inputs [] = refl
 count-inputs (name ∷ names) = omega arith
 
--- the loop over the inputs ends behind the last of them
-pub all-inputs : {X : Type 0} (f : X → List ℕ) (names : List X) (k end : ℕ) → end ≡ max (length names) 1 → k ≤ end → end ≤ k → k ≡ length (inputs_of (map f names))
-all-inputs f names k end is below above = omega (arith, count-inputs (map f names), length-map names f)
+-- there are as many inputs as names, and at least one
+pub counted-inputs : {X : Type 0} (f : X → List ℕ) (names : List X) (count : ℕ) → count ≡ max (length names) 1 → count ≡ length (inputs_of (map f names))
+counted-inputs f names count is = omega (arith, count-inputs (map f names), length-map names f)

@@ -205,6 +205,13 @@ fn greatest(bytes: &[u8]) -> u8
     greatest
 }
 
+/// Whether the bytes are ASCII.
+fn are_clean(bytes: &[u8]) -> bool
+    ensures { result ≡ true → (i : ℕ) → slice_index bytes.now i < 128 }
+{
+    greatest(bytes) < 128
+}
+
 /// Moves the bytes between two places to the front of a buffer.
 fn to_front(buf: &mut [u8], from: usize, to: usize)
     requires order { from ≤ to }
@@ -344,7 +351,7 @@ impl Lines {
         let room = (BUFFER_BYTES - held).min(MAX_INPUT_BYTES + 1 - self.taken - held);
         let count = read_behind(inputs, &mut self.buf, held, room)?;
         self.to = held + count;
-        self.clean = greatest(&self.buf[..self.to]) < 128;
+        self.clean = are_clean(&self.buf[..self.to]);
         Ok(count > 0)
     }
 

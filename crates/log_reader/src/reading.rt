@@ -28,6 +28,14 @@ fn name_at(names: &[String], number: usize) -> &str
     }
 }
 
+/// How many inputs are read: where no name is given, one.
+fn count_of(names: &[String]) -> usize
+    ensures value { result ≡ length (names_in names.now) }
+    ensures few { result ≤ length names.now + 1 }
+{
+    names.len().max(1)
+}
+
 /// Takes in the lines of the open input, which has this number.
 fn read_lines<I: Inputs>(
     alloc: Global,
@@ -166,7 +174,8 @@ pub fn read_log<I: Inputs>(
 {
     let mut reader = LogReader::make(alloc, form, ignore, join)?;
     let mut lines = Lines::make(alloc)?;
-    for number in 0..names.len().max(1) {
+    let count = count_of(names);
+    for number in 0..count {
         let name = name_at(names, number);
         read_file(alloc, inputs, &mut lines, &mut reader, name, number as u32)?;
     }

@@ -96,6 +96,15 @@ impl LogSoFar {
         }
     }
 
+    /// Begins a section at the line of a separator.
+    fn begin_section(&mut self, at: At)
+        requires within { IsWithin self.old.builder }
+        requires room { self.old.section < 2 ^ 32 - 1 }
+        ensures { TakesLine at spec.Separator self.old self.new }
+    {
+        self.section += 1;
+    }
+
     /// Passes over a line that nothing decides, where such lines are skipped.
     fn pass(&self, at: At) -> Result<(), ReadError>
         requires within { IsWithin self.now.builder }
@@ -201,7 +210,7 @@ impl LogSoFar {
             }
             Ok(Decision::Skip) => Ok(()),
             Ok(Decision::Separator) => {
-                self.section += 1;
+                self.begin_section(at);
                 Ok(())
             }
             Ok(Decision::Undecided) => self.pass(at),

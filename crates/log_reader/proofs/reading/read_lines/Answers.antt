@@ -1,4 +1,4 @@
-use Rattle.std.proofs.Common.{◌≡◌, ◌+◌, Bool, true, false, Result, Ok, Err, [], refl, sym, ap, ◌∙◌, subst, inl, inr}
+use Rattle.std.proofs.Common.{rules, ◌≡◌, ◌+◌, Bool, true, false, Result, Ok, Err, [], refl, sym, ap, ◌∙◌, subst, inl, inr}
 use Rattle.std.proofs.lemmas.Result.{err_from_is_err_and}
 use Rattle.log_reader.specs.LineReader.{SeenLines, NextGives, GivesLine, GivesNone, FailsToRead, RefusesPiece}
 use Rattle.log_reader.specs.Reading.{at_line}
@@ -29,6 +29,9 @@ returns-in-Err-ReadFault-clause-err g c =
     let is : ◌≡◌ {A = Result Bool LineError} c.next.result (Err ReadFault) = cc (c.in-Err-ReadFault.is, c.in-Err-ReadFault.field-0-is) in
     let fails : FailsToRead c.lines.lines c.next.new.self before after = subst (λ r. NextGives c.lines.lines before r c.next.new.self after) is c.next.ensures.gives in
     inl (reading-fails c.args.number (g.I.Inputs.state c.args.inputs.now) before after c.args.lines.now c.lines.lines c.next.new.self c.args.reader.now c.lines.reader (refused.ReadFault c.args.number) c.lines.invariant fails refl)
+
+pub returns-in-Err-ReadFault-clause-memory : goal.returns-in-Err-ReadFault-clause-memory
+returns-in-Err-ReadFault-clause-memory g c = search rules
 
 pub returns-in-Err-TooLong-clause-err : goal.returns-in-Err-TooLong-clause-err
 returns-in-Err-TooLong-clause-err g c =

@@ -1,10 +1,10 @@
-use Rattle.std.proofs.Common.{◌≡◌, ◌-◌, length, arith, ap, subst}
+use Rattle.std.proofs.Common.{◌≡◌, ◌<◌, ◌-◌, length, map, arith, ap, subst}
 use Rattle.std.proofs.lemmas.Result.{err_from_is_err_and}
 use Rattle.std.specs.String.{string_bytes}
 use Rattle.log_reader.specs.Views.{names_in}
 use Rattle.limits.specs.declared.TheConstants.{MAX_INPUT_BYTES}
 use Rattle.log_reader.specs.LineReader.{SeenLines}
-use Rattle.log_reader.proofs.InputByInput.{IsUpTo, up-to-none, up-to-more, up-to-end, opened-few, stays-on, all-inputs}
+use Rattle.log_reader.proofs.InputByInput.{IsUpTo, count-inputs, up-to-none, up-to-more, up-to-end, opened-few, stays-on}
 use Rattle.log_reader.proofs.WhyRefused.{up-to-cause}
 use Rattle.log_reader.proofs.reading.read_log.Goals as goal
 
@@ -39,20 +39,18 @@ loop-number-preserved g c = record {
 pub returns-clause-ok : goal.returns-clause-ok
 returns-clause-ok g c =
     let k = c.loop-number.number in
-    let all : k ≡ length (names_in c.args.names.now) =
-    all-inputs string_bytes c.args.names.now k c.max-number-end.result c.max-number-end.ensures c.loop-number.auto.number-end c.loop-number-test.false in
-    up-to-end _ _ k _ (g.I.Inputs.state c.loop-number.inputs) c.loop-number.reader (MAX_INPUT_BYTES - c.loop-number.lines.taken) c.in_ok-finish.field-0 c.loop-number.invariant.inputs all (omega arith) c.in_ok-finish.ensures c.gathering_in_order_is_the_log.ensures
+    let all : k ≡ length (names_in c.args.names.now) = omega (arith, c.count_of-count.ensures.value, c.loop-number.auto.number-end, c.loop-number-test.false) in
+    let some : 0 < length (names_in c.args.names.now) = omega (arith, count-inputs (map string_bytes c.args.names.now)) in
+    up-to-end _ _ k _ (g.I.Inputs.state c.loop-number.inputs) c.loop-number.reader (MAX_INPUT_BYTES - c.loop-number.lines.taken) c.in_ok-finish.field-0 c.loop-number.invariant.inputs all (omega (arith, all, some)) c.in_ok-finish.ensures c.gathering_in_order_is_the_log.ensures
 
 pub returns-clause-opens : goal.returns-clause-opens
 returns-clause-opens g c =
     let k = c.loop-number.number in
-    let all : k ≡ length (names_in c.args.names.now) =
-    all-inputs string_bytes c.args.names.now k c.max-number-end.result c.max-number-end.ensures c.loop-number.auto.number-end c.loop-number-test.false in
+    let all : k ≡ length (names_in c.args.names.now) = omega (arith, c.count_of-count.ensures.value, c.loop-number.auto.number-end, c.loop-number-test.false) in
     omega (arith, all, opened-few (g.I.Inputs.state c.args.inputs.now).opens (g.I.Inputs.state c.loop-number.inputs).opens k c.loop-number.invariant.inputs.none c.loop-number.invariant.inputs.some)
 
 pub returns-in_err-finish-clause-opens : goal.returns-in_err-finish-clause-opens
 returns-in_err-finish-clause-opens g c =
     let k = c.loop-number.number in
-    let all : k ≡ length (names_in c.args.names.now) =
-    all-inputs string_bytes c.args.names.now k c.max-number-end.result c.max-number-end.ensures c.loop-number.auto.number-end c.loop-number-test.false in
+    let all : k ≡ length (names_in c.args.names.now) = omega (arith, c.count_of-count.ensures.value, c.loop-number.auto.number-end, c.loop-number-test.false) in
     omega (arith, all, opened-few (g.I.Inputs.state c.args.inputs.now).opens (g.I.Inputs.state c.loop-number.inputs).opens k c.loop-number.invariant.inputs.none c.loop-number.invariant.inputs.some)

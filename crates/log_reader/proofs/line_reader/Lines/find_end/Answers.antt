@@ -1,4 +1,4 @@
-use Rattle.std.proofs.Common.{◌≡◌, ◌+◌, ◌≤◌, true, false, length, ap, sym, ◌∙◌, subst, arith}
+use Rattle.std.proofs.Common.{rules, ◌≡◌, ◌+◌, ◌≤◌, true, false, length, ap, sym, ◌∙◌, subst, arith}
 use Rattle.std.proofs.lemmas.Result.{err_from_is_err_and}
 use Rattle.std.specs.List.{position_or_len}
 use Rattle.lines.specs.Lines.{is_feed}
@@ -34,3 +34,6 @@ returns-in_err-whole-clause-err g c =
     let p = err_from_is_err_and c.from_residual-in_err-whole.result c.from_residual-in_err-whole.ensures.1 in
     rw (p.1, p.2) (misses-end c.args.self.now now _ _ c.loop-length.searched c.self.inside.taken cut _ c.requires.line c.loop-length.invariant taken c.self.invariant.0.limit
     (omega (arith, taken, c.buffered-held.ensures.within, ap length held)) (sym c.in_default.ensures.none ∙ ap (position_or_len is_feed) held) inside c.in_err-whole.ensures.err)
+
+pub returns-in-Ok-false-clause-ok : goal.returns-in-Ok-false-clause-ok
+returns-in-Ok-false-clause-ok g c = search rules

@@ -1,0 +1,5 @@
+use Rattle.std.proofs.Common.{rules}
+use Rattle.log_reader.proofs.line_reader.Lines.start.Goals as goal
+
+pub returns : goal.returns
+returns c = search rules
