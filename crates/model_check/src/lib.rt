@@ -5,9 +5,11 @@
 //! the graph in which its two partitions are merged. Nothing here knows how the model came about.
 #![tactic(auto)]
 
-ghost use Rattle.std.specs.Prelude.{IfOk};
-ghost use Rattle.model_shape.specs.Shapes.{IsWellShaped};
-ghost use Rattle.models.specs.Models.{typed_words};
+ghost use Rattle.std.specs.Prelude.{◌≡◌, ◌<◌, ◌^◌, length, IfOk, MatchOption};
+ghost use Rattle.model_shape.specs.Shapes.{listing_of, IsWellShaped};
+ghost use Rattle.models.specs.Checks.{DiffersAt};
+ghost use Rattle.models.specs.Models.{graph_of, mined_of, typed_words};
+ghost use Rattle.model_check.specs.Rows.{shown};
 ghost use Rattle.model_check.specs.Verdicts.{IsVerdict};
 
 mod acceptance;
@@ -35,6 +37,50 @@ use std::alloc::{AllocError, Global};
 use traces::TraceSet;
 pub use verdict::Verdict;
 
+/// The first place at which the list of the model differs from the one that is mined of the log; `None` where they are the
+/// same. `AllocError` comes where there is not enough memory for the mined list.
+fn first_unlisted(
+    alloc: Global,
+    model: &Model,
+    traces: &TraceSet,
+) -> Result<Option<u32>, AllocError>
+    ensures { IfOk result (λ first. MatchOption first
+        (listing_of model.now ≡ mined_of (typed_words traces.now))
+        (DiffersAt (listing_of model.now) (mined_of (typed_words traces.now)))) }
+{
+    // No more are mined than there are candidates, so that places in the list fit.
+    let types = traces.types();
+    let _most = candidate_count(types.len() as u32);
+    let mined = mine_again(alloc, traces)?;
+    Ok(first_difference(model.invariants.as_slice(), mined.as_slice()))
+}
+
+/// The verdict on a model whose types and whose list are those of the log, by its graph.
+fn check_graph(
+    alloc: Global,
+    model: &Model,
+    graph: &mut ModelGraph,
+    traces: &TraceSet,
+) -> Result<Verdict, AllocError>
+    requires shaped { IsWellShaped model.now }
+    requires graph { shown graph.old ≡ graph_of model.now }
+    requires types { (model.now).types ≡ (traces.now).types }
+    requires listing { listing_of model.now ≡ mined_of (typed_words traces.now) }
+    requires few { length (model.now).invariants < 2 ^ 32 }
+    ensures { IfOk result (λ verdict. IsVerdict model.now (typed_words traces.now) verdict) }
+{
+    if let Some(t) = first_refused(graph, traces) {
+        return Ok(Verdict::No(Part::Trace(t)));
+    }
+    if let Some(i) = first_unlabelled(alloc, model, graph)? {
+        return Ok(Verdict::No(Part::Label(i)));
+    }
+    match first_open(model, graph) {
+        Some((p, q)) => Ok(Verdict::No(Part::Block(p, q))),
+        None => Ok(Verdict::Yes),
+    }
+}
+
 /// Whether the well-shaped model is valid for the log of these traces: `Yes`, or `No` with the first part that fails, in
 /// the order of the parts, and in it the first place. Neither the model nor the traces change. `AllocError` comes where
 /// there is not enough memory for the mined list or for the tables of the graph.
@@ -46,21 +92,9 @@ pub fn check(alloc: Global, model: &Model, traces: &TraceSet) -> Result<Verdict,
     if !are_same(model.types.as_slice(), types.as_slice()) {
         return Ok(Verdict::No(Part::Types));
     }
-    // No more are mined than there are candidates, so that places in the list fit.
-    let _most = candidate_count(types.len() as u32);
-    let mined = mine_again(alloc, traces)?;
-    if let Some(k) = first_difference(model.invariants.as_slice(), mined.as_slice()) {
+    if let Some(k) = first_unlisted(alloc, model, traces)? {
         return Ok(Verdict::No(Part::Listing(k)));
     }
     let mut graph = ModelGraph::of(alloc, model)?;
-    if let Some(t) = first_refused(&mut graph, traces) {
-        return Ok(Verdict::No(Part::Trace(t)));
-    }
-    if let Some(i) = first_unlabelled(alloc, model, &graph)? {
-        return Ok(Verdict::No(Part::Label(i)));
-    }
-    match first_open(model, &graph) {
-        Some((p, q)) => Ok(Verdict::No(Part::Block(p, q))),
-        None => Ok(Verdict::Yes),
-    }
+    check_graph(alloc, model, &mut graph, traces)
 }

@@ -1,4 +1,5 @@
-use Rattle.std.proofs.Common.{◌≡◌, ℕ, length, get_or, replicate, ◌∙◌, ap}
+use Rattle.std.proofs.Common.{◌≡◌, ℕ, length, get_or, replicate, ◌∙◌, ap, arith}
+use Rattle.std.proofs.lemmas.Grind.{common_steps}
 use Rattle.model_shape.specs.Shapes.{is_listed}
 use Rattle.models.specs.Models.{label_at}
 use Rattle.model_check.proofs.Tabling.{zeros, table_none, unlisted-label}
@@ -12,3 +13,6 @@ loop-i-init c =
       apart = c.requires.apart;
       labels = λ p. table_none (λ q. is_listed q c.args.partitions.now) (λ q. label_at q c.args.partitions.now c.args.given.now) c.fill.new.self p (zero p) (unlisted-label p c.args.partitions.now c.args.given.now);
     }
+
+pub loop-i-preserved : goal.loop-i-preserved
+loop-i-preserved c = grind (arith, common_steps)

@@ -1,4 +1,5 @@
 use Rattle.std.proofs.Common.{ℕ, ◌<◌, List, if◌then◌else◌, Bool, length, map, set, sym, ap, ◌∙◌, arith}
+use Rattle.std.proofs.lemmas.Grind.{common_steps}
 use Rattle.std.proofs.lemmas.Bool.{cond-true}
 use Rattle.std.proofs.lemmas.List.{map-set, map-append}
 use Rattle.std.proofs.Math.Seq.{map-set_same}
@@ -42,3 +43,6 @@ returns-clause-noted c =
     map-set shown gs i _
     ∙ (ap (λ (g : TakenPath). set (map shown gs) i (once_more g)) c.index_mut.ensures.value
     ∙ sym (present gs (trace_path c.args.types.now c.args.ids.now) i r (c.in_ok-place.ensures.index ∙ position-key keys gs c.args.ids.now c.requires.keys) inside))
+
+pub returns-then-new-clause-keys : goal.returns-then-new-clause-keys
+returns-then-new-clause-keys c = grind (arith, common_steps)
