@@ -5,6 +5,18 @@ use Rattle.synoptic_cli.specs.Messages.{Tells, task_message}
 use Rattle.synoptic_cli.proofs.Expected.{cause-expected}
 use Rattle.synoptic_cli.proofs.top.run.Goals as goal
 
+pub returns-clause-cause : goal.returns-clause-cause
+returns-clause-cause g c = c.answer-status.ensures.cause (map string_bytes c.args.words.now) c.in-Ok.ensures.ok
+
+pub returns-clause-memory : goal.returns-clause-memory
+returns-clause-memory g c = c.answer-status.ensures.memory
+
+pub returns-clause-count : goal.returns-clause-count
+returns-clause-count g c = c.answer-status.ensures.count
+
+pub returns-clause-stays : goal.returns-clause-stays
+returns-clause-stays g c = c.answer-status.ensures.stays
+
 pub returns-clause-expected : goal.returns-clause-expected
 returns-clause-expected g c = cause-expected c.answer-status.result (map string_bytes c.args.words.now) _ _ (c.answer-status.ensures.cause (map string_bytes c.args.words.now) c.in-Ok.ensures.ok)
 
