@@ -7,7 +7,7 @@ use Rattle.synoptic_cli.specs.Task.{input_count, stages_of}
 use Rattle.synoptic_cli.specs.Commands.{Answers}
 use Rattle.synoptic_cli.proofs.Rules.{memory-ends}
 use Rattle.synoptic_cli.proofs.Through.{read-faults, read-most}
-use Rattle.synoptic_cli.proofs.Written.{limit-ends, limit-given, written-in-part, written-whole}
+use Rattle.synoptic_cli.proofs.Written.{limit-ends, limit-given, verdict-count, verdict-other, written-in-part, written-whole}
 use Rattle.synoptic_cli.proofs.top.answer.Goals as goal
 
 pub returns-in-Ok-write_whole-clause-cause : goal.returns-in-Ok-write_whole-clause-cause
@@ -50,6 +50,9 @@ returns-in-Err-clause-count g c = c.in-Err.ensures.count
 pub returns-in-Err-clause-stays : goal.returns-in-Err-clause-stays
 returns-in-Err-clause-stays g c = record { inputs = c.read_material.ensures.stays; patterns = c.read_material.ensures.kept }
 
+pub returns-in-Err-Limit-clause-memory : goal.returns-in-Err-Limit-clause-memory
+returns-in-Err-Limit-clause-memory g c = λ is. cc
+
 pub returns-in-Err-Limit-clause-count : goal.returns-in-Err-Limit-clause-count
 returns-in-Err-Limit-clause-count g c = c.in-Ok.ensures.count
 
@@ -75,8 +78,18 @@ returns-in-Err-Memory-clause-count g c = c.in-Ok.ensures.count
 pub returns-in-Err-Memory-clause-stays : goal.returns-in-Err-Memory-clause-stays
 returns-in-Err-Memory-clause-stays g c = record { inputs = c.read_material.ensures.stays; patterns = c.read_material.ensures.kept }
 
+pub returns-in-Ok-write_whole-clause-memory : goal.returns-in-Ok-write_whole-clause-memory
+returns-in-Ok-write_whole-clause-memory g c = λ is. absurd (verdict-other c.in-Ok-answer.answer.status c.in-Ok-answer.ensures.1 is)
+
+pub returns-in-Ok-write_whole-clause-count : goal.returns-in-Ok-write_whole-clause-count
+returns-in-Ok-write_whole-clause-count g c =
+    verdict-count c.in-Ok-answer.answer.status (g.P.Patterns.state c.args.patterns.now) (g.P.Patterns.state c.read_material.new.patterns) c.in-Ok-answer.ensures.1 c.in-Ok.ensures.count
+
 pub returns-in-Ok-write_whole-clause-stays : goal.returns-in-Ok-write_whole-clause-stays
 returns-in-Ok-write_whole-clause-stays g c = record { inputs = c.read_material.ensures.stays; patterns = c.read_material.ensures.kept }
+
+pub returns-clause-memory : goal.returns-clause-memory
+returns-clause-memory g c = λ is. cc
 
 pub returns-clause-count : goal.returns-clause-count
 returns-clause-count g c = c.in-Ok.ensures.count
