@@ -1,5 +1,5 @@
 -- Where files are told and no count rose, the cause of a status makes it the expected one.
-use Rattle.std.proofs.Common.{◌≡◌, ◌⊎◌, ℕ, List, [], ◌∷◌, ◌++◌, sym, ap, ◌∙◌, subst, ⊎_elim, inl, inr, Option, None, Some, Result, Ok, Err, refl, IfSome}
+use Rattle.std.proofs.Common.{◌≡◌, ◌⊎◌, ℕ, List, [], ◌∷◌, ◌++◌, sym, ap, ◌∙◌, subst, ⊎_elim, inl, inr, Option, None, Some, Result, Ok, Err, refl, IfSome, arith}
 use Rattle.std.specs.Option.{IsSomeAnd}
 use Rattle.outside.specs.Counts.{Rose}
 use Rattle.outside.specs.Inputs.{Files, bytes_of}
@@ -10,6 +10,8 @@ use Rattle.line_rules.specs.declared.line_rules.RuleError.{RuleError}
 use Rattle.line_rules.specs.declared.line_rules.RuleError.TheVariants as rule_error
 use Rattle.log_reader.specs.Inputs.{with_content}
 use Rattle.command_line.specs.Task.{Task, task_of}
+use Rattle.command_line.specs.declared.given.ParseError.{ParseError}
+use Rattle.command_line.specs.declared.given.ParseError.TheVariants as parse_error
 use Rattle.synoptic_cli.specs.declared.answer.Answer.{Answer}
 use Rattle.synoptic_cli.specs.declared.status.Status.{Status}
 use Rattle.synoptic_cli.specs.declared.status.Status.TheVariants.{Done, NoCheck, Usage, Expressions, Log, Limit, ReadFault, WriteFault, Memory, ModelFile}
@@ -18,6 +20,7 @@ use Rattle.synoptic_cli.specs.Task.{file_stage, log_stages, model_stages, rules_
 use Rattle.synoptic_cli.specs.Stages.{SoFar, Stop, and_then, at_start, reads, reads_rules, stop_after, with_rules}
 use Rattle.synoptic_cli.specs.Endings.{EndsAfter, EndsOver, EndsTold, HasStatus, IsFirstLacking, IsStatusOf, IsTold, SomeBytes, end_status, told_stages}
 use Rattle.synoptic_cli.specs.Causes.{World, FailsToRead, HasCause, IsExpected, IsTooDeep, IsUnread, IsMissing, RefusesRules, Stops, WritesAll}
+use Rattle.synoptic_cli.specs.Halts.{status_without_task}
 use Rattle.synoptic_cli.proofs.Bytes.{bytes-told}
 
 -- a fact of what an option holds, where it holds it
@@ -114,3 +117,8 @@ cause-expected (ReadFault source) words old new cause = if-some old.inputs.files
 cause-expected WriteFault words old new cause = if-some old.inputs.files _ (λ files some calm-in calm-patterns calm-out. absurd (calm-out cause.2.rose))
 cause-expected Memory words old new cause = if-some old.inputs.files _ (λ files some calm-in calm-patterns calm-out. inr (inl refl))
 cause-expected (ModelFile e) words old new cause = if-some old.inputs.files _ (λ files some calm-in calm-patterns calm-out. inl (stops-task words cause.0 files (ModelFile e) old new some cause.1 cause.2.stops))
+
+-- words that give no task end for that cause
+pub no-task-ends : (e : ParseError) (words : List (List ℕ)) (w : World) → (e ≡ parse_error.Usage → task_of words ≡ None) → HasCause (status_without_task e) words w w
+no-task-ends parse_error.Usage words w usage = (usage refl, refl)
+no-task-ends parse_error.Memory words w usage = record { opens = omega arith; silent = refl }

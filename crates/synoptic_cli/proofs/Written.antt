@@ -12,12 +12,12 @@ use Rattle.synoptic_cli.specs.declared.answer.NoAnswer.TheVariants as no_answer
 use Rattle.synoptic_cli.specs.declared.material.Material.{Material}
 use Rattle.synoptic_cli.specs.declared.status.LimitKind.{LimitKind}
 use Rattle.synoptic_cli.specs.declared.status.Status.{Status}
-use Rattle.synoptic_cli.specs.declared.status.Status.TheVariants.{Done, NoCheck, Limit}
+use Rattle.synoptic_cli.specs.declared.status.Status.TheVariants.{Done, NoCheck, Limit, Memory}
 use Rattle.synoptic_cli.specs.Task.{input_count, stages_of}
 use Rattle.synoptic_cli.specs.Stages.{SoFar, Stop, at_start, reads, stop_after}
 use Rattle.synoptic_cli.specs.Commands.{Answers}
 use Rattle.synoptic_cli.specs.Endings.{EndsAfter, EndsOver}
-use Rattle.synoptic_cli.specs.Causes.{World, HasAnswer, HasCause, WritesAll, WritesPart}
+use Rattle.synoptic_cli.specs.Causes.{World, HasAnswer, HasCause, KeepsCount, WritesAll, WritesPart}
 use Rattle.synoptic_cli.specs.Halts.{Ends, Gives, IsVerdict, ReadsTask}
 use Rattle.synoptic_cli.proofs.Bytes.{bytes-map}
 use Rattle.synoptic_cli.proofs.Through.{read-opens}
@@ -36,6 +36,18 @@ answer-cause : (status : Status) (words : List (List ℕ)) (task : Task) (old ne
 answer-cause Done words task old new is asks written = (task, asks, written)
 answer-cause (NoCheck part) words task old new is asks written = (task, asks, written)
 answer-cause status words task old new is asks written = absurd is
+
+-- a status that comes with a text leaves the count of refused patterns as it was
+pub verdict-count : (status : Status) (before after : PatternsState) → IsVerdict status → after.refusals ≡ before.refusals → KeepsCount status before after
+verdict-count Done before after is kept = kept
+verdict-count (NoCheck part) before after is kept = kept
+verdict-count status before after is kept = absurd is
+
+-- a status that comes with a text is not want of memory
+pub verdict-other : (status : Status) → IsVerdict status → status ≡ Memory → ⊥
+verdict-other Done is same = cc
+verdict-other (NoCheck part) is same = cc
+verdict-other status is same = absurd is
 
 -- an answer that was written whole is the cause of its status
 pub written-whole : (task : Task) (words : List (List ℕ)) (old new : World) (m : Material) (a : Answer) → ReadsTask task old.inputs new.inputs m → Answers task m (Ok a) → IsVerdict a.status

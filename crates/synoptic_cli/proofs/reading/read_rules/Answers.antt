@@ -23,3 +23,6 @@ returns-clause-err g c =
     subst (λ (status : Status). EndsByRules status name old new before after) (sym c.rules_answer.ensures)
     (rules-end old new before after name c.in-Ok.bytes.items c.in-Err.error c.in-Ok.ensures.gives
     (subst (λ (bytes : List ℕ). IsRefused bytes before after c.in-Err.error) c.deref.ensures.value c.in-Err.ensures.err))
+
+pub returns-in-Err-Fault-clause-memory : goal.returns-in-Err-Fault-clause-memory
+returns-in-Err-Fault-clause-memory g c = λ is. cc

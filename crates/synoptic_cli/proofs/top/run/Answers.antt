@@ -1,9 +1,36 @@
-use Rattle.std.proofs.Common.{Option, map, subst, sym}
+use Rattle.std.proofs.Common.{Err, Option, ap, map, subst, sym}
 use Rattle.std.specs.String.{string_bytes}
 use Rattle.command_line.specs.Task.{Task}
+use Rattle.synoptic_cli.specs.declared.status.Status.{Status}
+use Rattle.synoptic_cli.specs.Causes.{HasCause, world}
 use Rattle.synoptic_cli.specs.Messages.{Tells, task_message}
-use Rattle.synoptic_cli.proofs.Expected.{cause-expected}
+use Rattle.synoptic_cli.proofs.Expected.{cause-expected, no-task-ends}
 use Rattle.synoptic_cli.proofs.top.run.Goals as goal
+
+pub returns-in-Err-clause-cause : goal.returns-in-Err-clause-cause
+returns-in-Err-clause-cause g c =
+    let words = map string_bytes c.args.words.now in
+    let same = world (g.I.Inputs.state c.args.inputs.now) (g.P.Patterns.state c.args.patterns.now) (g.O.Sink.state c.args.out.now) in
+    subst (λ (status : Status). HasCause status words same same) (sym c.status_without_task-status.ensures) (no-task-ends c.in-Err.error words same (λ is. c.in-Err.ensures.usage (ap Err is)))
+
+pub returns-in-Err-clause-expected : goal.returns-in-Err-clause-expected
+returns-in-Err-clause-expected g c =
+    let words = map string_bytes c.args.words.now in
+    let same = world (g.I.Inputs.state c.args.inputs.now) (g.P.Patterns.state c.args.patterns.now) (g.O.Sink.state c.args.out.now) in
+    cause-expected c.status_without_task-status.result words same same
+    (subst (λ (status : Status). HasCause status words same same) (sym c.status_without_task-status.ensures) (no-task-ends c.in-Err.error words same (λ is. c.in-Err.ensures.usage (ap Err is))))
+
+pub returns-clause-cause : goal.returns-clause-cause
+returns-clause-cause g c = c.answer-status.ensures.cause (map string_bytes c.args.words.now) c.in-Ok.ensures.ok
+
+pub returns-clause-memory : goal.returns-clause-memory
+returns-clause-memory g c = c.answer-status.ensures.memory
+
+pub returns-clause-count : goal.returns-clause-count
+returns-clause-count g c = c.answer-status.ensures.count
+
+pub returns-clause-stays : goal.returns-clause-stays
+returns-clause-stays g c = c.answer-status.ensures.stays
 
 pub returns-clause-expected : goal.returns-clause-expected
 returns-clause-expected g c = cause-expected c.answer-status.result (map string_bytes c.args.words.now) _ _ (c.answer-status.ensures.cause (map string_bytes c.args.words.now) c.in-Ok.ensures.ok)
