@@ -10,7 +10,7 @@ ghost use Rattle.models.specs.Models.{AreReached};
 ghost use Rattle.labelling.specs.Labelled.{digit, AreLabelsOf};
 ghost use Rattle.infer_core.specs.Benches.{Tells};
 
-use crate::tools::Tools;
+use crate::tools::{Tools, both};
 use invariants::{Invariant, Listed, Model, Partition, Seq, Text};
 use labelling::Planes;
 use limits::MAX_PARTITIONS;
@@ -95,14 +95,22 @@ pub fn model_of(
 {
     prove!(graph.ids_used() <= MAX_PARTITIONS);
     let partitions = graph.partitions(alloc)?;
-    let invariants = listed(alloc, &tools.planes, invs, partitions.as_slice())?;
+    let listing = listed(alloc, &tools.planes, invs, partitions.as_slice());
+    let named = both(copy_of(alloc, traces.types()), listing);
+    let shown = both(graph.edges(alloc), named);
+    let joins = both(
+        merges(alloc, &tools.log),
+        blocks(alloc, &tools.log, &tools.spans),
+    );
+    let told = both(splits(alloc, &tools.log, &tools.spans), joins);
+    let ((edges, (types, invariants)), (splits, (merges, blocks))) = both(shown, told)?;
     Ok(Model {
-        types: copy_of(alloc, traces.types())?,
-        edges: graph.edges(alloc)?,
+        types,
+        edges,
         partitions,
         invariants,
-        splits: splits(alloc, &tools.log, &tools.spans)?,
-        merges: merges(alloc, &tools.log)?,
-        blocks: blocks(alloc, &tools.log, &tools.spans)?,
+        splits,
+        merges,
+        blocks,
     })
 }

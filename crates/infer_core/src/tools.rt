@@ -1,5 +1,5 @@
 //! What inference needs beside a graph and invariants.
-ghost use Rattle.std.specs.Prelude.{◌≡◌, ◌≤◌, ℕ, [], IfOk, Some, length, slice_get};
+ghost use Rattle.std.specs.Prelude.{◌≡◌, ◌≤◌, ℕ, [], IfOk, Ok, Some, length, slice_get};
 ghost use Rattle.limits.specs.declared.TheConstants.{LAST_TYPE, MAX_INVARIANTS, MAX_PAIRS, MAX_PATH_NUMBERS, MAX_STEPS};
 ghost use Rattle.partition_model.specs.Assignments.{events};
 
@@ -11,6 +11,20 @@ use partition_graph::PartGraph;
 use path_finder::Finder;
 use splitter::Stitcher;
 use std::alloc::{AllocError, Global};
+
+/// Both, or the want of memory that either met. What was made beside it is dropped here, once for all callers.
+pub fn both<A: Drop, B: Drop>(
+    first: Result<A, AllocError>,
+    second: Result<B, AllocError>,
+) -> Result<(A, B), AllocError>
+    ensures first { IfOk result (λ pair. first ≡ Ok pair.0) }
+    ensures second { IfOk result (λ pair. second ≡ Ok pair.1) }
+{
+    match (first, second) {
+        (Ok(first), Ok(second)) => Ok((first, second)),
+        _ => Err(AllocError),
+    }
+}
 
 /// What finds paths, follows traces and keeps labels, and what a run writes.
 #[derive(Drop)]
@@ -48,12 +62,18 @@ impl Tools {
           block_room = MAX_PAIRS;
         }) }
     {
+        let finds = both(Finder::make(alloc), Stitcher::make(alloc, graph));
+        let spans = Spans::make(alloc, MAX_PATH_NUMBERS);
+        let log = RunLog::make(alloc, MAX_STEPS, MAX_STEPS, MAX_PAIRS);
+        let writes = both(spans, log);
+        let keeps = both(Planes::make(alloc, invs), writes);
+        let ((finder, stitcher), (planes, (spans, log))) = both(finds, keeps)?;
         Ok(Tools {
-            finder: Finder::make(alloc)?,
-            stitcher: Stitcher::make(alloc, graph)?,
-            planes: Planes::make(alloc, invs)?,
-            spans: Spans::make(alloc, MAX_PATH_NUMBERS)?,
-            log: RunLog::make(alloc, MAX_STEPS, MAX_STEPS, MAX_PAIRS)?,
+            finder,
+            stitcher,
+            planes,
+            spans,
+            log,
         })
     }
 }

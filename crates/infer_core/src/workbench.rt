@@ -7,7 +7,7 @@ ghost use Rattle.infer_core.specs.Runs.{AreFinal, CountsAtMost, PassesNumbers, P
 use crate::law::log_is_typed;
 use crate::model::model_of;
 use crate::run::run;
-use crate::tools::Tools;
+use crate::tools::{Tools, both};
 use crate::whole::{made_or, spread_shared};
 use count_miner::mine;
 use invariants::{Invariant, Seq};
@@ -83,10 +83,12 @@ impl Workbench {
     {
         start_is_opened(&traces);
         log_is_typed(&traces);
-        let (graph, numbers) = PartGraph::open_shared(alloc, &traces)?;
-        let invs = mine(alloc, &traces)?;
-        let tools = Tools::make(alloc, &graph, invs.as_slice())?;
-        let flags = no_flags(alloc, invs.as_slice())?;
+        let shared = PartGraph::open_shared(alloc, &traces);
+        let mined = mine(alloc, &traces);
+        let ((graph, numbers), invs) = both(shared, mined)?;
+        let tools = Tools::make(alloc, &graph, invs.as_slice());
+        let flags = no_flags(alloc, invs.as_slice());
+        let (tools, flags) = both(tools, flags)?;
         Ok(Workbench {
             traces,
             invs,

@@ -1,4 +1,4 @@
-use Rattle.std.proofs.Common.{◌≡◌, ◌↔◌, Bool, List, Result, Err, length, ◌∙◌, sym, ap, subst, subst₂, arith}
+use Rattle.std.proofs.Common.{◌≡◌, ◌↔◌, Bool, List, Result, Err, length, ◌∙◌, sym, ap, subst, subst₂, arith, rules}
 use Rattle.std.proofs.lemmas.List.{with_items_is}
 use Rattle.invariants.specs.declared.Invariant.{Invariant}
 use Rattle.traces.specs.Words.{Log}
@@ -96,3 +96,9 @@ returns-in-Ok-clause-counted g c =
     let begins : BeginsWith (distinct b.traces b.graph) c.as_slice.result.now b.graph = subst (λ (invs : List Invariant). BeginsWith (distinct b.traces b.graph) invs b.graph) (sym c.as_slice.ensures) (start-begins b.traces b.invs b.graph b.numbers.items b.tools.stitcher b.tools.planes b.tools.spans b.tools.log s) in
     subst (λ (log : Log). CountsAtMost (typed_words log) c.args.steps.now c.run-end.new.steps) same
     (start-counts b.traces b.invs b.graph b.numbers.items b.tools.stitcher b.tools.planes b.tools.spans b.tools.log s c.args.steps.now c.run-end.new.steps (c.in-Ok.ensures.counted (distinct b.traces b.graph) begins))
+
+pub returns-in-Err-clause-stage : goal.returns-in-Err-clause-stage
+returns-in-Err-clause-stage g c = search rules
+
+pub returns-in-Err-clause-counted : goal.returns-in-Err-clause-counted
+returns-in-Err-clause-counted g c = search rules
