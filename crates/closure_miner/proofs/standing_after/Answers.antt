@@ -1,5 +1,5 @@
-use Rattle.std.proofs.Common.{map, take, arith, sym, ◌∙◌, subst}
-use Rattle.traces.specs.Words.{word_of}
+use Rattle.std.proofs.Common.{List, map, take, take_all, arith, sym, ◌∙◌, subst}
+use Rattle.traces.specs.Words.{Trace, word_of}
 use Rattle.closure_miner.specs.Standing.{Stands}
 use Rattle.closure_miner.proofs.Traces.{words-more}
 use Rattle.closure_miner.proofs.standing_after.Goals as goal
@@ -11,3 +11,7 @@ loop-t-preserved c = record {
       subst (Stands c.read.new.self) (sym (words-more c.args.traces.now.traces c.loop-t.t c.events.result.now (omega arith) c.events.ensures.events))
       (c.read.ensures.stands (map word_of (take c.loop-t.t c.args.traces.now.traces)) c.loop-t.invariant.stands);
 }
+
+pub returns-clause-stands : goal.returns-clause-stands
+returns-clause-stands c =
+    subst (λ (ts : List Trace). Stands c.loop-t.standing (map word_of ts)) (take_all c.loop-t.t c.args.traces.now.traces (omega (arith, c.loop-t-test.false, c.trace_count-t-end.ensures))) c.loop-t.invariant.stands
