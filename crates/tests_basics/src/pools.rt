@@ -11,29 +11,29 @@ use std::marker::Brand;
 use std::sync::ledger::{Blank, Ledger};
 use steps::Steps;
 
-/// Puts the first cells of two lists, and what comes after each of four cells, at the end of the text.
-fn put_lists(told: &mut String, cells: &Cells) -> Result<(), AllocError>
+/// The first cells of two lists, and what comes after each of four cells.
+fn lists(cells: &Cells) -> ([Option<u32>; 2], [Option<u32>; 4])
     requires cells { HasCells cells.now 4 }
     requires lists { length cells.now ≡ 2 }
 {
     let firsts = [cells.first(0), cells.first(1)];
     let nexts = [cells.next(0), cells.next(1), cells.next(2), cells.next(3)];
-    write!(told, "{firsts:?} {nexts:?}\n")
+    (firsts, nexts)
 }
 
 /// `cells`
 pub fn cells(alloc: Global) -> Result<String, AllocError> {
-    let mut told = String::new(alloc);
     let mut cells = Cells::make(alloc, 4, 2)?;
-    put_lists(&mut told, &cells)?;
+    let made = lists(&cells);
     cells.move_to(1, 0, 1);
     cells.move_to(3, 0, 1);
-    put_lists(&mut told, &cells)?;
+    let moved = lists(&cells);
     cells.splice(1, 0);
-    put_lists(&mut told, &cells)?;
+    let spliced = lists(&cells);
     cells.splice(1, 0);
-    put_lists(&mut told, &cells)?;
-    Ok(told)
+    let again = [cells.first(0), cells.first(1)];
+    drop(cells);
+    format!(in alloc; "{made:?}\n{moved:?}\n{spliced:?}\n{again:?}")
 }
 
 /// `spans`
