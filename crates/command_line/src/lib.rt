@@ -9,8 +9,6 @@ mod law;
 mod number;
 mod table;
 mod task;
-#[cfg(test)]
-mod tests;
 
 pub use crate::given::ParseError;
 pub use crate::law::lines_tell;
