@@ -12,38 +12,28 @@ use crate::patterns::Patterns;
 use crate::rule::Rule;
 use limits::MAX_RULES_BYTES;
 use std::alloc::{AllocError, AllocFailed, Global};
-use thiserror::Error;
 
 /// Why an expressions file is refused. The numbers are those of lines, counted from 1.
-#[derive(Clone, Copy, Debug, PartialEq, Eq, Error)]
+#[derive(Clone, Copy, Debug, PartialEq, Eq)]
 pub enum RuleError {
     /// The file has more than 65,536 bytes.
-    #[error("the file of expressions has more than 65536 bytes")]
     TooLong,
     /// The line is not UTF-8, or has none of the four forms.
-    #[error("line {0} is no rule: a rule is `skip`, `separator`, `event` or `event=NAME`, a space and a pattern")]
     BadLine(u32),
     /// The line is the 33rd rule.
-    #[error("line {0} is the 33rd rule, and 32 are allowed")]
     TooMany(u32),
     /// The line's pattern is none, or nests too deep.
-    #[error("the pattern in line {0} can't be read")]
     Syntax(u32),
     /// The line's pattern was refused as too large.
-    #[error("the pattern in line {0} is too large")]
     TooLarge(u32),
     /// The line is `event PATTERN`, and its pattern has no group named TYPE.
-    #[error("the pattern in line {0} has no group named TYPE")]
     NoType(u32),
     /// The line is an event rule, and its pattern has a group named TIME where that of the first
     /// event rule has none, or the other way round.
-    #[error("the pattern in line {0} and that of the first event rule have not both a group named TIME")]
     MixedTime(u32),
     /// No rule is an event rule.
-    #[error("no rule is an event rule")]
     NoEvent,
     /// Memory was wanted.
-    #[error("out of memory")]
     Memory,
 }
 

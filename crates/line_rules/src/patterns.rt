@@ -6,7 +6,7 @@ ghost use Rattle.line_rules.specs.Patterns.{PatternsState, Stays, BuildGives, Ke
 use regex::Regex;
 
 /// Why a pattern was not built.
-#[derive(Clone, Copy, Debug, PartialEq, Eq)]
+#[derive(Clone, Copy)]
 pub enum BuildFault {
     /// The grammar reads no pattern from the text, or reads one that nests too deep.
     Syntax,
