@@ -1,14 +1,14 @@
-//! What a test has to know before it asks a graph or a view.
-ghost use Rattle.std.specs.Prelude.{◌≤◌, ◌<◌, All, length};
+//! What has to be known before a graph, a view or a board is asked.
+ghost use Rattle.std.specs.Prelude.{◌≡◌, ◌≤◌, ◌<◌, ℕ, All, Some, length, slice_get};
 ghost use Rattle.std.specs.Bool.{OnTrue};
-ghost use Rattle.limits.specs.declared.TheConstants.{MAX_EVENTS};
+ghost use Rattle.limits.specs.declared.TheConstants.{LAST_TYPE, MAX_EVENTS, MAX_INVARIANTS};
 ghost use Rattle.partition_model.specs.Assignments.{events, G};
 ghost use Rattle.partition_model.specs.Coarsening.{IsPair};
-ghost use Rattle.partition_graph.specs.Seen.{IsSound};
 ghost use Rattle.partition_graph.specs.Spread.{spread};
 
-use limits::FIRST_TYPE;
-use partition_graph::{PartGraph, View};
+use invariants::Invariant;
+use limits::{FIRST_TYPE, LAST_TYPE, MAX_INVARIANTS};
+use partition_graph::PartGraph;
 
 /// Whether p and q are two partitions of one type, p before q.
 pub fn is_pair(graph: &PartGraph, p: u32, q: u32) -> bool
@@ -22,7 +22,7 @@ pub fn is_pair(graph: &PartGraph, p: u32, q: u32) -> bool
 }
 
 /// Whether all numbers are below a bound.
-pub fn are_below(bound: u32, numbers: &[u32]) -> bool
+fn are_below(bound: u32, numbers: &[u32]) -> bool
     ensures { OnTrue result (All (λ k. k < bound) numbers.now) }
 {
     numbers.iter().all(|number| *number < bound)
@@ -39,23 +39,17 @@ pub fn can_be_spread(graph: &PartGraph, numbers: &[u32]) -> bool
     are_below(graph.trace_count(), numbers)
 }
 
-/// Whether two views show the same of two ids.
-pub fn show_same(one: &View<'_>, other: &View<'_>, u: u32, v: u32) -> bool
-    requires one { IsSound one.now }
-    requires other { IsSound other.now }
+/// Whether there are not too many invariants, and each is of types that there may be.
+pub fn are_named(invs: &[Invariant]) -> bool
+    ensures few { OnTrue result (length invs.now ≤ MAX_INVARIANTS) }
+    ensures named { OnTrue result ((k : ℕ) (inv : Invariant) → slice_get invs.now k ≡ Some inv
+        → (inv.a ≤ LAST_TYPE) × (inv.b ≤ LAST_TYPE)) }
 {
-    one.has_edge(u, v) == other.has_edge(u, v)
-        && one.next_source(u, v) == other.next_source(u, v)
-        && one.next_target(u, v) == other.next_target(u, v)
-}
-
-/// Whether two views show the same of all ids below 12.
-pub fn are_same(one: &View<'_>, other: &View<'_>) -> bool
-    requires one { IsSound one.now }
-    requires other { IsSound other.now }
-{
-    for place in 0..144 {
-        if !show_same(one, other, place / 12, place % 12) {
+    if invs.len() > MAX_INVARIANTS {
+        return false;
+    }
+    for inv in invs {
+        if inv.a > LAST_TYPE || inv.b > LAST_TYPE {
             return false;
         }
     }

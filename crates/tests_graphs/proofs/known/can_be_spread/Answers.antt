@@ -4,7 +4,7 @@ use Rattle.std.proofs.lemmas.List.Elements.{All-head, All-tail}
 use Rattle.std.proofs.lemmas.List.Folds.{length-flat_map-take}
 use Rattle.partition_model.specs.Assignments.{Assignment, events}
 use Rattle.partition_graph.specs.Spread.{spread}
-use Rattle.acceptance_partitions.proofs.known.can_be_spread.Goals as goal
+use Rattle.tests_graphs.proofs.known.can_be_spread.Goals as goal
 
 -- so many traces of a graph of few events have few events
 spread_is_few : (ks : List ℕ) (h : Assignment) → length (events h) ≤ 100 → All (λ k. k < length h) ks → length (events (spread ks h)) ≤ 100 * length ks
