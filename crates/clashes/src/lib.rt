@@ -12,8 +12,6 @@ mod law;
 mod masks;
 mod places;
 mod rules;
-#[cfg(test)]
-mod tests;
 
 pub use clashes::Clashes;
 pub use law::clashes_tell;

@@ -9,8 +9,6 @@
 mod blocking;
 mod merging;
 mod pairs;
-#[cfg(test)]
-mod tests;
 
 pub use blocking::{EvidenceLimit, blocks};
 pub use merging::coarsen;

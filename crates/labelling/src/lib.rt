@@ -10,7 +10,5 @@ mod layout;
 mod marks;
 mod planes;
 mod spreading;
-#[cfg(test)]
-mod tests;
 
 pub use planes::Planes;

@@ -14,8 +14,6 @@ mod reach;
 mod search;
 mod sight;
 mod table;
-#[cfg(test)]
-mod tests;
 mod trace;
 
 pub use finder::Finder;

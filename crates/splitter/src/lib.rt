@@ -8,8 +8,6 @@
 mod law;
 mod refining;
 mod stitcher;
-#[cfg(test)]
-mod tests;
 
 pub use law::{mined_hold, start_is_opened};
 pub use refining::{PartitionLimit, refine, refine_skipping};

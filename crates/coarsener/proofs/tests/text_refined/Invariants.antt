@@ -1,5 +1,0 @@
-use Rattle.coarsener.proofs.tests.text_refined.Given as goal
-
--- the ledger of a counter that nobody reads
-abbrev pub ghosts-run : goal.ghosts-run
-ghosts-run a = record { name = a.blank.name; parts = a.blank.parts }

@@ -1,0 +1,173 @@
+//! The desk: a log with its graph, invariants with their labels and marks, and a finder, of which steps ask.
+use crate::board::{Board, board_of};
+use crate::logs::log_of;
+use crate::moves::{put_chain_of, put_moves};
+use crate::paths::{put_paths, put_places};
+use crate::runs::put_run;
+use crate::texts::{put_graph, put_sizes, put_spread};
+use crate::tools::{both, put};
+use crate::views::{put_edges, put_view};
+use partition_graph::PartGraph;
+use path_finder::Finder;
+use std::alloc::{AllocError, Global};
+use traces::TraceSet;
+
+/// What the steps have made so far.
+#[derive(Drop)]
+pub struct Desk {
+    log: Option<TraceSet>,
+    /// The graph, and for each trace the number of the one that has its word there, where words are shared.
+    graph: Option<(PartGraph, Vec<u32>)>,
+    finder: Option<Finder>,
+    board: Option<Board>,
+}
+
+/// How many traces and events the graph has, and the numbers of its words.
+fn put_counts(told: &mut String, graph: &PartGraph, numbers: &[u32]) -> Result<(), AllocError> {
+    write!(told, " {} {};", graph.trace_count(), graph.event_count())?;
+    for number in numbers {
+        write!(told, " {number}")?;
+    }
+    Ok(())
+}
+
+impl Desk {
+    /// A desk with nothing on it.
+    pub fn new() -> Desk {
+        Desk {
+            log: None,
+            graph: None,
+            finder: None,
+            board: None,
+        }
+    }
+
+    /// Opens the graph of the log, of its distinct words where they are to be shared.
+    fn open(&mut self, alloc: Global, is_shared: bool) -> Result<(), AllocError> {
+        let Some(log) = &self.log else {
+            return Ok(());
+        };
+        if is_shared {
+            return put(&mut self.graph, PartGraph::open_shared(alloc, log));
+        }
+        put(
+            &mut self.graph,
+            both(PartGraph::open(alloc, log), Ok(Vec::new(alloc))),
+        )
+    }
+
+    /// Makes what a step is to make.
+    fn make(&mut self, alloc: Global, word: &str, text: &str) -> Result<(), AllocError> {
+        match word {
+            "log" => {
+                put(&mut self.log, log_of(alloc, text))?;
+                self.open(alloc, false)
+            }
+            "shared" => self.open(alloc, true),
+            "invs" => put(&mut self.board, board_of(alloc, text)),
+            "paths" if self.finder.is_none() => put(&mut self.finder, Finder::make(alloc)),
+            _ => Ok(()),
+        }
+    }
+
+    /// Asks for the least paths that break the invariants.
+    fn ask_finder(&mut self, told: &mut String, text: &str) -> Result<(), AllocError> {
+        let Some((graph, _)) = &self.graph else {
+            return Ok(());
+        };
+        let Some(board) = &self.board else {
+            return Ok(());
+        };
+        match &mut self.finder {
+            Some(finder) => put_paths(told, finder, graph, &board.invs, text),
+            None => Ok(()),
+        }
+    }
+
+    /// Asks the labels and the marks.
+    fn ask_board(
+        &mut self,
+        alloc: Global,
+        told: &mut String,
+        word: &str,
+        text: &str,
+    ) -> Result<(), AllocError> {
+        let Some((graph, _)) = &mut self.graph else {
+            return Ok(());
+        };
+        let Some(board) = &mut self.board else {
+            return Ok(());
+        };
+        match word {
+            "label" => board.put_labels(told, graph, text),
+            "labels" => board.put_states(told),
+            "satisfied" => board.put_satisfied(alloc, told, graph),
+            "clashes" => board.put_clashes(told, graph, text),
+            "marks" => {
+                board.find(graph);
+                Ok(())
+            }
+            _ => write!(told, " {}", board.invs.len()),
+        }
+    }
+
+    /// Asks the graph.
+    fn ask_graph(
+        &mut self,
+        alloc: Global,
+        told: &mut String,
+        word: &str,
+        text: &str,
+    ) -> Result<(), AllocError> {
+        let Some((graph, numbers)) = &mut self.graph else {
+            return Ok(());
+        };
+        match word {
+            "take" => put_moves(told, graph, text),
+            "chain" => put_chain_of(told, graph, text),
+            "graph" => put_graph(alloc, told, graph),
+            "spread" => put_spread(alloc, told, graph, numbers),
+            "sizes" => put_sizes(told, graph, text),
+            "view" => put_view(alloc, told, graph, text),
+            "edges" => put_edges(told, graph, text),
+            "places" => put_places(alloc, told, graph, text),
+            _ => put_counts(told, graph, numbers),
+        }
+    }
+
+    /// Runs refinement on the first graph of the log, and coarsening too where the run is to be whole.
+    fn run(&self, alloc: Global, told: &mut String, is_whole: bool) -> Result<(), AllocError> {
+        match &self.log {
+            Some(log) => put_run(alloc, told, log, is_whole),
+            None => Ok(()),
+        }
+    }
+
+    /// Tells what comes of a step, where all is made for it.
+    fn ask(
+        &mut self,
+        alloc: Global,
+        told: &mut String,
+        word: &str,
+        text: &str,
+    ) -> Result<(), AllocError> {
+        match word {
+            "refine" => self.run(alloc, told, false),
+            "infer" => self.run(alloc, told, true),
+            "paths" => self.ask_finder(told, text),
+            "invs" | "label" | "labels" | "satisfied" | "marks" | "clashes" => {
+                self.ask_board(alloc, told, word, text)
+            }
+            _ => self.ask_graph(alloc, told, word, text),
+        }
+    }
+
+    /// Takes a step, and tells what came of it.
+    pub fn step(&mut self, alloc: Global, line: &str) -> Result<String, AllocError> {
+        let (word, text) = line.split_once(' ').unwrap_or((line, ""));
+        self.make(alloc, word, text)?;
+        let mut told = format!(in alloc; "{word}:")?;
+        self.ask(alloc, &mut told, word, text)?;
+        Ok(told)
+    }
+}

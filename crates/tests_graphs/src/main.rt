@@ -1,0 +1,50 @@
+//! Tells what graphs of partitions answer: their splits, merges and views, shortest paths that break an invariant, labels,
+//! marks, and whole runs of refinement and coarsening. Each line of standard input is a step, and for each a line is printed:
+//! the step's first word, and what came of it.
+//!
+//! - `log a b|a c` has the log of these traces, and its first graph; `shared` the graph of its distinct words. Told are how
+//!   many traces and events the graph has, and the number of each trace's word.
+//! - `take 3/6 2+4` makes the splits and merges; told is each new id, or whether two ids are a pair. `chain 3/6 9` splits by
+//!   6, then by the new id, and so on, nine times.
+//! - `graph` tells all of the graph, `spread` all of the graph that is spread over the traces, `sizes 3 4` how many events
+//!   these ids have, `view` and `view 2+4` what the graph and the merged one show, `edges 2>3` whether there is this edge,
+//!   `places 0231` where this path leaves the traces.
+//! - `invs AF 2 4,NF 3 3` has these invariants; `paths` and `paths 2+4` tell the least path that breaks each of them, in the
+//!   graph and in the merged one, `label` and `label 2+4` label them, `labels` tells the labels again, `satisfied` which of
+//!   them hold.
+//! - `marks` finds the marks of the graph, and `clashes 3-7 3+8` asks them of two ids, or merges these.
+//! - `refine` runs refinement on the first graph of the log by what is mined of it, `infer` coarsening too.
+//!
+//! The cases stand in the folder `cases`. The script `make` makes `stdin` and `stdout` of them and never runs this program.
+#![tactic(auto)]
+
+mod board;
+mod desk;
+mod known;
+mod logs;
+mod moves;
+mod paths;
+mod runs;
+mod texts;
+mod tools;
+mod views;
+
+use desk::Desk;
+use std::io;
+
+/// Takes the steps of all lines.
+fn take_all(rt: &HostRuntime, desk: &mut Desk) -> io::Result<()> {
+    let alloc = rt.alloc();
+    for line in rt.lines(alloc) {
+        let told = desk.step(alloc, line?.as_str())?;
+        println!(rt; "{told}")?;
+    }
+    Ok(())
+}
+
+fn main(rt: HostRuntime) -> io::Result<()> {
+    let mut desk = Desk::new();
+    let end = take_all(&rt, &mut desk);
+    drop(desk);
+    end
+}
