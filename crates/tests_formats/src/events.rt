@@ -1,0 +1,62 @@
+//! Events that are gathered in traces.
+
+use crate::notation::number_of;
+use crate::said::write_log;
+use limits::{MAX_TRACE_BYTES, MAX_TYPE_BYTES};
+use std::alloc::{AllocError, Global};
+use std::fmt::Write;
+use traces::{AddError, Builder, TraceSet, Worded};
+
+/// Adds an event whose texts are within the limits, and no other; one without a time by the words of its texts.
+pub fn add(
+    builder: &mut Builder,
+    key: (u32, u32, &str),
+    typ: &str,
+    time: u128,
+) -> Result<(), AddError> {
+    if key.2.len() > MAX_TRACE_BYTES || typ.is_empty() || typ.len() > MAX_TYPE_BYTES {
+        return Ok(());
+    }
+    if time == 0 {
+        return builder.add_worded(key.0, key.1, &Worded::of(key.2), &Worded::of(typ));
+    }
+    builder.add(key.0, key.1, key.2, typ, time)
+}
+
+/// Takes a step `COUNT FILE SECTION TIME TRACE|TYPE`: adds that event so many times, and says why one is refused.
+fn take_step(builder: &mut Builder, step: &str, out: &mut String) -> Result<(), AllocError> {
+    let (count, rest) = number_of(step);
+    let (file, rest) = number_of(rest);
+    let (section, rest) = number_of(rest);
+    let (time, rest) = number_of(rest);
+    let (text, typ) = rest.split_once('|').unwrap_or(("", ""));
+    let file = u32::try_from(file).unwrap_or(0);
+    let section = u32::try_from(section).unwrap_or(0);
+    for _ in 0..u32::try_from(count).unwrap_or(0) {
+        if let Err(fault) = add(builder, (file, section, text), typ, time) {
+            writeln!(out, "{fault:?}")?;
+        }
+    }
+    Ok(())
+}
+
+/// Takes these steps.
+fn take_steps(builder: &mut Builder, steps: &str, out: &mut String) -> Result<(), AllocError> {
+    for step in steps.split('\n') {
+        take_step(builder, step, out)?;
+    }
+    Ok(())
+}
+
+/// The log of the events of these steps.
+fn log_of(alloc: Global, steps: &str, out: &mut String) -> Result<TraceSet, AllocError> {
+    let mut builder = Builder::new(alloc);
+    take_steps(&mut builder, steps, out)?;
+    builder.finish()
+}
+
+/// Takes the steps of a case, and says what is gathered.
+pub fn run(alloc: Global, steps: &str, out: &mut String) -> Result<(), AllocError> {
+    let log = log_of(alloc, steps, out)?;
+    write_log(out, &log)
+}

@@ -1,0 +1,80 @@
+//! Keys in a table: where each is put or found, and then all keys.
+
+use crate::notation::{number_of, write_bytes};
+use key_table::{KeyParts, KeyTable, Worded};
+use std::alloc::{AllocError, Global};
+use std::fmt::Write;
+
+/// Where the key of file 0 stands, or is put: by the words of its text where the place that is near is odd.
+fn place(
+    alloc: Global,
+    table: &mut KeyTable,
+    near: usize,
+    section: u32,
+    text: &str,
+) -> Result<Option<usize>, AllocError> {
+    if table.len() >= 100_000 || text.len() >= 1_000 {
+        return Ok(None);
+    }
+    if near % 2 == 1 {
+        let worded = Worded::of(text);
+        let found = table.place_or_put_worded(alloc, near, 0, section, &worded)?;
+        return Ok(Some(found));
+    }
+    let parts = KeyParts {
+        file: 0,
+        section,
+        text,
+    };
+    let found = table.place_or_put(alloc, near, &parts)?;
+    Ok(Some(found))
+}
+
+/// Takes a step `NEAR SECTION TEXT`, and says where the key stands, and where else it is found by its words alone.
+fn take_step(
+    alloc: Global,
+    table: &mut KeyTable,
+    step: &str,
+    out: &mut String,
+) -> Result<(), AllocError> {
+    let (near, section_and_text) = number_of(step);
+    let (section, text) = number_of(section_and_text);
+    let near = usize::try_from(near).unwrap_or(0);
+    let section = u32::try_from(section).unwrap_or(0);
+    let found = place(alloc, table, near, section, text)?;
+    let short = table.short_place_of(0, section, &Worded::of(text));
+    if short.is_some() && short != found {
+        writeln!(out, "but {short:?} by its words")?;
+    }
+    writeln!(out, "{found:?}")
+}
+
+/// Says which keys there are: their files, sections and texts.
+fn write_keys(table: &KeyTable, out: &mut String) -> Result<(), AllocError> {
+    for place in 0..table.len() {
+        let key = table.key(place);
+        write!(out, "{} {} ", key.file, key.section)?;
+        write_bytes(out, key.text)?;
+        out.push('\n')?;
+    }
+    Ok(())
+}
+
+/// Takes the steps of a case, and says which keys there are after them.
+fn take_steps(
+    alloc: Global,
+    table: &mut KeyTable,
+    steps: &str,
+    out: &mut String,
+) -> Result<(), AllocError> {
+    for step in steps.split('\n') {
+        take_step(alloc, table, step, out)?;
+    }
+    write_keys(table, out)
+}
+
+/// Takes the steps of a case.
+pub fn run(alloc: Global, steps: &str, out: &mut String) -> Result<(), AllocError> {
+    let mut table = KeyTable::new(alloc);
+    take_steps(alloc, &mut table, steps, out)
+}

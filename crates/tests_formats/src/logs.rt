@@ -1,0 +1,94 @@
+//! Logs of several inputs.
+
+use crate::notation::{bytes_of, number_of, write_bytes};
+use crate::said::write_log;
+use line_rules::{LineRules, RegexPatterns};
+use log_reader::{Form, read_log};
+use outside::{Inputs, MemInputs};
+use std::alloc::{AllocError, Global};
+use std::fmt::Write;
+
+/// The files of these steps, each `NAME|TEXT`.
+fn files_of(alloc: Global, steps: &str) -> Result<Vec<(String, Vec<u8>)>, AllocError> {
+    let mut files = Vec::new(alloc);
+    for step in steps.split('\n') {
+        let (name, text) = step.split_once('|').unwrap_or(("", ""));
+        files.push((name.to_string(alloc)?, bytes_of(alloc, text)?))?;
+    }
+    Ok(files)
+}
+
+/// The inputs that are named.
+fn names_of(alloc: Global, words: &str) -> Result<Vec<String>, AllocError> {
+    let mut names = Vec::new(alloc);
+    for name in words.split_whitespace() {
+        names.push(name.to_string(alloc)?)?;
+    }
+    Ok(names)
+}
+
+/// Reads the log of the inputs, and says what it has, or why it is refused. The words are the options and the names.
+fn read(
+    alloc: Global,
+    inputs: &mut MemInputs,
+    words: &str,
+    form: Form<'_>,
+    out: &mut String,
+) -> Result<(), AllocError> {
+    let (options, names) = words.split_once('|').unwrap_or(("", ""));
+    let (ignore, join) = (options.contains('i'), options.contains('j'));
+    let names = names_of(alloc, names)?;
+    if names.len() > 1_000 {
+        return out.push_str("too many names\n");
+    }
+    let log = read_log(alloc, inputs, &names, form, ignore, join);
+    drop(names);
+    match log {
+        Ok(log) => write_log(out, &log),
+        Err(fault) => writeln!(out, "{fault:?}"),
+    }
+}
+
+/// Reads the log of the inputs in the plain form, or by the rules of a file, if there is one.
+fn read_by(
+    alloc: Global,
+    inputs: &mut MemInputs,
+    words: &str,
+    file: &str,
+    out: &mut String,
+) -> Result<(), AllocError> {
+    if file == "plain" {
+        return read(alloc, inputs, words, Form::Plain, out);
+    }
+    match LineRules::read(alloc, file.as_bytes(), &mut RegexPatterns::new(alloc)) {
+        Ok(rules) => read(alloc, inputs, words, Form::Rules(&rules), out),
+        Err(fault) => writeln!(out, "{fault:?}"),
+    }
+}
+
+/// Says what a further read gives.
+fn write_left(inputs: &mut MemInputs, out: &mut String) -> Result<(), AllocError> {
+    let mut buf = [0u8; 7];
+    let count = inputs.read(&mut buf);
+    write!(out, "then {count:?} ")?;
+    write_bytes(out, buf.get(..count.unwrap_or(0)).unwrap_or(&[]))?;
+    out.push('\n')
+}
+
+/// Says what the log of the inputs has. The words are how many bytes a read gives at most, which call fails, the options
+/// and the names. The first step is the file of rules, and the others are the inputs. Where a call fails, a further read
+/// tells what is left.
+pub fn run(alloc: Global, words: &str, steps: &str, out: &mut String) -> Result<(), AllocError> {
+    let (piece, rest) = number_of(words);
+    let (failing, words) = number_of(rest);
+    let piece = usize::try_from(piece).unwrap_or(1).max(1);
+    let failing = u64::try_from(failing).unwrap_or(0);
+    let (file, inputs) = steps.split_once('\n').unwrap_or((steps, ""));
+    let calls = vec![in alloc; failing]?;
+    let mut inputs = MemInputs::new(files_of(alloc, inputs)?, piece, calls);
+    read_by(alloc, &mut inputs, words, file, out)?;
+    if failing > 0 {
+        return write_left(&mut inputs, out);
+    }
+    Ok(())
+}

@@ -1,0 +1,89 @@
+//! What a log and a model say, part by part.
+
+use crate::notation::{bytes_of, write_bytes};
+use invariants::{Block, Listed, Model, Split, Text};
+use model_file::read_model;
+use std::alloc::{AllocError, Global};
+use std::fmt::Write;
+use traces::TraceSet;
+
+/// Says which types there are.
+pub fn write_types(out: &mut String, types: &[Text]) -> Result<(), AllocError> {
+    out.push_str("types")?;
+    for text in types {
+        out.push('|')?;
+        write_bytes(out, text.as_str().as_bytes())?;
+    }
+    out.push('\n')
+}
+
+/// Says the keys of the traces, the numbers of their types, and their times.
+fn write_traces(out: &mut String, log: &TraceSet) -> Result<(), AllocError> {
+    for t in 0..log.trace_count() {
+        let (key, events, times) = (log.key(t), log.events(t), log.times(t));
+        write!(out, "{} {} ", key.file, key.section)?;
+        write_bytes(out, key.text)?;
+        writeln!(out, "|{events:?} {times:?}")?;
+    }
+    Ok(())
+}
+
+/// Says what a log has: of more than 1,000 events only how many there are.
+pub fn write_log(out: &mut String, log: &TraceSet) -> Result<(), AllocError> {
+    write_types(out, log.types().as_slice())?;
+    writeln!(
+        out,
+        "{} traces, {} events",
+        log.trace_count(),
+        log.event_count()
+    )?;
+    if log.event_count() > 1_000 {
+        return Ok(());
+    }
+    write_traces(out, log)
+}
+
+fn write_invariants(out: &mut String, invariants: &[Listed]) -> Result<(), AllocError> {
+    for listed in invariants {
+        writeln!(out, "{:?} {:?}", listed.inv, listed.labels.as_slice())?;
+    }
+    Ok(())
+}
+
+fn write_splits(out: &mut String, splits: &[Split]) -> Result<(), AllocError> {
+    for split in splits {
+        let (inv, place, path) = (split.inv, split.place, split.path.as_slice());
+        writeln!(out, "split at {place} for {inv} in {path:?}")?;
+    }
+    Ok(())
+}
+
+fn write_blocks(out: &mut String, blocks: &[Block]) -> Result<(), AllocError> {
+    for block in blocks {
+        let (p, q, inv, path) = (block.p, block.q, block.inv, block.path.as_slice());
+        writeln!(out, "{p} apart from {q} for {inv} by {path:?}")?;
+    }
+    Ok(())
+}
+
+/// Says what a model says.
+fn write_model(out: &mut String, model: &Model) -> Result<(), AllocError> {
+    write_types(out, model.types.as_slice())?;
+    writeln!(out, "{:?}", model.partitions.as_slice())?;
+    writeln!(out, "{:?}", model.edges.as_slice())?;
+    writeln!(out, "{:?}", model.merges.as_slice())?;
+    write_invariants(out, model.invariants.as_slice())?;
+    write_splits(out, model.splits.as_slice())?;
+    write_blocks(out, model.blocks.as_slice())
+}
+
+/// Says what the model of a file says.
+pub fn run(alloc: Global, file: &str, out: &mut String) -> Result<(), AllocError> {
+    let file = bytes_of(alloc, file)?;
+    let read = read_model(alloc, &file);
+    drop(file);
+    match read {
+        Ok(model) => write_model(out, &model),
+        Err(fault) => writeln!(out, "{fault:?}"),
+    }
+}

@@ -1,0 +1,69 @@
+//! Texts of models that are read, and written again.
+
+use crate::changes::changed;
+use crate::notation::{bytes_of, write_bytes};
+use crate::said::write_types;
+use invariants::Model;
+use model_file::{FileError, is_well_shaped, read_model, write_model};
+use std::alloc::{AllocError, Global};
+use std::fmt::Write;
+
+/// Says whether the model is well shaped, which types it has, and what its text is: the same as another, or not.
+fn write_text(
+    alloc: Global,
+    model: &Model,
+    base: &[u8],
+    out: &mut String,
+) -> Result<(), AllocError> {
+    if !is_well_shaped(alloc, model)? {
+        return out.push_str("not well shaped\n");
+    }
+    let written = write_model(alloc, model)?;
+    if written.as_slice() == base {
+        out.push_str("the same, ")?;
+    } else {
+        write_bytes(out, written.as_slice())?;
+    }
+    write_types(out, model.types.as_slice())
+}
+
+/// Says what comes of a file: the text of its model, or why it is refused.
+fn write_answer(
+    alloc: Global,
+    file: &[u8],
+    base: &[u8],
+    out: &mut String,
+) -> Result<(), AllocError> {
+    match read_model(alloc, file) {
+        Ok(model) => write_text(alloc, &model, base, out),
+        Err(fault) => writeln!(out, "{fault:?}"),
+    }
+}
+
+/// Says what comes of each change of the text of the first step.
+pub fn run(alloc: Global, steps: &str, out: &mut String) -> Result<(), AllocError> {
+    let (base, changes) = steps.split_once('\n').unwrap_or((steps, ""));
+    let base = bytes_of(alloc, base)?;
+    for change in changes.split('\n') {
+        let file = changed(alloc, &base, change)?;
+        write_answer(alloc, &file, &base, out)?;
+    }
+    Ok(())
+}
+
+/// Whether the bytes are a JSON text.
+fn is_json(alloc: Global, bytes: &[u8]) -> bool {
+    !matches!(read_model(alloc, bytes), Err(FileError::NotJson))
+}
+
+/// Says how many fronts of a file there are, and how many of them are no JSON.
+pub fn fronts(alloc: Global, file: &str, out: &mut String) -> Result<(), AllocError> {
+    let file = bytes_of(alloc, file)?;
+    let mut refused = 0usize;
+    for length in 0..file.len() {
+        if !is_json(alloc, &file[..length]) {
+            refused = refused.saturating_add(1);
+        }
+    }
+    writeln!(out, "{} fronts, {refused} are no JSON", file.len())
+}

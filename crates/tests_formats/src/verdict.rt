@@ -1,0 +1,75 @@
+//! Models that are read from a file and checked against a log.
+
+use crate::changes::changed;
+use crate::events::add;
+use crate::notation::bytes_of;
+use model_check::check;
+use model_file::read_model;
+use std::alloc::{AllocError, Global};
+use std::fmt::Write;
+use traces::{AddError, Builder, TraceSet};
+
+/// Adds the events of a trace, whose types stand between spaces.
+fn add_trace(builder: &mut Builder, file: u32, trace: &str) -> Result<(), AddError> {
+    for typ in trace.split_whitespace() {
+        add(builder, (file, 0, ""), typ, 0)?;
+    }
+    Ok(())
+}
+
+/// Adds the events of traces, which are parted by semicolons, and says why one is refused.
+fn add_traces(builder: &mut Builder, traces: &str, out: &mut String) -> Result<(), AllocError> {
+    let mut file = 0u32;
+    for trace in traces.split(';') {
+        if let Err(fault) = add_trace(builder, file, trace) {
+            writeln!(out, "{fault:?}")?;
+        }
+        file = file.saturating_add(1);
+    }
+    Ok(())
+}
+
+/// The log of traces.
+fn log_of(alloc: Global, traces: &str, out: &mut String) -> Result<TraceSet, AllocError> {
+    let mut builder = Builder::new(alloc);
+    add_traces(&mut builder, traces, out)?;
+    builder.finish()
+}
+
+/// Says whether the model of a file is valid for the log.
+fn write_verdict(
+    alloc: Global,
+    file: &[u8],
+    log: &TraceSet,
+    out: &mut String,
+) -> Result<(), AllocError> {
+    let model = match read_model(alloc, file) {
+        Ok(model) => model,
+        Err(fault) => return writeln!(out, "{fault:?}"),
+    };
+    let verdict = check(alloc, &model, log);
+    drop(model);
+    writeln!(out, "{:?}", verdict?)
+}
+
+/// Says the verdict on each change of the model of the first step.
+fn write_verdicts(
+    alloc: Global,
+    log: &TraceSet,
+    steps: &str,
+    out: &mut String,
+) -> Result<(), AllocError> {
+    let (base, changes) = steps.split_once('\n').unwrap_or((steps, ""));
+    let base = bytes_of(alloc, base)?;
+    for change in changes.split('\n') {
+        let file = changed(alloc, &base, change)?;
+        write_verdict(alloc, &file, log, out)?;
+    }
+    Ok(())
+}
+
+/// Says the verdicts on changes of a model for the log of these traces.
+pub fn run(alloc: Global, traces: &str, steps: &str, out: &mut String) -> Result<(), AllocError> {
+    let log = log_of(alloc, traces, out)?;
+    write_verdicts(alloc, &log, steps, out)
+}
