@@ -1,4 +1,4 @@
-use Rattle.std.proofs.Common.{◌<◌, sym, ◌∙◌, subst}
+use Rattle.std.proofs.Common.{◌<◌, sym, ◌∙◌, subst, rules}
 use Rattle.path_finder.specs.declared.table.TheConstants.{OPEN}
 use Rattle.path_finder.specs.Asking.{asked}
 use Rattle.path_finder.specs.Tables.{Entries, at, Grows}
@@ -20,3 +20,6 @@ pub returns-clause-entered : goal.returns-clause-entered
 returns-clause-entered c l =
     subst (λ (e : Entries). at e c.args.pair < OPEN) (sym c.enter.ensures)
     (entered_now (asked c.args.question.now) c.args.turn c.args.table.now c.args.pair c.args.question.now.few c.requires.turn c.requires.pair (sym c.distance.ensures ∙ c.if-distance.false) l)
+
+pub returns-then-distance-clause-entered : goal.returns-then-distance-clause-entered
+returns-then-distance-clause-entered c = search rules
