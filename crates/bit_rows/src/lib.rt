@@ -3,7 +3,5 @@
 
 mod kernels;
 mod rows;
-#[cfg(test)]
-mod tests;
 
 pub use rows::Rows;

@@ -4,8 +4,6 @@
 mod cells;
 mod run_log;
 mod spans;
-#[cfg(test)]
-mod tests;
 
 pub use cells::Cells;
 pub use run_log::{BlockEntry, MergeEntry, RunLog, SplitEntry};

@@ -15,8 +15,6 @@ ghost use Rattle.traces.specs.Words.{words_of};
 ghost use Rattle.closure_miner.specs.Standing.{Stands};
 
 mod standing;
-#[cfg(test)]
-mod tests;
 
 use invariants::{Invariant, Seq};
 use standing::Standing;

@@ -49,8 +49,6 @@ mod law;
 mod monitor;
 mod numbered;
 mod records;
-#[cfg(test)]
-mod tests;
 
 pub use law::{
     candidates_differ, candidates_tell, ends_say_nothing, holds_by_places, mined_keeps_order,

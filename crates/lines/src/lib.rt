@@ -5,8 +5,6 @@ mod law;
 mod pieces;
 mod plain;
 mod space;
-#[cfg(test)]
-mod tests;
 
 pub use law::{pieces_are_unique, pieces_give_the_bytes_back, pieces_have_no_line_feed};
 pub use pieces::{next_piece, without_return};

@@ -6,8 +6,6 @@ mod call;
 mod generator;
 mod law;
 mod log;
-#[cfg(test)]
-mod tests;
 
 pub use law::sessions_stand_in_order;
 pub use log::make_log;

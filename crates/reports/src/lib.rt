@@ -9,8 +9,6 @@ mod number;
 mod partitions;
 mod path;
 mod taken;
-#[cfg(test)]
-mod tests;
 
 pub use graph::graph_report;
 pub use invariant::invariant_report;

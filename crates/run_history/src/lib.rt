@@ -9,9 +9,6 @@ use cell_pool::{RunLog, Span, Spans};
 use invariants::{Block, Merge, Seq, Split};
 use std::alloc::{AllocError, Global};
 
-#[cfg(test)]
-mod tests;
-
 /// A copy of the numbers of the span, which lies within those that were pushed.
 fn copy_of(alloc: Global, spans: &Spans, span: Span) -> Result<Seq<u32>, AllocError>
     requires { IsWithin (spans.now).numbers span }

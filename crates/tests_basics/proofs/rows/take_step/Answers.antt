@@ -1,4 +1,4 @@
-use Rattle.bit_rows.proofs.tests.take_step.Goals as goal
+use Rattle.tests_basics.proofs.rows.take_step.Goals as goal
 
 pub returns-in-Or : goal.returns-in-Or
 returns-in-Or c = c.or_into.ensures.shape 4 c.args.bits c.requires

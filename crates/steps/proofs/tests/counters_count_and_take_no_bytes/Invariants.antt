@@ -1,5 +1,0 @@
-use Rattle.steps.proofs.tests.counters_count_and_take_no_bytes.Given as goal
-
--- the ledger of the counter
-abbrev pub ghosts-count_six : goal.ghosts-count_six
-ghosts-count_six g a = record { name = a.blank.name; parts = a.blank.parts }

@@ -1,0 +1,73 @@
+//! Candidates, monitors, lists and texts.
+
+use crate::words::{halves, number};
+use invariants::{Invariant, Kind, Monitor, Seq, Text, candidate, candidate_count, index_of};
+use limits::MAX_TYPES;
+use std::alloc::{AllocError, Global};
+
+/// The kind of this name.
+fn kind(word: &str) -> Kind {
+    match word {
+        "AF" => Kind::AF,
+        "NF" => Kind::NF,
+        _ => Kind::AP,
+    }
+}
+
+/// The invariant of a word, as `AF,0,2`.
+pub fn invariant(word: &str) -> Invariant {
+    let (name, types) = halves(word, ',');
+    let (a, b) = halves(types, ',');
+    Invariant {
+        kind: kind(name),
+        a: a.parse().unwrap_or(0),
+        b: b.parse().unwrap_or(0),
+    }
+}
+
+/// `candidate TYPES INDEX`: how many candidates there are, the one at the index, and where that stands.
+pub fn at_index(alloc: Global, words: &str) -> Result<String, AllocError> {
+    let (types, index) = halves(words, ' ');
+    let types = number(types).min(MAX_TYPES);
+    let found = candidate(types, number(index));
+    let back = match found {
+        Some(inv) => index_of(types, inv),
+        None => None,
+    };
+    format!(in alloc; "{} {found:?} {back:?}", candidate_count(types))
+}
+
+/// `index TYPES INVARIANT`
+pub fn index(alloc: Global, words: &str) -> Result<String, AllocError> {
+    let (types, inv) = halves(words, ' ');
+    let types = number(types).min(MAX_TYPES);
+    format!(in alloc; "{:?}", index_of(types, invariant(inv)))
+}
+
+/// `monitor INVARIANT TYPE TYPE ..`: the state after each type, and whether the last is bad.
+pub fn monitor(alloc: Global, words: &str) -> Result<String, AllocError> {
+    let (inv, word) = halves(words, ' ');
+    let inv = invariant(inv);
+    let mut told = String::new(alloc);
+    let mut state = Monitor::start();
+    'states: for x in word.split(' ') {
+        state = Monitor::step(inv, state, x.parse().unwrap_or(0));
+        write!(told, "{state} ")?;
+    }
+    write!(told, "{}", Monitor::bad(inv, state))?;
+    Ok(told)
+}
+
+/// `seq NUMBER NUMBER ..`
+pub fn seq(alloc: Global, words: &str) -> Result<String, AllocError> {
+    let numbers = words.split(' ').filter(|word| !word.is_empty()).map(number);
+    let list = Seq::from_vec(numbers.collect(alloc)?);
+    let (count, none) = (list.len(), list.is_empty());
+    format!(in alloc; "{count} {none} {:?}", list.as_slice())
+}
+
+/// `text TEXT`
+pub fn text(alloc: Global, word: &str) -> Result<String, AllocError> {
+    let text = Text::from_string(String::from_str(alloc, word)?);
+    format!(in alloc; "{} {:?}", text.len(), text.as_str())
+}

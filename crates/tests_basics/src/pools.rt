@@ -1,0 +1,170 @@
+//! Stores whose memory is taken once, what a run's log says, and a counter. The calls are fixed, since what each requires of
+//! the store before it is seen where they stand.
+ghost use Rattle.std.specs.Prelude.{◌≡◌, ◌+◌, ◌<◌, length};
+ghost use Rattle.cell_pool.specs.Tables.{HasCells};
+
+use cell_pool::{Cells, RunLog, Span, Spans};
+use invariants::{Block, Merge, Split};
+use run_history::{blocks, merges, splits};
+use std::alloc::{AllocError, Global};
+use std::marker::Brand;
+use std::sync::ledger::{Blank, Ledger};
+use steps::Steps;
+
+/// The first cells of two lists, and what comes after each of four cells.
+fn lists(cells: &Cells) -> ([Option<u32>; 2], [Option<u32>; 4])
+    requires cells { HasCells cells.now 4 }
+    requires lists { length cells.now ≡ 2 }
+{
+    let firsts = [cells.first(0), cells.first(1)];
+    let nexts = [cells.next(0), cells.next(1), cells.next(2), cells.next(3)];
+    (firsts, nexts)
+}
+
+/// `cells`
+pub fn cells(alloc: Global) -> Result<String, AllocError> {
+    let mut cells = Cells::make(alloc, 4, 2)?;
+    let made = lists(&cells);
+    cells.move_to(1, 0, 1);
+    cells.move_to(3, 0, 1);
+    let moved = lists(&cells);
+    cells.splice(1, 0);
+    let spliced = lists(&cells);
+    cells.splice(1, 0);
+    let again = [cells.first(0), cells.first(1)];
+    drop(cells);
+    format!(in alloc; "{made:?}\n{moved:?}\n{spliced:?}\n{again:?}")
+}
+
+/// `spans`
+pub fn spans(alloc: Global) -> Result<String, AllocError> {
+    let mut spans = Spans::make(alloc, 5)?;
+    let first = spans.push(&[7, 8, 9]);
+    let refused = spans.push(&[1, 2, 3]);
+    let used = spans.used();
+    let second = spans.push(&[4, 5]);
+    let full = spans.used();
+    let none = spans.push(&[]);
+    let over = spans.push(&[6]);
+    if spans.used() != 5 {
+        return String::from_str(alloc, "not full");
+    }
+    let three = spans.get(Span { from: 0, len: 3 });
+    let two = spans.get(Span { from: 3, len: 2 });
+    let empty = spans.get(Span { from: 5, len: 0 });
+    format!(in alloc;
+        "{first:?} {refused:?} {used}\n{second:?} {full}\n{none:?} {over:?}\n{three:?} {two:?} {empty:?}"
+    )
+}
+
+/// `entries`
+pub fn entries(alloc: Global) -> Result<String, AllocError> {
+    let path = Span { from: 3, len: 2 };
+    let mut log = RunLog::make(alloc, 1, 2, 1)?;
+    log.add_merge(4, 6);
+    log.add_split(5, 1, path);
+    log.add_merge(2, 3);
+    log.add_block(2, 4, 9, path);
+    format!(in alloc;
+        "{:?}\n{:?}\n{:?}",
+        log.splits(),
+        log.merges(),
+        log.blocks()
+    )
+}
+
+/// Puts splits at the end of the text.
+fn put_splits(told: &mut String, list: &[Split]) -> Result<(), AllocError> {
+    for split in list {
+        write!(
+            told,
+            "split {} {} {:?}\n",
+            split.inv,
+            split.place,
+            split.path.as_slice()
+        )?;
+    }
+    Ok(())
+}
+
+/// Puts blocks at the end of the text.
+fn put_blocks(told: &mut String, list: &[Block]) -> Result<(), AllocError> {
+    for block in list {
+        write!(
+            told,
+            "block {} {} {} {:?}\n",
+            block.p,
+            block.q,
+            block.inv,
+            block.path.as_slice()
+        )?;
+    }
+    Ok(())
+}
+
+/// Puts merges at the end of the text.
+fn put_merges(told: &mut String, list: &[Merge]) -> Result<(), AllocError> {
+    for merge in list {
+        write!(told, "merge {} {}\n", merge.p, merge.q)?;
+    }
+    Ok(())
+}
+
+/// `history`: two paths, of which the second serves a split and a block.
+pub fn history(alloc: Global) -> Result<String, AllocError> {
+    let mut told = String::new(alloc);
+    let mut spans = Spans::make(alloc, 9)?;
+    let mut log = RunLog::make(alloc, 2, 2, 1)?;
+    let Some(first) = spans.push(&[0, 2, 3, 1]) else {
+        return Ok(told);
+    };
+    let Some(second) = spans.push(&[0, 4, 1]) else {
+        return Ok(told);
+    };
+    log.add_split(5, 2, first);
+    log.add_merge(4, 6);
+    log.add_split(7, 1, second);
+    log.add_merge(2, 3);
+    log.add_block(2, 4, 9, second);
+    put_splits(&mut told, splits(alloc, &log, &spans)?.as_slice())?;
+    put_merges(&mut told, merges(alloc, &log)?.as_slice())?;
+    put_blocks(&mut told, blocks(alloc, &log, &spans)?.as_slice())?;
+    Ok(told)
+}
+
+/// Three steps, by a counter that others may go on with.
+fn take_three<L: Ledger>(steps: &mut Steps<L>)
+    ensures { steps.new ≡ steps.old + 3 }
+{
+    steps.tick();
+    steps.tick();
+    steps.tick();
+}
+
+/// A call is proved only where the counter stands at this count.
+fn stands_at<L: Ledger>(_steps: &Steps<L>, count: u32) -> u32
+    requires { _steps.now ≡ count }
+    ensures { result ≡ count }
+{
+    count
+}
+
+/// As a caller that counts nothing calls what counts.
+fn count_six<L: Ledger>(blank: Blank) -> u32
+    requires name { blank.name ≡ L.name }
+    requires parts { blank.parts ≡ L.parts }
+    requires stands { 0 < blank.parts }
+    ensures { result ≡ 6 }
+{
+    let mut steps = Steps::<L>::open(blank);
+    take_three(&mut steps);
+    take_three(&mut steps);
+    stands_at(&steps, 6)
+}
+
+/// `steps`: a count, and how many bytes the counter takes.
+pub fn steps(alloc: Global) -> Result<String, AllocError> {
+    let count = count_six::<Brand>(Blank::new(1));
+    let size = std::mem::size_of::<Steps<Brand>>();
+    format!(in alloc; "{count} {size}")
+}

@@ -1,0 +1,51 @@
+//! The words of a case, and bytes as they are printed.
+
+use std::alloc::{AllocError, Global};
+
+/// What stands before and after the first such letter; without one, all and nothing.
+pub fn halves<'a>(words: &'a str, at: char) -> (&'a str, &'a str) {
+    words.split_once(at).unwrap_or((words, ""))
+}
+
+/// The letter that a letter of a word stands for.
+fn meant(letter: char) -> char {
+    match letter {
+        '~' => '\n',
+        '^' => '\r',
+        '_' => ' ',
+        other => other,
+    }
+}
+
+/// The text that a word stands for: `~` is a line feed, `^` a carriage return, `_` a space and `%` nothing.
+pub fn plain(alloc: Global, word: &str) -> Result<String, AllocError> {
+    word.chars()
+        .filter(|letter| *letter != '%')
+        .map(meant)
+        .collect(alloc)
+}
+
+/// The number that a word says, and 0 where it says none.
+pub fn number(word: &str) -> u32 {
+    word.parse().unwrap_or(0)
+}
+
+/// The bytes as a text.
+pub fn text(bytes: &[u8]) -> &str {
+    str::from_utf8(bytes).unwrap_or("?")
+}
+
+/// A number that tells long texts apart.
+pub fn mark(bytes: &[u8]) -> u64 {
+    bytes.iter().fold(7, |mark: u64, byte| {
+        mark.wrapping_mul(1_000_003).wrapping_add(u64::from(*byte))
+    })
+}
+
+/// The bytes where they are few, and else how many there are, and their mark.
+pub fn shown(alloc: Global, bytes: &[u8]) -> Result<String, AllocError> {
+    if bytes.len() > 99 {
+        return format!(in alloc; "{} bytes, {}", bytes.len(), mark(bytes));
+    }
+    format!(in alloc; "{:?}", text(bytes))
+}
