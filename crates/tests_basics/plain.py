@@ -1,4 +1,6 @@
 """Plain readings: what has to come of a case, worked out in the most direct way, and by no program of this repository."""
+import itertools
+
 # Texts as Rust's `{:?}` shows them.
 SHOWN = {"\n": "\\n", "\r": "\\r", "\t": "\\t", '"': '\\"', "\\": "\\\\"}
 
@@ -427,7 +429,68 @@ def sink(parts):
     return lines + [""]
 
 
-FAMILIES = {"random_logs": random_logs, "chain": chain}
+# Command lines.
+
+COMMANDS = {"invariants": "Invariants", "graph": "Graph", "infer": "Infer", "check": "Check", "paths": "Paths"}
+
+
+def options_of(words):
+    """What the words give, by its name; None where they can't be read. An option of a value may be there twice."""
+    given = {"flags": [], "operands": []}
+    words = list(words)
+    while words:
+        word = words.pop(0)
+        if word == "--":
+            given["operands"] += words
+            break
+        if word in ("-e", "-m", "-n"):
+            if not words or (len(words[0]) > 1 and words[0].startswith("-")):
+                return None
+            given[word] = words.pop(0)
+        elif len(word) > 1 and word.startswith("-"):
+            if word not in ("-p", "-i", "-j") or word in given["flags"]:
+                return None
+            given["flags"].append(word)
+        else:
+            given["operands"].append(word)
+    return given
+
+
+def task(words):
+    """The task of the words, as it is shown, and None where they ask for none. `bench`, which alone takes -n, is not known here."""
+    given = options_of(words)
+    if given is None or not given["operands"] or "-n" in given:
+        return None
+    command, files = given["operands"][0], given["operands"][1:]
+    rules, model, flags = given.get("-e"), given.get("-m"), given["flags"]
+    if command not in COMMANDS or rules == "" or model == "" or "" in files:
+        return None
+    name = COMMANDS[command]
+    if command == "graph" and model is not None:
+        if rules is not None or flags or files:
+            return None
+        name = "GraphOfModel"
+    elif (command == "check") != (model is not None) or (rules is not None) == ("-p" in flags):
+        return None
+    form = "Plain" if "-p" in flags else None if rules is None else "Rules(%s)" % quoted(rules)
+    shown = name, some(form), some(None if model is None else quoted(model)), truth("-i" in flags), truth("-j" in flags)
+    listed = ", ".join(quoted(file) for file in files)
+    return "Task { command: %s, form: %s, model: %s, ignore: %s, join: %s, number: None, files: [%s] }" % (shown + (listed,))
+
+
+def arguments(parts):
+    words = ["" if word == "%" else word for word in parts[0].split(" ") if word]
+    return [task(words) or "Usage"]
+
+
+def lines_of(words):
+    """`lines COUNT FRONT .. of WORD WORD ..`: the front and behind it each row of so many of the words."""
+    at = words.index("of")
+    rows = itertools.product(words[at + 1 :], repeat=int(words[0]))
+    return [["arguments"] + words[1:at] + list(row) for row in rows]
+
+
+FAMILIES = {"random_logs": random_logs, "chain": chain, "lines": lines_of}
 READINGS = {
     "piece": piece,
     "fields": fields,
@@ -446,4 +509,5 @@ READINGS = {
     "real": real,
     "failing": failing,
     "sink": sink,
+    "arguments": arguments,
 }
