@@ -1,0 +1,173 @@
+"""The graph as SVG: boxes, edges as wide as their share, and signs for what is new or gone."""
+import math
+import unicodedata
+
+from layout import MOST_LABELS, Layout, Line, Node, drawn_by
+from texts import escaped, plain, segments, shortened, width
+
+COLUMN = 8.0
+MOST_SHOWN = 30
+
+
+def short_segments(text):
+    """The pieces of a type's text for a box, cut in the middle if they are long."""
+    pieces = segments(text)
+    if sum(len(shown) for _, shown in pieces) <= MOST_SHOWN:
+        return pieces
+    return [[0, shortened("".join(f"[{shown}]" if marked else shown for marked, shown in pieces), MOST_SHOWN)]]
+
+
+def events(count):
+    return f"{count} event" if count == 1 else f"{count} events"
+
+
+def box(model, p):
+    """What stands in the box of a partition: the pieces of its first line, its number, and its second line."""
+    typ, count = model.type_of[p], model.count_of[p]
+    number = f" @{p}" if model.has_number(p) else ""
+    if number and any(unicodedata.bidirectional(c) in ("R", "AL") for c in model.texts[typ]):
+        number = "\u200e" + number  # so that the number stays to the right of a text that runs to the left
+    return short_segments(model.texts[typ]), number, f"{count} trace" + "s" * (count != 1) if p < 2 else events(count)
+
+
+def columns_of_box(pieces, number, below):
+    first = sum(width(shown) + marked for marked, shown in pieces) + len(number)
+    return max(first, len(below) * 0.85)
+
+
+def node_of(name, pieces, number, below):
+    return Node(name, columns_of_box(pieces, number, below) * COLUMN + 20, 42.0)
+
+
+def edge_label(model, edge, differences):
+    p, q, count = edge
+    new = differences and (model.type_of[p], model.type_of[q]) in differences.new_edges
+    return ("+ " if new else "") + f"{count} of {model.count_of[p]}"
+
+
+def gone_name(model, typ):
+    """The node at which a gone edge begins or ends: the largest partition of the type, or the box of the gone type."""
+    if typ >= len(model.texts):
+        return f"g{typ}"
+    return f"p{max(model.siblings[typ], key=lambda p: model.count_of[p])}"
+
+
+def laid_out(model, differences):
+    """The layout of the model's graph, with what is gone."""
+    nodes = [node_of(f"p{p}", *box(model, p)) for p, _, _ in model.partitions]
+    lines = [Line(f"p{e[0]}", f"p{e[1]}", edge_label(model, e, differences)) for e in model.edges]
+    if differences:
+        for typ in differences.gone_types:
+            nodes.append(node_of(f"g{typ}", short_segments(differences.texts[typ]), " −", "gone"))
+        for a, b in differences.gone_edges:
+            if all(t in model.siblings or t >= len(model.texts) for t in (a, b)):
+                lines.append(Line(gone_name(model, a), gone_name(model, b), "− gone"))
+    return drawn_by(Layout(nodes, lines))
+
+
+def number_text(value):
+    return f"{value:.1f}".rstrip("0").rstrip(".")
+
+
+def points(pairs):
+    return " ".join(f"{number_text(x)},{number_text(y)}" for x, y in pairs)
+
+
+def route_of(line):
+    return f"M{points(line.route[:1])}C{points(line.route[1:])}"
+
+
+def head_of(line, thick):
+    """The arrow at the end of an edge, as a triangle."""
+    (x, y), (tip_x, tip_y) = line.route[-1], line.tip
+    length = math.hypot(tip_x - x, tip_y - y) or 1.0
+    across_x, across_y = (y - tip_y) / length, (tip_x - x) / length
+    half = 3 + thick / 2
+    left = x + across_x * half, y + across_y * half
+    right = x - across_x * half, y - across_y * half
+    return f"M{points([line.tip, left, right])}Z"
+
+
+def drawn_text(pieces):
+    """Pieces of a text as SVG; marks stand in spans of their own."""
+    shown = ""
+    for marked, piece in pieces:
+        shown += f'<tspan class="mark">{escaped(piece)}</tspan>' if marked else escaped(piece)
+    return shown
+
+
+def drawn_line(line, thick, words, share):
+    """An edge, with its attributes and its label."""
+    label = ""
+    if line.spot and line.label:
+        x, y = line.spot
+        label = f'<text x="{number_text(x)}" y="{number_text(y + 4)}">{escaped(line.label)}</text>'
+    wide = number_text(thick)
+    return (
+        f'<g {words}><path class="line" d="{route_of(line)}" stroke-width="{wide}"/>'
+        f'<path class="head" d="{head_of(line, thick)}"/>{label}{share}</g>'
+    )
+
+
+def drawn_edges(model, layout, differences):
+    rows = []
+    for at, (edge, line) in enumerate(zip(model.edges, layout.lines)):
+        p, q, count = edge
+        share = count / max(1, model.count_of[p])
+        new = differences and (model.type_of[p], model.type_of[q]) in differences.new_edges
+        title = f"{plain(name_of(model, p))} → {plain(name_of(model, q))}: {count} of {model.count_of[p]}"
+        words = f'class="edge{" new" if new else ""}" id="e{at}"'
+        rows.append(drawn_line(line, 1.2 + 4.8 * min(1, share), words, f"<title>{escaped(title)}</title>"))
+    for line in layout.lines[len(model.edges) :]:
+        rows.append(drawn_line(line, 2, 'class="edge gone"', ""))
+    return rows
+
+
+def name_of(model, p):
+    return model.texts[model.type_of[p]] + (f" @{p}" if model.has_number(p) else "")
+
+
+def drawn_box(node, words, label, pieces, number, below):
+    x, y = node.x - node.width / 2, node.y - node.height / 2
+    middle = number_text(node.x)
+    return (
+        f'<g {words} aria-label="{escaped(label)}"><rect x="{number_text(x)}" y="{number_text(y)}" '
+        f'width="{number_text(node.width)}" height="{number_text(node.height)}" rx="8"/>'
+        f'<text x="{middle}" y="{number_text(node.y - 3)}">{drawn_text(pieces)}'
+        f'<tspan class="number">{escaped(number)}</tspan></text>'
+        f'<text class="below" x="{middle}" y="{number_text(node.y + 13)}">{escaped(below)}</text>'
+        f"<title>{escaped(label)}</title></g>"
+    )
+
+
+def drawn_boxes(model, layout, differences):
+    rows = []
+    for p, typ, _ in model.partitions:
+        new = differences and typ in differences.new_types
+        pieces, number, below = box(model, p)
+        label = f"{'new: ' if new else ''}{plain(model.texts[typ])}, partition {p}, {below}"
+        words = f'class="node{" end" if p < 2 else ""}{" new" if new else ""}" id="p{p}" role="button" tabindex="-1"'
+        rows.append(drawn_box(layout.nodes[f"p{p}"], words, label, pieces, number + (" +" if new else ""), below))
+    for typ in differences.gone_types if differences else ():
+        label = f"gone: {plain(differences.texts[typ])}"
+        pieces = short_segments(differences.texts[typ])
+        rows.append(drawn_box(layout.nodes[f"g{typ}"], 'class="node gone" role="img"', label, pieces, " −", "gone"))
+    return rows
+
+
+def svg(model, differences):
+    """The drawing, and where its boxes are: {id: [x, y, width, height]} of their middles."""
+    layout = laid_out(model, differences)
+    places = {
+        p: [round(z, 1) for z in (n.x, n.y, n.width, n.height)]
+        for p, n in ((p, layout.nodes[f"p{p}"]) for p, _, _ in model.partitions)
+    }
+    size = f"0 0 {number_text(layout.width)} {number_text(layout.height)}"
+    many = " many" if len(layout.lines) > MOST_LABELS else ""
+    text = "\n".join(
+        [f'<svg id="drawing" class="drawing{many}" viewBox="{size}" role="group" aria-labelledby="graph-title">']
+        + ['<g id="edges">'] + drawn_edges(model, layout, differences)
+        + ['</g><g id="dashes"></g><g id="nodes">'] + drawn_boxes(model, layout, differences)
+        + ['</g><g id="badges" aria-hidden="true"></g></svg>']
+    )
+    return text, places

@@ -1,0 +1,153 @@
+"""Where the partitions and edges of a graph are drawn: by Graphviz `dot`, or in columns if dot is missing or too slow."""
+import json
+import subprocess
+import sys
+
+# Edges that are labelled, at most; more labels than these no one could read.
+MOST_LABELS = 300
+# dot gets this many seconds, and no graph with more edges than it lays out in about that time.
+DOT_SECONDS = 8
+MOST_DOT_EDGES = 4000
+MARGIN = 12
+
+
+class Node:
+    """A partition, or a type that is gone; its middle and its size are in pixels."""
+
+    def __init__(self, name, width, height):
+        self.name, self.width, self.height = name, width, height
+        self.x = self.y = 0.0
+
+
+class Line:
+    """An edge: between two nodes, with the text of its label; `route` is a list of points of Bezier curves, `tip` the
+    point of its arrow, and `spot` the middle of its label, if it has one."""
+
+    def __init__(self, start, end, label):
+        self.start, self.end, self.label = start, end, label
+        self.route, self.tip, self.spot = [], None, None
+
+
+class Layout:
+    def __init__(self, nodes, lines):
+        self.nodes = {node.name: node for node in nodes}
+        self.lines = lines
+        self.width = self.height = 0.0
+        self.by_dot = False
+
+
+def drawn_by(layout):
+    """The layout with all its places, by dot if it can."""
+    if len(layout.lines) > MOST_DOT_EDGES or not dot(layout):
+        columns(layout)
+    return layout
+
+
+def question(layout):
+    """The graph in the language of dot. No text of the model is in it."""
+    labels = len(layout.lines) <= MOST_LABELS
+    rows = ["digraph {", "rankdir=LR; nodesep=0.35; ranksep=0.45; node [shape=box, fixedsize=true, label=\"\"]"]
+    rows.append("edge [fontname=\"monospace\", fontsize=11, arrowsize=0.8]")
+    for node in layout.nodes.values():
+        rows.append(f"{node.name} [width={node.width / 72:.4f}, height={node.height / 72:.4f}]")
+    for at, line in enumerate(layout.lines):
+        label = f', label=" {line.label} "' if labels else ""
+        rows.append(f"{line.start} -> {line.end} [id={at}{label}]")
+    return "\n".join(rows + ["}"])
+
+
+def dot(layout):
+    """Whether dot laid the graph out."""
+    try:
+        done = subprocess.run(
+            ["dot", "-Tjson0"], input=question(layout).encode(), stdout=subprocess.PIPE, stderr=subprocess.DEVNULL,
+            timeout=DOT_SECONDS,
+        )
+        if done.returncode != 0:
+            return False
+        take(layout, json.loads(done.stdout.decode("utf-8")))
+    except subprocess.TimeoutExpired:
+        sys.stderr.write("model-page: the graph is too large for dot, and is laid out in columns\n")
+        return False
+    except OSError:
+        sys.stderr.write("model-page: there is no dot (Debian's package graphviz); the graph is laid out in columns\n")
+        return False
+    except (ValueError, LookupError):
+        return False
+    layout.by_dot = True
+    return True
+
+
+def take(layout, answer):
+    """The places that dot gave; its y grows upwards."""
+    left, low, right, high = (float(x) for x in answer["bb"].split(","))
+    layout.width, layout.height = right - left + 2 * MARGIN, high - low + 2 * MARGIN
+
+    def point(text):
+        x, y = (float(z) for z in text.split(","))
+        return round(x - left + MARGIN, 1), round(high - y + MARGIN, 1)
+
+    for given in answer["objects"]:
+        node = layout.nodes[given["name"]]
+        node.x, node.y = point(given["pos"])
+    for given in answer.get("edges", []):
+        line = layout.lines[int(given["id"])]
+        points = given["pos"].split(" ")
+        line.tip = point(points[0][2:]) if points[0].startswith("e,") else None
+        line.route = [point(text) for text in points if "e," not in text and "s," not in text]
+        line.tip = line.tip or line.route[-1]
+        line.spot = point(given["lp"]) if "lp" in given else None
+
+
+def depths(layout, first):
+    """How many edges away from the first node each node is; those that no path reaches come last."""
+    into = {}
+    for line in layout.lines:
+        into.setdefault(line.start, []).append(line.end)
+    depth, rank = {first: 0}, [first]
+    for name in rank:
+        for end in into.get(name, ()):
+            if end not in depth:
+                depth[end] = depth[name] + 1
+                rank.append(end)
+    deepest = max(depth.values()) + 1
+    for name in layout.nodes:
+        depth.setdefault(name, deepest)
+    return depth
+
+
+def columns(layout):
+    """Nodes in columns by how far they are from the first one, each column in the order of the nodes before it."""
+    first, last = list(layout.nodes)[:2]
+    depth = depths(layout, first)
+    depth[last] = max(depth.values()) + 1
+    rows = {}
+    for name in layout.nodes:
+        rows.setdefault(depth[name], []).append(name)
+    before = {}
+    for line in layout.lines:
+        before.setdefault(line.end, []).append(line.start)
+    left, tallest = MARGIN, 0
+    for column in sorted(rows):
+        names = rows[column]
+        met = {n: [layout.nodes[m].y for m in before.get(n, ()) if depth[m] < column] or [0] for n in names}
+        names.sort(key=lambda n: sum(met[n]) / len(met[n]))
+        wide, y = max(layout.nodes[n].width for n in names), MARGIN
+        for name in names:
+            node = layout.nodes[name]
+            node.x, node.y = left + wide / 2, y + node.height / 2
+            y += node.height + 14
+        tallest = max(tallest, y)
+        left += wide + 70
+    layout.width, layout.height = left - 70 + MARGIN, tallest
+    for line in layout.lines:
+        curve(line, layout.nodes[line.start], layout.nodes[line.end])
+
+
+def curve(line, start, end):
+    """A curve from the right side of one node to the left side of the other."""
+    x, y = start.x + start.width / 2, start.y
+    tip = end.x - end.width / 2, end.y
+    bend = max(30.0, abs(tip[0] - x) / 2)
+    line.route = [(x, y), (x + bend, y), (tip[0] - bend, tip[1]), (tip[0] - 7, tip[1])]
+    line.tip = tip
