@@ -74,11 +74,11 @@ function paged(tag, rows, rowOf) {
   function add() {
     list.append(...rows.slice(at, at + PAGE).map(rowOf));
     at = Math.min(at + PAGE, rows.length);
-    more.textContent = `show more of ${rows.length}, ${at} are shown`;
-    more.hidden = at === rows.length;
+    more.textContent = `show more: ${at} of ${rows.length} are shown`;
+    if (at === rows.length) more.remove();
   }
   add();
-  return [list, more];
+  return at < rows.length ? [list, more] : [list];
 }
 
 // ---- Sentences ----
