@@ -6,6 +6,8 @@ const data = JSON.parse(byId("data").textContent);
 const KINDS = { AF: "AlwaysFollowedBy", NF: "NeverFollowedBy", AP: "AlwaysPrecedes" };
 const PAGE = 100; // rows of a list that are made at a time
 const MOST_DASHES = 60; // dashed lines that are drawn at a time
+const LEAST_SCALE = 0.5; // at less than this texts are too small to read
+const START_SCALE = 0.8;
 const drawing = byId("drawing");
 const whole = drawing.getAttribute("viewBox").split(" ").map(Number);
 const typeOf = new Map(data.partitions.map(([p, typ]) => [p, typ]));
@@ -103,11 +105,12 @@ function breach([kind, a, b]) {
 
 // How paths come to the one partition, and how they go on from the other, so that as one they break the invariant.
 function sides([kind, a, b], met, other) {
-  const here = partitionText(met), there = partitionText(other);
-  if (a === 0) return ["Some paths come to ", here, " with no ", typeText(b), " so far, and some go on from ", there, " to the end without one. "];
-  if (kind === "AF") return ["Some paths come to ", here, " with ", typeText(a), " that has had no ", typeText(b), " since, and some go on from ", there, " to the end without one. "];
-  if (kind === "NF") return ["Some paths come to ", here, " after ", typeText(a), ", and some go on from ", there, " to ", typeText(b), ". "];
-  return ["Some paths come to ", here, " without ", typeText(a), " so far, and some go on from ", there, " to ", typeText(b), " without one in between. "];
+  const first = typeText(a), second = typeText(b);
+  const come = ["Some paths come to ", partitionText(met)], go = ["some go on from ", partitionText(other)];
+  if (a === 0) return [come, " with no ", second, " so far, and ", go, " to the end without one. "];
+  if (kind === "NF") return [come, " after ", first, ", and ", go, " to ", second, ". "];
+  if (kind === "AP") return [come, " without ", first, " so far, and ", go, " to ", second, " without one between. "];
+  return [come, " with ", first, " that has had no ", second, " since, and ", go, " to the end without one. "];
 }
 
 // What an invariant follows from, or nothing.
@@ -128,28 +131,33 @@ function reasonText(place) {
 
 const nodeOf = (p) => byId("p" + p);
 const edgeOf = (at) => byId("e" + at);
+const badgeOf = new Map(); // the badge of a partition, and its text
+const framed = new Set();
 let timer = 0;
 
 function clearMarks() {
   clearInterval(timer);
   drawing.classList.remove("marked", "walking");
-  for (const marked of drawing.querySelectorAll(".on, .near, .second")) marked.classList.remove("on", "near", "second");
+  const marked = drawing.querySelectorAll(".on, .near, .second");
+  marked.forEach((part) => part.classList.remove("on", "near", "second"));
   byId("badges").replaceChildren();
+  badgeOf.clear();
+  framed.clear();
 }
 
-const badges = () => byId("badges").children;
-
+// A sign at the corner of a partition; a second one is joined to the first.
 function badge(p, text) {
-  const known = [...badges()].find((shown) => shown.dataset.of === String(p));
-  const [x, y, width, height] = data.places[p];
-  const label = known ? known.querySelector("text").textContent + "," + text : String(text);
+  const [known, before] = badgeOf.get(p) || [null, ""];
+  if (before.endsWith("…")) return;
   if (known) known.remove();
-  const short = label.length > 9 ? label.slice(0, 8) + "…" : label;
+  const label = before ? before + "," + text : String(text), short = label.length > 9 ? label.slice(0, 8) + "…" : label;
+  const [x, y, width, height] = data.places[p];
   const left = x - width / 2 - 6, top = y - height / 2 - 9, wide = 8 + 7 * short.length;
   const made = makeDrawn("g", { class: "badge" },
-    makeDrawn("rect", { x: left, y: top, width: wide, height: 16, rx: 8 }), makeDrawn("text", { x: left + wide / 2, y: top + 12 }, short));
-  made.dataset.of = p;
+    makeDrawn("rect", { x: left, y: top, width: wide, height: 16, rx: 8 }),
+    makeDrawn("text", { x: left + wide / 2, y: top + 12 }, short));
   byId("badges").append(made);
+  badgeOf.set(p, [made, short]);
 }
 
 function mark(ids, word, text) {
@@ -162,10 +170,11 @@ function mark(ids, word, text) {
 
 // Frames around partitions that are taken as one.
 function frame(ids) {
-  for (const p of ids) {
+  for (const p of ids.filter((id) => !framed.has(id))) {
+    framed.add(p);
     const [x, y, width, height] = data.places[p];
-    const box = { x: x - width / 2 - 6, y: y - height / 2 - 6, width: width + 12, height: height + 12, rx: 12, class: "as-one" };
-    byId("badges").prepend(makeDrawn("rect", box));
+    const size = { x: x - width / 2 - 6, y: y - height / 2 - 6, width: width + 12, height: height + 12 };
+    byId("badges").prepend(makeDrawn("rect", { ...size, rx: 12, class: "as-one" }));
   }
   for (const dash of byId("dashes").children) {
     if (ids.includes(Number(dash.dataset.p)) && ids.includes(Number(dash.dataset.q))) dash.classList.add("on");
@@ -182,8 +191,9 @@ function run(steps) {
     if (at === steps.length) return finish();
     mark(steps[at], "on", at + 1);
     if (steps[at].length > 1) frame(steps[at]);
+    const to = new Set(steps[at]);
     for (const p of at ? steps[at - 1] : []) {
-      for (const q of steps[at]) if (edgeAt.has(p + ">" + q)) edgeOf(edgeAt.get(p + ">" + q)).classList.add("on");
+      for (const edge of leaving.get(p) || []) if (to.has(data.edges[edge][1])) edgeOf(edge).classList.add("on");
     }
     at += 1;
   };
@@ -191,7 +201,7 @@ function run(steps) {
     clearInterval(timer);
     drawing.classList.remove("walking");
   };
-  show(steps.flat());
+  show([...new Set(steps.flat())]);
   if (still || steps.length > 60) {
     while (at < steps.length) step();
     return finish();
@@ -213,11 +223,21 @@ function setView(next) {
 // The whole graph, in a drawing as high as it needs and the window allows.
 function showWhole() {
   const wide = byId("frame").clientWidth || 800;
-  const scale = Math.min(1.25, wide / whole[2]);
-  const high = Math.max(200, Math.min(whole[3] * scale, innerHeight * 0.5));
+  const needed = whole[3] * Math.min(1.25, Math.max(LEAST_SCALE, wide / whole[2]));
+  const high = Math.max(180, Math.min(needed, innerHeight * 0.48));
   drawing.style.height = high + "px";
-  const shown = Math.min(1.25, wide / whole[2], high / whole[3]);
-  setView([whole[0] + (whole[2] - wide / shown) / 2, whole[1] + (whole[3] - high / shown) / 2, wide / shown, high / shown]);
+  const scale = Math.min(1.25, wide / whole[2], high / whole[3]);
+  setView([(whole[2] - wide / scale) / 2, (whole[3] - high / scale) / 2, wide / scale, high / scale]);
+}
+
+// The whole graph, or what is around INITIAL if the whole would be too small to read.
+function showStart() {
+  showWhole();
+  const scale = drawing.clientWidth / view[2];
+  if (scale >= LEAST_SCALE) return;
+  const [x, y, width] = data.places[0];
+  const w = (view[2] * scale) / START_SCALE, h = (view[3] * scale) / START_SCALE;
+  setView([x - width, Math.min(Math.max(y - h / 2, 0), Math.max(0, whole[3] - h)), w, h]);
 }
 
 function zoom(by, x = view[0] + view[2] / 2, y = view[1] + view[3] / 2) {
@@ -233,10 +253,10 @@ function show(ids) {
   const boxes = ids.map((p) => data.places[p]);
   const left = Math.min(...boxes.map((b) => b[0] - b[2] / 2)), right = Math.max(...boxes.map((b) => b[0] + b[2] / 2));
   const top = Math.min(...boxes.map((b) => b[1] - b[3] / 2)), low = Math.max(...boxes.map((b) => b[1] + b[3] / 2));
-  if (left >= view[0] && right <= view[0] + view[2] && top >= view[1] && low <= view[1] + view[3]) return;
-  const grow = Math.max(1, (1.1 * (right - left)) / view[2], (1.1 * (low - top)) / view[3]);
-  const width = view[2] * grow, height = view[3] * grow;
-  setView([(left + right - width) / 2, (top + low - height) / 2, width, height]);
+  const [x, y, wide, high] = view;
+  if (left >= x && right <= x + wide && top >= y && low <= y + high) return;
+  const grow = Math.max(1, (1.1 * (right - left)) / wide, (1.1 * (low - top)) / high);
+  setView([(left + right - wide * grow) / 2, (top + low - high * grow) / 2, wide * grow, high * grow]);
 }
 
 // A partition in the middle, large enough to read.
@@ -353,7 +373,8 @@ function hideRare() {
     if (isShown(at)) [edges, steps] = [edges + 1, steps + count];
   });
   byId("least-shown").textContent = byId("least").value + " %";
-  let text = `${edges} of ${data.edges.length} edges are shown. They carry ${steps} of ${all} steps (${percent(steps, all)})`;
+  let text = `${edges} of ${data.edges.length} edges are shown. `;
+  text += `They carry ${steps} of ${all} steps (${percent(steps, all)})`;
   if (data.paths) {
     const sum = (paths) => paths.reduce((total, [count]) => total + count, 0);
     const carried = sum(data.paths.filter(([, ids]) => pathIsShown(ids))), total = sum(data.paths);
@@ -377,16 +398,19 @@ function blocks() {
 
 const blocksOf = (p) => (blocks(), blocksAt.get(p) || []);
 
+// The dashed line of a block: a bow from the one partition to the other, with a sign on it.
 function dash(at) {
   const [p, q] = blocks()[at];
   const [x, y] = data.places[p], [u, v] = data.places[q];
   const long = Math.hypot(u - x, v - y) || 1, bend = 0.12 * long + 12;
   const bx = (x + u) / 2 + ((v - y) / long) * bend, by = (y + v) / 2 - ((u - x) / long) * bend;
-  const route = `M${x},${y}Q${bx},${by} ${u},${v}`, mx = (x + u + 2 * bx) / 4, my = (y + v + 2 * by) / 4;
-  const label = `Why two: ${partitionName(p)} and ${partitionName(q)}`;
+  const mx = (x + u + 2 * bx) / 4, my = (y + v + 2 * by) / 4;
+  const route = `M${x},${y}Q${bx},${by} ${u},${v}`, label = `Why two: ${partitionName(p)} and ${partitionName(q)}`;
   const made = makeDrawn("g", { class: "dash", role: "button", tabindex: "0", "aria-label": label },
-    makeDrawn("path", { class: "wide", d: route }), makeDrawn("path", { class: "line", d: route }),
-    makeDrawn("rect", { x: mx - 32, y: my - 9, width: 64, height: 18, rx: 9 }), makeDrawn("text", { x: mx, y: my + 4 }, "why two?"),
+    makeDrawn("path", { class: "wide", d: route }),
+    makeDrawn("path", { class: "line", d: route }),
+    makeDrawn("rect", { x: mx - 32, y: my - 9, width: 64, height: 18, rx: 9 }),
+    makeDrawn("text", { x: mx, y: my + 4 }, "why two?"),
     makeDrawn("title", {}, label));
   Object.assign(made.dataset, { block: at, p, q });
   return made;
@@ -394,25 +418,31 @@ function dash(at) {
 
 // All dashed lines if they are few, and else those of a partition.
 function drawDashes(p, must) {
-  let wanted = data.blockCount <= MOST_DASHES ? [...blocks().keys()] : p === null ? [] : blocksOf(p).slice(0, MOST_DASHES);
+  let wanted = p === null ? [] : blocksOf(p).slice(0, MOST_DASHES);
+  if (data.blockCount <= MOST_DASHES) wanted = [...blocks().keys()];
   if (must !== undefined && !wanted.includes(must)) wanted = [must];
   byId("dashes").replaceChildren(...wanted.map(dash));
 }
 
+// The path of a block as steps to run, with its two partitions as one.
 const blockSteps = ([p, q, , path]) => path.filter((x) => typeOf.has(x)).map((x) => (x === p ? [p, q] : [x]));
 
 // Why two partitions are two: the sentence, the path, and the way to run it again.
 function whyTwo(at) {
-  const [p, q, place, path, side] = blocks()[at];
+  const block = blocks()[at], [p, q, place, path, side] = block;
   const invariant = data.invariants[place];
-  const one = (x) => (x === p ? [typeText(typeOf.get(x)), ` (@${p} and @${q} as one)`] : typeOf.has(x) ? partitionText(x) : ["unknown @" + x]);
-  const told = side === 2 ? [] : sides(invariant, side ? q : p, side ? p : q);
+  const stepText = (x) => {
+    if (x === p) return [typeText(typeOf.get(x)), ` (@${p} and @${q} as one)`];
+    return typeOf.has(x) ? partitionText(x) : ["unknown @" + x];
+  };
   return make("div", { class: "why" },
-    make("p", { class: "sentence" }, make("strong", {}, partitionText(p), " and ", partitionText(q), " are two"), " because ",
-      make("em", {}, meaning(invariant)), " (", invariantText(invariant), "). ", told,
+    make("p", { class: "sentence" },
+      make("strong", {}, partitionText(p), " and ", partitionText(q), " are two"), " because ",
+      make("em", {}, meaning(invariant)), " (", invariantText(invariant), "). ",
+      side === 2 ? [] : sides(invariant, side ? q : p, side ? p : q),
       "Merged into one, they would allow this path, which breaks that: ", breach(invariant), "."),
-    pathList(path.map(one)),
-    make("button", { class: "again", click: () => run(blockSteps(blocks()[at])) }, "run the path again"));
+    pathList(path.map(stepText)),
+    make("button", { class: "again", click: () => run(blockSteps(block)) }, "run the path again"));
 }
 
 const pathList = (steps) => make("ol", { class: "path" }, steps.map((step) => make("li", {}, step)));
@@ -432,21 +462,27 @@ function whySection(p) {
   const found = blocksOf(p);
   const others = siblings.get(typeOf.get(p)).length - 1;
   if (!others) return [];
-  const parts = [make("h4", {}, `Why not one with ${others === 1 ? "the other" : "the " + others + " others"} of its type?`)];
-  if (found.length === 1) return parts.concat(whyTwo(found[0]));
+  const they = others === 1 ? "the other" : `the ${others} others`;
+  const title = make("h4", {}, `Why not one with ${they} of its type?`);
+  if (!found.length) return [title, make("p", {}, "The file has no block that says so.")];
+  if (found.length === 1) return [title, whyTwo(found[0])];
   const row = (at) => {
     const [a, b, place] = blocks()[at];
-    return make("li", {}, make("button", { class: "link", click: () => showBlock(at) }, "why two with @" + (a === p ? b : a) + "?"), " ", invariantText(data.invariants[place]));
+    const question = `why two with @${a === p ? b : a}?`;
+    return make("li", {}, make("button", { class: "link", click: () => showBlock(at) }, question), " ",
+      invariantText(data.invariants[place]));
   };
-  return parts.concat(found.length ? paged("ul", found, row) : make("p", {}, "The file has no block that says so."));
+  return [title, paged("ul", found, row)];
 }
 
-function edgeTable(title, list, end, shareOf) {
+// The edges into or out of a partition: the other partition, the count, and the share of this partition's events.
+function edgeTable(title, list, end, sizeOf) {
   const rows = (list || []).slice().sort((a, b) => data.edges[b][2] - data.edges[a][2]);
   const row = (at) => {
     const edge = data.edges[at];
-    return make("tr", {}, make("td", {}, partitionButton(edge[end])), make("td", { class: "count" }, `${edge[2]} of ${countOf.get(edge[0])}`),
-      make("td", { class: "count" }, percent(edge[2], shareOf(edge))));
+    return make("tr", {}, make("td", {}, partitionButton(edge[end])),
+      make("td", { class: "count" }, `${edge[2]} of ${countOf.get(edge[0])}`),
+      make("td", { class: "count" }, percent(edge[2], sizeOf(edge))));
   };
   return make("div", {}, make("h4", {}, title), rows.length ? paged("table", rows, row) : make("p", {}, "none"));
 }
@@ -470,30 +506,41 @@ function eventsText(p) {
   const typ = typeOf.get(p), count = countOf.get(p);
   if (p < 2) return `${data.plain[typ]} stands ${p ? "after" : "before"} each of ${plural(count, "trace")}.`;
   const all = siblings.get(typ).reduce((total, q) => total + countOf.get(q), 0);
-  return hasNumber(p) ? `${count} of the ${plural(all, "event")} of its type (${percent(count, all)}).` : `${count === 1 ? "The one event" : "All " + count + " events"} of its type.`;
+  if (hasNumber(p)) return `${count} of the ${plural(all, "event")} of its type (${percent(count, all)}).`;
+  return count === 1 ? "The one event of its type." : `All ${count} events of its type.`;
 }
 
-function showPartition(p) {
+// Marks a partition with its edges and its neighbours.
+function markPartition(p) {
   clearMarks();
   drawDashes(p);
   mark([p], "on");
-  for (const at of [...(leaving.get(p) || []), ...(entering.get(p) || [])]) edgeOf(at).classList.add("near");
-  for (const q of [...(leaving.get(p) || []).map((at) => data.edges[at][1]), ...(entering.get(p) || []).map((at) => data.edges[at][0])]) nodeOf(q).classList.add("near");
+  for (const at of [...(leaving.get(p) || []), ...(entering.get(p) || [])]) {
+    edgeOf(at).classList.add("near");
+    mark(data.edges[at].slice(0, 2), "near");
+  }
+}
+
+function showPartition(p) {
+  markPartition(p);
   const typ = typeOf.get(p);
   fill(openTab("partition"), make("h3", {}, typeText(typ), ` @${p}`), make("p", {}, eventsText(p)), whySection(p),
-    make("div", { class: "columns" }, edgeTable("Edges into it", entering.get(p), 0, () => countOf.get(p)),
-      edgeTable("Edges out of it", leaving.get(p), 1, (edge) => countOf.get(edge[0]))),
+    make("div", { class: "columns" },
+      edgeTable("Edges into it", entering.get(p), 0, () => countOf.get(p)),
+      edgeTable("Edges out of it", leaving.get(p), 1, () => countOf.get(p))),
     make("h4", {}, "Invariants of its type"), lists(typ));
 }
 
 // What the page shows first: what to click, and the types of which there are several partitions.
 function welcome() {
   const several = [...siblings].filter(([, ids]) => ids.length > 1);
-  const row = ([typ, ids]) => make("li", {}, typeText(typ), ": ", ids.slice(0, 12).map((p) => [make("button", { class: "link", click: () => showPartition(p) }, "@" + p), " "]),
+  const idButton = (p) => [make("button", { class: "link", click: () => showPartition(p) }, "@" + p), " "];
+  const row = ([typ, ids]) => make("li", {}, typeText(typ), ": ", ids.slice(0, 12).map(idButton),
     ids.length > 12 ? `and ${ids.length - 12} more` : "");
-  return [make("p", {}, "Click a box to see its events, its edges and its invariants, or a dashed line to see why two partitions are two."),
-    several.length ? [make("h3", {}, "Types with several partitions: what comes next depends on what came before"), paged("ul", several, row)]
-      : make("p", {}, "Each type has one partition: what comes next depends on the type alone.")];
+  const advice = "Click a box for its events, its edges and its invariants, or a dashed line for why two are two.";
+  if (!several.length) return [make("p", {}, advice), make("p", {}, "Each type has one partition.")];
+  const title = "Types with several partitions: what comes next depends on what came before";
+  return [make("p", {}, advice), make("h3", {}, title), paged("ul", several, row)];
 }
 
 // ---- Invariants ----
@@ -512,28 +559,41 @@ function markTypes(a, b) {
 }
 
 function invariantRow(place) {
+  const text = invariantText(data.invariants[place]);
   return make("tr", { class: data.reasons[place] ? "implied" : "telling" },
-    make("td", {}, make("button", { class: "link", click: () => markInvariant(place) }, invariantText(data.invariants[place]))),
+    make("td", {}, make("button", { class: "link", click: () => markInvariant(place) }, text)),
     make("td", {}, reasonText(place)));
 }
 
+const option = (value, text) => make("option", { value }, text);
+
+// The places of the invariants that the three controls let through.
+function filtered(kind, typ, hide) {
+  return data.order.filter((place) => {
+    const [k, a, b] = data.invariants[place];
+    if (hide.checked && data.reasons[place]) return false;
+    return (!kind.value || k === kind.value) && (typ.value === "" || [a, b].includes(Number(typ.value)));
+  });
+}
+
 function invariantsPanel() {
-  const kind = make("select", { id: "kind" }, make("option", { value: "" }, "all kinds"), Object.keys(KINDS).map((k) => make("option", { value: k }, KINDS[k])));
-  const typ = make("select", { id: "type" }, make("option", { value: "" }, "all types"), data.plain.slice(0, data.types).map((text, t) => (t === 1 ? [] : make("option", { value: t }, text))));
+  const types = data.plain.slice(0, data.types).map((text, t) => (t === 1 ? [] : option(t, text)));
+  const kinds = Object.keys(KINDS).map((k) => option(k, KINDS[k]));
+  const kind = make("select", { id: "kind" }, option("", "all kinds"), kinds);
+  const typ = make("select", { id: "type" }, option("", "all types"), types);
   const hide = make("input", { type: "checkbox", id: "hide" });
   const rows = make("div", { id: "rows" }), counted = make("p", { role: "status", id: "counted" });
   const list = () => {
-    const wanted = data.order.filter((place) => {
-      const [k, a, b] = data.invariants[place];
-      return (!kind.value || k === kind.value) && (typ.value === "" || [a, b].includes(Number(typ.value))) && !(hide.checked && data.reasons[place]);
-    });
-    const grey = wanted.filter((place) => data.reasons[place]).length;
-    counted.textContent = `${plural(wanted.length, "invariant")}, ${grey} of them grey: they follow from others, or from what comes always first or last.`;
+    const wanted = filtered(kind, typ, hide), grey = wanted.filter((place) => data.reasons[place]).length;
+    counted.textContent = `${plural(wanted.length, "invariant")}, ${grey} of them grey: these follow from others, `
+      + "or from what always comes first or last.";
     fill(rows, paged("table", wanted, invariantRow));
   };
   for (const control of [kind, typ, hide]) control.addEventListener("change", list);
   list();
-  return [make("p", { class: "filters" }, make("label", {}, "Kind ", kind), " ", make("label", {}, "Type ", typ), " ", make("label", {}, hide, " hide what follows from others")), counted, rows];
+  const filters = make("p", {}, make("label", {}, "Kind ", kind), " ", make("label", {}, "Type ", typ), " ",
+    make("label", {}, hide, " hide what follows from others"));
+  return [filters, counted, rows];
 }
 
 // ---- Steps ----
@@ -552,7 +612,7 @@ const parentOf = (k) => data.splits[k][2][data.splits[k][1]];
 // For each id that was in use before the split k: the partitions now that have its events.
 function partitionsBefore(k) {
   const members = new Map();
-  for (let x = 0; x < firstNew + data.splits.length; x += 1) members.set(x, new Set(typeOf.has(now(x)) ? [now(x)] : []));
+  for (let x = 0; x < firstNew + data.splits.length; x += 1) members.set(x, new Set([now(x)].filter((p) => typeOf.has(p))));
   for (let later = data.splits.length - 1; later >= k; later -= 1) {
     const child = firstNew + later, parent = members.get(parentOf(later));
     if (parent && parentOf(later) !== child) for (const p of members.get(child)) parent.add(p);
@@ -561,45 +621,64 @@ function partitionsBefore(k) {
   return members;
 }
 
+// The type of an id, which is that of the id it was split from.
 function typeThen(x) {
-  for (let left = data.splits.length; x >= firstNew && left > 0; left -= 1) x = x - firstNew < data.splits.length ? parentOf(x - firstNew) : -1;
+  for (let left = data.splits.length; x >= firstNew && left > 0; left -= 1) {
+    x = x - firstNew < data.splits.length ? parentOf(x - firstNew) : -1;
+  }
   return x;
 }
 
 // An id of a step as it was then: its type, and its number if the type had several partitions at that moment.
 function thenText(x, members) {
   const typ = typeThen(x), then = [...members.keys()].filter((y) => typeThen(y) === typ);
-  const nowIs = [...(members.get(x) || [])].sort((a, b) => a - b);
-  const same = nowIs.length === 1 && nowIs[0] === x;
-  return [typeText(typ), then.length > 1 ? " @" + x : "", same || x < 2 ? "" : make("small", {}, ` (now ${nowIs.map((p) => "@" + p).join(" and ") || "gone"})`)];
+  const today = [...(members.get(x) || [])].sort((a, b) => a - b);
+  const same = x < 2 || (today.length === 1 && today[0] === x);
+  const note = ` (now ${today.map((p) => "@" + p).join(" and ") || "gone"})`;
+  return [typeText(typ), then.length > 1 ? " @" + x : "", same ? "" : make("small", {}, note)];
+}
+
+function runSplit(k, detail) {
+  const path = data.splits[k][2], members = partitionsBefore(k);
+  fill(detail, pathList(path.map((x) => thenText(x, members))));
+  run(path.map((x) => [...(members.get(x) || [])]).filter((ids) => ids.length));
 }
 
 function splitRow(k) {
   const [place, at, path] = data.splits[k], invariant = data.invariants[place], fresh = firstNew + k;
-  const typ = typeText(typeThen(path[at]));
+  const divided = () => typeText(typeThen(path[at]));
+  const next = at + 1 < path.length ? typeText(typeThen(path[at + 1])) : "the end";
   const detail = make("div");
-  const button = make("button", { class: "step", click: () => {
-    const members = partitionsBefore(k);
-    fill(detail, pathList(path.map((x) => thenText(x, members))));
-    run(path.map((x) => [...(members.get(x) || [])]).filter((ids) => ids.length));
-  } }, "run its path");
-  const last = at + 1 < path.length ? typeText(typeThen(path[at + 1])) : "the end";
-  return make("li", {}, "The graph had a path that breaks ", make("em", {}, meaning(invariant)), " (", invariantText(invariant), "): ", breach(invariant),
-    ". Traces followed it as far as ", typ, ` @${path[at]}, and none went on along it. So the `, typeText(typeThen(path[at])), " events there that are followed at once by ", last,
-    ` got a partition of their own, @${fresh}`, typeOf.has(fresh) ? ". " : ` (merged into @${now(fresh)} later). `, button, detail);
+  return make("li", {}, "The graph had a path that breaks ", make("em", {}, meaning(invariant)), " (",
+    invariantText(invariant), "): ", breach(invariant), ". Traces followed it as far as ", divided(), ` @${path[at]}, `,
+    "and none went on along it. So the ", divided(), " events there that are followed at once by ", next,
+    ` got a partition of their own, @${fresh}`, typeOf.has(fresh) ? ". " : ` (merged into @${now(fresh)} later). `,
+    make("button", { class: "step", click: () => runSplit(k, detail) }, "run its path"), detail);
+}
+
+function showMerge(p) {
+  clearMarks();
+  if (typeOf.has(p)) {
+    mark([p], "on", "here");
+    show([p]);
+  }
 }
 
 function mergeRow(m) {
   const [p, q] = data.merges[m];
-  const button = make("button", { class: "step", click: () => { clearMarks(); if (typeOf.has(now(p))) { mark([now(p)], "on", "here"); show([now(p)]); } } }, "show it");
-  return make("li", {}, "No invariant is lost if ", typeText(typeThen(q)), ` @${q} and @${p} are one, so @${q} was merged into @${p}`, now(p) === p ? ". " : `, which is part of @${now(p)} now. `, button);
+  return make("li", {}, "No invariant is lost if ", typeText(typeThen(q)), ` @${q} and @${p} are one, `,
+    `so @${q} was merged into @${p}`, now(p) === p ? ". " : `, which is part of @${now(p)} now. `,
+    make("button", { class: "step", click: () => showMerge(now(p)) }, "show it"));
 }
 
 function stepsPanel() {
-  const rows = [...data.splits.keys()].map((k) => [splitRow, k]).concat([...data.merges.keys()].map((m) => [mergeRow, m]));
-  const text = rows.length ? `At first each type had one partition. ${plural(data.splits.length, "split")} and ${plural(data.merges.length, "merge")} made the graph above of it. An id in a path is that of the moment of its step; what is in several partitions now was one then, and is framed as one.`
-    : "Each type has one partition, as at first: no path broke an invariant, and nothing was split.";
-  return [make("p", {}, text), rows.length ? paged("ol", rows, ([rowOf, at]) => rowOf(at)) : []];
+  const splits = data.splits.map((_, k) => [splitRow, k]), merges = data.merges.map((_, m) => [mergeRow, m]);
+  if (!splits.length) return [make("p", {}, "Each type has one partition, as at first: no path broke an invariant.")];
+  const text = "At first each type had one partition. "
+    + `${plural(splits.length, "split")} and ${plural(merges.length, "merge")} made the graph above of it. `
+    + "An id in a path is that of the moment of its step; "
+    + "what is in several partitions now was one then, and is framed as one.";
+  return [make("p", {}, text), paged("ol", splits.concat(merges), ([rowOf, at]) => rowOf(at))];
 }
 
 // ---- Paths ----
@@ -608,7 +687,8 @@ function pathRow([count, ids], total, most) {
   const bar = make("span", { class: "bar" });
   bar.style.width = (100 * count) / most + "%";
   return make("li", {}, make("button", { class: "taken", click: () => run(ids.map((p) => [p])) },
-    make("span", { class: "track", "aria-hidden": "true" }, bar), make("span", { class: "count" }, `${plural(count, "trace")} (${percent(count, total)})`), " ",
+    make("span", { class: "track", "aria-hidden": "true" }, bar),
+    make("span", { class: "count" }, `${plural(count, "trace")} (${percent(count, total)})`), " ",
     make("span", {}, ids.map((p, at) => [at ? " → " : "", partitionText(p)]))));
 }
 
@@ -618,29 +698,41 @@ function pathsPanel() {
   const list = paged("ul", rows, (row) => pathRow(row, total, most));
   list[0].className = "bars";
   const other = total === traces ? "" : ` The model has ${plural(traces, "trace")}: the paths are of another log.`;
-  return [make("p", {}, `${plural(total, "trace")} take ${plural(rows.length, "path")}.${other} Click one to see it in the graph.`), list];
+  const text = `${plural(total, "trace")} take ${plural(rows.length, "path")}.${other} Click one to see it.`;
+  return [make("p", {}, text), list];
 }
 
 // ---- Two models ----
 
-function differenceTable(name, title, rows, textOf, marked) {
-  const row = (found) => make("tr", { class: found[0] > 0 ? "new" : "gone" }, make("td", {}, found[0] > 0 ? "+ new" : "− gone"),
-    make("td", {}, make("button", { class: "link", click: () => marked(found) }, textOf(found))));
-  return make("section", { id: name }, make("h3", {}, `${title}: ${rows.filter(([sign]) => sign > 0).length} new, ${rows.filter(([sign]) => sign < 0).length} gone`),
+function differenceTable(name, title, rows, textOf, typesOf) {
+  const row = (found) => {
+    const [first, second] = typesOf(found);
+    return make("tr", { class: found[0] > 0 ? "new" : "gone" }, make("td", {}, found[0] > 0 ? "+ new" : "− gone"),
+      make("td", {}, make("button", { class: "link", click: () => markTypes(first, second) }, textOf(found))));
+  };
+  const fresh = rows.filter(([sign]) => sign > 0).length;
+  return make("section", { id: name }, make("h3", {}, `${title}: ${fresh} new, ${rows.length - fresh} gone`),
     rows.length ? paged("table", rows, row) : make("p", {}, "none"));
 }
 
 function differencesPanel() {
   const { types, invariants, edges } = data.differences;
-  return [make("p", {}, "Compared with ", make("bdi", {}, data.old), ". In the graph, what is new has a plus and a double frame, and what is gone a minus and dots."),
-    differenceTable("types", "Types", types, ([, typ]) => typeText(typ), ([, typ]) => markTypes(typ, typ)),
-    differenceTable("steps-between", "Edges between types", edges, ([, a, b]) => [typeText(a), " → ", typeText(b)], ([, a, b]) => markTypes(a, b)),
-    differenceTable("statements", "Invariants", invariants, ([, ...invariant]) => invariantText(invariant), ([, , a, b]) => markTypes(a, b))];
+  const text = ". In the graph, what is new has a plus and a thick frame, and what is gone a minus and dots.";
+  return [make("p", {}, "Compared with ", make("bdi", {}, data.old), text),
+    differenceTable("types", "Types", types, ([, typ]) => typeText(typ), ([, typ]) => [typ, typ]),
+    differenceTable("steps-between", "Edges between types", edges,
+      ([, a, b]) => [typeText(a), " → ", typeText(b)], ([, a, b]) => [a, b]),
+    differenceTable("statements", "Invariants", invariants,
+      ([, ...invariant]) => invariantText(invariant), ([, , a, b]) => [a, b])];
 }
 
 // ---- Tabs ----
 
-const TABS = [["partition", "Partition", welcome], ["invariants", "Invariants", invariantsPanel], ["steps", "How it came about", stepsPanel]];
+const TABS = [
+  ["partition", "Partition", welcome],
+  ["invariants", "Invariants", invariantsPanel],
+  ["steps", "How it came about", stepsPanel],
+];
 if (data.paths) TABS.push(["paths", "Paths", pathsPanel]);
 if (data.differences) TABS.push(["differences", "New and gone", differencesPanel]);
 
@@ -667,8 +759,10 @@ function tabKey(event) {
 
 function makeTabs() {
   for (const [name, title] of TABS) {
-    byId("tabs").append(make("button", { id: "tab-" + name, role: "tab", "aria-controls": "panel-" + name, click: () => openTab(name) }, title));
-    byId("panels").append(make("div", { id: "panel-" + name, role: "tabpanel", "aria-labelledby": "tab-" + name, tabindex: "0", hidden: "" }));
+    const tab = { id: "tab-" + name, role: "tab", "aria-controls": "panel-" + name, click: () => openTab(name) };
+    const panel = { id: "panel-" + name, role: "tabpanel", "aria-labelledby": "tab-" + name, tabindex: 0, hidden: "" };
+    byId("tabs").append(make("button", tab, title));
+    byId("panels").append(make("div", panel));
   }
   byId("tabs").addEventListener("keydown", tabKey);
   byId("panel-partition").setAttribute("aria-live", "polite");
@@ -677,9 +771,16 @@ function makeTabs() {
 
 function facts() {
   const events = data.partitions.reduce((sum, [p, , count]) => sum + (p < 2 ? 0 : count), 0);
-  return [plural(traces, "trace"), plural(events, "event"), plural(data.types - 2, "type"), plural(data.partitions.length, "partition"),
-    plural(data.edges.length, "edge"), plural(data.invariants.length, "invariant"), plural(data.splits.length, "split"),
-    plural(data.merges.length, "merge"), plural(data.blockCount, "block")].join(", ") + ".";
+  const counts = [[traces, "trace"], [events, "event"], [data.types - 2, "type"], [data.partitions.length, "partition"],
+    [data.edges.length, "edge"], [data.invariants.length, "invariant"], [data.splits.length, "split"],
+    [data.merges.length, "merge"], [data.blockCount, "block"]];
+  return counts.map(([count, word]) => plural(count, word)).join(", ") + ".";
+}
+
+function startAgain() {
+  clearMarks();
+  drawDashes(null);
+  fill(openTab("partition"), welcome());
 }
 
 function listen() {
@@ -688,7 +789,7 @@ function listen() {
   byId("closer").addEventListener("click", () => zoom(0.8));
   byId("further").addEventListener("click", () => zoom(1.25));
   byId("whole").addEventListener("click", showWhole);
-  byId("clear").addEventListener("click", () => { clearMarks(); drawDashes(null); fill(openTab("partition"), welcome()); });
+  byId("clear").addEventListener("click", startAgain);
   byId("least").addEventListener("input", hideRare);
   byId("frame").addEventListener("keydown", key);
   drawing.addEventListener("pointerdown", startDrag);
@@ -697,13 +798,13 @@ function listen() {
   addEventListener("pointercancel", endDrag);
   drawing.addEventListener("click", clicked);
   drawing.addEventListener("wheel", wheel, { passive: false });
-  addEventListener("resize", showWhole);
+  addEventListener("resize", showStart);
 }
 
 byId("facts").textContent = facts();
 makeTabs();
 listen();
-showWhole();
+showStart();
 hideRare();
 drawDashes(null);
 document.documentElement.dataset.ready = "yes";
