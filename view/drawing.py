@@ -2,7 +2,7 @@
 import math
 import unicodedata
 
-from layout import MOST_LABELS, Layout, Line, Node, drawn_by
+from layout import Layout, Line, Node, drawn_by, middle_of
 from texts import escaped, plain, segments, shortened, width
 
 COLUMN = 8.0
@@ -99,9 +99,10 @@ def drawn_text(pieces):
 def drawn_line(line, thick, words, share):
     """An edge, with its attributes and its label."""
     label = ""
-    if line.spot and line.label:
-        x, y = line.spot
-        label = f'<text x="{number_text(x)}" y="{number_text(y + 4)}">{escaped(line.label)}</text>'
+    shown = line.label if line.spot else line.label[:1] if line.label[0] in "+−" else ""
+    if shown:
+        x, y = line.spot or middle_of(line.route)
+        label = f'<text x="{number_text(x)}" y="{number_text(y + 4)}">{escaped(shown)}</text>'
     wide = number_text(thick)
     return (
         f'<g {words}><path class="line" d="{route_of(line)}" stroke-width="{wide}"/>'
@@ -163,9 +164,8 @@ def svg(model, differences):
         for p, n in ((p, layout.nodes[f"p{p}"]) for p, _, _ in model.partitions)
     }
     size = f"0 0 {number_text(layout.width)} {number_text(layout.height)}"
-    many = " many" if len(layout.lines) > MOST_LABELS else ""
     text = "\n".join(
-        [f'<svg id="drawing" class="drawing{many}" viewBox="{size}" role="group" aria-labelledby="graph-title">']
+        [f'<svg id="drawing" class="drawing" viewBox="{size}" role="group" aria-labelledby="graph-title">']
         + ['<g id="edges">'] + drawn_edges(model, layout, differences)
         + ['</g><g id="dashes"></g><g id="nodes">'] + drawn_boxes(model, layout, differences)
         + ['</g><g id="badges" aria-hidden="true"></g></svg>']

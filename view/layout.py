@@ -9,6 +9,7 @@ MOST_LABELS = 300
 DOT_SECONDS = 8
 MOST_DOT_EDGES = 4000
 MARGIN = 12
+TOO_LARGE = "model-page: the graph is too large for dot, and is laid out in columns\n"
 
 
 class Node:
@@ -21,7 +22,7 @@ class Node:
 
 class Line:
     """An edge: between two nodes, with the text of its label; `route` is a list of points of Bezier curves, `tip` the
-    point of its arrow, and `spot` the middle of its label, if it has one."""
+    point of its arrow, and `spot` the middle of its label, or none if the graph has too many edges for labels."""
 
     def __init__(self, start, end, label):
         self.start, self.end, self.label = start, end, label
@@ -33,12 +34,14 @@ class Layout:
         self.nodes = {node.name: node for node in nodes}
         self.lines = lines
         self.width = self.height = 0.0
-        self.by_dot = False
 
 
 def drawn_by(layout):
     """The layout with all its places, by dot if it can."""
-    if len(layout.lines) > MOST_DOT_EDGES or not dot(layout):
+    if len(layout.lines) > MOST_DOT_EDGES:
+        sys.stderr.write(TOO_LARGE)
+        columns(layout)
+    elif not dot(layout):
         columns(layout)
     return layout
 
@@ -67,14 +70,13 @@ def dot(layout):
             return False
         take(layout, json.loads(done.stdout.decode("utf-8")))
     except subprocess.TimeoutExpired:
-        sys.stderr.write("model-page: the graph is too large for dot, and is laid out in columns\n")
+        sys.stderr.write(TOO_LARGE)
         return False
     except OSError:
         sys.stderr.write("model-page: there is no dot (Debian's package graphviz); the graph is laid out in columns\n")
         return False
     except (ValueError, LookupError):
         return False
-    layout.by_dot = True
     return True
 
 
@@ -140,14 +142,23 @@ def columns(layout):
         tallest = max(tallest, y)
         left += wide + 70
     layout.width, layout.height = left - 70 + MARGIN, tallest
+    labelled = len(layout.lines) <= MOST_LABELS
     for line in layout.lines:
-        curve(line, layout.nodes[line.start], layout.nodes[line.end])
+        curve(line, layout.nodes[line.start], layout.nodes[line.end], labelled)
 
 
-def curve(line, start, end):
+def curve(line, start, end, labelled):
     """A curve from the right side of one node to the left side of the other."""
     x, y = start.x + start.width / 2, start.y
     tip = end.x - end.width / 2, end.y
     bend = max(30.0, abs(tip[0] - x) / 2)
     line.route = [(x, y), (x + bend, y), (tip[0] - bend, tip[1]), (tip[0] - 7, tip[1])]
     line.tip = tip
+    if labelled:
+        line.spot = middle_of(line.route)
+
+
+def middle_of(route):
+    """The middle of the curve in the middle of a route."""
+    at = (len(route) - 1) // 6 * 3
+    return tuple(sum(w * p[axis] for w, p in zip((1, 3, 3, 1), route[at : at + 4])) / 8 for axis in (0, 1))

@@ -83,6 +83,9 @@ function paged(tag, rows, rowOf) {
   return at < rows.length ? [list, more] : [list];
 }
 
+// What a screen reader is to say now, since the graph itself says nothing.
+const tell = (text) => { byId("told").textContent = text; };
+
 // ---- Sentences ----
 
 const invariantText = ([kind, a, b]) => [typeText(a), " " + KINDS[kind] + " ", typeText(b)];
@@ -451,8 +454,10 @@ function showBlock(at) {
   const block = blocks()[at];
   drawDashes(block[0], at);
   const panel = openTab("partition");
-  fill(panel, make("h3", {}, "Why two?"), whyTwo(at),
+  const why = whyTwo(at);
+  fill(panel, make("h3", {}, "Why two?"), why,
     make("p", {}, "Show ", partitionButton(block[0]), " or ", partitionButton(block[1])));
+  tell(why.querySelector(".sentence").textContent);
   run(blockSteps(block));
 }
 
@@ -523,6 +528,7 @@ function markPartition(p) {
 
 function showPartition(p) {
   markPartition(p);
+  tell(`${partitionName(p)}: ${eventsText(p)}`);
   const typ = typeOf.get(p);
   fill(openTab("partition"), make("h3", {}, typeText(typ), ` @${p}`), make("p", {}, eventsText(p)), whySection(p),
     make("div", { class: "columns" },
@@ -556,6 +562,7 @@ function markTypes(a, b) {
   mark(siblings.get(b) || [], a === b ? "on" : "second", "second");
   const ids = [...(siblings.get(a) || []), ...(siblings.get(b) || [])];
   if (ids.length) show(ids);
+  tell(`Marked: ${data.plain[a]} and ${data.plain[b]}`);
 }
 
 function invariantRow(place) {
@@ -765,7 +772,6 @@ function makeTabs() {
     byId("panels").append(make("div", panel));
   }
   byId("tabs").addEventListener("keydown", tabKey);
-  byId("panel-partition").setAttribute("aria-live", "polite");
   openTab("partition");
 }
 
