@@ -101,17 +101,32 @@ def take(layout, answer):
         line.spot = point(given["lp"]) if "lp" in given else None
 
 
+def forward_edges(follow, first):
+    """The edges of a walk into the depth that do not lead back into it, for each node after those that it leads to."""
+    done, order, path, entered = set(), [], [(first, iter(follow.get(first, ())))], {first}
+    while path:
+        name, rest = path[-1]
+        end = next(rest, None)
+        if end is None:
+            path.pop()
+            entered.discard(name)
+            done.add(name)
+            order.append((name, [e for e in follow.get(name, ()) if e in done and e != name]))
+        elif end not in done and end not in entered:
+            entered.add(end)
+            path.append((end, iter(follow.get(end, ()))))
+    return order
+
+
 def depths(layout, first):
-    """How many edges away from the first node each node is; those that no path reaches come last."""
-    into = {}
+    """The column of each node: after all nodes before it, but for edges that lead back. What no path reaches is last."""
+    follow = {}
     for line in layout.lines:
-        into.setdefault(line.start, []).append(line.end)
-    depth, rank = {first: 0}, [first]
-    for name in rank:
-        for end in into.get(name, ()):
-            if end not in depth:
-                depth[end] = depth[name] + 1
-                rank.append(end)
+        follow.setdefault(line.start, []).append(line.end)
+    depth = {first: 0}
+    for name, ends in reversed(forward_edges(follow, first)):
+        for end in ends:
+            depth[end] = max(depth.get(end, 0), depth[name] + 1)
     deepest = max(depth.values()) + 1
     for name in layout.nodes:
         depth.setdefault(name, deepest)
@@ -119,10 +134,12 @@ def depths(layout, first):
 
 
 def columns(layout):
-    """Nodes in columns by how far they are from the first one, each column in the order of the nodes before it."""
+    """Nodes in columns, each column in the order of the nodes before it."""
     first, last = list(layout.nodes)[:2]
     depth = depths(layout, first)
     depth[last] = max(depth.values()) + 1
+    labelled = len(layout.lines) <= MOST_LABELS
+    gap = 110 if labelled else 70
     rows = {}
     for name in layout.nodes:
         rows.setdefault(depth[name], []).append(name)
@@ -140,9 +157,8 @@ def columns(layout):
             node.x, node.y = left + wide / 2, y + node.height / 2
             y += node.height + 14
         tallest = max(tallest, y)
-        left += wide + 70
-    layout.width, layout.height = left - 70 + MARGIN, tallest
-    labelled = len(layout.lines) <= MOST_LABELS
+        left += wide + gap
+    layout.width, layout.height = left - gap + MARGIN, tallest
     for line in layout.lines:
         curve(line, layout.nodes[line.start], layout.nodes[line.end], labelled)
 
