@@ -22,7 +22,7 @@ def events(count):
 
 
 def box(model, p):
-    """What stands in the box of a partition: the pieces of its first line, its number, and its second line."""
+    """The content of a partition's box: the pieces of its first line, its number, and its second line."""
     typ, count = model.type_of[p], model.count_of[p]
     number = f" @{p}" if model.has_number(p) else ""
     if number and any(unicodedata.bidirectional(c) in ("R", "AL") for c in model.texts[typ]):

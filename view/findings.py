@@ -1,8 +1,9 @@
 """What the page says beyond the file: which invariants follow from others, which side of a block brings what, and in
 what two models differ."""
 
-# The states of an invariant's monitor in which a path that goes on badly breaks it, as digits of a label have them:
-# AlwaysFollowedBy waits in state 1, NeverFollowedBy has met its first type in state 1, AlwaysPrecedes has not in state 0.
+# The state of an invariant's monitor from which a path can still break it, as the digits of a label count it:
+# AlwaysFollowedBy waits in state 1, NeverFollowedBy has met its first type in state 1, and AlwaysPrecedes has not yet
+# met it in state 0.
 CRITICAL = {"AF": 2, "NF": 2, "AP": 1}
 
 

@@ -1,4 +1,4 @@
-"""Where the partitions and edges of a graph are drawn: by Graphviz `dot`, or in columns if dot is missing or too slow."""
+"""Lays out the partitions and edges of a graph: by Graphviz `dot`, or in columns if dot is missing or too slow."""
 import json
 import subprocess
 import sys
@@ -102,7 +102,7 @@ def take(layout, answer):
 
 
 def forward_edges(follow, first):
-    """The edges of a walk into the depth that do not lead back into it, for each node after those that it leads to."""
+    """The edges that do not lead back to a node that a search in depth is still in: [node, ends], the deepest first."""
     done, order, path, entered = set(), [], [(first, iter(follow.get(first, ())))], {first}
     while path:
         name, rest = path[-1]
@@ -119,7 +119,7 @@ def forward_edges(follow, first):
 
 
 def depths(layout, first):
-    """The column of each node: after all nodes before it, but for edges that lead back. What no path reaches is last."""
+    """The column of each node: after the nodes before it, except for edges that lead back. Unreached nodes are last."""
     follow = {}
     for line in layout.lines:
         follow.setdefault(line.start, []).append(line.end)

@@ -153,7 +153,8 @@ function badge(p, text) {
   const [known, before] = badgeOf.get(p) || [null, ""];
   if (before.endsWith("…")) return;
   if (known) known.remove();
-  const label = before ? before + "," + text : String(text), short = label.length > 9 ? label.slice(0, 8) + "…" : label;
+  const label = before ? before + "," + text : String(text);
+  const short = label.length > 9 ? label.slice(0, 8) + "…" : label;
   const [x, y, width, height] = data.places[p];
   const left = x - width / 2 - 6, top = y - height / 2 - 9, wide = 8 + 7 * short.length;
   const made = makeDrawn("g", { class: "badge" },
@@ -535,6 +536,7 @@ function showPartition(p) {
       edgeTable("Edges into it", entering.get(p), 0, () => countOf.get(p)),
       edgeTable("Edges out of it", leaving.get(p), 1, () => countOf.get(p))),
     make("h4", {}, "Invariants of its type"), lists(typ));
+  if (blocksOf(p).length === 1) run(blockSteps(blocks()[blocksOf(p)[0]]));
 }
 
 // What the page shows first: what to click, and the types of which there are several partitions.
@@ -619,7 +621,9 @@ const parentOf = (k) => data.splits[k][2][data.splits[k][1]];
 // For each id that was in use before the split k: the partitions now that have its events.
 function partitionsBefore(k) {
   const members = new Map();
-  for (let x = 0; x < firstNew + data.splits.length; x += 1) members.set(x, new Set([now(x)].filter((p) => typeOf.has(p))));
+  for (let x = 0; x < firstNew + data.splits.length; x += 1) {
+    members.set(x, new Set([now(x)].filter((p) => typeOf.has(p))));
+  }
   for (let later = data.splits.length - 1; later >= k; later -= 1) {
     const child = firstNew + later, parent = members.get(parentOf(later));
     if (parent && parentOf(later) !== child) for (const p of members.get(child)) parent.add(p);
@@ -743,7 +747,7 @@ const TABS = [
 if (data.paths) TABS.push(["paths", "Paths", pathsPanel]);
 if (data.differences) TABS.push(["differences", "New and gone", differencesPanel]);
 
-// Opens a tab, makes what stands in it if it is opened first, and answers its panel.
+// Opens a tab and returns its panel. The content is made when the tab is first opened.
 function openTab(name) {
   for (const [other, , content] of TABS) {
     const tab = byId("tab-" + other), panel = byId("panel-" + other), open = other === name;

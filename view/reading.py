@@ -126,7 +126,7 @@ EVENT = re.compile(r'"(?:[^"\\]|\\.)*"@([0-9]{1,4})')
 
 
 def partitions_of_line(text, model):
-    """The ids in what stands between INITIAL and TERMINAL, or none if it does not fit the model."""
+    """The ids between INITIAL and TERMINAL, or None if the text does not fit the model."""
     ids, at = [], 0
     while at < len(text):
         found = EVENT.match(text, at)
@@ -160,6 +160,6 @@ def read_paths(file, model):
         ids = partitions_of_line(found.group(2), model)
         path = [0] + (ids or []) + [1]
         if ids is None or any(step not in edges for step in zip(path, path[1:])):
-            raise Refused(f"tells of another model: line {number}")
+            raise Refused(f"is of another model: line {number}")
         paths.append([int(found.group(1)), path])
     return paths

@@ -1,4 +1,4 @@
-"""Texts of unknown origin, made safe to show: what has no visible form of its own is shown as a mark."""
+"""Texts of unknown origin, made safe to show: a character without a visible form is shown as a mark."""
 import json
 import unicodedata
 
@@ -20,7 +20,7 @@ def is_mark(text, at):
 
 
 def mark(c):
-    """What stands for such a character."""
+    """The mark that is shown instead of such a character."""
     return "space" if c == " " else f"U+{ord(c):04X}"
 
 
@@ -56,8 +56,10 @@ def shortened(text, most):
 
 
 def escaped(text):
-    """A text as it stands in HTML and SVG, between tags or between quotes."""
-    return text.replace("&", "&amp;").replace("<", "&lt;").replace(">", "&gt;").replace('"', "&quot;").replace("'", "&#39;")
+    """A text with escapes for HTML and SVG, between tags or between quotes."""
+    for c, name in (("&", "amp"), ("<", "lt"), (">", "gt"), ('"', "quot"), ("'", "#39")):
+        text = text.replace(c, f"&{name};")
+    return text
 
 
 def json_in_page(value):
