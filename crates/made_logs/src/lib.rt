@@ -4,8 +4,6 @@
 
 mod law;
 mod reading;
-#[cfg(test)]
-mod tests;
 mod text_input;
 
 pub use law::made_logs_are_decided;

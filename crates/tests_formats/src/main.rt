@@ -10,6 +10,7 @@ mod events;
 mod input_lines;
 mod keys;
 mod logs;
+mod made;
 mod notation;
 mod rules;
 mod said;
@@ -33,6 +34,7 @@ fn take_steps(
         "rules" => rules::run(alloc, words, steps, out),
         "lines" => input_lines::run(alloc, words, steps, out),
         "logs" => logs::run(alloc, words, steps, out),
+        "made" => made::run(alloc, words, out),
         "text" => text::run(alloc, steps, out),
         "fronts" => text::fronts(alloc, steps, out),
         "said" => said::run(alloc, steps, out),
