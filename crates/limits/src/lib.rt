@@ -15,11 +15,11 @@ pub const FIRST_TYPE: u32 = 2;
 /// How many types of events a log has at most.
 pub const MAX_TYPES: u32 = 128;
 
-/// The greatest number that a type of a log has at most.
-pub const LAST_TYPE: u16 = 129;
+/// The greatest number of a type for which labels and marks have room. No type of a log has a greater one, and 256 types have just this room.
+pub const LAST_TYPE: u16 = 257;
 
-/// How many invariants are mined of a log at most: all its candidates, where it has `MAX_TYPES` types.
-pub const MAX_INVARIANTS: usize = 49_280;
+/// How many invariants labels and marks have room for: all candidates of four kinds between 256 types. No log has so many.
+pub const MAX_INVARIANTS: usize = 262_144;
 
 /// How many events a log has at most, over all its traces.
 pub const MAX_EVENTS: u32 = 1_000_000;
