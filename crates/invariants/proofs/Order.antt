@@ -1,9 +1,9 @@
 -- A filtered list keeps the order of its elements.
 use Rattle.std.proofs.Common.{◌≡◌, ℕ, zero, suc, ◌<◌, Bool, true, false, cond, List, [], ◌∷◌, filter, Contains, slice_get, Some, arith, suc-le-suc}
 use Rattle.std.proofs.lemmas.Option.{none-some}
-use Rattle.invariants.specs.Candidates.{candidates}
+use Rattle.invariants.specs.Candidates.{candidates_for}
 use Rattle.invariants.specs.Mined.{holds_of_all, MinedKeepsOrder}
-use Rattle.invariants.proofs.CandidatePlaces.{candidates-differ}
+use Rattle.invariants.proofs.EachKinds.{candidates-differ}
 use Rattle.invariants.proofs.Members.{Contains-filter, Contains-from_place, place-from_Contains}
 
 -- x stands before y in the list
@@ -41,8 +41,8 @@ before-filter p (z ∷ xs) x y j k at_j at_k order =
 
 -- two mined invariants stand in the order of the candidates
 pub mined_keeps_order : MinedKeepsOrder
-mined_keeps_order count words j k m n first second at_j at_k at_m at_n order =
-    let h = before-filter (holds_of_all words) (candidates count) first second j k at_j at_k order in
-    let same_m : m ≡ h.first = candidates-differ count m h.first first at_m h.at_first in
-    let same_n : n ≡ h.second = candidates-differ count n h.second second at_n h.at_second in
+mined_keeps_order kinds count words j k m n first second at_j at_k at_m at_n order =
+    let h = before-filter (holds_of_all words) (candidates_for kinds count) first second j k at_j at_k order in
+    let same_m : m ≡ h.first = candidates-differ kinds count m h.first first at_m h.at_first in
+    let same_n : n ≡ h.second = candidates-differ kinds count n h.second second at_n h.at_second in
     omega (arith, h.order)

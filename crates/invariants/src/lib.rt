@@ -5,8 +5,8 @@
 //! `Seq` and `Text` are the lists and the texts of public data, and the records are what a model says. No call here takes memory.
 #![tactic(auto)]
 
-ghost use Rattle.std.specs.Prelude.{◌≡◌, ◌+◌, ◌*◌, ◌≤◌, length};
-ghost use Rattle.invariants.specs.Candidates.{candidates};
+ghost use Rattle.std.specs.Prelude.{◌≡◌, ◌≤◌, length};
+ghost use Rattle.invariants.specs.Candidates.{candidates_for, candidate_total};
 
 use limits::MAX_TYPES;
 
@@ -23,6 +23,17 @@ pub enum Kind {
     NF,
     /// AlwaysPrecedes: each `b` has an earlier `a`.
     AP,
+    /// InterruptedBy: between any two `a` stands a `b`.
+    IB,
+}
+
+/// Which kinds a log is asked for.
+#[derive(Clone, Copy, Debug, PartialEq, Eq)]
+pub enum Kinds {
+    /// AlwaysFollowedBy, NeverFollowedBy and AlwaysPrecedes.
+    Three,
+    /// These and InterruptedBy.
+    Four,
 }
 
 /// An invariant of a kind between two types, which may be the same type.
@@ -36,13 +47,16 @@ pub struct Invariant {
     pub b: u16,
 }
 
-/// How many candidates a log with this many types has, at most `MAX_TYPES`: one for each type, and three for each two types in order, of which both may be the same.
-pub fn candidate_count(types: u32) -> u32
+/// How many candidates of these kinds a log with this many types has, at most `MAX_TYPES`: one for each type, and for each two types in order, of which both may be the same, one of each kind, where no type is interrupted by itself.
+pub fn candidate_count(kinds: Kinds, types: u32) -> u32
     requires { types ≤ MAX_TYPES }
-    ensures count { result ≡ types + 3 * (types * types) }
-    ensures listed { result ≡ length (candidates types) }
+    ensures count { result ≡ candidate_total kinds types }
+    ensures listed { result ≡ length (candidates_for kinds types) }
 {
-    types + 3 * (types * types)
+    match kinds {
+        Kinds::Three => types + 3 * (types * types),
+        Kinds::Four => 4 * (types * types),
+    }
 }
 
 mod law;
