@@ -4,7 +4,7 @@ use Rattle.std.proofs.Math.Seq.{take-suc}
 use Rattle.std.proofs.lemmas.Bool.{ne_eqb, cond-false}
 use Rattle.std.proofs.lemmas.List.Folds.{list_all-append}
 use Rattle.std.specs.List.{list_all}
-use Rattle.invariants.specs.Holds.{occurs, always_followed, never_followed, always_preceded, holds}
+use Rattle.invariants.specs.Holds.{occurs, always_followed, never_followed, always_preceded, interrupted, holds}
 use Rattle.invariants.specs.declared.Invariant.{Invariant}
 use Rattle.traces.specs.Kept.{IsTypeNumber}
 use Rattle.closure_miner.specs.Standing.{word_with}
@@ -74,6 +74,12 @@ preceded-end a b word =
     preceded-last (a + 2) (b + 2) 1 word
     ∙ ap (λ t. always_preceded (a + 2) (b + 2) word && (not t || occurs (a + 2) word)) (ne_eqb 1 (b + 2) (λ e. (let no : ⊥ = omega arith in no))) ∙ and-true (always_preceded (a + 2) (b + 2) word)
 
+-- TERMINAL at the end of a word does not change whether a is interrupted by b
+between-end : (a b : ℕ) (word : List ℕ) → interrupted (a + 2) (b + 2) (word ++ 1 ∷ []) ≡ interrupted (a + 2) (b + 2) word
+between-end a b [] = ap (λ t. (not t || true) && true) (ne_eqb 1 (a + 2) (λ e. (let no : ⊥ = omega arith in no)))
+between-end a b (x ∷ word) =
+    ap₂ (λ o t. (not (eqb x (a + 2)) || o) && t) (preceded-end b a word) (between-end a b word)
+
 -- between two types, whether each a is followed by b is the same with the two ends
 pub followed-word : (a b : ℕ) (events : List ℕ) → always_followed (a + 2) (b + 2) events ≡ always_followed (a + 2) (b + 2) (word_with events)
 followed-word a b events =
@@ -92,6 +98,12 @@ preceded-word a b events =
     sym (preceded-end a b events)
     ∙ sym (cond-false (eqb 0 (b + 2)) false (cond (eqb 0 (a + 2)) true (always_preceded (a + 2) (b + 2) (events ++ 1 ∷ []))) (ne_eqb 0 (b + 2) (λ e. (let no : ⊥ = omega arith in no)))
     ∙ cond-false (eqb 0 (a + 2)) true (always_preceded (a + 2) (b + 2) (events ++ 1 ∷ [])) (ne_eqb 0 (a + 2) (λ e. (let no : ⊥ = omega arith in no))))
+
+-- between two types, whether a is interrupted by b is the same with the two ends
+pub between-word : (a b : ℕ) (events : List ℕ) → interrupted (a + 2) (b + 2) events ≡ interrupted (a + 2) (b + 2) (word_with events)
+between-word a b events =
+    sym (between-end a b events)
+    ∙ sym (ap (λ t. (not t || always_preceded (b + 2) (a + 2) (events ++ 1 ∷ [])) && interrupted (a + 2) (b + 2) (events ++ 1 ∷ [])) (ne_eqb 0 (a + 2) (λ e. (let no : ⊥ = omega arith in no))))
 
 -- no event is INITIAL, so that nothing is asked behind one
 none-left : (types b : ℕ) (events : List ℕ) → All (IsTypeNumber types) events → always_followed 0 b events ≡ true

@@ -4,10 +4,13 @@ use Rattle.std.proofs.lemmas.List.Concat.{flat_map-append}
 use Rattle.std.proofs.lemmas.List.Elements.{filter-append}
 use Rattle.std.proofs.lemmas.List.FromFn.{filter_of_map_range_with_len_more}
 use Rattle.std.specs.List.{flat_map, range_with_len}
-use Rattle.invariants.specs.declared.Kind.TheVariants.{AF}
+use Rattle.invariants.specs.declared.Kind.TheVariants.{AF, NF, AP}
+use Rattle.invariants.specs.declared.Kinds.{Kinds}
+use Rattle.invariants.specs.declared.Kinds.TheVariants.{Three, Four}
 use Rattle.invariants.specs.declared.Kind.{Kind}
 use Rattle.invariants.specs.declared.Invariant.{Invariant}
-use Rattle.invariants.specs.Candidates.{invariant, types}
+use Rattle.invariants.specs.Candidates.{invariant, types, of_pair}
+use Rattle.closure_miner.specs.Standing.{of_interrupted}
 
 -- numbers in a row, and the next one
 row-more : (a n j : ℕ) → a + n ≡ j → range_with_len a (suc n) ≡ range_with_len a n ++ j ∷ []
@@ -54,3 +57,8 @@ one-added p kind a b x y stands rest old mid new first second is before then =
     let inv : Invariant = invariant kind a b in
     then ∙ ap (λ l. l ++ filter p rest) (before ∙ ap₂ (λ k l. old ++ cond stands (invariant kind k l ∷ []) []) first second)
     ∙ (append_assoc old (cond stands (inv ∷ []) []) (filter p rest) ∙ ap (λ l. old ++ l) (joined stands inv (filter p rest)) ∙ ap (λ t. old ++ cond t (inv ∷ filter p rest) (filter p rest)) is)
+
+-- the candidates between two types, the last of them apart
+pub pair-parts : (kinds : Kinds) (a b : ℕ) → of_pair kinds a b ≡ invariant AF a b ∷ invariant NF a b ∷ invariant AP a b ∷ of_interrupted kinds a b
+pair-parts Three a b = refl
+pair-parts Four a b = refl

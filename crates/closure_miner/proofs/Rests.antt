@@ -1,6 +1,6 @@
 -- What a part of a word tells of all of it.
 use Rattle.std.proofs.Common.{◌≡◌, ℕ, Bool, true, false, not, ◌&&◌, ◌||◌, List, [], ◌∷◌, ◌++◌, cond, eqb, refl, sym, ap, ap₂, ◌∙◌, true≢false}
-use Rattle.invariants.specs.Holds.{occurs, always_followed, never_followed, always_preceded}
+use Rattle.invariants.specs.Holds.{occurs, always_followed, never_followed, always_preceded, interrupted}
 
 -- a truth value or true is true
 or-true : (x : Bool) → (x || true) ≡ true
@@ -29,6 +29,12 @@ pub never-behind : (a b : ℕ) (front behind : List ℕ) → never_followed a b 
 never-behind a b [] behind unless = unless
 never-behind a b (x ∷ front) behind unless =
     ap (λ t. not (eqb x a && occurs b (front ++ behind)) && t) (never-behind a b front behind unless) ∙ and-false (not (eqb x a && occurs b (front ++ behind)))
+
+-- where some a behind is not interrupted by b, some is not in the whole
+pub between-behind : (a b : ℕ) (front behind : List ℕ) → interrupted a b behind ≡ false → interrupted a b (front ++ behind) ≡ false
+between-behind a b [] behind unless = unless
+between-behind a b (x ∷ front) behind unless =
+    ap (λ t. (not (eqb x a) || always_preceded b a (front ++ behind)) && t) (between-behind a b front behind unless) ∙ and-false (not (eqb x a) || always_preceded b a (front ++ behind))
 
 -- the first event of a front, and whether what comes behind can matter
 front-step : (s t o p q : Bool) → (t || o) ≡ true → (o ≡ true → p ≡ q) → cond s false (cond t true p) ≡ cond s false (cond t true q)

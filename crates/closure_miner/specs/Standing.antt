@@ -1,7 +1,10 @@
 -- Which candidates still stand, set by set.
-use Rattle.std.specs.Prelude.{ℕ, ◌≡◌, ◌<◌, ◌+◌, not, Bool, List, [], ◌∷◌, ◌++◌}
+use Rattle.std.specs.Prelude.{ℕ, ◌≡◌, ◌<◌, ◌+◌, ◌==◌, if◌then◌else◌, not, Bool, List, [], ◌∷◌, ◌++◌}
 use Rattle.limits.specs.declared.TheConstants.{INITIAL, TERMINAL, FIRST_TYPE}
-use Rattle.invariants.specs.declared.Kind.TheVariants.{AF, NF, AP}
+use Rattle.invariants.specs.declared.Kind.TheVariants.{AF, NF, AP, IB}
+use Rattle.invariants.specs.declared.Kinds.{Kinds}
+use Rattle.invariants.specs.declared.Kinds.TheVariants.{Three, Four}
+use Rattle.invariants.specs.declared.Invariant.{Invariant}
 use Rattle.invariants.specs.Candidates.{invariant}
 use Rattle.invariants.specs.Mined.{holds_of_all}
 use Rattle.closure_miner.specs.declared.standing.Standing.{Standing}
@@ -10,6 +13,11 @@ use Rattle.closure_miner.specs.Sets.{has_at}
 -- the word of a trace with these events
 abbrev pub word_with : List ℕ → List ℕ
 word_with events = INITIAL ∷ events ++ TERMINAL ∷ []
+
+-- that a type is interrupted by another, where it is a candidate
+abbrev pub of_interrupted : Kinds → ℕ → ℕ → List Invariant
+of_interrupted Three a b = []
+of_interrupted Four a b = if a == b then [] else invariant IB a b ∷ []
 
 -- the sets tell of each candidate whether it holds of each word
 pub record Stands {S : Type 0} (has : S → ℕ → Bool) (standing : Standing S) (words : List (List ℕ)) : Type 0 where
@@ -24,3 +32,6 @@ pub record Stands {S : Type 0} (has : S → ℕ → Bool) (standing : Standing S
       ≡ holds_of_all words (invariant AP (a + FIRST_TYPE) (b + FIRST_TYPE))
   pub everywhere : (b : ℕ) → b < standing.types
       → has standing.everywhere b ≡ holds_of_all words (invariant AF INITIAL (b + FIRST_TYPE))
+  pub between : standing.kinds ≡ Four → (a b : ℕ) → a < standing.types → b < standing.types
+      → has_at has standing.between.items a b
+      ≡ holds_of_all words (invariant IB (a + FIRST_TYPE) (b + FIRST_TYPE))

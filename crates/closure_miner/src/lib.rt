@@ -5,19 +5,20 @@
 //! later, and once from its start, with the set of those that came earlier; each event strikes out of the sets of its type
 //! what the set at hand denies. A set of types has a bit for each, in one word for up to 128 types and else in two. So the work
 //! is a few steps for each event; every 128 events it is looked whether the rest of the trace can still strike out anything,
-//! and if not the trace is read no further from that side. At the end each candidate is looked at once.
+//! and if not the trace is read no further from that side. Where InterruptedBy is asked for, a trace is read once more from its
+//! end, with the set of the types that come before the next event of each type. At the end each candidate is looked at once.
 #![tactic(auto)]
 
 ghost use Rattle.std.specs.Prelude.{◌≡◌, ◌≤◌, length, IfOk};
 ghost use Rattle.closure_miner.specs.declared.type_sets.TheConstants.{MAX_SET_TYPES};
-ghost use Rattle.invariants.specs.Mined.{mined};
+ghost use Rattle.invariants.specs.Mined.{mined_for};
 ghost use Rattle.traces.specs.Words.{words_of};
 ghost use Rattle.closure_miner.specs.Standing.{Stands};
 
 mod standing;
 mod type_sets;
 
-use invariants::{Invariant, Seq};
+use invariants::{Invariant, Kinds, Seq};
 use standing::Standing;
 use std::alloc::{AllocError, Global};
 use traces::TraceSet;
@@ -26,49 +27,56 @@ use type_sets::{MAX_SET_TYPES, TypeSet, WORD_TYPES, Wide};
 /// The candidates that stand when all traces are read.
 fn standing_after<S: TypeSet>(
     alloc: Global,
+    kinds: Kinds,
     traces: &TraceSet,
     types: usize,
 ) -> Result<Standing<S>, AllocError>
     requires types { types ≡ length (traces.now).types }
     requires few { types ≤ MAX_SET_TYPES }
     requires room { types ≤ S.room }
+    ensures kinds { IfOk result (λ standing. standing.kinds ≡ kinds) }
     ensures types { IfOk result (λ standing. standing.types ≡ types) }
     ensures stands { IfOk result (λ standing. Stands S.has standing (words_of traces.now)) }
 {
-    let mut standing = Standing::make(alloc, types)?;
+    let mut standing = Standing::make(alloc, kinds, types)?;
     for t in 0..traces.trace_count() {
         standing.read(traces.events(t));
     }
     Ok(standing)
 }
 
-/// The invariants that hold of every trace, by sets that have room for all types.
+/// The invariants of these kinds that hold of every trace, by sets that have room for all types.
 fn mine_by<S: TypeSet>(
     alloc: Global,
+    kinds: Kinds,
     traces: &TraceSet,
     types: usize,
 ) -> Result<Seq<Invariant>, AllocError>
     requires types { types ≡ length (traces.now).types }
     requires few { types ≤ MAX_SET_TYPES }
     requires room { types ≤ S.room }
-    ensures { IfOk result (λ list. list ≡ mined (length (traces.now).types) (words_of traces.now)) }
+    ensures { IfOk result (λ list. list ≡ mined_for kinds (length (traces.now).types) (words_of traces.now)) }
 {
-    let standing: Standing<S> = standing_after(alloc, traces, types)?;
+    let standing: Standing<S> = standing_after(alloc, kinds, traces, types)?;
     let mut mined = Vec::new(alloc);
     standing.push_firsts(&mut mined)?;
     standing.push_pairs(&mut mined)?;
     Ok(Seq::from_vec(mined))
 }
 
-/// The invariants that hold of every trace, in the order of the candidates. `AllocError` comes where
+/// The invariants of these kinds that hold of every trace, in the order of the candidates. `AllocError` comes where
 /// there is not enough memory for them or for the sets.
-pub fn mine_again(alloc: Global, traces: &TraceSet) -> Result<Seq<Invariant>, AllocError>
-    ensures { IfOk result (λ list. list ≡ mined (length (traces.now).types) (words_of traces.now)) }
+pub fn mine_again(
+    alloc: Global,
+    kinds: Kinds,
+    traces: &TraceSet,
+) -> Result<Seq<Invariant>, AllocError>
+    ensures { IfOk result (λ list. list ≡ mined_for kinds (length (traces.now).types) (words_of traces.now)) }
 {
     let types = traces.types().len();
     if types <= WORD_TYPES {
-        mine_by::<u128>(alloc, traces, types)
+        mine_by::<u128>(alloc, kinds, traces, types)
     } else {
-        mine_by::<Wide>(alloc, traces, types)
+        mine_by::<Wide>(alloc, kinds, traces, types)
     }
 }

@@ -1,24 +1,26 @@
 //! The candidates that hold of every trace that was read, in sets of types.
-ghost use Rattle.std.specs.Prelude.{ℕ, ◌≡◌, ◌≤◌, ◌<◌, ◌+◌, ◌==◌, ◌&&◌, ◌||◌, ◌↔◌, not, true, length, replicate, All, ◌∷◌, ◌++◌, [], IfOk, cond};
+ghost use Rattle.std.specs.Prelude.{ℕ, ◌≡◌, ◌≤◌, ◌<◌, ◌+◌, ◌==◌, ◌&&◌, ◌||◌, ◌↔◌, not, true, false, if◌then◌else◌, length, replicate, All, ◌∷◌, ◌++◌, [], IfOk, cond};
 ghost use Rattle.invariants.specs.Candidates.{invariant};
 ghost use Rattle.limits.specs.declared.TheConstants.{FIRST_TYPE};
 ghost use Rattle.closure_miner.specs.declared.type_sets.TheConstants.{MAX_SET_TYPES};
-ghost use Rattle.invariants.specs.Holds.{occurs, always_followed, never_followed, always_preceded};
+ghost use Rattle.invariants.specs.Holds.{occurs, always_followed, never_followed, always_preceded, interrupted};
+ghost use Rattle.invariants.specs.declared.Kinds.TheVariants.{Four};
 ghost use Rattle.traces.specs.Kept.{IsTypeNumber};
 ghost use Rattle.closure_miner.specs.Sets.{has_at, HasAll};
 
 use crate::type_sets::{MAX_SET_TYPES, TypeSet};
-use invariants::{Invariant, Kind};
+use invariants::{Invariant, Kind, Kinds};
 use limits::{FIRST_TYPE, INITIAL};
 use std::alloc::{AllocError, Global};
 
 /// The candidates that still stand: those that hold of every trace that was read.
 ///
 /// With `a` and `b` the places of two types, AF(a, b) stands where b is in `followed` of a, NF(a, b)
-/// where b is not in `met` of a, AP(a, b) where a is in `preceded` of b, and AF(INITIAL, b) where b is
-/// in `everywhere`.
+/// where b is not in `met` of a, AP(a, b) where a is in `preceded` of b, AF(INITIAL, b) where b is
+/// in `everywhere`, and where IB is asked for, IB(a, b) where b is in `between` of a.
 #[derive(Drop)]
 pub struct Standing<S> {
+    kinds: Kinds,
     types: usize,
     /// For each type, those that come later than its last event in every trace that has it.
     followed: Vec<S>,
@@ -28,10 +30,16 @@ pub struct Standing<S> {
     preceded: Vec<S>,
     /// The types that every trace has.
     everywhere: S,
+    /// For each type, those that stand between any two events of it.
+    between: Vec<S>,
+    /// For each type, those that come before its next event, while a trace is read.
+    until: Vec<S>,
     ghost few: { types ≤ MAX_SET_TYPES },
     ghost followed_each: { length followed.items ≡ types },
     ghost met_each: { length met.items ≡ types },
     ghost preceded_each: { length preceded.items ≡ types },
+    ghost between_each: { length between.items ≡ types },
+    ghost until_each: { length until.items ≡ types },
 }
 
 /// After how many events it is looked whether the rest of a trace can strike out anything.
@@ -189,28 +197,108 @@ fn read_from_start<S: TypeSet>(preceded: &mut [S], all: S, events: &[u16])
     }
 }
 
+/// Makes each of the sets this one.
+fn fill<S: TypeSet>(sets: &mut [S], set: S)
+    ensures { All (λ s. s ≡ set) sets.new }
+{
+    for a in 0..sets.len() {
+        sets[a] = set;
+    }
+}
+
+/// Adds the type at this place to each of the sets.
+#[inline]
+fn add_to_each<S: TypeSet>(sets: &mut [S], place: usize)
+    requires { place < S.room }
+    ensures { (a b : ℕ) → a < length sets.old → has_at S.has sets.new a b ≡ (b == place || has_at S.has sets.old a b) }
+{
+    for a in 0..sets.len() {
+        sets[a] = sets[a].with(place);
+    }
+}
+
+/// Strikes out what an event breaks of what interrupts what, and puts it before those in `until`.
+#[inline]
+fn strike_between<S: TypeSet>(between: &mut [S], until: &mut [S], x: u16)
+    requires few { length between.old ≤ S.room }
+    requires same { length until.old ≡ length between.old }
+    requires number { IsTypeNumber (length between.old) x }
+
+    // Which types come before the next event of each type.
+    ensures until { (a b : ℕ) → a < length until.old → has_at S.has until.new a b
+        ≡ (if x == a + FIRST_TYPE then false else (x == b + FIRST_TYPE || has_at S.has until.old a b)) }
+
+    // Which pairs of a type and what interrupts it still stand.
+    ensures between { (a b : ℕ) → has_at S.has between.new a b ≡ (has_at S.has between.old a b
+        && (not (x == a + FIRST_TYPE) || has_at S.has until.old a b)) }
+{
+    let place = place_of(x);
+    between[place] = between[place].both(until[place]);
+    add_to_each(until, place);
+    until[place] = S::none();
+}
+
+/// Strikes out what a trace breaks of what interrupts what, where that is asked for: it is read from its
+/// end, up to where nothing of it stands.
+fn read_between<S: TypeSet>(
+    kinds: Kinds,
+    between: &mut [S],
+    until: &mut [S],
+    all: S,
+    events: &[u16],
+)
+    requires few { length between.old ≤ S.room }
+    requires same { length until.old ≡ length between.old }
+    requires all { HasAll S.has (length between.old) all }
+    requires numbers { All (IsTypeNumber (length between.old)) events.now }
+
+    // Which pairs of a type and what interrupts it still stand.
+    ensures between { kinds ≡ Four → (a b : ℕ) → a < length between.old → b < length between.old
+        → has_at S.has between.new a b ≡ (has_at S.has between.old a b
+        && interrupted (a + FIRST_TYPE) (b + FIRST_TYPE) events.now) }
+{
+    match kinds {
+        Kinds::Three => return,
+        Kinds::Four => {}
+    }
+    fill(until, all);
+    let none = S::none();
+    let mut left = events.len();
+    while left > 0 {
+        if left % STRIDE == 0 && are_all(between, none) {
+            return;
+        }
+        left -= 1;
+        strike_between(between, until, events[left]);
+    }
+}
+
 impl<S: TypeSet> Standing<S> {
     ghost use Rattle.std.specs.Prelude.{◌∷◌, ◌++◌, [], List, IfOk, map, filter};
     ghost use Rattle.std.specs.List.{flat_map};
     ghost use Rattle.invariants.specs.declared.Kind.TheVariants.{AF};
     ghost use Rattle.invariants.specs.Candidates.{invariant, types, of_pair, of_first};
     ghost use Rattle.invariants.specs.Mined.{holds_of_all};
-    ghost use Rattle.closure_miner.specs.Standing.{word_with, Stands};
+    ghost use Rattle.closure_miner.specs.Standing.{word_with, of_interrupted, Stands};
 
-    /// Before any trace was read: all candidates stand.
-    pub fn make(alloc: Global, types: usize) -> Result<Standing<S>, AllocError>
+    /// Before any trace was read: all candidates of these kinds stand.
+    pub fn make(alloc: Global, kinds: Kinds, types: usize) -> Result<Standing<S>, AllocError>
         requires few { types ≤ MAX_SET_TYPES }
         requires room { types ≤ S.room }
+        ensures kinds { IfOk result (λ standing. standing.kinds ≡ kinds) }
         ensures types { IfOk result (λ standing. standing.types ≡ types) }
         ensures stands { IfOk result (λ standing. Stands S.has standing []) }
     {
         let all = S::first(types);
         Ok(Standing {
+            kinds,
             types,
             followed: sets_of(alloc, types, all)?,
             met: sets_of(alloc, types, S::none())?,
             preceded: sets_of(alloc, types, all)?,
             everywhere: all,
+            between: sets_of(alloc, types, all)?,
+            until: sets_of(alloc, types, all)?,
         })
     }
 
@@ -218,6 +306,7 @@ impl<S: TypeSet> Standing<S> {
     pub fn read(&mut self, events: &[u16])
         requires room { (self.old).types ≤ S.room }
         requires numbers { All (IsTypeNumber (self.old).types) events.now }
+        ensures kinds { (self.new).kinds ≡ (self.old).kinds }
         ensures types { (self.new).types ≡ (self.old).types }
         ensures stands { (words : List (List ℕ)) → Stands S.has self.old words
             → Stands S.has self.new (words ++ word_with events.now ∷ []) }
@@ -226,6 +315,7 @@ impl<S: TypeSet> Standing<S> {
         let seen = read_from_end(&mut self.followed, &mut self.met, all, events);
         self.everywhere = self.everywhere.both(seen);
         read_from_start(&mut self.preceded, all, events);
+        read_between(self.kinds, &mut self.between, &mut self.until, all, events);
     }
 
     /// Adds the candidates that each trace has a type, of those that still stand.
@@ -241,6 +331,27 @@ impl<S: TypeSet> Standing<S> {
         Ok(())
     }
 
+    /// Adds the candidate that a type is interrupted by another, where it is asked for and still stands.
+    #[inline]
+    fn push_between(&self, list: &mut Vec<Invariant>, a: usize, b: usize) -> Result<(), AllocError>
+        requires a { a < (self.now).types }
+        requires b { b < (self.now).types }
+        requires room { (self.now).types ≤ S.room }
+        ensures { (words : List (List ℕ)) → Stands S.has self.now words → IfOk result (λ _. list.new.items
+            ≡ list.old.items ++ filter (holds_of_all words) (of_interrupted (self.now).kinds (a + FIRST_TYPE) (b + FIRST_TYPE))) }
+    {
+        match self.kinds {
+            Kinds::Three => return Ok(()),
+            Kinds::Four => {}
+        }
+        if a == b {
+            return Ok(());
+        }
+        let between = self.between[a].has_place(b);
+        push_standing(list, between, Kind::IB, number_of(a), number_of(b))?;
+        Ok(())
+    }
+
     /// Adds the candidates between two types, of those that still stand.
     #[inline]
     fn push_pair(&self, list: &mut Vec<Invariant>, a: usize, b: usize) -> Result<(), AllocError>
@@ -248,7 +359,7 @@ impl<S: TypeSet> Standing<S> {
         requires b { b < (self.now).types }
         requires room { (self.now).types ≤ S.room }
         ensures { (words : List (List ℕ)) → Stands S.has self.now words → IfOk result (λ _. list.new.items
-            ≡ list.old.items ++ filter (holds_of_all words) (of_pair (a + FIRST_TYPE) (b + FIRST_TYPE))) }
+            ≡ list.old.items ++ filter (holds_of_all words) (of_pair (self.now).kinds (a + FIRST_TYPE) (b + FIRST_TYPE))) }
     {
         let followed = self.followed[a].has_place(b);
         let met = self.met[a].has_place(b);
@@ -256,6 +367,7 @@ impl<S: TypeSet> Standing<S> {
         push_standing(list, followed, Kind::AF, number_of(a), number_of(b))?;
         push_standing(list, !met, Kind::NF, number_of(a), number_of(b))?;
         push_standing(list, preceded, Kind::AP, number_of(a), number_of(b))?;
+        self.push_between(list, a, b)?;
         Ok(())
     }
 
@@ -264,7 +376,7 @@ impl<S: TypeSet> Standing<S> {
         requires a { a < (self.now).types }
         requires room { (self.now).types ≤ S.room }
         ensures { (words : List (List ℕ)) → Stands S.has self.now words → IfOk result (λ _. list.new.items
-            ≡ list.old.items ++ filter (holds_of_all words) (of_first (self.now).types (a + FIRST_TYPE))) }
+            ≡ list.old.items ++ filter (holds_of_all words) (of_first (self.now).kinds (self.now).types (a + FIRST_TYPE))) }
     {
         for b in 0..self.types {
             self.push_pair(list, a, b)?;
@@ -276,7 +388,7 @@ impl<S: TypeSet> Standing<S> {
     pub fn push_pairs(&self, list: &mut Vec<Invariant>) -> Result<(), AllocError>
         requires room { (self.now).types ≤ S.room }
         ensures { (words : List (List ℕ)) → Stands S.has self.now words → IfOk result (λ _. list.new.items
-            ≡ list.old.items ++ filter (holds_of_all words) (flat_map (of_first (self.now).types) (types (self.now).types))) }
+            ≡ list.old.items ++ filter (holds_of_all words) (flat_map (of_first (self.now).kinds (self.now).types) (types (self.now).types))) }
     {
         for a in 0..self.types {
             self.push_row(list, a)?;

@@ -6,6 +6,7 @@ use Rattle.closure_miner.proofs.standing_after.Goals as goal
 
 pub loop-t-preserved : goal.loop-t-preserved
 loop-t-preserved g c = record {
+  kinds = c.read.ensures.kinds ∙ c.loop-t.invariant.kinds;
   types = c.read.ensures.types ∙ c.loop-t.invariant.types;
   stands =
       subst (Stands g.S.TypeSet.has c.read.new.self) (sym (words-more c.args.traces.now.traces c.loop-t.t c.events.result.now (omega arith) c.events.ensures.events))

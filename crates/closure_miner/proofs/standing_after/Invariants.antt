@@ -5,6 +5,7 @@ use Rattle.closure_miner.proofs.standing_after.Given as goal
 
 abbrev pub invariant-loop-t : goal.invariant-loop-t
 invariant-loop-t g l = record {
+  kinds : l.standing.kinds ≡ l.fn.kinds;
   types : l.standing.types ≡ l.fn.types;
   stands : Stands g.S.TypeSet.has l.standing (map word_of (take l.t l.traces.traces));
 }

@@ -4,4 +4,4 @@ use Rattle.closure_miner.proofs.standing.Standing.make.Goals as goal
 
 pub returns-clause-stands : goal.returns-clause-stands
 returns-clause-stands g c =
-    stands-first g.S.TypeSet.has _ c.first-all.result c.none.result c.first-all.ensures c.none.ensures c.in_ok-sets_of.ensures c.in_ok-sets_of-2.ensures c.in_ok-sets_of-3.ensures refl
+    stands-first g.S.TypeSet.has _ c.first-all.result c.none.result c.first-all.ensures c.none.ensures c.in_ok-sets_of.ensures c.in_ok-sets_of-2.ensures c.in_ok-sets_of-3.ensures refl c.in_ok-sets_of-4.ensures
