@@ -2,7 +2,7 @@
 use Rattle.std.specs.Prelude.{◌≡◌, ◌≢◌, ℕ, ◌⊎◌, true, List}
 use Rattle.limits.specs.declared.TheConstants.{INITIAL, TERMINAL}
 use Rattle.invariants.specs.declared.Kind.{Kind}
-use Rattle.invariants.specs.declared.Kind.TheVariants.{AF, NF, AP}
+use Rattle.invariants.specs.declared.Kind.TheVariants.{AF, NF, AP, IB}
 use Rattle.invariants.specs.declared.Invariant.{Invariant}
 use Rattle.invariants.specs.Monitors.{step, run, is_bad, bad_of}
 use Rattle.partition_model.specs.Graphs.{Graph, Walk, word}
@@ -13,6 +13,7 @@ abbrev pub critical_of : Kind → ℕ
 critical_of AF = 1
 critical_of NF = 1
 critical_of AP = 0
+critical_of IB = 1
 
 -- the critical state of an invariant's monitor
 abbrev pub critical : Invariant → ℕ
@@ -41,6 +42,7 @@ abbrev pub calm_of : Kind → ℕ
 calm_of AF = 0
 calm_of NF = 0
 calm_of AP = 1
+calm_of IB = 0
 
 -- the type brings the monitor from there into its critical state
 abbrev pub Enters : Invariant → ℕ → Type 0

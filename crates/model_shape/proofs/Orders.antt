@@ -1,7 +1,8 @@
 -- In a list that ascends each is before all that come later.
 use Rattle.std.proofs.Common.{◌≡◌, ℕ, zero, suc, ◌<◌, ◌⊎◌, List, [], ◌∷◌, Some, subst, ◌∙◌, arith, inl, inr}
 use Rattle.std.specs.List.{slice_get}
-use Rattle.invariants.proofs.CandidatePlaces.{candidates-differ}
+use Rattle.invariants.specs.declared.Kinds.TheVariants.{Three}
+use Rattle.invariants.proofs.EachKinds.{candidates-differ}
 use Rattle.model_shape.specs.Ascending.{LeadsTo, Ascends, PartitionBefore, EdgeBefore, BlockBefore, CandidateBefore, AscendingTells}
 
 -- what is before something is before all that this is before
@@ -31,7 +32,7 @@ two-pass a b c d e f (inr p) (inr q) = inr (p.0 ∙ q.0, let x : b < d = p.1 in 
 -- so it is in the order of the candidates
 candidates-pass : (types : ℕ) → Passes (CandidateBefore types)
 candidates-pass types x y z p q =
-    let same : p.later ≡ q.place = candidates-differ types p.later q.place y p.there q.here in
+    let same : p.later ≡ q.place = candidates-differ Three types p.later q.place y p.there q.here in
     let a : p.place < p.later = p.order in
     let b : q.place < q.later = q.order in
     record { place = p.place; later = q.later; here = p.here; there = q.there; order = omega (arith, a, b, same) }

@@ -90,7 +90,7 @@ pub record AreShapedEdges (partitions : List Partition) (xs : List Edge) : Type 
 
 -- ---- invariants
 
--- a candidate for so many types, with a label for each of so many partitions
+-- a candidate of Three for so many types, with a label for each of so many partitions
 pub record IsShapedListed (types partitions : ℕ) (x : Listed) : Type 0 where
   pub candidate : Contains (candidates types) x.inv
   pub count : length x.labels ≡ partitions
