@@ -51,9 +51,9 @@ def fields(parts):
     line, behind = decoded(words[0]), decoded("".join(words[1:]))
     before, _, after = line.partition(" ")
     if not after:
-        return ["None None"]
+        return ["None"]
     ahead = quoted(before), quoted(after), quoted(after + behind)
-    return ["Some((%s, %s)) Some((%s, %s, %s))" % (ahead[:2] + ahead)]
+    return ["Some((%s, %s, %s))" % ahead]
 
 
 # Made logs.
@@ -80,10 +80,11 @@ def made(parts):
 # Candidates and monitors. An invariant is its kind and two numbers of types.
 
 
-def candidates(types):
+def candidates(kinds, types):
     numbers = range(2, types + 2)
     firsts = [("AF", 0, b) for b in numbers]
-    return firsts + [(kind, a, b) for a in numbers for b in numbers for kind in ("AF", "NF", "AP")]
+    asked = ("AF", "NF", "AP", "IB")[:kinds]
+    return firsts + [(kind, a, b) for a in numbers for b in numbers for kind in asked if kind != "IB" or a != b]
 
 
 def invariant(word):
@@ -92,16 +93,16 @@ def invariant(word):
 
 
 def candidate(parts):
-    types, index = (int(word) for word in parts[0].split(" "))
-    every = candidates(types)
+    kinds, types, index = (int(word) for word in parts[0].split(" "))
+    every = candidates(kinds, types)
     if index >= len(every):
         return ["%d None None" % len(every)]
     return ["%d Some(Invariant { kind: %s, a: %d, b: %d }) Some(%d)" % ((len(every),) + every[index] + (index,))]
 
 
 def index(parts):
-    types, inv = parts[0].split(" ")
-    every = candidates(int(types))
+    kinds, types, inv = parts[0].split(" ")
+    every = candidates(int(kinds), int(types))
     inv = invariant(inv)
     return [some(every.index(inv) if inv in every else None)]
 
@@ -116,6 +117,9 @@ def breaks(word, inv):
             return True
         if kind == "AP" and number == b and a not in word[:place]:
             return True
+        if kind == "IB" and number == a and a in word[place + 1 :]:
+            if b not in word[place + 1 : word.index(a, place + 1)]:
+                return True
     return False
 
 
@@ -126,6 +130,9 @@ def state(word, inv):
         return 1 if breaks(word, inv) else 0
     if breaks(word, inv):
         return 2
+    if kind == "IB" and a in word:
+        last = max(place for place, number in enumerate(word) if number == a)
+        return 0 if b in word[last + 1 :] else 1
     return 1 if a in word else 0
 
 
@@ -164,16 +171,18 @@ def numbered(parts):
 
 
 def mine(parts):
-    types, traces = numbered(parts)
+    kinds, _, first = parts[0].partition(" ")
+    kinds = int(kinds)
+    types, traces = numbered([first] + parts[1:])
     if len(types) > 20:
-        found = mined_by_sets(types, traces)
+        found = mined_by_sets(kinds, types, traces)
     else:
-        found = [inv for inv in candidates(len(types)) if not any(breaks(word, inv) for word in traces)]
+        found = [inv for inv in candidates(kinds, len(types)) if not any(breaks(word, inv) for word in traces)]
     listed = "".join(" %s(%d,%d)" % inv for inv in found[:100])
     return ["%d:%s" % (len(found), listed), "the same"]
 
 
-def mined_by_sets(types, traces):
+def mined_by_sets(kinds, types, traces):
     """The same of one trace that has each type once, where going by places for each candidate is too slow in Python."""
     (word,) = traces
     if sorted(word) != list(range(len(types) + 2)):
@@ -181,8 +190,8 @@ def mined_by_sets(types, traces):
     at = {number: place for place, number in enumerate(word)}
     return [
         (kind, a, b)
-        for kind, a, b in candidates(len(types))
-        if (at[a] < at[b] if kind in ("AF", "AP") else at[a] >= at[b])
+        for kind, a, b in candidates(kinds, len(types))
+        if kind == "IB" or (at[a] < at[b] if kind in ("AF", "AP") else at[a] >= at[b])
     ]
 
 
@@ -198,21 +207,21 @@ def numbers_from(seed):
 
 
 def random_logs(words):
-    """`random_logs SEED LIMIT COUNT`: so many logs of three traces of fewer events than the limit, of up to four types."""
-    seed, limit, count = (int(word) for word in words)
+    """`random_logs KINDS SEED LIMIT COUNT`: so many logs of three traces of fewer events than the limit, of up to four types."""
+    kinds, seed, limit, count = (int(word) for word in words)
     below = numbers_from(seed)
     cases = []
     for number in range(count):
         traces = []
         for types in (4, 1 + number % 4, 4):
             traces.append(" ".join("abcd"[below(types)] for _ in range(below(limit))))
-        cases.append(["mine", "|".join(traces)])
+        cases.append(["mine", str(kinds), "|".join(traces)])
     return cases
 
 
 def chain(words):
-    """`chain COUNT`: a trace of so many types, each of them once."""
-    return [["mine"] + [str(number) for number in range(int(words[0]))]]
+    """`chain KINDS COUNT`: a trace of so many types, each of them once."""
+    return [["mine", words[0]] + [str(number) for number in range(int(words[1]))]]
 
 
 # Reports.
@@ -225,7 +234,7 @@ def name_of(types, number):
 
 def invariants(parts):
     types = parts[0].split(" ")
-    verbs = {"AF": "AlwaysFollowedBy", "NF": "NeverFollowedBy", "AP": "AlwaysPrecedes"}
+    verbs = {"AF": "AlwaysFollowedBy", "NF": "NeverFollowedBy", "AP": "AlwaysPrecedes", "IB": "InterruptedBy"}
     lines = []
     for word in parts[1].split(" "):
         kind, a, b = invariant(word)

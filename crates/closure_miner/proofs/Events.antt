@@ -8,7 +8,7 @@ use Rattle.invariants.specs.Holds.{occurs, always_followed, never_followed, alwa
 use Rattle.invariants.specs.declared.Invariant.{Invariant}
 use Rattle.traces.specs.Kept.{IsTypeNumber}
 use Rattle.closure_miner.specs.Standing.{word_with}
-use Rattle.closure_miner.proofs.Bits.{and-true}
+use Rattle.closure_miner.proofs.Rows.{and-true}
 
 -- the rest of a list from one place before
 pub rest-more : (xs : List ℕ) (left : ℕ) → 0 < left → left ≤ length xs → drop (left - 1) xs ≡ get_or xs (left - 1) 0 ∷ drop left xs

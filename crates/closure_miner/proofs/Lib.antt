@@ -1,4 +1,5 @@
 pub mod Bits
+pub mod Rows
 pub mod Events
 pub mod Traces
 pub mod Lists

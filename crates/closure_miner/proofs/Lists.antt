@@ -1,10 +1,11 @@
 -- Lists of candidates, one type longer at a time, and what stands of them.
-use Rattle.std.proofs.Common.{◌≡◌, ℕ, zero, suc, ◌+◌, Bool, List, [], ◌∷◌, ◌++◌, cond, map, filter, sym, ap, ◌∙◌, arith, append-nil, append_assoc}
+use Rattle.std.proofs.Common.{◌≡◌, ℕ, zero, suc, ◌+◌, Bool, true, false, List, [], ◌∷◌, ◌++◌, cond, map, filter, refl, sym, ap, ap₂, ◌∙◌, arith, append-nil, append_assoc}
 use Rattle.std.proofs.lemmas.List.Concat.{flat_map-append}
 use Rattle.std.proofs.lemmas.List.Elements.{filter-append}
 use Rattle.std.proofs.lemmas.List.FromFn.{filter_of_map_range_with_len_more}
 use Rattle.std.specs.List.{flat_map, range_with_len}
 use Rattle.invariants.specs.declared.Kind.TheVariants.{AF}
+use Rattle.invariants.specs.declared.Kind.{Kind}
 use Rattle.invariants.specs.declared.Invariant.{Invariant}
 use Rattle.invariants.specs.Candidates.{invariant, types}
 
@@ -23,6 +24,11 @@ all-more p f n =
     ap (λ ts. filter p (flat_map f ts)) (types-more n) ∙ ap (filter p) (flat_map-append f (types n) ((n + 2) ∷ []) ∙ ap (λ xs. flat_map f (types n) ++ xs) (append-nil (f (n + 2))))
     ∙ filter-append p (flat_map f (types n)) (f (n + 2))
 
+-- one that stands, and the rest
+joined : (stands : Bool) (inv : Invariant) (rest : List Invariant) → cond stands (inv ∷ []) [] ++ rest ≡ cond stands (inv ∷ rest) rest
+joined true inv rest = refl
+joined false inv rest = refl
+
 -- what was added so far, and what comes behind it
 added : (start so_far more old new : List Invariant) → old ≡ start ++ so_far → new ≡ old ++ more → new ≡ start ++ (so_far ++ more)
 added start so_far more old new before now = now ∙ (ap (λ xs. xs ++ more) before ∙ append_assoc start so_far more)
@@ -40,3 +46,11 @@ first-added p n j stands start old new number is before now =
     let more : List Invariant = cond (p (invariant AF 0 (n + 2))) first [] in
     added start (filter p (map (invariant AF 0) (types n))) more old new before (now ∙ (ap (λ k. old ++ cond stands (invariant AF 0 k ∷ []) []) number ∙ ap (λ s. old ++ cond s first []) is))
     ∙ ap (λ xs. start ++ xs) (sym (filter_of_map_range_with_len_more p (invariant AF 0) 2 n (n + 2) (omega arith)))
+
+-- what stands of a list, with one more before it
+pub one-added : (p : Invariant → Bool) (kind : Kind) (a b x y : ℕ) (stands : Bool) (rest old mid new : List Invariant) → x ≡ a → y ≡ b → stands ≡ p (invariant kind a b)
+    → mid ≡ old ++ cond stands (invariant kind x y ∷ []) [] → new ≡ mid ++ filter p rest → new ≡ old ++ filter p (invariant kind a b ∷ rest)
+one-added p kind a b x y stands rest old mid new first second is before then =
+    let inv : Invariant = invariant kind a b in
+    then ∙ ap (λ l. l ++ filter p rest) (before ∙ ap₂ (λ k l. old ++ cond stands (invariant kind k l ∷ []) []) first second)
+    ∙ (append_assoc old (cond stands (inv ∷ []) []) (filter p rest) ∙ ap (λ l. old ++ l) (joined stands inv (filter p rest)) ∙ ap (λ t. old ++ cond t (inv ∷ filter p rest) (filter p rest)) is)

@@ -1,15 +1,17 @@
--- Sets of types, each a word with a bit for each type, at the type's place.
-use Rattle.std.specs.Prelude.{ℕ, ◌≡◌, ◌<◌, ◌==◌, Bool, true, List, slice_index_or}
+-- Sets of types, each with a bit for each type, at the type's place.
+use Rattle.std.specs.Prelude.{ℕ, zero, suc, ◌≡◌, ◌<◌, ◌==◌, Bool, true, false, List, [], ◌∷◌}
 use Rattle.std.specs.Int.{bit_at}
 
--- the type at this place is in the set: its bit is on
-abbrev pub has : ℕ → ℕ → Bool
-has set i = bit_at set i == 1
+-- the type at this place is in the set of one word: its bit is on
+abbrev pub in_word : ℕ → ℕ → Bool
+in_word set i = bit_at set i == 1
 
--- the set of the type at this place; past the last it has no type
-abbrev pub set_at : List ℕ → ℕ → ℕ
-set_at sets a = slice_index_or sets a 0
+-- the set of the type at place a has the type at place b; past the last set it has none
+abbrev pub has_at : {S : Type 0} → (S → ℕ → Bool) → List S → ℕ → ℕ → Bool
+has_at has [] a b = false
+has_at has (set ∷ sets) zero b = has set b
+has_at has (set ∷ sets) (suc a) b = has_at has sets a b
 
 -- each of so many types is in the set
-abbrev pub HasAll : ℕ → ℕ → Type 0
-HasAll types set = (b : ℕ) → b < types → has set b ≡ true
+abbrev pub HasAll : {S : Type 0} → (S → ℕ → Bool) → ℕ → S → Type 0
+HasAll has types set = (b : ℕ) → b < types → has set b ≡ true

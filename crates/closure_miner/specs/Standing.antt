@@ -1,26 +1,26 @@
 -- Which candidates still stand, set by set.
-use Rattle.std.specs.Prelude.{ℕ, ◌≡◌, ◌<◌, ◌+◌, not, List, [], ◌∷◌, ◌++◌}
+use Rattle.std.specs.Prelude.{ℕ, ◌≡◌, ◌<◌, ◌+◌, not, Bool, List, [], ◌∷◌, ◌++◌}
 use Rattle.limits.specs.declared.TheConstants.{INITIAL, TERMINAL, FIRST_TYPE}
 use Rattle.invariants.specs.declared.Kind.TheVariants.{AF, NF, AP}
 use Rattle.invariants.specs.Candidates.{invariant}
 use Rattle.invariants.specs.Mined.{holds_of_all}
 use Rattle.closure_miner.specs.declared.standing.Standing.{Standing}
-use Rattle.closure_miner.specs.Sets.{has, set_at}
+use Rattle.closure_miner.specs.Sets.{has_at}
 
 -- the word of a trace with these events
 abbrev pub word_with : List ℕ → List ℕ
 word_with events = INITIAL ∷ events ++ TERMINAL ∷ []
 
 -- the sets tell of each candidate whether it holds of each word
-pub record Stands (standing : Standing) (words : List (List ℕ)) : Type 0 where
+pub record Stands {S : Type 0} (has : S → ℕ → Bool) (standing : Standing S) (words : List (List ℕ)) : Type 0 where
   pub followed : (a b : ℕ) → a < standing.types → b < standing.types
-      → has (set_at standing.followed.items a) b
+      → has_at has standing.followed.items a b
       ≡ holds_of_all words (invariant AF (a + FIRST_TYPE) (b + FIRST_TYPE))
   pub never : (a b : ℕ) → a < standing.types → b < standing.types
-      → not (has (set_at standing.met.items a) b)
+      → not (has_at has standing.met.items a b)
       ≡ holds_of_all words (invariant NF (a + FIRST_TYPE) (b + FIRST_TYPE))
   pub preceded : (a b : ℕ) → a < standing.types → b < standing.types
-      → has (set_at standing.preceded.items b) a
+      → has_at has standing.preceded.items b a
       ≡ holds_of_all words (invariant AP (a + FIRST_TYPE) (b + FIRST_TYPE))
   pub everywhere : (b : ℕ) → b < standing.types
       → has standing.everywhere b ≡ holds_of_all words (invariant AF INITIAL (b + FIRST_TYPE))

@@ -3,30 +3,37 @@
 //!
 //! A candidate stands until a trace breaks it. Each trace is read once from its end, with the set of the types that come
 //! later, and once from its start, with the set of those that came earlier; each event strikes out of the sets of its type
-//! what the set at hand denies. A set of types is one number with a bit for each, since there are at most 128. So the work
+//! what the set at hand denies. A set of types has a bit for each, in one word for up to 128 types and else in two. So the work
 //! is a few steps for each event; every 128 events it is looked whether the rest of the trace can still strike out anything,
 //! and if not the trace is read no further from that side. At the end each candidate is looked at once.
 #![tactic(auto)]
 
 ghost use Rattle.std.specs.Prelude.{◌≡◌, ◌≤◌, length, IfOk};
-ghost use Rattle.limits.specs.declared.TheConstants.{MAX_TYPES};
+ghost use Rattle.closure_miner.specs.declared.type_sets.TheConstants.{MAX_SET_TYPES};
 ghost use Rattle.invariants.specs.Mined.{mined};
 ghost use Rattle.traces.specs.Words.{words_of};
 ghost use Rattle.closure_miner.specs.Standing.{Stands};
 
 mod standing;
+mod type_sets;
 
 use invariants::{Invariant, Seq};
 use standing::Standing;
 use std::alloc::{AllocError, Global};
 use traces::TraceSet;
+use type_sets::{MAX_SET_TYPES, TypeSet, WORD_TYPES, Wide};
 
 /// The candidates that stand when all traces are read.
-fn standing_after(alloc: Global, traces: &TraceSet, types: usize) -> Result<Standing, AllocError>
+fn standing_after<S: TypeSet>(
+    alloc: Global,
+    traces: &TraceSet,
+    types: usize,
+) -> Result<Standing<S>, AllocError>
     requires types { types ≡ length (traces.now).types }
-    requires few { types ≤ MAX_TYPES }
+    requires few { types ≤ MAX_SET_TYPES }
+    requires room { types ≤ S.room }
     ensures types { IfOk result (λ standing. standing.types ≡ types) }
-    ensures stands { IfOk result (λ standing. Stands standing (words_of traces.now)) }
+    ensures stands { IfOk result (λ standing. Stands S.has standing (words_of traces.now)) }
 {
     let mut standing = Standing::make(alloc, types)?;
     for t in 0..traces.trace_count() {
@@ -35,14 +42,33 @@ fn standing_after(alloc: Global, traces: &TraceSet, types: usize) -> Result<Stan
     Ok(standing)
 }
 
+/// The invariants that hold of every trace, by sets that have room for all types.
+fn mine_by<S: TypeSet>(
+    alloc: Global,
+    traces: &TraceSet,
+    types: usize,
+) -> Result<Seq<Invariant>, AllocError>
+    requires types { types ≡ length (traces.now).types }
+    requires few { types ≤ MAX_SET_TYPES }
+    requires room { types ≤ S.room }
+    ensures { IfOk result (λ list. list ≡ mined (length (traces.now).types) (words_of traces.now)) }
+{
+    let standing: Standing<S> = standing_after(alloc, traces, types)?;
+    let mut mined = Vec::new(alloc);
+    standing.push_firsts(&mut mined)?;
+    standing.push_pairs(&mut mined)?;
+    Ok(Seq::from_vec(mined))
+}
+
 /// The invariants that hold of every trace, in the order of the candidates. `AllocError` comes where
 /// there is not enough memory for them or for the sets.
 pub fn mine_again(alloc: Global, traces: &TraceSet) -> Result<Seq<Invariant>, AllocError>
     ensures { IfOk result (λ list. list ≡ mined (length (traces.now).types) (words_of traces.now)) }
 {
-    let standing = standing_after(alloc, traces, traces.types().len())?;
-    let mut mined = Vec::new(alloc);
-    standing.push_firsts(&mut mined)?;
-    standing.push_pairs(&mut mined)?;
-    Ok(Seq::from_vec(mined))
+    let types = traces.types().len();
+    if types <= WORD_TYPES {
+        mine_by::<u128>(alloc, traces, types)
+    } else {
+        mine_by::<Wide>(alloc, traces, types)
+    }
 }

@@ -16,7 +16,7 @@ use Rattle.partition_model.proofs.Runs.{broken, broken-first}
 use Rattle.partition_bounds.proofs.Blocks.{merge_satisfies}
 use Rattle.clashes.specs.Marks.{Marks, AreMarksOf, has_clash, NoClash, IsFirstClash}
 use Rattle.clashes.proofs.Telling.{clashes_tell}
-use Rattle.splitter.proofs.RefiningTurns.{all_at}
+use Rattle.partition_model.proofs.Satisfied.{all_at}
 use Rattle.coarsener.specs.Deciding.{IsFirstLost}
 
 -- the invariants before the first that is broken are satisfied

@@ -4,6 +4,7 @@ use Rattle.std.proofs.lemmas.List.Sums.{length-filter, count_by-le-length}
 use Rattle.std.proofs.Math.Nat.{mul-le-mul_right}
 use Rattle.limits.specs.declared.TheConstants.{LAST_TYPE, MAX_INVARIANTS, MAX_PAIRS, MAX_PATH_NUMBERS, MAX_STEPS, MAX_TYPES}
 use Rattle.invariants.specs.declared.Invariant.{Invariant}
+use Rattle.invariants.specs.declared.Kinds.TheVariants.{Three}
 use Rattle.invariants.specs.Candidates.{candidates}
 use Rattle.invariants.specs.Mined.{mined, holds_of_all, IsListed}
 use Rattle.invariants.proofs.CandidatePlaces.{length-candidates}
@@ -46,8 +47,8 @@ mined-few types words few =
 pub mined-named : (types : ℕ) (words : List (List ℕ)) → types ≤ MAX_TYPES → (k : ℕ) (inv : Invariant) → slice_get (mined types words) k ≡ Some inv
     → (inv.a ≤ LAST_TYPE) × (inv.b ≤ LAST_TYPE)
 mined-named types words few k inv at =
-    let l : IsListed types words inv = (mined_tells types words inv).0 (Contains-from_place (mined types words) k inv at) in
-    elim ((candidates_tell types inv).0 l.candidate) [
+    let l : IsListed Three types words inv = (mined_tells Three types words inv).0 (Contains-from_place (mined types words) k inv at) in
+    elim ((candidates_tell Three types inv).0 l.candidate) [
       | inl f ↦ (omega (arith, f.a), omega (arith, f.b_high))
       | inr p ↦ (omega (arith, p.a_high), omega (arith, p.b_high))
     ]
@@ -62,7 +63,7 @@ at-start log invs graph numbers stitcher planes spans run opened within shares i
     let n : length invs ≡ length (mined (length log.types) (words_of log)) = ap (λ (xs : List Invariant). length xs) i in
     let l : length (mined (length log.types) (words_of log)) ≤ MAX_INVARIANTS = mined-few (length log.types) (words_of log) within.types.few in
     let all : HoldAll (inner_words_of log) (mined (length log.types) (words_of log)) =
-    subst (λ (ws : List (List ℕ)). HoldAll ws (mined (length log.types) (words_of log))) (words-typed (inner_words_of log)) (mined-hold log (length log.types)) in
+    subst (λ (ws : List (List ℕ)). HoldAll ws (mined (length log.types) (words_of log))) (words-typed (inner_words_of log)) (mined-hold log Three (length log.types)) in
     record {
       mined = i ∙ mined-again log;
       within = within;

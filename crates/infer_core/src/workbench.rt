@@ -10,7 +10,7 @@ use crate::run::run;
 use crate::tools::{Tools, both};
 use crate::whole::{made_or, spread_shared};
 use count_miner::mine;
-use invariants::{Invariant, Seq};
+use invariants::{Invariant, Kinds, Seq};
 use partition_graph::PartGraph;
 use splitter::start_is_opened;
 use std::alloc::{AllocError, Global};
@@ -84,7 +84,7 @@ impl Workbench {
         start_is_opened(&traces);
         log_is_typed(&traces);
         let shared = PartGraph::open_shared(alloc, &traces);
-        let mined = mine(alloc, &traces);
+        let mined = mine(alloc, Kinds::Three, &traces);
         let ((graph, numbers), invs) = both(shared, mined)?;
         let tools = Tools::make(alloc, &graph, invs.as_slice());
         let flags = no_flags(alloc, invs.as_slice());

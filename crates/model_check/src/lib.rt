@@ -29,7 +29,7 @@ use acceptance::first_refused;
 use blocks::first_open;
 use closure_miner::mine_again;
 use graph::ModelGraph;
-use invariants::{Model, candidate_count};
+use invariants::{Kinds, Model, candidate_count};
 use labels::first_unlabelled;
 use listing::{are_same, first_difference};
 pub use models::Part;
@@ -50,8 +50,8 @@ fn first_unlisted(
 {
     // No more are mined than there are candidates, so that places in the list fit.
     let types = traces.types();
-    let _most = candidate_count(types.len() as u32);
-    let mined = mine_again(alloc, traces)?;
+    let _most = candidate_count(Kinds::Three, types.len() as u32);
+    let mined = mine_again(alloc, Kinds::Three, traces)?;
     Ok(first_difference(model.invariants.as_slice(), mined.as_slice()))
 }
 

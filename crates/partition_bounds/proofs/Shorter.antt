@@ -5,7 +5,7 @@ use Rattle.std.specs.List.{range_with_len}
 use Rattle.invariants.specs.Candidates.{invariant}
 use Rattle.invariants.specs.declared.Invariant.{Invariant}
 use Rattle.invariants.specs.declared.Kind.{Kind}
-use Rattle.invariants.specs.declared.Kind.TheVariants.{AF, NF, AP}
+use Rattle.invariants.specs.declared.Kind.TheVariants.{AF, NF, AP, IB}
 use Rattle.invariants.specs.Monitors.{step_of, run_of, step, run, is_bad}
 use Rattle.invariants.proofs.Agree.{monitor_agrees}
 use Rattle.partition_model.specs.Graphs.{Graph, Walk, word, IsLeastViolation, IsFormed}
@@ -97,6 +97,55 @@ nf-finds a b g (x ∷ y ∷ xs) e =
           (suc o.0, (let l : suc o.0 < length (y ∷ xs) = o.1 in omega arith), o.2)
     ]
 
+-- from the states 0 and 1, any type but the first leads to one of them
+ib-other : (a b s x : ℕ) → (x ≡ a → ⊥) → s < 2 → step_of IB a b s x < 2
+ib-other a b s x n l = rw (ne_eqb x a n) (cond-below (x == b && s == 1) 0 s 2 (omega arith) l)
+
+-- from the state 0, each type does
+ib-start : (a b x : ℕ) → step_of IB a b 0 x < 2
+ib-start a b x = rw (and-false (x == a)) (cond-below (x == a && true) 1 (cond (x == b && false) 0 0) 2 (omega arith) (cond-below (x == b && false) 0 0 2 (omega arith) (omega arith)))
+
+-- after the first type the state is not 0
+ib-reads : (a b s x : ℕ) → x ≡ a → 1 ≤ step_of IB a b s x
+ib-reads a b zero x e = rw (eq-eqb x a e) (omega arith)
+ib-reads a b (suc zero) x e = rw (eq-eqb x a e) (omega arith)
+ib-reads a b (suc (suc s)) x e =
+    rw (ne_eqb (suc (suc s)) 1 (λ q. absurd (omega arith)), and-false (x == a), and-false (x == b)) (cond-above (x == a && suc (suc s) == 0) 1 (suc (suc s)) 1 (omega arith) (omega arith))
+
+-- so it is at each id of this type on a walk
+ib-at : (a b : ℕ) (g : Graph) (s : ℕ) (xs : List ℕ) (k : ℕ) → k < length xs → g.typ (slice_index xs k) ≡ a → 1 ≤ state_at g (invariant IB a b) s xs k
+ib-at a b g s [] k l e = absurd (omega arith)
+ib-at a b g s (x ∷ xs) zero l e = ib-reads a b s (g.typ x) e
+ib-at a b g s (x ∷ xs) (suc k) l e = ib-at a b g (step_of IB a b s (g.typ x)) xs k (omega arith) e
+
+-- the first type is read before the end of the walk
+abbrev FirstWithin : ℕ → Graph → List ℕ → Type 0
+FirstWithin a g xs = (k : ℕ) × (suc k < length xs) × (g.typ (slice_index xs k) ≡ a)
+
+-- the states before the end of the walk are 0 and 1
+abbrev StaysLow : ℕ → ℕ → Graph → ℕ → List ℕ → Type 0
+StaysLow a b g s xs = (k : ℕ) → suc k < length xs → state_at g (invariant IB a b) s xs k < 2
+
+-- after an id of another type the states stay so where they do on the rest
+ib-low : (a b : ℕ) (g : Graph) (s x : ℕ) (xs : List ℕ) → step_of IB a b s (g.typ x) < 2 → StaysLow a b g (step_of IB a b s (g.typ x)) xs → StaysLow a b g s (x ∷ xs)
+ib-low a b g s x xs c f zero l = c
+ib-low a b g s x xs c f (suc k) l = f k (omega arith)
+
+-- a walk reads the first type before its end, or its states stay 0 and 1
+ib-finds : (a b : ℕ) (g : Graph) (s : ℕ) (xs : List ℕ) → s < 2 → FirstWithin a g xs ⊎ StaysLow a b g s xs
+ib-finds a b g s [] l = inr (λ k h. absurd (omega arith))
+ib-finds a b g s (x ∷ []) l = inr (λ k h. absurd (omega arith))
+ib-finds a b g s (x ∷ y ∷ xs) l =
+    elim (cases_eq (g.typ x) a) [
+      | inl q ↦ inl (0, omega arith, q)
+      | inr n ↦
+          let c : step_of IB a b s (g.typ x) < 2 = ib-other a b s (g.typ x) n l in
+          elim (ib-finds a b g (step_of IB a b s (g.typ x)) (y ∷ xs) c) [
+            | inl o ↦ inl (suc o.0, (let h : suc o.0 < length (y ∷ xs) = o.1 in omega arith), o.2)
+            | inr f ↦ inr (ib-low a b g s x (y ∷ xs) c f)
+          ]
+    ]
+
 -- an id and a state at which the walk never is but at its end
 record IsFree (g : Graph) (inv : Invariant) (s : ℕ) (xs ids : List ℕ) (p t : ℕ) : Type 0 where
   inner : In p (inner_ids ids)
@@ -150,6 +199,24 @@ free-of NF a b g x xs ids p f all w bad i =
                   (let c : 1 ≤ state_at g (invariant NF a b) (step_of NF a b 0 (g.typ x)) xs k = nf-at a b g (step_of NF a b 0 (g.typ x)) xs k (omega arith) (ap g.typ e ∙ o.2) in omega arith);
             },
           )
+    ]
+free-of IB a b g x xs ids p f all w bad i =
+    elim (ib-finds a b g (step_of IB a b 0 (g.typ x)) xs (ib-start a b (g.typ x))) [
+      | inl o ↦ (
+        slice_index xs o.0,
+        0,
+        record {
+          inner = inner-at g x xs ids o.0 f all w o.1;
+          small = omega arith;
+          never = λ k n e q.
+              (let c : 1 ≤ state_at g (invariant IB a b) (step_of IB a b 0 (g.typ x)) xs k = ib-at a b g (step_of IB a b 0 (g.typ x)) xs k (omega arith) (ap g.typ e ∙ o.2) in omega arith);
+        },
+      )
+      | inr l ↦ (
+        p,
+        2,
+        record { inner = i; small = omega arith; never = λ k n e q. (let c : state_at g (invariant IB a b) (step_of IB a b 0 (g.typ x)) xs k < 2 = l k n in omega arith) },
+      )
     ]
 
 -- with such an id and state, a walk is at most three times as long as there are ids that are no ends

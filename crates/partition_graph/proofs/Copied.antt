@@ -294,11 +294,3 @@ copying-few traces i copies starts l c =
     let a : length (joined_traces (take i traces)) + length (get_or traces i []) ≤ length (joined_traces traces) = length-flat_map-take (λ (u : List Cell). u) traces i [] l in
     let b : length copies ≡ length (joined_traces (take i traces)) = ap (λ (cs : List Cell). length cs) c.copies_are in
     omega arith
-
--- all of them
-pub all-copied : (traces : List (List Cell)) (i : ℕ) (copies : List Cell) (starts : List ℕ) → i ≡ length traces → IsCopying traces i copies starts → (copies ≡ joined_traces traces) × Begin starts traces
-all-copied traces i copies starts e c =
-    let whole : take i traces ≡ traces = take_all i traces (omega arith) in (
-      c.copies_are ∙ ap (λ (us : List (List Cell)). joined_traces us) whole,
-      record { count = c.count ∙ e; firsts_are = λ t l. c.starts_are t (let r : t < i = omega arith in r) },
-    )

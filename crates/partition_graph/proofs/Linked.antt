@@ -2,14 +2,13 @@
 use Rattle.std.proofs.Common.{◌≡◌, ℕ, suc, ◌⊎◌, ◌+◌, ◌*◌, ◌<◌, ◌≤◌, true, List, [], ◌∷◌, ◌++◌, length, arith, ap, sym, ◌∙◌, refl, subst, inl, inr, ap₂, true≢false}
 use Rattle.std.proofs.lemmas.Bool.{cases_lt, cases_eq}
 use Rattle.std.proofs.lemmas.List.{length_push}
-use Rattle.std.proofs.lemmas.List.Elements.{All-nil, All-push, Contains-push, Contains-push_cases, Contains-append_left, Contains-append_right, Contains-get_or}
+use Rattle.std.proofs.lemmas.List.Elements.{All-push, Contains-push, Contains-push_cases, Contains-append_left, Contains-append_right, Contains-get_or}
 use Rattle.std.specs.List.{Contains}
 use Rattle.limits.specs.declared.TheConstants.{MAX_PARTITIONS}
 use Rattle.partition_model.specs.Graphs.{Graph}
 use Rattle.partition_graph.specs.declared.links.Link.{Link}
-use Rattle.partition_graph.specs.Links.{HasIds, AscendLinks, AreLinksOf, AreLinksBefore, IsLinkBefore}
+use Rattle.partition_graph.specs.Links.{HasIds, AscendLinks, AreLinksBefore, IsLinkBefore}
 use Rattle.partition_graph.specs.Neighbours.{IsNextTarget, HasNoTarget}
-use Rattle.partition_graph.specs.Parts.{HasEdgesBelow}
 
 -- one more link behind all others
 ascend-push : (p q : ℕ) (xs : List Link) (new : Link) → AscendLinks p q xs → (p < new.from) ⊎ ((p ≡ new.from) × (q ≤ new.to)) → ((x : Link) → Contains xs x → IsLinkBefore new.from new.to x)
@@ -26,19 +25,6 @@ ascend-push p q (x ∷ xs) new a above f =
 -- the first place is before none
 from-zero : (x y : ℕ) → (0 < x) ⊎ ((0 ≡ x) × (0 ≤ y))
 from-zero x y = elim (cases_lt 0 x) [ inl l ↦ inl l | inr l ↦ inr (omega arith, omega arith) ]
-
--- no link is before the first place
-pub none_linked : (g : Graph) → AreLinksBefore [] g 0 0
-none_linked g =
-    record {
-      order = tt;
-      ids = All-nil HasIds;
-      edges = λ link. (
-        λ i. absurd (let l : i.0 < 0 = i.1 in omega arith),
-        λ e. absurd (elim e.1 [ inl l ↦ omega arith | inr l ↦ (let r : link.to < 0 = l.1 in omega arith) ]),
-      );
-      few = omega arith;
-    }
 
 -- one more link of the id
 pub one_more : (g : Graph) (links : List Link) (from reached to : ℕ) → from < MAX_PARTITIONS → to < MAX_PARTITIONS → AreLinksBefore links g from reached → IsNextTarget g from reached to
@@ -104,13 +90,4 @@ row_linked g links from reached most l n =
         ),
       );
       few = (let f : length links ≤ from * MAX_PARTITIONS + reached = l.few in omega (arith, f, most));
-    }
-
--- the links of all ids are all links
-pub all_linked : (g : Graph) (links : List Link) (n : ℕ) → HasEdgesBelow g n → AreLinksBefore links g n 0 → AreLinksOf links g
-all_linked g links n w l =
-    record {
-      order = l.order;
-      ids = l.ids;
-      edges = λ link. (λ i. ((l.edges link).0 i).0, λ e. (l.edges link).1 (e, inl (w link.from link.to e).0));
     }

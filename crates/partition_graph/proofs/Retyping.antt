@@ -237,14 +237,7 @@ joined-count p q cells firsts tables new used k i typed sized counts =
       counts = counts;
     }
 
--- types that are known stay so where only edges are counted
-pub keeps-types : (types : ℕ → ℕ) (t u : Tables) → KnowsTypes types t → u.types ≡ t.types → u.sizes ≡ t.sizes → KnowsTypes types u
-keeps-types types t u k a b p l =
-    let e : type_at u p ≡ type_at t p = cc in
-    let s : size_at t p ≡ size_at u p = cc in
-    e ∙ k p l ∙ ap (λ (n : ℕ). cond (n == 0) 0 (types p)) s
-
--- and where one more cell of an id is counted
+-- types that are known stay so where one more cell of an id is counted
 pub adds-type : (types : ℕ → ℕ) (t u : Tables) (id typ : ℕ) → KnowsTypes types t → typ ≡ types id
     → ((p : ℕ) → p < MAX_PARTITIONS → type_at u p ≡ cond (id == p) typ (type_at t p))
     → ((p : ℕ) → p < MAX_PARTITIONS → size_at u p ≡ size_at t p + cond {A = ℕ} (id == p) 1 0)

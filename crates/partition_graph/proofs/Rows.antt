@@ -69,10 +69,6 @@ added-here p q old b apart =
 not-added : (p q : ℕ) (old counts : ℕ → ℕ → ℕ) (reached a b : ℕ) → IsAdding p q old counts reached → a < MAX_PARTITIONS → b < MAX_PARTITIONS → reached ≤ b → counts a b ≡ old a b
 not-added p q old counts reached a b s a_low b_low past = s.so_far a b a_low b_low ∙ cond-false (ltb b reached) _ _ (le-ltb b reached past)
 
--- before the first edge
-pub adding-begins : (p q : ℕ) (counts : ℕ → ℕ → ℕ) → IsAdding p q counts counts 0
-adding-begins p q counts = record { so_far = λ a b a_low b_low. sym (cond-false (ltb b 0) _ _ (le-ltb b 0 (omega arith))) }
-
 -- the next edge is added
 pub adding-goes-on : (p q : ℕ) (old counts less more : ℕ → ℕ → ℕ) (reached to n : ℕ) → p ≢ q → p < MAX_PARTITIONS → q < MAX_PARTITIONS → to < MAX_PARTITIONS → reached ≤ to → IsAdding p q old counts reached
     → ((b : ℕ) → reached ≤ b → b < to → counts q b ≡ 0) → IsPut q to 0 counts less → n ≡ counts p to + counts q to → IsPut p to n less more → IsAdding p q old more (to + 1)
@@ -107,17 +103,6 @@ adding-goes-on p q old counts less more reached to n apart p_low q_low to_low pa
             ]
           ]
     ]
-
--- behind the last one all are added
-pub adding-ends : (p q : ℕ) (old counts : ℕ → ℕ → ℕ) (reached : ℕ) → q < MAX_PARTITIONS → IsAdding p q old counts reached → ((b : ℕ) → b < MAX_PARTITIONS → reached ≤ b → counts q b ≡ 0)
-    → (a b : ℕ) → a < MAX_PARTITIONS → b < MAX_PARTITIONS → counts a b ≡ with_targets p q old a b
-adding-ends p q old counts reached q_low s none a b a_low b_low = elim (cases_lt b reached) [
-  | inl done ↦ s.so_far a b a_low b_low ∙ cond-true (ltb b reached) _ _ (lt-ltb b reached done)
-  | inr later ↦
-      let was = not-added p q old counts reached a b s a_low b_low later in
-      let gone = not-added p q old counts reached q b s q_low b_low later in
-      was ∙ sym (none-added p q old a b (sym gone ∙ none b b_low later))
-]
 
 -- where both steps fit, the first does
 pub targets-fit : (p q : ℕ) (counts : ℕ → ℕ → ℕ) → p ≢ q → p < MAX_PARTITIONS → ((a b : ℕ) → a < MAX_PARTITIONS → b < MAX_PARTITIONS → joined_counts p q counts a b < 2 ^ 32)

@@ -157,18 +157,6 @@ share-more log t words new cells more firsts begins numbers place w l at some nu
       | inr s ↦ rw (s.1, s.2, s.3, s.0) (share-new log t words cells firsts numbers w l at some numbered a)
     ]
 
--- none yet
-pub share-none : (log : Log) → AreShared log 0 [] [] [] []
-share-none log =
-    record {
-      gathered = record { cells_are = refl; count = refl; firsts_are = λ t b. absurd (omega arith); some = tt; numbered = tt };
-      spreads = refl;
-      within = λ k d b. absurd (omega arith);
-      whole = λ k b. absurd (omega arith);
-      few = omega arith;
-      small = omega arith;
-    }
-
 typed-words : (words : List (List ℕ)) (numbers : List ℕ) → All (λ k. k < length words) numbers → spread numbers (by_type words) ≡ by_type (map (λ k. get_or words k []) numbers)
 typed-words words [] a = refl
 typed-words words (n ∷ ns) a =

@@ -15,7 +15,7 @@ use traces::TraceSet;
 #[derive(Clone, Copy, Debug)]
 pub struct Cell {
     /// The number of its type.
-    pub typ: u8,
+    pub typ: u16,
     /// Whether it is the last event of its trace.
     pub last: bool,
     /// The id of its partition.
@@ -37,8 +37,6 @@ pub fn gather(alloc: Global, traces: &TraceSet) -> Result<(Vec<Cell>, Vec<u32>),
         (λ pair. IsGatheredOf traces.now (length traces.now.traces) pair.0.items pair.1.items) }
     ensures few { IfOk result (λ pair. length pair.0.items ≤ MAX_EVENTS) }
 {
-    // There are so few types that their numbers fit a byte.
-    let _types = traces.types();
     let event_count = traces.event_count();
     let mut cells = Vec::with_capacity(alloc, event_count as usize)?;
     let mut firsts = Vec::with_capacity(alloc, traces.trace_count() as usize)?;
@@ -97,8 +95,6 @@ fn note_all<'a>(
         (words_in words.new.keys) cells.new.items firsts.new.items numbers.new.items) }
     ensures few { OnOk result (length cells.new.items ≤ MAX_EVENTS) }
 {
-    // There are so few types that their numbers fit a byte.
-    let _types = traces.types();
     let event_count = traces.event_count();
     for t in 0..traces.trace_count() {
         prove!(cells.len() <= event_count as usize);
@@ -117,7 +113,6 @@ fn note<'a>(
     word: &'a [u16],
 ) -> Result<usize, AllocError>
     requires few { length cells.old.items < 2 ^ 32 }
-    requires numbers { All (λ n. n < 256) word.now }
     ensures { IfOk result (λ place. IsNoted word.now place (words_in words.old.keys) (words_in words.new.keys)
         cells.old.items cells.new.items firsts.old.items firsts.new.items) }
 {
@@ -180,12 +175,11 @@ fn part(cells: &[Cell], from: usize, to: usize) -> &[Cell]
 
 /// Puts the cells of a trace behind the others.
 fn push_cells(cells: &mut Vec<Cell>, numbers: &[u16]) -> Result<(), AllocError>
-    requires { All (λ n. n < 256) numbers.now }
     ensures { OnOk result (cells.new.items ≡ cells.old.items ++ cells_of numbers.now) }
 {
     for (i, number) in numbers.iter().enumerate() {
         cells.push(Cell {
-            typ: *number as u8,
+            typ: *number,
             last: i + 1 == numbers.len(),
             id: *number,
         })?;

@@ -178,7 +178,7 @@ impl Tables {
             → size_at self.new p ≡ size_at self.old p + (if cell.id == p then 1 else 0) }
         ensures counts { (self.new).counts ≡ (self.old).counts }
     {
-        self.types[cell.id as usize] = cell.typ as u16;
+        self.types[cell.id as usize] = cell.typ;
         self.sizes[cell.id as usize] += 1;
     }
 

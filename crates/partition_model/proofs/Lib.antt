@@ -20,3 +20,4 @@ pub mod Keeping
 pub mod MergedGraph
 pub mod Longest
 pub mod Adding
+pub mod Satisfied

@@ -8,7 +8,7 @@ use Rattle.limits.specs.declared.TheConstants.{INITIAL, TERMINAL, FIRST_TYPE}
 use Rattle.serde_json.specs.Data.{string}
 use Rattle.serde_json.specs.Written.{compact_text}
 use Rattle.invariants.specs.declared.Kind.{Kind}
-use Rattle.invariants.specs.declared.Kind.TheVariants.{AF, NF, AP}
+use Rattle.invariants.specs.declared.Kind.TheVariants.{AF, NF, AP, IB}
 use Rattle.invariants.specs.declared.Invariant.{Invariant}
 use Rattle.invariants.specs.declared.records.Partition.{Partition}
 use Rattle.invariants.specs.declared.records.Edge.{Edge}
@@ -29,6 +29,7 @@ abbrev pub verb_of : Kind → List ℕ
 verb_of AF = codes " AlwaysFollowedBy "
 verb_of NF = codes " NeverFollowedBy "
 verb_of AP = codes " AlwaysPrecedes "
+verb_of IB = codes " InterruptedBy "
 
 -- the line of an invariant
 abbrev pub invariant_line : List (List ℕ) → Invariant → List ℕ

@@ -13,6 +13,7 @@ fn verb(kind: Kind) -> &'static str
         Kind::AF => " AlwaysFollowedBy ",
         Kind::NF => " NeverFollowedBy ",
         Kind::AP => " AlwaysPrecedes ",
+        Kind::IB => " InterruptedBy ",
     }
 }
 

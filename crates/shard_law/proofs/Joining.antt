@@ -12,16 +12,16 @@ use Rattle.shard_law.proofs.Showing.{OfEvery, every_shows}
 
 -- a candidate is mined of two logs together exactly where each shows it or lacks what it speaks of
 pub two_logs_join : TwoLogsJoin
-two_logs_join count first second inv = (
+two_logs_join kinds count first second inv = (
   λ m.
-      let h : IsListed count (first ++ second) inv = (mined_tells count (first ++ second) inv).0 m in (
+      let h : IsListed kinds count (first ++ second) inv = (mined_tells kinds count (first ++ second) inv).0 m in (
         h.candidate,
         (every_shows inv first).0 (part first h.of_every (λ word c. Contains-append_left first second word c)),
         (every_shows inv second).0 (part second h.of_every (λ word c. Contains-append_right first second word c)),
       ),
   λ h.
       let all : OfEvery inv (first ++ second) = All-append (λ word. Holds inv word) first second ((every_shows inv first).1 h.1) ((every_shows inv second).1 h.2) in
-      (mined_tells count (first ++ second) inv).1 (record { candidate = h.0; of_every = all }),
+      (mined_tells kinds count (first ++ second) inv).1 (record { candidate = h.0; of_every = all }),
 )
   where
     part : (words : List (List ℕ)) → OfEvery inv (first ++ second) → ((word : List ℕ) → Contains words word → Contains (first ++ second) word) → OfEvery inv words
@@ -39,9 +39,9 @@ every_of_shards whole shards cut inv = (
 
 -- a candidate is mined of the whole exactly where each shard shows it or lacks what it speaks of
 pub shards_join : ShardsJoin
-shards_join count whole shards cut inv = (
+shards_join kinds count whole shards cut inv = (
   λ m.
-      let h : IsListed count whole inv = (mined_tells count whole inv).0 m in (
+      let h : IsListed kinds count whole inv = (mined_tells kinds count whole inv).0 m in (
         h.candidate,
         All-members (λ words. IsShown inv words ⊎ Lacks inv words) shards (λ words c.
             (every_shows inv words).0 ((every_of_shards whole shards cut inv).0 h.of_every words c)),
@@ -49,5 +49,5 @@ shards_join count whole shards cut inv = (
   λ h.
       let all : OfEvery inv whole = (every_of_shards whole shards cut inv).1 (λ words c.
       (every_shows inv words).1 (All-contains (λ words. IsShown inv words ⊎ Lacks inv words) shards words h.1 c)) in
-      (mined_tells count whole inv).1 (record { candidate = h.0; of_every = all }),
+      (mined_tells kinds count whole inv).1 (record { candidate = h.0; of_every = all }),
 )

@@ -3,11 +3,11 @@ use Rattle.std.proofs.Common.{◌≡◌, ◌↔◌, ◌⊎◌, ℕ, zero, suc, �
 use Rattle.std.proofs.lemmas.Bool.{cases_eq}
 use Rattle.std.proofs.lemmas.List.Elements.{All-contains}
 use Rattle.invariants.specs.declared.Kind.{Kind}
-use Rattle.invariants.specs.declared.Kind.TheVariants.{AF, NF, AP}
+use Rattle.invariants.specs.declared.Kind.TheVariants.{AF, NF, AP, IB}
 use Rattle.invariants.specs.declared.Invariant.{Invariant}
 use Rattle.invariants.specs.Candidates.{invariant}
 use Rattle.invariants.specs.Ends.{HasType}
-use Rattle.invariants.specs.Holds.{At, Holds, HoldsAs}
+use Rattle.invariants.specs.Holds.{At, Holds, HoldsAs, NeverFollowedBy}
 use Rattle.shard_law.specs.Shards.{Occurs, IsShown, LacksAs, Lacks}
 use Rattle.shard_law.specs.Laws.{ShownIsThere}
 use Rattle.shard_law.proofs.Lists.{Contains-first, Contains-later, Contains-cases, Contains-nil, All-members}
@@ -60,6 +60,14 @@ preceded a b words all o =
     let earlier : (i : ℕ) × (i < o.2.0) × At o.0 i a = h o.2.0 o.2.1 in
     (o.0, o.1, (earlier.0, earlier.2))
 
+-- where b occurs nowhere, no word has two a
+once : (a b : ℕ) (words : List (List ℕ)) → OfEvery (invariant IB a b) words → (Occurs b words → ⊥) → All (NeverFollowedBy a a) words
+once a b words all n =
+    All-members (NeverFollowedBy a a) words (λ word c i at j lt later.
+    let h : HoldsAs IB a b word = All-contains (λ w. Holds (invariant IB a b) w) words word all c in
+    let between : (k : ℕ) × (i < k) × (k < j) × At word k b = h i j at later lt in
+    n (word, c, (between.0, between.3)))
+
 shown : (inv : Invariant) (words : List (List ℕ)) → Occurs inv.a words → Occurs inv.b words → OfEvery inv words → IsShown inv words
 shown inv words first second all = record { first = first; second = second; of_every = all }
 
@@ -82,11 +90,21 @@ shows AP a b words all =
       | inl o ↦ inl (shown (invariant AP a b) words (preceded a b words all o) o all)
       | inr n ↦ inr n
     ]
+shows IB a b words all =
+    elim (occurs a words) [
+      | inl o ↦ elim (occurs b words) [
+        | inl p ↦ inl (shown (invariant IB a b) words o p all)
+        | inr n ↦ inr (inr (n, once a b words all n))
+      ]
+      | inr n ↦ inr (inl n)
+    ]
 
 lacking : (kind : Kind) (a b : ℕ) (words : List (List ℕ)) → LacksAs kind a b words → OfEvery (invariant kind a b) words
 lacking AF a b words n = All-members (λ word. Holds (invariant AF a b) word) words (λ word c i at. absurd (n (word, c, (i, at))))
 lacking NF a b words n = All-members (λ word. Holds (invariant NF a b) word) words (λ word c i at j lt later. n (word, c, (i, at)) (word, c, (j, later)))
 lacking AP a b words n = All-members (λ word. Holds (invariant AP a b) word) words (λ word c j at. absurd (n (word, c, (j, at))))
+lacking IB a b words (inl n) = All-members (λ word. Holds (invariant IB a b) word) words (λ word c i j at later lt. absurd (n (word, c, (i, at))))
+lacking IB a b words (inr n) = All-members (λ word. Holds (invariant IB a b) word) words (λ word c i j at later lt. absurd (All-contains (NeverFollowedBy a a) words word n.1 c i at j lt later))
 
 -- an invariant holds of each word exactly where the words show it or lack what it speaks of
 pub every_shows : (inv : Invariant) (words : List (List ℕ)) → OfEvery inv words ↔ (IsShown inv words ⊎ Lacks inv words)
@@ -99,6 +117,7 @@ there : (kind : Kind) (a b : ℕ) (words : List (List ℕ)) → Occurs a words �
 there AF a b words first second lacks = lacks first
 there NF a b words first second lacks = lacks first second
 there AP a b words first second lacks = lacks second
+there IB a b words first second lacks = elim lacks [ inl n ↦ n first | inr n ↦ n.0 second ]
 
 -- no words show an invariant and lack what it speaks of
 pub shown_is_there : ShownIsThere

@@ -1,9 +1,11 @@
 -- How the lists of the shards of a log give that of the whole.
 use Rattle.std.specs.Prelude.{ℕ, ◌≡◌, ◌↔◌, ◌⊎◌, ◌<◌, ◌≤◌, ◌+◌, List, ◌++◌, map, length, All, Contains}
 use Rattle.limits.specs.declared.TheConstants.{INITIAL, FIRST_TYPE}
+use Rattle.invariants.specs.declared.Kind.TheVariants.{NF, IB}
+use Rattle.invariants.specs.declared.Kinds.{Kinds}
 use Rattle.invariants.specs.declared.Invariant.{Invariant}
-use Rattle.invariants.specs.Candidates.{candidates}
-use Rattle.invariants.specs.Mined.{mined}
+use Rattle.invariants.specs.Candidates.{invariant, candidates_for}
+use Rattle.invariants.specs.Mined.{mined_for}
 use Rattle.shard_law.specs.Shards.{Occurs, IsShown, Lacks, IsCutInto, Shard, IsNumbered, words_of, Lists}
 
 -- what is shown is not lacked
@@ -13,33 +15,35 @@ ShownIsThere = (inv : Invariant) (words : List (List ℕ)) → IsShown inv words
 -- of two logs together
 abbrev pub TwoLogsJoin : Type 0
 TwoLogsJoin =
-    (count : ℕ) (first second : List (List ℕ)) (inv : Invariant)
-    → Contains (mined count (first ++ second)) inv
-    ↔ (Contains (candidates count) inv
+    (kinds : Kinds) (count : ℕ) (first second : List (List ℕ)) (inv : Invariant)
+    → Contains (mined_for kinds count (first ++ second)) inv
+    ↔ (Contains (candidates_for kinds count) inv
     × (IsShown inv first ⊎ Lacks inv first)
     × (IsShown inv second ⊎ Lacks inv second))
 
 -- of any number of shards
 abbrev pub ShardsJoin : Type 0
 ShardsJoin =
-    (count : ℕ) (whole : List (List ℕ)) (shards : List (List (List ℕ)))
+    (kinds : Kinds) (count : ℕ) (whole : List (List ℕ)) (shards : List (List (List ℕ)))
     → IsCutInto whole shards → (inv : Invariant)
-    → Contains (mined count whole) inv
-    ↔ (Contains (candidates count) inv × All (λ words. IsShown inv words ⊎ Lacks inv words) shards)
+    → Contains (mined_for kinds count whole) inv
+    ↔ (Contains (candidates_for kinds count) inv × All (λ words. IsShown inv words ⊎ Lacks inv words) shards)
 
 -- what a shard shows is what it lists in its own numbers
 abbrev pub OwnReports : Type 0
 OwnReports =
-    (count : ℕ) (shard : Shard) → IsNumbered shard → (inv : Invariant) → Contains (candidates count) inv
-    → Lists shard inv ↔ IsShown inv (words_of shard)
+    (kinds : Kinds) (count : ℕ) (shard : Shard) → IsNumbered shard → (inv : Invariant)
+    → Contains (candidates_for kinds count) inv
+    → Lists kinds shard inv ↔ IsShown inv (words_of shard)
 
 -- so the lists of the shards, each in its own numbers, give that of the whole
 abbrev pub ReportsJoin : Type 0
 ReportsJoin =
-    (count : ℕ) (whole : List (List ℕ)) (shards : List Shard)
+    (kinds : Kinds) (count : ℕ) (whole : List (List ℕ)) (shards : List Shard)
     → All IsNumbered shards → IsCutInto whole (map words_of shards) → (inv : Invariant)
-    → Contains (mined count whole) inv
-    ↔ (Contains (candidates count) inv × All (λ shard. Lists shard inv ⊎ Lacks inv (words_of shard)) shards)
+    → Contains (mined_for kinds count whole) inv
+    ↔ (Contains (candidates_for kinds count) inv
+    × All (λ shard. Lists kinds shard inv ⊎ Lacks inv (words_of shard)) shards)
 
 -- which types a shard shows is told by the list of its types, and that it has a trace at all by its words
 abbrev pub TypesTell : Type 0
@@ -49,3 +53,12 @@ TypesTell =
     × ((y : ℕ) → FIRST_TYPE ≤ y
     → Occurs y (words_of shard)
     ↔ ((x : ℕ) × (FIRST_TYPE ≤ x) × (x < shard.count + FIRST_TYPE) × (shard.number x ≡ y)))
+
+-- what a shard lacks of InterruptedBy is told by its types, and by its list, which says of a type that occurs that no word has it twice
+abbrev pub LackIsTold : Type 0
+LackIsTold =
+    (kinds : Kinds) (count : ℕ) (shard : Shard) → IsNumbered shard
+    → (a b : ℕ) → Contains (candidates_for kinds count) (invariant IB a b)
+    → Lacks (invariant IB a b) (words_of shard)
+    ↔ ((Occurs a (words_of shard) → ⊥)
+    ⊎ ((Occurs b (words_of shard) → ⊥) × Lists kinds shard (invariant NF a a)))

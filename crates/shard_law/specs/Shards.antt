@@ -1,14 +1,15 @@
 -- What a part of a log shows of an invariant.
-use Rattle.std.specs.Prelude.{ℕ, ◌≡◌, ◌↔◌, ◌<◌, ◌≤◌, ◌+◌, List, map, All, Contains}
+use Rattle.std.specs.Prelude.{ℕ, ◌≡◌, ◌↔◌, ◌⊎◌, ◌<◌, ◌≤◌, ◌+◌, List, map, All, Contains}
 use Rattle.std.specs.List.{AllByRecursion}
 use Rattle.limits.specs.declared.TheConstants.{INITIAL, TERMINAL, FIRST_TYPE}
 use Rattle.invariants.specs.declared.Kind.{Kind}
-use Rattle.invariants.specs.declared.Kind.TheVariants.{AF, NF, AP}
+use Rattle.invariants.specs.declared.Kind.TheVariants.{AF, NF, AP, IB}
+use Rattle.invariants.specs.declared.Kinds.{Kinds}
 use Rattle.invariants.specs.declared.Invariant.{Invariant}
 use Rattle.invariants.specs.Candidates.{invariant}
 use Rattle.invariants.specs.Ends.{IsWord, HasType}
-use Rattle.invariants.specs.Holds.{Holds}
-use Rattle.invariants.specs.Mined.{mined}
+use Rattle.invariants.specs.Holds.{Holds, NeverFollowedBy}
+use Rattle.invariants.specs.Mined.{mined_for}
 
 -- some word has the type
 abbrev pub Occurs : ℕ → List (List ℕ) → Type 0
@@ -20,11 +21,12 @@ pub record IsShown (inv : Invariant) (words : List (List ℕ)) : Type 0 where
   pub second : Occurs inv.b words
   pub of_every : All (λ word. Holds inv word) words
 
--- the words lack what a kind speaks of: AlwaysFollowedBy of each a, NeverFollowedBy of an a and a b, AlwaysPrecedes of each b
+-- the words lack what a kind speaks of: AlwaysFollowedBy of each a, NeverFollowedBy of an a and a b, AlwaysPrecedes of each b, InterruptedBy of an a and a b, or of two a in one word
 abbrev pub LacksAs : Kind → ℕ → ℕ → List (List ℕ) → Type 0
 LacksAs AF a b words = Occurs a words → ⊥
 LacksAs NF a b words = Occurs a words → Occurs b words → ⊥
 LacksAs AP a b words = Occurs b words → ⊥
+LacksAs IB a b words = (Occurs a words → ⊥) ⊎ ((Occurs b words → ⊥) × All (NeverFollowedBy a a) words)
 
 -- the words lack what the invariant speaks of
 abbrev pub Lacks : Invariant → List (List ℕ) → Type 0
@@ -60,7 +62,8 @@ words_of shard = map (λ word. map shard.number word) shard.words
 abbrev pub in_whole : Shard → Invariant → Invariant
 in_whole shard inv = invariant inv.kind (shard.number inv.a) (shard.number inv.b)
 
--- the shard's own list has the invariant of the whole
-abbrev pub Lists : Shard → Invariant → Type 0
-Lists shard inv =
-    (own : Invariant) × Contains (mined shard.count shard.words) own × (in_whole shard own ≡ inv)
+-- the shard's own list of these kinds has the invariant of the whole
+abbrev pub Lists : Kinds → Shard → Invariant → Type 0
+Lists kinds shard inv =
+    (own : Invariant) × Contains (mined_for kinds shard.count shard.words) own
+    × (in_whole shard own ≡ inv)

@@ -3,9 +3,10 @@ use Rattle.std.proofs.Common.{◌≡◌, ℕ, true, List, [], ◌∷◌, map, fi
 use Rattle.std.proofs.lemmas.Bool.{cases_Bool, cond-true, cond-false, and_parts}
 use Rattle.std.specs.List.{AllByRecursion, list_all}
 use Rattle.invariants.specs.declared.Invariant.{Invariant}
-use Rattle.invariants.specs.Candidates.{candidates}
+use Rattle.invariants.specs.declared.Kinds.{Kinds}
+use Rattle.invariants.specs.Candidates.{candidates_for}
 use Rattle.invariants.specs.Holds.{Holds, holds}
-use Rattle.invariants.specs.Mined.{mined, holds_of_all}
+use Rattle.invariants.specs.Mined.{mined_for, holds_of_all}
 use Rattle.invariants.proofs.ByPlaces.{holds-Holds}
 use Rattle.traces.specs.Words.{Log, Trace, word_of, words_of}
 use Rattle.partition_model.specs.Assignments.{inner_words, with_ends}
@@ -28,7 +29,7 @@ filtered-hold traces (inv ∷ invs) =
     ]
 
 -- what is mined of a log holds of every word of its first graph
-pub mined-hold : (log : Log) (count : ℕ) → HoldAll (inner_words (start_of log).traces) (mined count (words_of log))
-mined-hold log count =
-    subst (λ (ws : List (List ℕ)). HoldAll ws (mined count (words_of log))) (sym (words-typed (inner_words_of log)))
-    (filtered-hold log.traces (candidates count))
+pub mined-hold : (log : Log) (kinds : Kinds) (count : ℕ) → HoldAll (inner_words (start_of log).traces) (mined_for kinds count (words_of log))
+mined-hold log kinds count =
+    subst (λ (ws : List (List ℕ)). HoldAll ws (mined_for kinds count (words_of log))) (sym (words-typed (inner_words_of log)))
+    (filtered-hold log.traces (candidates_for kinds count))

@@ -7,6 +7,7 @@ use Rattle.invariants.specs.declared.Invariant.{Invariant}
 use Rattle.invariants.specs.declared.records.Split.{Split}
 use Rattle.invariants.specs.Holds.{Holds}
 use Rattle.traces.specs.Words.{Log}
+use Rattle.partition_model.proofs.Satisfied.{all_at}
 use Rattle.partition_model.specs.Graphs.{Graph, Satisfies, IsLeastViolation}
 use Rattle.partition_model.specs.Assignments.{Event, Assignment, G, IsTyped, word_of, by_type, inner_words, types_of, events, members}
 use Rattle.partition_model.specs.Refinement.{Splits, Refines, SatisfiesAll, IsNextSplit, after_split, stitch}
@@ -67,12 +68,6 @@ before_more g invs k inv e b s j i m f = go (cases_lt j k)
         let x : slice_get invs k ≡ Some i = subst (λ (y : ℕ). slice_get invs y ≡ Some i) q f in
         let y : inv ≡ i = cc in
         subst (λ (z : Invariant). Satisfies g z) y s
-
--- an invariant of a list that is satisfied, by its number
-pub all_at : (g : Graph) (invs : List Invariant) (k : ℕ) (inv : Invariant) → slice_get invs k ≡ Some inv → SatisfiesAll g invs → Satisfies g inv
-all_at g [] k inv e a = absurd (cc e)
-all_at g (i ∷ invs) zero inv e a = let q : i ≡ inv = cc in subst (λ (z : Invariant). Satisfies g z) q a.0
-all_at g (i ∷ invs) (suc k) inv e a = all_at g invs k inv e a.1
 
 -- an invariant of the list stands at its number
 pub get_of : (xs : List Invariant) (k : ℕ) (d : Invariant) → k < length xs → slice_get xs k ≡ Some (get_or xs k d)

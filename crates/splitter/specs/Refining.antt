@@ -4,7 +4,8 @@ use Rattle.std.specs.List.{range_with_len}
 use Rattle.limits.specs.declared.TheConstants.{FIRST_TYPE, MAX_PARTITIONS}
 use Rattle.invariants.specs.declared.Invariant.{Invariant}
 use Rattle.invariants.specs.declared.records.Split.{Split}
-use Rattle.invariants.specs.Mined.{mined}
+use Rattle.invariants.specs.declared.Kinds.{Kinds}
+use Rattle.invariants.specs.Mined.{mined_for}
 use Rattle.traces.specs.Words.{Log, words_of}
 use Rattle.partition_model.specs.Graphs.{Graph, Satisfies}
 use Rattle.partition_model.specs.Assignments.{Assignment, G, by_type, events, inner_words}
@@ -85,4 +86,5 @@ pub record HaveFewRests (parts : Parts) : Type 0 where
 
 -- what is mined of a log holds of each word of its first graph
 abbrev pub MinedHold : Type 0
-MinedHold = (log : Log) (types : ℕ) → HoldAll (inner_words (start_of log).traces) (mined types (words_of log))
+MinedHold =
+    (log : Log) (kinds : Kinds) (types : ℕ) → HoldAll (inner_words (start_of log).traces) (mined_for kinds types (words_of log))

@@ -6,6 +6,7 @@ use Rattle.command_line.specs.declared.table.Command.TheVariants.{Invariants, Gr
 use Rattle.synoptic_cli.specs.declared.answer.Answer.{Answer}
 use Rattle.synoptic_cli.specs.declared.material.Material.{Material}
 use Rattle.synoptic_cli.specs.declared.status.LimitKind.{LimitKind}
+use Rattle.synoptic_cli.specs.Task.{kinds_of}
 use Rattle.synoptic_cli.specs.Commands.CheckModel as check_model
 use Rattle.synoptic_cli.specs.Commands.InferModel as infer_model
 use Rattle.synoptic_cli.specs.Commands.PrintGraph as print_graph
@@ -26,7 +27,7 @@ pub mod TypeNames
 
 -- this is what the command answers of what was read: an answer, or the limit that it stops at
 abbrev pub AnswersBy : Command → Task → Material → Result Answer LimitKind → Type 0
-AnswersBy Invariants task m r = print_invariants.Answers m r
+AnswersBy Invariants task m r = print_invariants.Answers (kinds_of task) m r
 AnswersBy Graph task m r = print_graph.Answers m r
 AnswersBy GraphOfModel task m r = print_graph_of_model.Answers m r
 AnswersBy Infer task m r = infer_model.Answers m r

@@ -92,7 +92,7 @@ task_message task Done = []
 task_message task (NoCheck part) = []
 task_message task Usage =
     codes "usage: synoptic infer|check|replay|invariants|graph|paths|bench "
-    ++ codes "[-e FILE] [-p] [-m FILE] [-i] [-j] [-n N] [--] [FILE]...\n"
+    ++ codes "[-e FILE] [-p] [-m FILE] [-i] [-j] [-n N] [-r] [--] [FILE]...\n"
 task_message task (Expressions e) = codes "synoptic: expressions" ++ rule_message e
 task_message task (Log fault) = log_message task fault
 task_message task (Limit kind) = limit_message kind

@@ -15,6 +15,7 @@ mod run_bench;
 
 use crate::answer::{Answer, NoAnswer};
 use crate::material::Material;
+use crate::task::kinds_of;
 use command_line::{Command, Task};
 use std::alloc::Global;
 
@@ -25,7 +26,7 @@ pub fn answer(alloc: Global, task: &Task<'_>, material: Material) -> Result<Answ
     ensures { Gives (Answers (task_held task.now) material) result }
 {
     match task.command {
-        Command::Invariants => print_invariants::answer(alloc, material),
+        Command::Invariants => print_invariants::answer(alloc, kinds_of(task), material),
         Command::Graph => print_graph::answer(alloc, material),
         Command::GraphOfModel => print_graph_of_model::answer(alloc, material),
         Command::Infer => infer_model::answer(alloc, material),

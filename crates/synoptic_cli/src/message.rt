@@ -15,7 +15,7 @@ use model_file::{Field, FileError};
 use outside::{Failed, Sink, write_whole};
 
 const USAGE: &[u8] =
-    b"usage: synoptic infer|check|replay|invariants|graph|paths|bench [-e FILE] [-p] [-m FILE] [-i] [-j] [-n N] [--] [FILE]...\n";
+    b"usage: synoptic infer|check|replay|invariants|graph|paths|bench [-e FILE] [-p] [-m FILE] [-i] [-j] [-n N] [-r] [--] [FILE]...\n";
 
 /// Writes the texts, one after another, and takes no memory.
 fn write_texts<E: Sink>(texts: &[&str], err: &mut E) -> Result<(), Failed>

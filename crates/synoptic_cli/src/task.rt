@@ -3,10 +3,11 @@ ghost use Rattle.std.specs.Prelude.{◌≡◌, ◌<◌, ◌^◌, IfOk, length, m
 ghost use Rattle.std.specs.String.{string_bytes};
 ghost use Rattle.log_reader.specs.Inputs.{inputs_of};
 ghost use Rattle.command_line.specs.Task.{form_held, task_held};
-ghost use Rattle.synoptic_cli.specs.Task.{rules_name, source_name};
+ghost use Rattle.synoptic_cli.specs.Task.{kinds_of, rules_name, source_name};
 
 use crate::status::Source;
 use command_line::{LineForm, Task};
+use invariants::Kinds;
 use std::alloc::{AllocError, Global};
 
 /// So many files are more than a log has.
@@ -42,6 +43,17 @@ pub fn source_name<'a>(task: &Task<'a>, source: Source) -> Option<&'a str>
         Source::Expressions => rules_name(task.form),
         Source::ModelFile => task.model,
         Source::Log(number) => input_name(&task.files, number),
+    }
+}
+
+/// The kinds of invariants that a task asks for.
+pub fn kinds_of(task: &Task<'_>) -> Kinds
+    ensures { result ≡ kinds_of (task_held task.now) }
+{
+    if task.interrupted {
+        Kinds::Four
+    } else {
+        Kinds::Three
     }
 }
 

@@ -1,7 +1,9 @@
 //! Candidates, monitors, lists and texts.
 
 use crate::words::{halves, number};
-use invariants::{Invariant, Kind, Monitor, Seq, Text, candidate, candidate_count, index_of};
+use invariants::{
+    Invariant, Kind, Kinds, Monitor, Seq, Text, candidate, candidate_count, index_of,
+};
 use limits::MAX_TYPES;
 use std::alloc::{AllocError, Global};
 
@@ -10,7 +12,17 @@ fn kind(word: &str) -> Kind {
     match word {
         "AF" => Kind::AF,
         "NF" => Kind::NF,
-        _ => Kind::AP,
+        "AP" => Kind::AP,
+        _ => Kind::IB,
+    }
+}
+
+/// Three or four kinds, by their number.
+pub fn kinds(word: &str) -> Kinds {
+    if word == "4" {
+        Kinds::Four
+    } else {
+        Kinds::Three
     }
 }
 
@@ -25,23 +37,26 @@ pub fn invariant(word: &str) -> Invariant {
     }
 }
 
-/// `candidate TYPES INDEX`: how many candidates there are, the one at the index, and where that stands.
+/// `candidate KINDS TYPES INDEX`: how many candidates there are, the one at the index, and where that stands.
 pub fn at_index(alloc: Global, words: &str) -> Result<String, AllocError> {
-    let (types, index) = halves(words, ' ');
+    let (number_of_kinds, rest) = halves(words, ' ');
+    let (types, index) = halves(rest, ' ');
+    let kinds = kinds(number_of_kinds);
     let types = number(types).min(MAX_TYPES);
-    let found = candidate(types, number(index));
+    let found = candidate(kinds, types, number(index));
     let back = match found {
-        Some(inv) => index_of(types, inv),
+        Some(inv) => index_of(kinds, types, inv),
         None => None,
     };
-    format!(in alloc; "{} {found:?} {back:?}", candidate_count(types))
+    format!(in alloc; "{} {found:?} {back:?}", candidate_count(kinds, types))
 }
 
-/// `index TYPES INVARIANT`
+/// `index KINDS TYPES INVARIANT`
 pub fn index(alloc: Global, words: &str) -> Result<String, AllocError> {
-    let (types, inv) = halves(words, ' ');
+    let (number_of_kinds, rest) = halves(words, ' ');
+    let (types, inv) = halves(rest, ' ');
     let types = number(types).min(MAX_TYPES);
-    format!(in alloc; "{:?}", index_of(types, invariant(inv)))
+    format!(in alloc; "{:?}", index_of(kinds(number_of_kinds), types, invariant(inv)))
 }
 
 /// `monitor INVARIANT TYPE TYPE ..`: the state after each type, and whether the last is bad.

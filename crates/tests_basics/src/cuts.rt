@@ -1,7 +1,7 @@
 //! Bytes cut at line feeds, and the fields of lines.
 
 use crate::words::{halves, plain, text};
-use lines::{next_piece, plain_fields, plain_fields_ahead, without_return};
+use lines::{next_piece, plain_fields_ahead, without_return};
 use std::alloc::{AllocError, Global};
 
 /// The first piece of bytes, its line, and what stands after its line feed.
@@ -20,13 +20,13 @@ pub fn piece(alloc: Global, word: &str) -> Result<String, AllocError> {
     cut(alloc, bytes.as_bytes())
 }
 
-/// The fields of a line, by itself and with what stands behind it.
+/// The fields of a line with what stands behind it.
 fn parted(alloc: Global, line: &str, behind: &str) -> Result<String, AllocError> {
     let mut bytes = String::from_str(alloc, line)?;
     bytes.push_str(behind)?;
     let ahead = plain_fields_ahead(line, bytes.as_bytes());
     let ahead = ahead.map(|fields| (fields.0, fields.1, text(fields.2)));
-    format!(in alloc; "{:?} {ahead:?}", plain_fields(line))
+    format!(in alloc; "{ahead:?}")
 }
 
 /// `fields LINE BEHIND`

@@ -13,14 +13,12 @@ mod streams;
 mod texts;
 mod words;
 
-use std::alloc::AllocError;
+use std::alloc::{AllocError, Global};
 use std::io;
 use words::halves;
 
-/// What comes of a case.
-fn told(rt: &HostRuntime, case: &str) -> Result<String, AllocError> {
-    let alloc = rt.alloc();
-    let (name, rest) = halves(case, ' ');
+/// What comes of a case on lines, invariants, miners and reports.
+fn of_logs(alloc: Global, name: &str, rest: &str) -> Result<String, AllocError> {
     match name {
         "piece" => cuts::piece(alloc, rest),
         "fields" => cuts::fields(alloc, rest),
@@ -34,18 +32,33 @@ fn told(rt: &HostRuntime, case: &str) -> Result<String, AllocError> {
         "paths" => texts::paths(alloc, rest),
         "invariants" => texts::invariants(alloc, rest),
         "graph" => texts::graph(alloc, rest),
+        _ => String::from_str(alloc, "no such case"),
+    }
+}
+
+/// What comes of a case on stores, sinks or logs.
+fn of_stores(alloc: Global, name: &str, rest: &str) -> Result<String, AllocError> {
+    match name {
         "rows" => rows::told(alloc, rest),
         "cells" => pools::cells(alloc),
         "spans" => pools::spans(alloc),
         "entries" => pools::entries(alloc),
         "history" => pools::history(alloc),
         "steps" => pools::steps(alloc),
+        "sink" => sinks::memory(alloc, rest),
+        _ => of_logs(alloc, name, rest),
+    }
+}
+
+/// What comes of a case.
+fn told(rt: &HostRuntime, case: &str) -> Result<String, AllocError> {
+    let (name, rest) = halves(case, ' ');
+    match name {
         "memory" => streams::memory(rt, rest),
         "real" => streams::real(rt, rest),
         "failing" => streams::failing(rt, rest),
-        "sink" => sinks::memory(alloc, rest),
         "streams" => sinks::streams(rt),
-        _ => String::from_str(alloc, "no such case"),
+        _ => of_stores(rt.alloc(), name, rest),
     }
 }
 

@@ -1,5 +1,6 @@
 //! Logs of types, and the invariants that are mined of them.
 
+use crate::candidates::kinds;
 use crate::words::{halves, number};
 use closure_miner::mine_again;
 use count_miner::mine;
@@ -79,11 +80,13 @@ fn both(alloc: Global, first: String, second: String) -> Result<String, AllocErr
     format!(in alloc; "{first}\n{second}")
 }
 
-/// `mine TRACE|TRACE..`: what either miner finds.
-pub fn mined(alloc: Global, log: &str) -> Result<String, AllocError> {
+/// `mine KINDS TRACE|TRACE..`: what either miner finds.
+pub fn mined(alloc: Global, words: &str) -> Result<String, AllocError> {
+    let (number_of_kinds, log) = halves(words, ' ');
+    let kinds = kinds(number_of_kinds);
     let log = log_of(alloc, log)?;
-    let counted = listed(alloc, mine(alloc, &log.traces));
-    let struck = listed(alloc, mine_again(alloc, &log.traces));
+    let counted = listed(alloc, mine(alloc, kinds, &log.traces));
+    let struck = listed(alloc, mine_again(alloc, kinds, &log.traces));
     drop(log);
     both(alloc, counted?, struck?)
 }

@@ -33,7 +33,8 @@ fn invariant_of(text: &str) -> Option<Invariant> {
     let kind = match name {
         "AF" => Kind::AF,
         "NF" => Kind::NF,
-        _ => Kind::AP,
+        "AP" => Kind::AP,
+        _ => Kind::IB,
     };
     Some(Invariant {
         kind,

@@ -136,9 +136,15 @@ impl Desk {
     }
 
     /// Runs refinement on the first graph of the log, and coarsening too where the run is to be whole.
-    fn run(&self, alloc: Global, told: &mut String, is_whole: bool) -> Result<(), AllocError> {
+    fn run(
+        &self,
+        alloc: Global,
+        told: &mut String,
+        text: &str,
+        is_whole: bool,
+    ) -> Result<(), AllocError> {
         match &self.log {
-            Some(log) => put_run(alloc, told, log, is_whole),
+            Some(log) => put_run(alloc, told, log, text, is_whole),
             None => Ok(()),
         }
     }
@@ -152,8 +158,8 @@ impl Desk {
         text: &str,
     ) -> Result<(), AllocError> {
         match word {
-            "refine" => self.run(alloc, told, false),
-            "infer" => self.run(alloc, told, true),
+            "refine" => self.run(alloc, told, text, false),
+            "infer" => self.run(alloc, told, text, true),
             "paths" => self.ask_finder(told, text),
             "invs" | "label" | "labels" | "satisfied" | "marks" | "clashes" => {
                 self.ask_board(alloc, told, word, text)

@@ -13,7 +13,8 @@
 //!   graph and in the merged one, `label` and `label 2+4` label them, `labels` tells the labels again, `satisfied` which of
 //!   them hold.
 //! - `marks` finds the marks of the graph, and `clashes 3-7 3+8` asks them of two ids, or merges these.
-//! - `refine` runs refinement on the first graph of the log by what is mined of it, `infer` coarsening too.
+//! - `refine` runs refinement on the first graph of the log by what is mined of it, `infer` coarsening too; with a 4 behind
+//!   it, four kinds are mined.
 //!
 //! The cases stand in the folder `cases`. The script `make` makes `stdin` and `stdout` of them and never runs this program.
 #![tactic(auto)]

@@ -13,7 +13,7 @@ use crate::tools::both;
 use cell_pool::{RunLog, Spans};
 use coarsener::{EvidenceLimit, blocks, coarsen};
 use count_miner::mine;
-use invariants::Invariant;
+use invariants::{Invariant, Kinds};
 use labelling::Planes;
 use limits::{MAX_PAIRS, MAX_PARTITIONS, MAX_PATH_NUMBERS, MAX_STEPS};
 use partition_graph::PartGraph;
@@ -235,24 +235,31 @@ fn put_mined_run(
     told: &mut String,
     log: &TraceSet,
     graph: &mut PartGraph,
+    kinds: Kinds,
     is_whole: bool,
 ) -> Result<(), AllocError>
     requires { graph.old ≡ start_of log.now }
 {
     start_is_opened(log);
-    let mined = mine(alloc, log)?;
+    let mined = mine(alloc, kinds, log)?;
     put_run_by(alloc, told, graph, mined.as_slice(), is_whole)
 }
 
-/// The same for a log.
+/// The same for a log, by three kinds, or by four where the text says 4.
 pub fn put_run(
     alloc: Global,
     told: &mut String,
     log: &TraceSet,
+    text: &str,
     is_whole: bool,
 ) -> Result<(), AllocError> {
+    let kinds = if text == "4" {
+        Kinds::Four
+    } else {
+        Kinds::Three
+    };
     let mut graph = PartGraph::open(alloc, log)?;
-    let end = put_mined_run(alloc, told, log, &mut graph, is_whole);
+    let end = put_mined_run(alloc, told, log, &mut graph, kinds, is_whole);
     drop(graph);
     end
 }

@@ -5,13 +5,13 @@ use Rattle.closure_miner.proofs.Traces.{words-more}
 use Rattle.closure_miner.proofs.standing_after.Goals as goal
 
 pub loop-t-preserved : goal.loop-t-preserved
-loop-t-preserved c = record {
+loop-t-preserved g c = record {
   types = c.read.ensures.types ∙ c.loop-t.invariant.types;
   stands =
-      subst (Stands c.read.new.self) (sym (words-more c.args.traces.now.traces c.loop-t.t c.events.result.now (omega arith) c.events.ensures.events))
+      subst (Stands g.S.TypeSet.has c.read.new.self) (sym (words-more c.args.traces.now.traces c.loop-t.t c.events.result.now (omega arith) c.events.ensures.events))
       (c.read.ensures.stands (map word_of (take c.loop-t.t c.args.traces.now.traces)) c.loop-t.invariant.stands);
 }
 
 pub returns-clause-stands : goal.returns-clause-stands
-returns-clause-stands c =
-    subst (λ (ts : List Trace). Stands c.loop-t.standing (map word_of ts)) (take_all c.loop-t.t c.args.traces.now.traces (omega (arith, c.loop-t-test.false, c.trace_count-t-end.ensures))) c.loop-t.invariant.stands
+returns-clause-stands g c =
+    subst (λ (ts : List Trace). Stands g.S.TypeSet.has c.loop-t.standing (map word_of ts)) (take_all c.loop-t.t c.args.traces.now.traces (omega (arith, c.loop-t-test.false, c.trace_count-t-end.ensures))) c.loop-t.invariant.stands

@@ -4,7 +4,7 @@ use Rattle.closure_miner.specs.Standing.{Stands}
 use Rattle.closure_miner.proofs.standing_after.Given as goal
 
 abbrev pub invariant-loop-t : goal.invariant-loop-t
-invariant-loop-t l = record {
+invariant-loop-t g l = record {
   types : l.standing.types ≡ l.fn.types;
-  stands : Stands l.standing (map word_of (take l.t l.traces.traces));
+  stands : Stands g.S.TypeSet.has l.standing (map word_of (take l.t l.traces.traces));
 }

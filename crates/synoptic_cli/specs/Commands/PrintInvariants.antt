@@ -3,8 +3,9 @@ use Rattle.std.specs.Prelude.{ℕ, ◌≡◌, ◌↔◌, ◌⊎◌, ◌<◌, Lis
 use Rattle.std.specs.List.{AllByRecursion}
 use Rattle.limits.specs.declared.TheConstants.{INITIAL}
 use Rattle.traces.specs.Words.{Log, words_of}
-use Rattle.invariants.specs.Candidates.{candidates}
-use Rattle.invariants.specs.Mined.{mined, IsListed}
+use Rattle.invariants.specs.Candidates.{candidates_for}
+use Rattle.invariants.specs.Mined.{mined_for, IsListed}
+use Rattle.invariants.specs.declared.Kinds.{Kinds}
 use Rattle.invariants.specs.declared.Invariant.{Invariant}
 use Rattle.reports.specs.Reports.{invariant_report}
 use Rattle.synoptic_cli.specs.declared.answer.Answer.{Answer}
@@ -14,34 +15,36 @@ use Rattle.synoptic_cli.specs.Commands.Answered.{done}
 use Rattle.synoptic_cli.specs.Commands.TypeNames.{HasText}
 
 -- the invariants that are listed
-abbrev pub listed : Log → List Invariant
-listed log = mined (length log.types) (words_of log)
+abbrev pub listed : Kinds → Log → List Invariant
+listed kinds log = mined_for kinds (length log.types) (words_of log)
 
 -- of two listed invariants the earlier one is the earlier candidate
-abbrev pub AreInOrder : Log → Type 0
-AreInOrder log =
+abbrev pub AreInOrder : Kinds → Log → Type 0
+AreInOrder kinds log =
     (j k m n : ℕ) (first second : Invariant)
-    → slice_get (listed log) j ≡ Some first → slice_get (listed log) k ≡ Some second
-    → slice_get (candidates (length log.types)) m ≡ Some first
-    → slice_get (candidates (length log.types)) n ≡ Some second
+    → slice_get (listed kinds log) j ≡ Some first → slice_get (listed kinds log) k ≡ Some second
+    → slice_get (candidates_for kinds (length log.types)) m ≡ Some first
+    → slice_get (candidates_for kinds (length log.types)) n ≡ Some second
     → j < k → m < n
 
 -- no invariant is listed twice
-abbrev pub AreOnce : Log → Type 0
-AreOnce log =
+abbrev pub AreOnce : Kinds → Log → Type 0
+AreOnce kinds log =
     (j k : ℕ) (inv : Invariant)
-    → slice_get (listed log) j ≡ Some inv → slice_get (listed log) k ≡ Some inv → j ≡ k
+    → slice_get (listed kinds log) j ≡ Some inv → slice_get (listed kinds log) k ≡ Some inv → j ≡ k
 
--- the invariants listed are exactly the candidates that hold, by places, of every word of the log; they stand in the
--- candidates' order, none twice; and each type that they name is INITIAL, as the first of the two, or has a text
-pub record ListsExactly (log : Log) : Type 0 where
-  pub members : (inv : Invariant) → Contains (listed log) inv ↔ IsListed (length log.types) (words_of log) inv
-  pub order : AreInOrder log
-  pub once : AreOnce log
+-- the invariants listed are exactly the candidates of these kinds that hold, by places, of every word of the log; they
+-- stand in the candidates' order, none twice; and each type that they name is INITIAL, as the first of the two, or has a
+-- text
+pub record ListsExactly (kinds : Kinds) (log : Log) : Type 0 where
+  pub members : (inv : Invariant)
+      → Contains (listed kinds log) inv ↔ IsListed kinds (length log.types) (words_of log) inv
+  pub order : AreInOrder kinds log
+  pub once : AreOnce kinds log
   pub named : AllByRecursion (λ inv. ((inv.a ≡ INITIAL) ⊎ HasText log.types inv.a) × HasText log.types inv.b)
-      (listed log)
+      (listed kinds log)
 
 -- the answer: they are printed, one a line, and are exactly those that hold
-pub record Answers (m : Material) (r : Result Answer LimitKind) : Type 0 where
-  pub value : r ≡ Ok (done (invariant_report m.log.types (listed m.log)))
-  pub exact : ListsExactly m.log
+pub record Answers (kinds : Kinds) (m : Material) (r : Result Answer LimitKind) : Type 0 where
+  pub value : r ≡ Ok (done (invariant_report m.log.types (listed kinds m.log)))
+  pub exact : ListsExactly kinds m.log

@@ -7,19 +7,19 @@ use crate::answer::{Answer, NoAnswer};
 use crate::material::Material;
 use crate::status::Status;
 use closure_miner::mine_again;
-use invariants::{candidates_tell, mined_keeps_order, mined_tells};
+use invariants::{Kinds, candidates_tell, mined_keeps_order, mined_tells};
 use reports::invariant_report;
 use std::alloc::{AllocError, Global};
 
 /// The answer, where memory is not wanted.
-fn print(alloc: Global, material: &Material) -> Result<Answer, AllocError>
-    ensures { IfOk result (λ a. Answers material.now (Ok a)) }
+fn print(alloc: Global, kinds: Kinds, material: &Material) -> Result<Answer, AllocError>
+    ensures { IfOk result (λ a. Answers kinds material.now (Ok a)) }
 {
     mined_tells();
     mined_keeps_order();
     candidates_tell();
     let types = material.log.types();
-    let mined = mine_again(alloc, &material.log)?;
+    let mined = mine_again(alloc, kinds, &material.log)?;
     let text = invariant_report(alloc, types, mined.as_slice())?;
     Ok(Answer {
         status: Status::Done,
@@ -27,11 +27,11 @@ fn print(alloc: Global, material: &Material) -> Result<Answer, AllocError>
     })
 }
 
-/// The invariants that hold in every trace, one a line. They are exactly the candidates that do.
-pub fn answer(alloc: Global, material: Material) -> Result<Answer, NoAnswer>
-    ensures { Gives (Answers material) result }
+/// The invariants of these kinds that hold in every trace, one a line. They are exactly the candidates that do.
+pub fn answer(alloc: Global, kinds: Kinds, material: Material) -> Result<Answer, NoAnswer>
+    ensures { Gives (Answers kinds material) result }
 {
-    let printed = print(alloc, &material);
+    let printed = print(alloc, kinds, &material);
     drop(material);
     match printed {
         Ok(answer) => Ok(answer),

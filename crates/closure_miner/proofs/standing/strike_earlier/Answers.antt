@@ -1,12 +1,16 @@
-use Rattle.std.proofs.Common.{arith}
-use Rattle.closure_miner.proofs.Bits.{has-with, at-both, at-either}
+use Rattle.std.proofs.Common.{◌∙◌, arith}
+use Rattle.closure_miner.proofs.Rows.{at-both, at-either, with-number}
 use Rattle.closure_miner.proofs.standing.strike_earlier.Goals as goal
 
 pub returns-clause-later : goal.returns-clause-later
-returns-clause-later c = λ b. has-with c.args.later c.place_of-place.result c.args.x b c.place_of-place.ensures (omega (arith, c.place_of-place.ensures, c.requires.number.1, c.requires.few))
+returns-clause-later g c = λ b. c.with.ensures b ∙ with-number c.args.x c.place_of-place.result b (g.S.TypeSet.has c.args.later b) c.place_of-place.ensures
 
 pub returns-clause-followed : goal.returns-clause-followed
-returns-clause-followed c = λ a b. at-both c.args.followed.now c.place_of-place.result c.args.later c.args.x a b c.place_of-place.ensures (omega (arith, c.place_of-place.ensures, c.requires.number.1))
+returns-clause-followed g c = λ a b.
+    at-both g.S.TypeSet.has c.args.followed.now c.place_of-place.result c.index-followed-place.result c.both.result c.args.later c.args.x a b c.place_of-place.ensures
+    (omega (arith, c.place_of-place.ensures, c.requires.number.1)) c.index-followed-place.is c.both.ensures
 
 pub returns-clause-never : goal.returns-clause-never
-returns-clause-never c = λ a b. at-either c.args.met.now c.place_of-place.result c.args.later c.args.x a b c.place_of-place.ensures (omega (arith, c.place_of-place.ensures, c.requires.number.1, c.requires.same))
+returns-clause-never g c = λ a b.
+    at-either g.S.TypeSet.has c.args.met.now c.place_of-place.result c.index-met-place.result c.either.result c.args.later c.args.x a b c.place_of-place.ensures
+    (omega (arith, c.place_of-place.ensures, c.requires.number.1, c.requires.same)) c.index-met-place.is c.either.ensures

@@ -2,7 +2,7 @@ use Rattle.std.proofs.Common.{ℕ, Option, subst}
 use Rattle.std.proofs.lemmas.Bool.{ltb-true}
 use Rattle.partition_model.specs.Refinement.{SatisfiesAll, IsFirstBroken}
 use Rattle.coarsener.specs.Deciding.{IsFirstBad}
-use Rattle.splitter.proofs.RefiningTurns.{all_at}
+use Rattle.partition_model.proofs.Satisfied.{all_at}
 use Rattle.coarsener.proofs.Deciding.{satisfied-before}
 use Rattle.coarsener.proofs.blocking.is_satisfied.Goals as goal
 

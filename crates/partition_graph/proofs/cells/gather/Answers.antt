@@ -28,6 +28,3 @@ loop-t-preserved c =
     let n : c.len.result ≡ length c.loop-t.cells.items = omega (arith, c.len.ensures) in
     rw (c.in_ok-push_cells.ensures, c.in_ok-push.ensures.items, n)
     (more_gathered (length c.args.traces.now.types + 2) (inner_words_of c.args.traces.now) c.loop-t.t c.loop-t.cells.items c.loop-t.firsts.items c.events.result.now within at c.events.ensures.some numbers c.loop-t.invariant)
-
-pub push_cells-requires : goal.push_cells-requires
-push_cells-requires c = λ k d inside. omega (arith, (c.events.ensures.numbers k d inside).1, c.types-types.ensures.few, ap length c.types-types.ensures.value)

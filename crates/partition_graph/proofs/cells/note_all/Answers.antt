@@ -1,4 +1,4 @@
-use Rattle.std.proofs.Common.{◌≡◌, ◌<◌, [], get_or, length, arith, ap}
+use Rattle.std.proofs.Common.{◌≡◌, ◌<◌, [], get_or, length, arith}
 use Rattle.std.proofs.lemmas.List.{length-map}
 use Rattle.std.proofs.lemmas.List.Elements.{recursion_from_All}
 use Rattle.traces.specs.Kept.{IsTypeNumber}
@@ -28,6 +28,3 @@ loop-t-preserved c =
 pub returns-clause-few : goal.returns-clause-few
 returns-clause-few c =
     omega (arith, c.loop-t.invariant.small, cells-le c.args.traces.now.traces c.loop-t.t, c.event_count-event_count.ensures.value, c.event_count-event_count.ensures.few)
-
-pub note-requires-clause-numbers : goal.note-requires-clause-numbers
-note-requires-clause-numbers c = λ k d inside. omega (arith, (c.events.ensures.numbers k d inside).1, c.types-types.ensures.few, ap length c.types-types.ensures.value)

@@ -10,4 +10,4 @@ pub put_run_by-requires-clause-hold : goal.put_run_by-requires-clause-hold
 put_run_by-requires-clause-hold c =
     subst (λ (p : Parts). HoldAll (inner_words p.traces) c.as_slice.result.now) (sym c.requires)
     (subst (λ (invs : List Invariant). HoldAll (inner_words (start_of c.args.log.now).traces) invs) (sym (c.as_slice.ensures ∙ c.in_ok-mined.ensures))
-    (mined-hold c.args.log.now (length c.args.log.now.types)))
+    (mined-hold c.args.log.now c.args.kinds (length c.args.log.now.types)))

@@ -3,6 +3,5 @@ use Rattle.std.proofs.Common.{refl}
 use Rattle.closure_miner.proofs.standing.Standing.make.Goals as goal
 
 pub returns-clause-stands : goal.returns-clause-stands
-returns-clause-stands c =
-    stands-first _ c.requires.few (c.in_ok-vec.ensures.items_if_clones_equal (λ y e. e)) (c.in_ok-vec-2.ensures.items_if_clones_equal (λ y e. e))
-    (c.in_ok-vec-3.ensures.items_if_clones_equal (λ y e. e)) refl
+returns-clause-stands g c =
+    stands-first g.S.TypeSet.has _ c.first-all.result c.none.result c.first-all.ensures c.none.ensures c.in_ok-sets_of.ensures c.in_ok-sets_of-2.ensures c.in_ok-sets_of-3.ensures refl

@@ -6,4 +6,4 @@ use Rattle.closure_miner.specs.Standing.{Stands}
 use Rattle.closure_miner.proofs.standing.Standing.push_pairs.Given as goal
 
 abbrev pub invariant-loop-a : goal.invariant-loop-a
-invariant-loop-a l = (words : List (List ℕ)) → Stands l.self words → l.list.items ≡ l.fn.list.items ++ filter (holds_of_all words) (flat_map (of_first l.self.types) (types l.a))
+invariant-loop-a g l = (words : List (List ℕ)) → Stands g.S.TypeSet.has l.self words → l.list.items ≡ l.fn.list.items ++ filter (holds_of_all words) (flat_map (of_first l.self.types) (types l.a))

@@ -6,4 +6,4 @@ use Rattle.closure_miner.specs.Standing.{Stands}
 use Rattle.closure_miner.proofs.standing.Standing.push_row.Given as goal
 
 abbrev pub invariant-loop-b : goal.invariant-loop-b
-invariant-loop-b l = (words : List (List ℕ)) → Stands l.self words → l.list.items ≡ l.fn.list.items ++ filter (holds_of_all words) (flat_map (of_pair (l.a + 2)) (types l.b))
+invariant-loop-b g l = (words : List (List ℕ)) → Stands g.S.TypeSet.has l.self words → l.list.items ≡ l.fn.list.items ++ filter (holds_of_all words) (flat_map (of_pair (l.a + 2)) (types l.b))

@@ -1,4 +1,4 @@
-use Rattle.std.proofs.Common.{◌≡◌, List, ap, sym, subst, refl}
+use Rattle.std.proofs.Common.{List, ap, sym, subst, refl}
 use Rattle.std.specs.List.{All}
 use Rattle.partition_graph.specs.declared.cells.Cell.{Cell}
 use Rattle.partition_graph.specs.Cells.{traces_of}

@@ -14,5 +14,5 @@ returns c =
     ∙ ap₂ (λ (types : List (List ℕ)) (invs : List Invariant). invariant_report types invs) c.types-types.ensures.value (c.as_slice.ensures ∙ c.in_ok-mined.ensures) in
     record {
       value = ap (λ (t : List ℕ). let r : Result Answer LimitKind = Ok (done t) in r) text;
-      exact = lists-exactly c.mined_tells.ensures c.mined_keeps_order.ensures c.candidates_tell.ensures c.args.material.now.log;
+      exact = lists-exactly c.mined_tells.ensures c.mined_keeps_order.ensures c.candidates_tell.ensures c.args.kinds c.args.material.now.log;
     }
