@@ -5,7 +5,7 @@ use Rattle.std.proofs.lemmas.Option.{slice_get_within, get_or_from_slice_get}
 use Rattle.std.proofs.lemmas.Bool.{cases_lt}
 use Rattle.limits.specs.declared.TheConstants.{MAX_PARTITIONS, INITIAL, TERMINAL}
 use Rattle.invariants.specs.declared.Kind.{Kind}
-use Rattle.invariants.specs.declared.Kind.TheVariants.{AF, NF, AP}
+use Rattle.invariants.specs.declared.Kind.TheVariants.{AF, NF, AP, IB}
 use Rattle.invariants.specs.declared.Invariant.{Invariant}
 use Rattle.invariants.specs.Monitors.{step_of, step, is_bad}
 use Rattle.merge_law.specs.Critical.{critical, calm_of}
@@ -154,6 +154,7 @@ unnamed_step : (kind : Kind) (a b s x : ℕ) → x ≢ a → x ≢ b → step_of
 unnamed_step AF a b s x n m = rw (ne_eqb x a n, ne_eqb x b m) refl
 unnamed_step NF a b s x n m = rw (ne_eqb x b m, ne_eqb x a n) refl
 unnamed_step AP a b s x n m = rw (ne_eqb x b m, ne_eqb x a n) refl
+unnamed_step IB a b s x n m = rw (ne_eqb x a n, ne_eqb x b m) refl
 
 -- the least that no invariant names stands for each type from it on
 pub class_step : (inv : Invariant) (others x typ s : ℕ) → x ≡ min typ others → (inv.a < others) × (inv.b < others) → step inv s x ≡ step inv s typ

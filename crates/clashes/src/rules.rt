@@ -11,7 +11,7 @@ fn calm(kind: Kind) -> u8
     ensures { result ≡ calm_of kind }
 {
     match kind {
-        Kind::AF | Kind::NF => 0,
+        Kind::AF | Kind::NF | Kind::IB => 0,
         Kind::AP => 1,
     }
 }
@@ -21,7 +21,7 @@ fn critical(kind: Kind) -> u8
     ensures { result ≡ critical_of kind }
 {
     match kind {
-        Kind::AF | Kind::NF => 1,
+        Kind::AF | Kind::NF | Kind::IB => 1,
         Kind::AP => 0,
     }
 }

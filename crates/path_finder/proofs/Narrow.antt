@@ -4,7 +4,7 @@ use Rattle.std.proofs.lemmas.Bool.{cases_Bool, cases_lt, le-ltb, lt-ltb, eq-eqb}
 use Rattle.limits.specs.declared.TheConstants.{TERMINAL}
 use Rattle.invariants.specs.declared.Invariant.{Invariant}
 use Rattle.invariants.specs.declared.Kind.{Kind}
-use Rattle.invariants.specs.declared.Kind.TheVariants.{AF, NF, AP}
+use Rattle.invariants.specs.declared.Kind.TheVariants.{AF, NF, AP, IB}
 use Rattle.invariants.specs.Holds.{At, Holds, HoldsAs}
 use Rattle.partition_model.specs.Graphs.{Graph, Walk, IsPath, word, Breaks, Satisfies, IsLeastViolation, Merged}
 use Rattle.invariants.specs.Monitors.{run, is_bad}
@@ -157,6 +157,7 @@ lacks_holds : (kind : Kind) (a b : ℕ) (w : List ℕ) → ((i : ℕ) → At w i
 lacks_holds AF a b w n = λ i t. absurd (n i t)
 lacks_holds NF a b w n = λ i t j l u. n i t
 lacks_holds AP a b w n = λ j t. absurd (n j t)
+lacks_holds IB a b w n = λ i j t u l. absurd (n i t)
 
 -- the word of a walk that goes through no id of the type lacks it
 avoiding_lacks : (g : Graph) (ids typ : ℕ) → HasEdgesBelow g ids → (xs : List ℕ) (x y : ℕ) → x < ids → Avoids (is_of_type g ids typ) (x ∷ xs) → Walk g x xs y → (i : ℕ) → At (word g (x ∷ xs)) i typ → ⊥

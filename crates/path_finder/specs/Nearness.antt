@@ -2,7 +2,7 @@
 use Rattle.std.specs.Prelude.{ℕ, ◌≡◌, ◌≢◌, ◌==◌, ◌&&◌, nat_lt, Bool, true, false, List, slice_index_or}
 use Rattle.std.specs.List.{AllByRecursion}
 use Rattle.invariants.specs.declared.Kind.{Kind}
-use Rattle.invariants.specs.declared.Kind.TheVariants.{AF, NF, AP}
+use Rattle.invariants.specs.declared.Kind.TheVariants.{AF, NF, AP, IB}
 use Rattle.partition_model.specs.Graphs.{Graph}
 use Rattle.partition_graph.specs.declared.view.View.{View}
 use Rattle.partition_graph.specs.declared.view.View.TheVariants.{Plain, Merged}
@@ -39,6 +39,7 @@ abbrev pub key_of : Kind → ℕ → ℕ → ℕ
 key_of AF a b = a
 key_of NF a b = a
 key_of AP a b = b
+key_of IB a b = a
 
 -- the path does not name the id that is gone from a merged view
 abbrev pub AvoidsGone : View → List ℕ → Type 0

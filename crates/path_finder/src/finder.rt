@@ -69,7 +69,7 @@ fn key_of(inv: Invariant) -> u16
     ensures { result ≡ key_of inv.kind inv.a inv.b }
 {
     match inv.kind {
-        Kind::AF | Kind::NF => inv.a,
+        Kind::AF | Kind::NF | Kind::IB => inv.a,
         Kind::AP => inv.b,
     }
 }
