@@ -19,7 +19,7 @@ place-test b x place is = ⊎_elim
     (cases_eq place b)
 
 -- what stands after a write at a place
-set-at : (xs : List ℕ) (p v k : ℕ) → p < length xs → get_or (set xs p v) k 0 ≡ cond (eqb p k) v (get_or xs k 0)
+pub set-at : (xs : List ℕ) (p v k : ℕ) → p < length xs → get_or (set xs p v) k 0 ≡ cond (eqb p k) v (get_or xs k 0)
 set-at xs p v k inside = ⊎_elim
     (λ (here : p ≡ k). ap (λ n. get_or (set xs p v) n 0) (sym here) ∙ (get_or-set_same xs p v 0 inside ∙ ap (λ t. cond t v (get_or xs k 0)) (sym ((Decides-eqb p k).1 here))))
     (λ (other : p ≢ k). get_or-set_other xs p k v 0 (λ same. other (sym same)) ∙ ap (λ t. cond t v (get_or xs k 0)) (sym (ne_eqb p k other)))

@@ -80,7 +80,7 @@ all-left b word n =
     (cases_Bool (occurs b (drop n word)))
 
 -- the rest of a list from one place before
-rest-more : (xs : List ℕ) (n : ℕ) → 0 < n → n ≤ length xs → drop (n - 1) xs ≡ get_or xs (n - 1) 0 ∷ drop n xs
+pub rest-more : (xs : List ℕ) (n : ℕ) → 0 < n → n ≤ length xs → drop (n - 1) xs ≡ get_or xs (n - 1) 0 ∷ drop n xs
 rest-more xs n some within =
     let next : suc (n - 1) ≡ n = omega arith in
     drop-cons xs (n - 1) 0 (omega arith) ∙ ap (λ m. get_or xs (n - 1) 0 ∷ drop m xs) next

@@ -4,7 +4,7 @@ use Rattle.std.specs.List.{AllByRecursion}
 use Rattle.serde_json.specs.Data.{Data, string}
 use Rattle.serde_json.specs.View.{items_of}
 use Rattle.invariants.specs.declared.Kind.{Kind}
-use Rattle.invariants.specs.declared.Kind.TheVariants.{AF, NF, AP}
+use Rattle.invariants.specs.declared.Kind.TheVariants.{AF, NF, AP, IB}
 use Rattle.invariants.specs.declared.records.Partition.{Partition}
 use Rattle.invariants.specs.declared.records.Edge.{Edge}
 use Rattle.invariants.specs.declared.records.Listed.{Listed}
@@ -43,6 +43,7 @@ unfolding kind_in
 kind-back AF = refl
 kind-back NF = refl
 kind-back AP = refl
+kind-back IB = refl
 
 -- the number fits 32 bits
 abbrev pub IsSmall : ℕ → Type 0

@@ -14,7 +14,9 @@ use Rattle.invariants.specs.declared.records.Listed.{Listed}
 use Rattle.invariants.specs.declared.records.Merge.{Merge}
 use Rattle.invariants.specs.declared.records.Split.{Split}
 use Rattle.invariants.specs.declared.records.Block.{Block}
-use Rattle.invariants.proofs.CandidatePlaces.{length-candidates, candidate-shape}
+use Rattle.invariants.specs.declared.Kinds.TheVariants.{Three}
+use Rattle.invariants.proofs.CandidatePlaces.{length-candidates}
+use Rattle.invariants.proofs.EachKinds.{candidate-shape}
 use Rattle.model_file.specs.Rules.{types_hold, partition_holds, partitions_hold, type_of, edge_holds, edges_hold, place_of, listed_holds, invariants_hold, merge_holds, merges_hold, path_holds, split_holds, splits_hold, are_one, block_holds, blocks_hold, comes_after, ascends_from}
 use Rattle.model_shape.specs.Numbers.{split_numbers}
 use Rattle.model_file.proofs.Places.{place-is}
@@ -146,7 +148,7 @@ record IsBetween (types : ℕ) (i : Invariant) : Type 0 where
   a : i.a < types + 2
   b : i.b < types + 2
 
-between : (types : ℕ) (i : Invariant) (s : IsFirst types i ⊎ IsPair types i) → IsBetween types i
+between : (types : ℕ) (i : Invariant) (s : IsFirst types i ⊎ IsPair Three types i) → IsBetween types i
 between types i (inl f) = record { a = omega (arith, f.a); b = f.b_high }
 between types i (inr p) = record { a = p.a_high; b = p.b_high }
 
@@ -161,7 +163,7 @@ unfolding place_of
 placed types i k h =
     let found = place-is i (candidates types) k h in
     let inside = length-at (candidates types) k i found in
-    let shape = between types i (candidate-shape types k i found) in
+    let shape = between types i (candidate-shape Three types k i found) in
     record { inside = omega (arith, inside, length-candidates types); a = shape.a; b = shape.b }
 
 -- an invariant that is found stands at its place among the candidates

@@ -7,7 +7,7 @@ use Rattle.serde_json.specs.Data.{unsigned, Data, number, string, array, Items, 
 use Rattle.serde_json.specs.Find.{as_str}
 use Rattle.serde_json.specs.View.{items_of}
 use Rattle.invariants.specs.declared.Kind.{Kind}
-use Rattle.invariants.specs.declared.Kind.TheVariants.{AF, NF, AP}
+use Rattle.invariants.specs.declared.Kind.TheVariants.{AF, NF, AP, IB}
 use Rattle.invariants.specs.declared.Invariant.{Invariant}
 use Rattle.invariants.specs.declared.records.Partition.{Partition}
 use Rattle.invariants.specs.declared.records.Edge.{Edge}
@@ -94,16 +94,23 @@ array-four {a} {b} {c} {d} {x} {y} {z} {w} p q r s = ap₂ (λ (t u : Data). arr
 
 -- ---- strings
 
-third-kind : (c : Bool) (text : List ℕ) (kind : Kind) → bytes_eq text (codes "AP") ≡ c → cond c (Some AP) None ≡ Some kind → text ≡ kind_text kind
-third-kind true text kind is e = (bytes_eq-Decides text (codes "AP")).0 is ∙ ap kind_text (some-is AP kind e)
-third-kind false text kind is e = absurd cc
+fourth-kind : (d : Bool) (text : List ℕ) (kind : Kind) → bytes_eq text (codes "IB") ≡ d
+    → cond d (Some IB) None ≡ Some kind → text ≡ kind_text kind
+fourth-kind true text kind is e = (bytes_eq-Decides text (codes "IB")).0 is ∙ ap kind_text (some-is IB kind e)
+fourth-kind false text kind is e = absurd cc
 
-second-kind : (b : Bool) (text : List ℕ) (kind : Kind) → bytes_eq text (codes "NF") ≡ b → cond b (Some NF) (cond (bytes_eq text (codes "AP")) (Some AP) None) ≡ Some kind → text ≡ kind_text kind
+third-kind : (c : Bool) (text : List ℕ) (kind : Kind) → bytes_eq text (codes "AP") ≡ c
+    → cond c (Some AP) (cond (bytes_eq text (codes "IB")) (Some IB) None) ≡ Some kind → text ≡ kind_text kind
+third-kind true text kind is e = (bytes_eq-Decides text (codes "AP")).0 is ∙ ap kind_text (some-is AP kind e)
+third-kind false text kind is e = fourth-kind (bytes_eq text (codes "IB")) text kind refl e
+
+second-kind : (b : Bool) (text : List ℕ) (kind : Kind) → bytes_eq text (codes "NF") ≡ b
+    → cond b (Some NF) (cond (bytes_eq text (codes "AP")) (Some AP) (cond (bytes_eq text (codes "IB")) (Some IB) None)) ≡ Some kind → text ≡ kind_text kind
 second-kind true text kind is e = (bytes_eq-Decides text (codes "NF")).0 is ∙ ap kind_text (some-is NF kind e)
 second-kind false text kind is e = third-kind (bytes_eq text (codes "AP")) text kind refl e
 
 first-kind : (a : Bool) (text : List ℕ) (kind : Kind) → bytes_eq text (codes "AF") ≡ a
-    → cond a (Some AF) (cond (bytes_eq text (codes "NF")) (Some NF) (cond (bytes_eq text (codes "AP")) (Some AP) None)) ≡ Some kind → text ≡ kind_text kind
+    → cond a (Some AF) (cond (bytes_eq text (codes "NF")) (Some NF) (cond (bytes_eq text (codes "AP")) (Some AP) (cond (bytes_eq text (codes "IB")) (Some IB) None))) ≡ Some kind → text ≡ kind_text kind
 first-kind true text kind is e = (bytes_eq-Decides text (codes "AF")).0 is ∙ ap kind_text (some-is AF kind e)
 first-kind false text kind is e = second-kind (bytes_eq text (codes "NF")) text kind refl e
 

@@ -12,7 +12,7 @@ use Rattle.serde_json.specs.Data.{Data, string, Members, no_members, member}
 use Rattle.serde_json.specs.View.{items_of}
 use Rattle.serde_json.specs.Written.{comma_if, compact_text, items_text, members_text}
 use Rattle.invariants.specs.declared.Kind.{Kind}
-use Rattle.invariants.specs.declared.Kind.TheVariants.{AF, NF, AP}
+use Rattle.invariants.specs.declared.Kind.TheVariants.{AF, NF, AP, IB}
 use Rattle.invariants.specs.declared.records.Partition.{Partition}
 use Rattle.invariants.specs.declared.records.Edge.{Edge}
 use Rattle.invariants.specs.declared.records.Listed.{Listed}
@@ -118,6 +118,7 @@ kind-short : (kind : Kind) â†’ length (compact_text (string (kind_text kind))) â
 kind-short AF = quoted-short (codes "AF")
 kind-short NF = quoted-short (codes "NF")
 kind-short AP = quoted-short (codes "AP")
+kind-short IB = quoted-short (codes "IB")
 
 -- ---- pairs that ascend
 

@@ -4,7 +4,7 @@ use Rattle.std.specs.List.{slice_get}
 use Rattle.std.proofs.lemmas.Bool.{and_parts, and_from, eqb-true, eq-eqb, false≢true}
 use Rattle.invariants.specs.Candidates.{candidates}
 use Rattle.invariants.specs.declared.Kind.{Kind}
-use Rattle.invariants.specs.declared.Kind.TheVariants.{AF, NF, AP}
+use Rattle.invariants.specs.declared.Kind.TheVariants.{AF, NF, AP, IB}
 use Rattle.invariants.specs.declared.Invariant.{Invariant}
 use Rattle.model_file.specs.Rules.{same_kind, same_invariant, place_in, place_of}
 
@@ -12,12 +12,25 @@ kinds-are : (i j : Kind) → same_kind i j ≡ true → i ≡ j
 kinds-are AF AF h = refl
 kinds-are NF NF h = refl
 kinds-are AP AP h = refl
-kinds-are _ _ h = absurd (false≢true h)
+kinds-are IB IB h = refl
+kinds-are AF NF h = absurd (false≢true h)
+kinds-are AF AP h = absurd (false≢true h)
+kinds-are AF IB h = absurd (false≢true h)
+kinds-are NF AF h = absurd (false≢true h)
+kinds-are NF AP h = absurd (false≢true h)
+kinds-are NF IB h = absurd (false≢true h)
+kinds-are AP AF h = absurd (false≢true h)
+kinds-are AP NF h = absurd (false≢true h)
+kinds-are AP IB h = absurd (false≢true h)
+kinds-are IB AF h = absurd (false≢true h)
+kinds-are IB NF h = absurd (false≢true h)
+kinds-are IB AP h = absurd (false≢true h)
 
 kind-itself : (k : Kind) → same_kind k k ≡ true
 kind-itself AF = refl
 kind-itself NF = refl
 kind-itself AP = refl
+kind-itself IB = refl
 
 same-is : (i j : Invariant) → same_invariant i j ≡ true → i ≡ j
 same-is i j h =

@@ -14,7 +14,8 @@ use Rattle.invariants.specs.declared.records.Merge.{Merge}
 use Rattle.invariants.specs.declared.records.Split.{Split}
 use Rattle.invariants.specs.declared.records.Block.{Block}
 use Rattle.invariants.specs.declared.records.Model.{Model}
-use Rattle.invariants.proofs.CandidatePlaces.{candidates-differ}
+use Rattle.invariants.specs.declared.Kinds.TheVariants.{Three}
+use Rattle.invariants.proofs.EachKinds.{candidates-differ}
 use Rattle.invariants.proofs.Members.{Contains-from_place, place-from_Contains}
 use Rattle.model_shape.specs.Numbers.{split_numbers, block_numbers}
 use Rattle.model_shape.specs.Ascending.{LeadsTo, Ascends, EdgeBefore, BlockBefore, CandidateBefore}
@@ -105,7 +106,7 @@ has-place types i k h = place-some i (candidates types) k h
 its-place : (types : ℕ) (i : Invariant) (k : ℕ) → slice_get (candidates types) k ≡ Some i → place_of types i ≡ Some k
 its-place types i k h =
     let o = some-place (place_of types i) (has-place types i k h) in
-    o.1 ∙ ap Some (candidates-differ types o.0 k i (found-place types i o.0 o.1) h)
+    o.1 ∙ ap Some (candidates-differ Three types o.0 k i (found-place types i o.0 o.1) h)
 
 abbrev place-at : ℕ → Listed → ℕ
 place-at types l = unwrap_or (place_of types l.inv) 0

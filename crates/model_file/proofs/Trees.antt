@@ -15,7 +15,7 @@ use Rattle.serde_json.specs.Read.{of_json}
 use Rattle.serde_json.specs.View.{items_of}
 use Rattle.serde_json.specs.Written.{outline, items_outline, comma_if, compact_text, members_text}
 use Rattle.invariants.specs.declared.Kind.{Kind}
-use Rattle.invariants.specs.declared.Kind.TheVariants.{AF, NF, AP}
+use Rattle.invariants.specs.declared.Kind.TheVariants.{AF, NF, AP, IB}
 use Rattle.invariants.specs.declared.records.Model.{Model}
 use Rattle.model_file.specs.Tree.{number_data, array_of, path_data, partition_data, edge_data, kind_text, digit_of, listed_data, merge_data, split_data, block_data, tree_of, file_text}
 use Rattle.model_file.specs.Rules.{types_hold, partitions_hold, type_of, edges_hold, invariants_hold, merges_hold, splits_hold, blocks_hold, PassesRules}
@@ -142,6 +142,7 @@ kind-utf8 : (kind : Kind) → IsUtf8 (kind_text kind)
 kind-utf8 AF = IsUtf8-are_ascii (codes "AF") refl
 kind-utf8 NF = IsUtf8-are_ascii (codes "NF") refl
 kind-utf8 AP = IsUtf8-are_ascii (codes "AP") refl
+kind-utf8 IB = IsUtf8-are_ascii (codes "IB") refl
 
 -- the values under the keys of a model
 record AreValues (m : Model) : Type 0 where

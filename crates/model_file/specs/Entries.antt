@@ -4,7 +4,7 @@ use Rattle.std.specs.Str.{bytes_eq}
 use Rattle.serde_json.specs.Data.{Data, Items, no_items, item}
 use Rattle.serde_json.specs.Find.{as_number, as_u64, as_str, as_array}
 use Rattle.invariants.specs.declared.Kind.{Kind}
-use Rattle.invariants.specs.declared.Kind.TheVariants.{AF, NF, AP}
+use Rattle.invariants.specs.declared.Kind.TheVariants.{AF, NF, AP, IB}
 use Rattle.invariants.specs.declared.Invariant.{Invariant}
 use Rattle.invariants.specs.declared.records.Partition.{Partition}
 use Rattle.invariants.specs.declared.records.Edge.{Edge}
@@ -79,12 +79,13 @@ four_in d = as_array d >>= four
 
 -- ---- strings
 
--- the kind with this name
+-- the kind with this name; no invariant of kind IB keeps the rule of invariants
 abbrev pub kind_named : List ℕ → Option Kind
 kind_named text =
     if bytes_eq text (codes "AF") then Some AF
     else (if bytes_eq text (codes "NF") then Some NF
-    else (if bytes_eq text (codes "AP") then Some AP else None))
+    else (if bytes_eq text (codes "AP") then Some AP
+    else (if bytes_eq text (codes "IB") then Some IB else None)))
 
 -- the kind with the name that the value is
 unfoldable pub kind_in : Data → Option Kind

@@ -5,7 +5,7 @@ use Rattle.std.specs.Str.{bytes_eq}
 use Rattle.limits.specs.declared.TheConstants.{INITIAL, TERMINAL, FIRST_TYPE, MAX_TYPES, MAX_EVENTS, MAX_EDGE_COUNT, MAX_TYPE_BYTES, MAX_PARTITIONS, MAX_PATH_NUMBERS}
 use Rattle.invariants.specs.Candidates.{candidates}
 use Rattle.invariants.specs.declared.Kind.{Kind}
-use Rattle.invariants.specs.declared.Kind.TheVariants.{AF, NF, AP}
+use Rattle.invariants.specs.declared.Kind.TheVariants.{AF, NF, AP, IB}
 use Rattle.invariants.specs.declared.Invariant.{Invariant}
 use Rattle.invariants.specs.declared.records.Partition.{Partition}
 use Rattle.invariants.specs.declared.records.Edge.{Edge}
@@ -99,9 +99,21 @@ edges_hold type es =
 -- whether two kinds are the same
 abbrev pub same_kind : Kind → Kind → Bool
 same_kind AF AF = true
+same_kind AF NF = false
+same_kind AF AP = false
+same_kind AF IB = false
+same_kind NF AF = false
 same_kind NF NF = true
+same_kind NF AP = false
+same_kind NF IB = false
+same_kind AP AF = false
+same_kind AP NF = false
 same_kind AP AP = true
-same_kind _ _ = false
+same_kind AP IB = false
+same_kind IB AF = false
+same_kind IB NF = false
+same_kind IB AP = false
+same_kind IB IB = true
 
 -- whether two invariants are the same
 abbrev pub same_invariant : Invariant → Invariant → Bool

@@ -4,7 +4,7 @@ use Rattle.serde_json.specs.Data.{unsigned, Data, number, string, array, object,
 use Rattle.serde_json.specs.View.{items_of}
 use Rattle.serde_json.specs.Written.{compact_text}
 use Rattle.invariants.specs.declared.Kind.{Kind}
-use Rattle.invariants.specs.declared.Kind.TheVariants.{AF, NF, AP}
+use Rattle.invariants.specs.declared.Kind.TheVariants.{AF, NF, AP, IB}
 use Rattle.invariants.specs.declared.records.Partition.{Partition}
 use Rattle.invariants.specs.declared.records.Edge.{Edge}
 use Rattle.invariants.specs.declared.records.Listed.{Listed}
@@ -38,6 +38,7 @@ abbrev pub kind_text : Kind → List ℕ
 kind_text AF = codes "AF"
 kind_text NF = codes "NF"
 kind_text AP = codes "AP"
+kind_text IB = codes "IB"
 
 -- the byte of a label's digit
 abbrev pub digit_of : ℕ → ℕ

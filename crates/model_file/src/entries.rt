@@ -96,6 +96,7 @@ impl Entry for Merge {
     }
 }
 
+/// The kind with the name that the value is. An invariant of kind IB is no candidate of a model, which the rule of invariants refuses.
 #[tactic(auto, unfolding(crate::specs::Entries::kind_in))]
 fn kind_of(value: &Value) -> Option<Kind>
     ensures { result ≡ kind_in (view value.now) }
@@ -109,6 +110,9 @@ fn kind_of(value: &Value) -> Option<Kind>
     }
     if text == "AP" {
         return Some(Kind::AP);
+    }
+    if text == "IB" {
+        return Some(Kind::IB);
     }
     None
 }

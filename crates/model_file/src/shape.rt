@@ -9,7 +9,9 @@ ghost use Rattle.model_shape.specs.Shapes.{IsWellShaped};
 ghost use Rattle.model_shape.specs.Numbers.{split_numbers, block_numbers};
 
 use crate::table::{type_at, types_by_id};
-use invariants::{Block, Edge, Invariant, Listed, Merge, Model, Partition, Split, Text, index_of};
+use invariants::{
+    Block, Edge, Invariant, Kinds, Listed, Merge, Model, Partition, Split, Text, index_of,
+};
 use limits::{
     FIRST_TYPE, INITIAL, MAX_EDGE_COUNT, MAX_EVENTS, MAX_PARTITIONS, MAX_PATH_NUMBERS,
     MAX_TYPE_BYTES, MAX_TYPES, TERMINAL,
@@ -172,7 +174,7 @@ fn place_of(types: u32, inv: Invariant) -> Option<u32>
     requires { types ≤ MAX_TYPES }
     ensures { result ≡ place_of types inv }
 {
-    index_of(types, inv)
+    index_of(Kinds::Three, types, inv)
 }
 
 fn labels_hold(labels: &[u8]) -> bool

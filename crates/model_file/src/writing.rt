@@ -132,6 +132,7 @@ fn kind_text(kind: Kind) -> &'static str
         Kind::AF => "AF",
         Kind::NF => "NF",
         Kind::AP => "AP",
+        Kind::IB => "IB",
     }
 }
 
