@@ -1,4 +1,6 @@
 pub mod Taken
 pub mod Same
 mod Digits
+mod Rows
 pub mod Numbered
+pub mod Interrupted

@@ -26,9 +26,9 @@ command_rule = record (new_rule (codes "COMMAND")) { required = true; action = S
 abbrev pub file_rule : Rule
 file_rule = record (new_rule (codes "FILE")) { action = Some Append }
 
--- COMMAND [-e FILE] [-p] [-m FILE] [-i] [-j] [-n N] [--] [FILE]...
+-- COMMAND [-e FILE] [-p] [-m FILE] [-i] [-j] [-n N] [-r] [--] [FILE]...
 unfoldable pub app : App
-app = with_rule (with_rule (with_rule (with_rule (with_rule (with_rule (with_rule (with_rule bare
+app = with_rule (with_rule (with_rule (with_rule (with_rule (with_rule (with_rule (with_rule (with_rule bare
     command_rule)
     (value_rule (codes "e") 101))
     (flag_rule (codes "p") 112))
@@ -36,6 +36,7 @@ app = with_rule (with_rule (with_rule (with_rule (with_rule (with_rule (with_rul
     (flag_rule (codes "i") 105))
     (flag_rule (codes "j") 106))
     (value_rule (codes "n") 110))
+    (flag_rule (codes "r") 114))
     file_rule
 
 -- clap takes the words

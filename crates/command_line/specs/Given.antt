@@ -5,7 +5,7 @@ use Rattle.std.specs.Str.{bytes_eq}
 use Rattle.clap.specs.Words.{Row, Text, all_of, first_of}
 use Rattle.command_line.specs.declared.given.Given.{Given}
 
--- the values of COMMAND, -e, -m and -n, which of -p, -i and -j were given, and the FILEs
+-- the values of COMMAND, -e, -m and -n, which of -p, -i, -j and -r were given, and the FILEs
 pub record Use : Type 0 where
   pub command : Option Text
   pub rules : Option Text
@@ -14,6 +14,7 @@ pub record Use : Type 0 where
   pub ignore : Bool
   pub join : Bool
   pub number : Option Text
+  pub interrupted : Bool
   pub files : List Text
 
 -- the value of an option without one is `true`
@@ -30,6 +31,7 @@ use_of rows = record {
   ignore = is_on (codes "i") rows;
   join = is_on (codes "j") rows;
   number = first_of (codes "n") rows;
+  interrupted = is_on (codes "r") rows;
   files = unwrap_or (all_of (codes "FILE") rows) [];
 }
 
@@ -43,5 +45,6 @@ given_held g = record {
   ignore = g.ignore;
   join = g.join;
   number = option_map (λ s. s.now) g.number;
+  interrupted = g.interrupted;
   files = map (λ s. s.now) g.files.items;
 }

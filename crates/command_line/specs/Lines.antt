@@ -1,11 +1,11 @@
 -- Telling command lines.
-use Rattle.std.specs.Prelude.{ℕ, ◌≡◌, Bool, true, false, List, [], ◌∷◌, Option, Some, None, codes}
+use Rattle.std.specs.Prelude.{ℕ, ◌≡◌, Bool, true, false, List, [], ◌∷◌, Option, Some, None, codes, option_map}
 use Rattle.clap.specs.Words.{Text}
 use Rattle.command_line.specs.Task.{LineForm, Plain, Rules, Task, task_of}
 use Rattle.command_line.specs.declared.table.Command.{Command}
 use Rattle.command_line.specs.declared.table.Command.TheVariants as commands
 
--- a task without a number: how lines are read, the model's file, what is skipped and joined, and the files
+-- a task without a number and -r: how lines are read, the model's file, what is skipped and joined, and the files
 abbrev pub asks : Command → Option LineForm → Option Text → Bool → Bool → List Text → Option Task
 asks command form model ignore join files =
     Some (record {
@@ -15,12 +15,21 @@ asks command form model ignore join files =
       ignore = ignore;
       join = join;
       number = None;
+      interrupted = false;
       files = files;
     })
 
 -- the invariants of a log
 abbrev pub invariants_of : LineForm → Bool → Bool → List Text → Option Task
 invariants_of form ignore join files = asks commands.Invariants (Some form) None ignore join files
+
+-- the task that asks for InterruptedBy too
+abbrev pub with_interrupted : Task → Task
+with_interrupted task = record task { interrupted = true }
+
+-- the invariants of four kinds of a log
+abbrev pub four_kinds_of : LineForm → Bool → Bool → List Text → Option Task
+four_kinds_of form ignore join files = option_map with_interrupted (invariants_of form ignore join files)
 
 -- the graph of a log
 abbrev pub graph_of : LineForm → Bool → Bool → List Text → Option Task
@@ -52,6 +61,7 @@ bench_of sessions =
       ignore = false;
       join = false;
       number = Some sessions;
+      interrupted = false;
       files = [];
     })
 
@@ -71,6 +81,14 @@ pub record TakesLines : Type 0 where
       ≡ invariants_of (Rules (codes "x")) true true (codes "a" ∷ codes "-p" ∷ [])
   pub hyphen : task_of (codes "invariants" ∷ codes "-p" ∷ codes "-" ∷ [])
       ≡ invariants_of Plain false false (codes "-" ∷ [])
+  pub interrupted : task_of (codes "invariants" ∷ codes "-p" ∷ codes "-r" ∷ []) ≡ four_kinds_of Plain false false []
+  pub interrupted_first :
+      task_of (codes "-r" ∷ codes "invariants" ∷ codes "-e" ∷ codes "x" ∷ codes "a" ∷ [])
+      ≡ four_kinds_of (Rules (codes "x")) false false (codes "a" ∷ [])
+  pub interrupted_bundle : task_of (codes "invariants" ∷ codes "-prij" ∷ codes "a" ∷ [])
+      ≡ four_kinds_of Plain true true (codes "a" ∷ [])
+  pub interrupted_as_file : task_of (codes "invariants" ∷ codes "-p" ∷ codes "--" ∷ codes "-r" ∷ [])
+      ≡ invariants_of Plain false false (codes "-r" ∷ [])
   pub graph : task_of (codes "graph" ∷ codes "-p" ∷ []) ≡ graph_of Plain false false []
   pub graph_of_files :
       task_of (codes "-ij" ∷ codes "graph" ∷ codes "-e" ∷ codes "x" ∷ codes "a" ∷ codes "b" ∷ [])
@@ -126,3 +144,18 @@ pub record RefusesLines : Type 0 where
   pub bench_form : task_of (codes "bench" ∷ codes "-n" ∷ codes "3" ∷ codes "-p" ∷ []) ≡ None
   pub bench_file : task_of (codes "bench" ∷ codes "-n" ∷ codes "3" ∷ codes "a" ∷ []) ≡ None
   pub form_alone : task_of (codes "-p" ∷ []) ≡ None
+  pub interrupted_twice : task_of (codes "invariants" ∷ codes "-p" ∷ codes "-r" ∷ codes "-r" ∷ []) ≡ None
+  pub interrupted_no_form : task_of (codes "invariants" ∷ codes "-r" ∷ []) ≡ None
+  pub interrupted_graph : task_of (codes "graph" ∷ codes "-p" ∷ codes "-r" ∷ []) ≡ None
+  pub interrupted_graph_model : task_of (codes "graph" ∷ codes "-m" ∷ codes "m" ∷ codes "-r" ∷ []) ≡ None
+  pub interrupted_infer : task_of (codes "infer" ∷ codes "-p" ∷ codes "-r" ∷ []) ≡ None
+  pub interrupted_check :
+      task_of (codes "check" ∷ codes "-m" ∷ codes "m" ∷ codes "-p" ∷ codes "-r" ∷ []) ≡ None
+  pub interrupted_paths : task_of (codes "paths" ∷ codes "-p" ∷ codes "-r" ∷ []) ≡ None
+  pub interrupted_bench : task_of (codes "bench" ∷ codes "-n" ∷ codes "3" ∷ codes "-r" ∷ []) ≡ None
+
+-- InterruptedBy is asked for beside `invariants` alone
+abbrev pub InterruptedIsOfInvariants : Type 0
+InterruptedIsOfInvariants =
+    (words : List Text) (task : Task) → task_of words ≡ Some task → task.interrupted ≡ true
+    → task.command ≡ commands.Invariants

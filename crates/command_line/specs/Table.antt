@@ -25,7 +25,12 @@ log_row command =
       files = May;
       model = Never;
       number = Never;
+      interrupted = Never;
     }
+
+-- `invariants` reads a log, and may be asked for InterruptedBy too
+abbrev pub invariants_row : Row
+invariants_row = record (log_row commands.Invariants) { interrupted = May }
 
 -- a command that reads a log and a model's file, and takes nothing else
 abbrev pub log_and_model_row : Command → Row
@@ -37,6 +42,7 @@ log_and_model_row command =
       files = May;
       model = Needs;
       number = Never;
+      interrupted = Never;
     }
 
 -- a command that reads a model's file, and takes nothing else
@@ -49,6 +55,7 @@ model_row command =
       files = Never;
       model = Needs;
       number = Never;
+      interrupted = Never;
     }
 
 -- a command that is given a number, and takes nothing else
@@ -61,6 +68,7 @@ number_row command =
       files = Never;
       model = Never;
       number = Needs;
+      interrupted = Never;
     }
 
 -- the row of `graph`: with a model's file it is a command of its own
@@ -71,7 +79,7 @@ graph_row false = log_row commands.Graph
 -- the table: the row of a word, where a model's file is given or not
 abbrev pub row_of : Text → Bool → Option Row
 row_of text has_model =
-    if bytes_eq text (codes "invariants") then Some (log_row commands.Invariants)
+    if bytes_eq text (codes "invariants") then Some invariants_row
     else if bytes_eq text (codes "graph") then Some (graph_row has_model)
     else if bytes_eq text (codes "infer") then Some (log_row commands.Infer)
     else if bytes_eq text (codes "check") then Some (log_and_model_row commands.Check)
@@ -99,7 +107,7 @@ has_model u = is_some u.model
 abbrev pub passes : Row → Use → Bool
 passes row u =
     fits_form row.form u && fits row.flags (u.ignore || u.join) && fits row.files (nat_lt 0 (length u.files))
-    && fits row.model (has_model u) && fits row.number (is_some u.number)
+    && fits row.model (has_model u) && fits row.interrupted u.interrupted && fits row.number (is_some u.number)
 
 -- the text is not empty
 abbrev pub is_word : Text → Bool

@@ -19,7 +19,7 @@ pub data LineForm : Type 0 where
   Plain : LineForm
   Rules : (name : Text) → LineForm
 
--- what to do, how lines are read, the model's file, what is skipped and joined, the number, and the log's files
+-- what to do, how lines are read, the model's file, what is skipped and joined, the number, a fourth kind, the files
 pub record Task : Type 0 where
   pub command : Command
   pub form : Option LineForm
@@ -27,6 +27,7 @@ pub record Task : Type 0 where
   pub ignore : Bool
   pub join : Bool
   pub number : Option ℕ
+  pub interrupted : Bool
   pub files : List Text
 
 -- how lines are read: plainly where -p is given, else by the rules of -e, where that is given
@@ -44,6 +45,7 @@ asked command u = record {
   ignore = u.ignore;
   join = u.join;
   number = option_and_then number_of u.number;
+  interrupted = u.interrupted;
   files = u.files;
 }
 
@@ -82,5 +84,6 @@ task_held t = record {
   ignore = t.ignore;
   join = t.join;
   number = t.number;
+  interrupted = t.interrupted;
   files = map (λ s. s.now) t.files.items;
 }

@@ -65,7 +65,7 @@ fn add<'a>(
     }
 }
 
-/// The command line of the program: `COMMAND [-e FILE] [-p] [-m FILE] [-i] [-j] [-n N] [--] [FILE]...`.
+/// The command line of the program: `COMMAND [-e FILE] [-p] [-m FILE] [-i] [-j] [-n N] [-r] [--] [FILE]...`.
 pub fn command<'a>(alloc: Global) -> Result<Command<'a>, AllocError>
     ensures { IfOk result (λ c. app_of c ≡ app) }
 {
@@ -76,5 +76,6 @@ pub fn command<'a>(alloc: Global) -> Result<Command<'a>, AllocError>
     let ignore = add(model, flag(alloc, "i", 'i'));
     let join = add(ignore, flag(alloc, "j", 'j'));
     let number = add(join, value(alloc, "n", 'n'));
-    add(number, files(alloc))
+    let interrupted = add(number, flag(alloc, "r", 'r'));
+    add(interrupted, files(alloc))
 }

@@ -36,6 +36,8 @@ pub struct Given<'a> {
     pub join: bool,
     /// The value of `-n`.
     pub number: Option<&'a str>,
+    /// `-r` was given.
+    pub interrupted: bool,
     /// The files, in their order.
     pub files: Vec<&'a str>,
 }
@@ -89,6 +91,7 @@ fn given_of<'a>(alloc: Global, matches: &ArgMatches<'a>) -> Result<Given<'a>, Al
         ignore: flag_of(matches, "i"),
         join: flag_of(matches, "j"),
         number: text_of(matches, "n"),
+        interrupted: flag_of(matches, "r"),
         files,
     })
 }

@@ -2,7 +2,7 @@
 ghost use Rattle.std.specs.Prelude.{◌≡◌, map, option_map};
 ghost use Rattle.std.specs.List.{list_all};
 ghost use Rattle.command_line.specs.Given.{given_held};
-ghost use Rattle.command_line.specs.Table.{are_words, fits, fits_form, graph_row, has_model, is_sound, is_word, log_and_model_row, log_row, model_row, number_row, option_is_number, option_is_word, passes, row_of};
+ghost use Rattle.command_line.specs.Table.{are_words, fits, fits_form, graph_row, has_model, invariants_row, is_sound, is_word, log_and_model_row, log_row, model_row, number_row, option_is_number, option_is_word, passes, row_of};
 
 use crate::given::Given;
 use crate::number::number_of;
@@ -63,6 +63,8 @@ pub struct Row {
     pub model: Want,
     /// A number (`-n`).
     pub number: Want,
+    /// The fourth kind of invariants, InterruptedBy (`-r`).
+    pub interrupted: Want,
 }
 
 /// The row of a command that reads a log, and takes nothing else.
@@ -76,6 +78,17 @@ fn log_row(command: Command) -> Row
         files: Want::May,
         model: Want::Never,
         number: Want::Never,
+        interrupted: Want::Never,
+    }
+}
+
+/// The row of `invariants`, which reads a log, and may be asked for InterruptedBy too.
+fn invariants_row() -> Row
+    ensures { result ≡ invariants_row }
+{
+    Row {
+        interrupted: Want::May,
+        ..log_row(Command::Invariants)
     }
 }
 
@@ -90,6 +103,7 @@ fn log_and_model_row(command: Command) -> Row
         files: Want::May,
         model: Want::Needs,
         number: Want::Never,
+        interrupted: Want::Never,
     }
 }
 
@@ -104,6 +118,7 @@ fn model_row(command: Command) -> Row
         files: Want::Never,
         model: Want::Needs,
         number: Want::Never,
+        interrupted: Want::Never,
     }
 }
 
@@ -135,7 +150,7 @@ pub fn row_of(text: &str, has_model: bool) -> Option<Row>
     ensures { result ≡ row_of text.now has_model }
 {
     match text {
-        "invariants" => Some(log_row(Command::Invariants)),
+        "invariants" => Some(invariants_row()),
         "graph" => Some(graph_row(has_model)),
         "infer" => Some(log_row(Command::Infer)),
         "check" => Some(log_and_model_row(Command::Check)),
@@ -182,6 +197,7 @@ pub fn passes(row: Row, given: &Given<'_>) -> bool
         && fits(row.flags, given.ignore || given.join)
         && fits(row.files, given.files.len() > 0)
         && fits(row.model, has_model(given))
+        && fits(row.interrupted, given.interrupted)
         && fits(row.number, given.number.is_some())
 }
 

@@ -33,6 +33,8 @@ pub struct Task<'a> {
     pub join: bool,
     /// The number (`-n`), from 1 to `MAX_SESSIONS`; None where the command asks for none.
     pub number: Option<u32>,
+    /// Whether InterruptedBy is asked for too (`-r`), beside the three kinds that `invariants` always prints.
+    pub interrupted: bool,
     /// The names of the log's files in their order, none of them empty; no names stand for standard input.
     pub files: Vec<&'a str>,
 }
@@ -72,6 +74,7 @@ fn allowed<'a>(row: Row, given: Given<'a>) -> Option<Task<'a>>
         ignore: given.ignore,
         join: given.join,
         number: number_by(given.number),
+        interrupted: given.interrupted,
         files: given.files,
     })
 }
