@@ -13,7 +13,8 @@ use crate::so_far::LogSoFar;
 use bstr::ByteSlice;
 use std::alloc::{AllocError, Global};
 use std::str;
-use traces::{Builder, TraceSet};
+use trace_builder::Builder;
+use traces::TraceSet;
 
 /// A log that is being read.
 #[derive(Drop)]

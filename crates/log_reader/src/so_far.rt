@@ -12,7 +12,7 @@ use crate::refusal::{At, ReadError};
 use limits::{MAX_TRACE_BYTES, MAX_TYPE_BYTES};
 use line_rules::{DecideError, Decision};
 use lines::plain_fields_ahead;
-use traces::{AddError, Builder, Worded};
+use trace_builder::{AddError, Builder, Worded};
 
 /// The log of the lines so far.
 #[derive(Drop)]

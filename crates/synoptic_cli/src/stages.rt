@@ -25,7 +25,8 @@ use line_rules::{LineRules, Patterns};
 use log_reader::{ReadError, alike_rules_read_alike, read_log};
 use outside::Inputs;
 use std::alloc::{AllocError, Global};
-use traces::{Builder, TraceSet, gathering_in_order_is_the_log};
+use trace_builder::Builder;
+use traces::{TraceSet, gathering_in_order_is_the_log};
 
 /// What the stages have read so far.
 #[derive(Drop)]

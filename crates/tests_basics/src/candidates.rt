@@ -56,7 +56,10 @@ pub fn index(alloc: Global, words: &str) -> Result<String, AllocError> {
     let (number_of_kinds, rest) = halves(words, ' ');
     let (types, inv) = halves(rest, ' ');
     let types = number(types).min(MAX_TYPES);
-    format!(in alloc; "{:?}", index_of(kinds(number_of_kinds), types, invariant(inv)))
+    format!(in alloc;
+        "{:?}",
+        index_of(kinds(number_of_kinds), types, invariant(inv))
+    )
 }
 
 /// `monitor INVARIANT TYPE TYPE ..`: the state after each type, and whether the last is bad.

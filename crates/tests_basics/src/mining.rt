@@ -7,7 +7,8 @@ use count_miner::mine;
 use invariants::{Invariant, Seq};
 use limits::MAX_TYPE_BYTES;
 use std::alloc::{AllocError, Global};
-use traces::{Builder, TraceSet};
+use trace_builder::Builder;
+use traces::TraceSet;
 
 /// How many invariants are shown at most.
 const SHOWN: usize = 100;

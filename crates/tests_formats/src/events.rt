@@ -5,7 +5,8 @@ use crate::said::write_log;
 use limits::{MAX_TRACE_BYTES, MAX_TYPE_BYTES};
 use std::alloc::{AllocError, Global};
 use std::fmt::Write;
-use traces::{AddError, Builder, TraceSet, Worded};
+use trace_builder::{AddError, Builder, Worded};
+use traces::TraceSet;
 
 /// Adds an event whose texts are within the limits, and no other; one without a time by the words of its texts.
 pub fn add(

@@ -7,7 +7,8 @@ use model_check::check;
 use model_file::read_model;
 use std::alloc::{AllocError, Global};
 use std::fmt::Write;
-use traces::{AddError, Builder, TraceSet};
+use trace_builder::{AddError, Builder};
+use traces::TraceSet;
 
 /// Adds the events of a trace, whose types stand between spaces.
 fn add_trace(builder: &mut Builder, file: u32, trace: &str) -> Result<(), AddError> {

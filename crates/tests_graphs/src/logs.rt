@@ -2,7 +2,8 @@
 //! three events.
 use limits::{MAX_TRACE_BYTES, MAX_TYPE_BYTES};
 use std::alloc::{AllocError, Global};
-use traces::{Builder, TraceSet};
+use trace_builder::Builder;
+use traces::TraceSet;
 
 /// Adds an event. One that there can't be is left out.
 fn add_event(builder: &mut Builder, number: u32, event: &str) {

@@ -1,0 +1,2 @@
+pub mod PlaceMaps
+pub mod TextsTold

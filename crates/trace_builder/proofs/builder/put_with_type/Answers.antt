@@ -1,0 +1,11 @@
+use Rattle.std.proofs.Common.{◌≡◌, ℕ, List, ◌-◌, length, take, ap, sym, ◌∙◌, subst, false}
+use Rattle.std.specs.List.{list_any}
+use Rattle.std.specs.Str.{bytes_eq}
+use Rattle.trace_builder.proofs.PlaceMaps.{front}
+use Rattle.trace_builder.proofs.builder.put_with_type.Goals as goal
+
+pub forget_last-requires-clause-new : goal.forget_last-requires-clause-new
+forget_last-requires-clause-new c =
+    let text = c.args.event.now.type_text.now in
+    subst (λ (ts : List (List ℕ)). list_any (bytes_eq text) (take (length ts - 1) ts) ≡ false) (sym c.in_ok-add.ensures.ok)
+    (ap (list_any (bytes_eq text)) (front c.args.types.now text) ∙ c.requires.new)

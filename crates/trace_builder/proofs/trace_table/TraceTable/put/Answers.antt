@@ -1,0 +1,58 @@
+use Rattle.std.proofs.Common.{◌∙◌, List, length, refl, ap, arith}
+use Rattle.key_table.specs.Keys.{key_in}
+use Rattle.traces.specs.Words.{Trace, same_key, with_event}
+use Rattle.key_table.specs.Keys.{Key}
+use Rattle.traces.proofs.Columned.{columned-grows, columned-same, columns-kept, columns-same, length-columned}
+use Rattle.key_table.proofs.Positions.{position-le}
+use Rattle.trace_builder.proofs.trace_table.TraceTable.put.Goals as goal
+
+pub overflow_cast-place : goal.overflow_cast-place
+overflow_cast-place c =
+    let key : Key = key_in c.args.key.now in
+    let events = c.self.inside.events in
+    omega (
+      arith,
+      c.in_ok-place.ensures.place,
+      position-le (same_key key) c.self.inside.keys,
+      length-columned c.self.inside.keys events.places.items events.numbers.items events.times.items,
+      ap length c.self.view_is,
+      c.requires.few,
+    )
+
+pub invariant_of-self-2 : goal.invariant_of-self-2
+invariant_of-self-2 c =
+    let key : Key = key_in c.args.key.now in
+    let old = c.self.inside.events in
+    let ready = c.reserve.new.self in
+    let new = c.put.new.self in
+    columns-kept c.self.inside.keys c.place_or_put.new.self key c.in_ok-place.place c.in_ok-place.place c.args.number c.args.time
+    ready.places.items ready.numbers.items ready.times.items new.places.items new.numbers.items new.times.items
+    (columns-same (length c.self.inside.keys) (length c.self.inside.keys) old.places.items old.numbers.items old.times.items ready.places.items ready.numbers.items ready.times.items
+    refl c.reserve.ensures.places c.reserve.ensures.numbers c.reserve.ensures.times c.self.invariant)
+    c.in_ok-place.ensures.place refl c.in_ok-place.ensures.ok c.put.ensures.places c.put.ensures.numbers c.put.ensures.times
+
+pub returns-clause-ok : goal.returns-clause-ok
+returns-clause-ok c =
+    let key : Key = key_in c.args.key.now in
+    let old = c.self.inside.events in
+    let ready = c.reserve.new.self in
+    let new = c.put.new.self in
+    columned-grows c.self.inside.keys c.place_or_put.new.self key c.in_ok-place.place c.in_ok-place.place c.args.number c.args.time
+    ready.places.items ready.numbers.items ready.times.items new.places.items new.numbers.items new.times.items
+    (columns-same (length c.self.inside.keys) (length c.self.inside.keys) old.places.items old.numbers.items old.times.items ready.places.items ready.numbers.items ready.times.items
+    refl c.reserve.ensures.places c.reserve.ensures.numbers c.reserve.ensures.times c.self.invariant)
+    c.in_ok-place.ensures.place refl c.in_ok-place.ensures.ok c.put.ensures.places c.put.ensures.numbers c.put.ensures.times
+    ∙ (ap (λ (ts : List Trace). with_event ts key c.args.number c.args.time)
+    (columned-same c.self.inside.keys c.self.inside.keys old.places.items old.numbers.items old.times.items ready.places.items ready.numbers.items ready.times.items
+    refl c.reserve.ensures.places c.reserve.ensures.numbers c.reserve.ensures.times
+    ∙ c.self.view_is))
+
+pub place_or_put-requires-clause-few : goal.place_or_put-requires-clause-few
+place_or_put-requires-clause-few c =
+    let events = c.self.inside.events in
+    omega (
+      arith,
+      length-columned c.self.inside.keys events.places.items events.numbers.items events.times.items,
+      ap length c.self.view_is,
+      c.requires.few,
+    )

@@ -1,0 +1,4 @@
+pub mod Limits
+pub mod Room
+pub mod PlaceMaps
+pub mod Slots

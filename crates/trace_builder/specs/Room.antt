@@ -1,0 +1,19 @@
+-- Events in columns: their times, and room for one more.
+use Rattle.std.specs.Prelude.{ℕ, List, ◌≡◌, ◌<◌, [], length, vec_len, vec_capacity}
+use Rattle.traces.specs.Columns.{times_beside}
+use Rattle.trace_builder.specs.declared.columns.Columns.{Columns}
+
+-- the time of each event
+abbrev pub times_in : Columns → List ℕ
+times_in columns = times_beside columns.numbers.items columns.times.items
+
+-- the time of the next event is not kept
+abbrev pub NeedsNoTime : Columns → ℕ → Type 0
+NeedsNoTime columns time = (time ≡ 0) × (columns.times.items ≡ [])
+
+-- there is room for one event more, with this time
+pub record HasRoom (columns : Columns) (time : ℕ) : Type 0 where
+  pub places : vec_len columns.places < vec_capacity columns.places
+  pub numbers : vec_len columns.numbers < vec_capacity columns.numbers
+  pub times : (NeedsNoTime columns time → ⊥) → vec_len columns.times < vec_capacity columns.times
+  pub each : (NeedsNoTime columns time → ⊥) → length columns.times.items ≡ length columns.numbers.items

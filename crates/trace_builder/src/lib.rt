@@ -1,0 +1,13 @@
+//! Gathers events into types and traces, each in the order first met.
+#![tactic(auto)]
+
+mod builder;
+mod columns;
+mod layout;
+mod slots;
+mod sorting;
+mod trace_table;
+mod type_table;
+
+pub use builder::{AddError, Builder};
+pub use key_table::Worded;

@@ -1,0 +1,173 @@
+//! Slots that tell where the texts of types stand, so that a known type is found by its sign.
+ghost use Rattle.std.specs.Prelude.{◌≡◌, ◌<◌, ◌^◌, ℕ, List, true, false, length, slice_get, slice_index, Some, IfSome};
+ghost use Rattle.std.specs.List.{All};
+ghost use Rattle.std.specs.Option.{option_map_or};
+ghost use Rattle.std.specs.Str.{bytes_eq};
+ghost use Rattle.key_table.specs.Signs.{sign_of};
+ghost use Rattle.trace_builder.specs.Slots.{TellsText, type_key};
+
+use invariants::Text;
+use key_table::{KeyParts, Sign, Worded};
+use std::alloc::Global;
+
+/// How many homes there are: many more than types, so that most types have a home of their own.
+const HOMES: usize = 4096;
+
+/// How far what a sign is mixed to is shifted to give the home.
+const SHIFT: u32 = 52;
+
+/// In how many slots a type may stand, from its home on.
+const WINDOW: usize = 4;
+
+/// How many bytes of a text its sign tells whole.
+const MAX_TOLD: u32 = 16;
+
+/// The sign of a type's text, and the place at which that text stands.
+#[derive(Clone, Copy)]
+pub struct Slot {
+    pub sign: Sign,
+    pub place: usize,
+}
+
+/// A slot with no place: no text is as long as its sign tells.
+const EMPTY: Slot = Slot {
+    sign: Sign {
+        low: 0,
+        high: 0,
+        file: 0,
+        section: 0,
+        length: u32::MAX,
+    },
+    place: 0,
+};
+
+/// Tells that bytes are below 256, and does nothing.
+#[inline]
+fn are_bytes(bytes: &[u8])
+    ensures { (i : ℕ) → slice_index bytes.now i < 256 }
+{}
+
+/// Whether the text stands at this place. It stays a call, so that the way of a short text is short.
+#[inline(never)]
+fn is_text_at(texts: &[Text], place: usize, text: &str) -> bool
+    ensures { result ≡ option_map_or (bytes_eq text.now) (slice_get texts.now place) false }
+{
+    match texts.get(place) {
+        Some(known) => text == known.as_str(),
+        None => false,
+    }
+}
+
+/// The sign of a type's text.
+#[inline(always)]
+fn sign_of_text(text: &str) -> Sign
+    requires { length text.now < 2 ^ 32 }
+    ensures { result ≡ sign_of (type_key text.now) }
+{
+    Sign::of(&KeyParts {
+        file: 0,
+        section: 0,
+        text,
+    })
+}
+
+/// The first slot in which a type with this sign may stand.
+#[inline(always)]
+fn home_of(sign: &Sign) -> usize
+    ensures { result < HOMES }
+{
+    (sign.mix() >> SHIFT) as usize
+}
+
+/// Whether a slot leads to the text with this sign.
+#[inline(always)]
+fn leads_to(slot: &Slot, sign: &Sign, texts: &[Text], text: &str) -> bool
+    requires sign { sign.now ≡ sign_of (type_key text.now) }
+    requires told { TellsText texts.now slot.now }
+    ensures { result ≡ true → slice_get texts.now slot.now.place ≡ Some text.now }
+{
+    if !slot.sign.is(sign) {
+        return false;
+    }
+    if sign.length > MAX_TOLD {
+        return is_text_at(texts, slot.place, text);
+    }
+    are_bytes(text.as_bytes());
+    true
+}
+
+/// The place of a short text, if a slot leads to it.
+#[inline(always)]
+pub fn find_short(slots: &[Slot], text: &Worded<'_>) -> Option<usize>
+    ensures { (texts : List (List ℕ)) → All (TellsText texts) slots.now
+        → IfSome result (λ place. slice_get texts place ≡ Some text.now) }
+{
+    let sign = text.sign(0, 0)?;
+    let home = home_of(&sign);
+    for i in 0..WINDOW {
+        let slot = slots.get(home + i)?;
+        if slot.sign.is(&sign) {
+            return Some(slot.place);
+        }
+    }
+    None
+}
+
+/// The place of a text to which a slot leads, from its home on.
+pub fn find(slots: &[Slot], texts: &[Text], text: &str) -> Option<usize>
+    requires short { length text.now < 2 ^ 32 }
+    requires told { All (TellsText texts.now) slots.now }
+    ensures { IfSome result (λ place. slice_get texts.now place ≡ Some text.now) }
+{
+    let sign = sign_of_text(text);
+    let home = home_of(&sign);
+    for i in 0..WINDOW {
+        if let Some(slot) = slots.get(home + i) {
+            if leads_to(slot, &sign, texts, text) {
+                return Some(slot.place);
+            }
+        }
+    }
+    None
+}
+
+/// The first empty slot from a home on.
+fn first_empty(slots: &[Slot], home: usize) -> Option<usize>
+    requires { home < HOMES }
+    ensures { IfSome result (λ at. at < length slots.now) }
+{
+    for i in 0..WINDOW {
+        if let Some(slot) = slots.get(home + i) {
+            if slot.sign.length == u32::MAX {
+                return Some(home + i);
+            }
+        }
+    }
+    None
+}
+
+/// Makes slots where there are none. Without memory for them there are none then.
+fn make(alloc: Global, slots: &mut Vec<Slot>)
+    ensures { (texts : List (List ℕ)) → All (TellsText texts) slots.old.items → All (TellsText texts) slots.new.items }
+{
+    if !slots.is_empty() {
+        return;
+    }
+    if let Ok(made) = vec![in alloc; EMPTY; HOMES + WINDOW] {
+        *slots = made;
+    }
+}
+
+/// Notes where a text stands, in the first empty slot from its home on, if there is one.
+pub fn note(alloc: Global, slots: &mut Vec<Slot>, text: &str, place: usize)
+    requires short { length text.now < 2 ^ 32 }
+    ensures { (texts : List (List ℕ)) → slice_get texts place ≡ Some text.now
+        → All (TellsText texts) slots.old.items → All (TellsText texts) slots.new.items }
+{
+    make(alloc, slots);
+    are_bytes(text.as_bytes());
+    let sign = sign_of_text(text);
+    if let Some(at) = first_empty(slots, home_of(&sign)) {
+        slots[at] = Slot { sign, place };
+    }
+}

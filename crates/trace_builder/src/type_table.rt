@@ -1,0 +1,133 @@
+//! The texts of types in the order first met.
+ghost use Rattle.std.specs.Prelude.{◌≡◌, ◌++◌, ◌∷◌, [], ◌<◌, ◌≤◌, ◌-◌, length, take, false, ◌↔◌, OnOk, OnErr, IfSome, true, slice_get};
+ghost use Rattle.std.specs.List.{list_any, position_or_len};
+ghost use Rattle.std.specs.Option.{option_map_or};
+ghost use Rattle.std.specs.Str.{bytes_eq};
+ghost use Rattle.limits.specs.declared.TheConstants.{MAX_TYPE_BYTES};
+ghost use Rattle.trace_builder.specs.Limits.{IsNewType};
+ghost use Rattle.traces.specs.Words.{AreApart};
+
+use crate::slots::{Slot, find, find_short, note};
+use invariants::Text;
+use key_table::Worded;
+use std::alloc::{AllocError, Global};
+use std::collections::BTreeMap;
+use std::marker::Model;
+
+/// Texts, and the place of each.
+#[derive(Drop)]
+pub struct TypeTable {
+    texts: Vec<Text>,
+    places: BTreeMap<String, usize>,
+    slots: Vec<Slot>,
+}
+
+impl Model for TypeTable {
+    ghost use Rattle.std.specs.Prelude.{List, ℕ};
+    ghost use Rattle.std.specs.List.{All};
+    ghost use Rattle.trace_builder.specs.PlaceMaps.{AreTextsPlaced};
+    ghost use Rattle.trace_builder.specs.Slots.{TellsText};
+
+    ghost Value = { List (List ℕ) };
+
+    ghost view = { λ t. t.texts.items };
+
+    ghost invariant = { λ t. AreTextsPlaced t.places t.texts.items × All (TellsText t.texts.items) t.slots.items };
+}
+
+impl TypeTable {
+    /// No types. It takes no memory.
+    pub fn new(alloc: Global) -> TypeTable
+        ensures { result ≡ [] }
+    {
+        TypeTable {
+            texts: Vec::new(alloc),
+            places: BTreeMap::new(alloc),
+            slots: Vec::new(alloc),
+        }
+    }
+
+    /// How many types there are.
+    pub fn len(&self) -> usize
+        ensures { result ≡ length self.now }
+    {
+        self.texts.len()
+    }
+
+    /// Where the text stands by the ordered map, or the number of texts where it doesn't. It stays a call, so that the way of
+    /// a type with a slot is short.
+    #[inline(never)]
+    fn mapped_place_of(&self, text: &str) -> usize
+        ensures place { result ≡ position_or_len (bytes_eq text.now) self.now }
+        ensures within { result ≤ length self.now }
+        ensures new { IsNewType self.now text.now ↔ (result ≡ length self.now) }
+    {
+        match self.places.get(text) {
+            Some(place) => *place,
+            None => self.texts.len(),
+        }
+    }
+
+    /// Where a short text stands, if a slot leads to it.
+    #[inline(always)]
+    pub fn short_place_of(&self, text: &Worded<'_>) -> Option<usize>
+        ensures place { IfSome result (λ place. place ≡ position_or_len (bytes_eq text.now) self.now) }
+        ensures known { IfSome result (λ _. list_any (bytes_eq text.now) self.now ≡ true) }
+    {
+        find_short(&self.slots, text)
+    }
+
+    /// Where the text stands, or the number of texts where it doesn't.
+    pub fn place_of(&self, text: &str) -> usize
+        requires short { length text.now ≤ MAX_TYPE_BYTES }
+        ensures place { result ≡ position_or_len (bytes_eq text.now) self.now }
+        ensures within { result ≤ length self.now }
+        ensures new { IsNewType self.now text.now ↔ (result ≡ length self.now) }
+    {
+        if let Some(place) = find(&self.slots, &self.texts, text) {
+            return place;
+        }
+        self.mapped_place_of(text)
+    }
+
+    /// Puts a new text at the end.
+    pub fn add(&mut self, alloc: Global, text: &str) -> Result<(), AllocError>
+        requires new { IsNewType self.old text.now }
+        requires short { length text.now ≤ MAX_TYPE_BYTES }
+        ensures ok { OnOk result (self.new ≡ self.old ++ text.now ∷ []) }
+        ensures err { OnErr result (self.new ≡ self.old) }
+    {
+        self.texts.reserve(1)?;
+        let shown = Text::from_string(String::from_str(alloc, text)?);
+        let known = String::from_str(alloc, text)?;
+        let place = self.texts.len();
+        self.places.insert(known, place)?;
+        note(alloc, &mut self.slots, text, place);
+        self.texts.push_reserved(shown);
+        Ok(())
+    }
+
+    /// Takes out the text that was added last.
+    pub fn forget_last(&mut self, text: &str)
+        requires last { self.old ≡ take (length self.old - 1) self.old ++ text.now ∷ [] }
+        requires new { IsNewType (take (length self.old - 1) self.old) text.now }
+        ensures { self.new ≡ take (length self.old - 1) self.old }
+    {
+        self.slots.clear();
+        self.places.remove(text);
+        self.texts.pop();
+    }
+
+    /// The texts alone.
+    pub fn into_texts(self) -> Vec<Text>
+        ensures texts { result.items ≡ self }
+        ensures distinct { AreApart bytes_eq result.items }
+    {
+        let TypeTable {
+            texts,
+            places: _,
+            slots: _,
+        } = self;
+        texts
+    }
+}
