@@ -1,5 +1,5 @@
 -- What is found when a row has got what another one passes.
-use Rattle.std.proofs.Common.{◌≡◌, ◌≢◌, ◌↔◌, ℕ, ◌<◌, ◌≤◌, ◌==◌, Bool, true, false, not, cond, List, [], ◌∷◌, ◌++◌, slice_get, Some, refl, sym, ap, ◌∙◌, subst, subst₂, arith, inl, inr}
+use Rattle.std.proofs.Common.{◌≡◌, ◌≢◌, ◌↔◌, ℕ, ◌+◌, ◌<◌, ◌≤◌, ◌==◌, Bool, true, false, not, cond, List, [], ◌∷◌, ◌++◌, slice_get, Some, refl, sym, ap, ◌∙◌, subst, subst₂, arith, inl, inr}
 use Rattle.std.proofs.lemmas.Bool.{cases_eq, or_cases, and_parts, or_left, or_right, and_from, eqb-true, eq-eqb}
 use Rattle.limits.specs.declared.TheConstants.{MAX_PARTITIONS, INITIAL, TERMINAL}
 use Rattle.invariants.specs.declared.Kind.{Kind}
@@ -10,15 +10,17 @@ use Rattle.partition_model.specs.Graphs.{Graph}
 use Rattle.partition_model.specs.Labels.{Reached}
 use Rattle.partition_model.proofs.Labelling.{walk_more, run_more}
 use Rattle.bit_rows.specs.Tables.{row_at, is_set, KeepsShape}
-use Rattle.labelling.specs.declared.layout.TheConstants.{STATES, LABEL_ROWS, BROKEN_ROW, ALL_ROW}
+use Rattle.labelling.specs.declared.layout.TheConstants.{STATES, LAST_PHASE, LABEL_ROWS, BROKEN_ROW, ALL_ROW}
 use Rattle.labelling.specs.Boards.{found_in}
 use Rattle.labelling.specs.Carried.{passes, IsPassed}
-use Rattle.labelling.specs.Found.{Grows, StartsAt, FollowsAlong, HasStart, IsCarried, IsSameBut, AreNoted}
-use Rattle.labelling.specs.Layout.{is_on, label_row, bad_row, move_row, AreMarked}
-use Rattle.labelling.proofs.Marking.{move_tells, marked_same}
+use Rattle.labelling.specs.Found.{Found, Grows, StartsAt, FollowsAlong, HasStart, IsCarried, IsSameBut, AreNoted}
+use Rattle.labelling.specs.Layout.{is_on, label_row, bad_row, first_row, move_place, move_row, AreMarked}
+use Rattle.labelling.specs.Phases.{phase_of, first_phase, turn, ReachedIn}
+use Rattle.labelling.proofs.Marking.{marked_same}
 use Rattle.labelling.proofs.Passing.{IsBadBelow}
+use Rattle.labelling.proofs.Turning.{phase_phase, turn_acts, turn_near, move_made, place_low, last_stays}
 
--- different ids or states have different rows
+-- different ids or phases have different rows
 pub same_label : (p s q t : ℕ) → s < STATES → t < STATES → label_row p s ≡ label_row q t → (p ≡ q) × (s ≡ t)
 same_label p s q t low next e = (omega (arith, low, next, e), omega (arith, low, next, e))
 
@@ -69,68 +71,98 @@ pub reached_more : (inv : Invariant) (g : Graph) (p s q : ℕ) → Reached inv g
 reached_more inv g p s q r e =
     (r.0 ++ q ∷ [], walk_more g INITIAL r.0 p q r.1 e, run_more inv g 0 (INITIAL ∷ r.0) q ∙ ap (λ (x : ℕ). step inv x (g.typ q)) r.2)
 
--- what the mask of a move lets through
-mask_step : (bound : ℕ) (invs : List Invariant) (table : List (List Bool)) (k x typ s t : ℕ) (inv : Invariant) → AreMarked bound invs table → slice_get invs k ≡ Some inv
-    → x ≤ bound → step inv s x ≡ step inv s typ → s < STATES → t < STATES
-    → cond (s == t) (not (is_on table (move_row x s t) k)) (is_on table (move_row x s t) k) ≡ (step inv s typ == t)
-mask_step bound invs table k x typ s t inv h at le acts low next =
-    move_tells (s == t) (step inv s x == t) (is_on table (move_row x s t) k) ((h.marked k inv at).moves x s t le low next)
-    ∙ ap (λ (z : ℕ). z == t) acts
+-- the turn of a phase that is reached is reached along an edge
+pub reached_turn : (inv : Invariant) (g : Graph) (p s q : ℕ) → ReachedIn inv g p s → g.edge p q ≡ true → ReachedIn inv g q (turn inv s (g.typ q))
+reached_turn inv g p s q r e =
+    subst (λ (x : ℕ). Reached inv g q x) (sym (phase_phase inv.kind (step inv (phase_of inv.kind s) (g.typ q)))) (reached_more inv g p (phase_of inv.kind s) q r e)
 
-module _ (bound : ℕ) (invs : List Invariant) (old new : List (List Bool)) (p q x typ s t : ℕ) (changed : Bool)
-    (marked : AreMarked bound invs old) (le : x ≤ bound) (acts : (k : ℕ) (inv : Invariant) (z : ℕ) → slice_get invs k ≡ Some inv → step inv z x ≡ step inv z typ)
-    (in_p : p < MAX_PARTITIONS) (in_q : q < MAX_PARTITIONS) (low : s < STATES) (next : t < STATES)
-    (h : IsPassed old new (label_row p s) (label_row q t) (move_row x s t) (s == t) changed) where
+-- whether a mask lets an invariant through
+abbrev pub lets : List (List Bool) → ℕ → Bool → ℕ → Bool
+lets table mask back k = cond back (not (is_on table mask k)) (is_on table mask k)
+
+-- of what is reached in the phase s the mask lets through what the type turns into t, and all of that
+pub record LetsThrough (invs : List Invariant) (table : List (List Bool)) (mask : ℕ) (back : Bool) (typ s t : ℕ) : Type 0 where
+  pub only : (k : ℕ) (inv : Invariant) (g : Graph) (p : ℕ) → slice_get invs k ≡ Some inv → ReachedIn inv g p s → lets table mask back k ≡ true → turn inv s typ ≡ t
+  pub all : (k : ℕ) (inv : Invariant) → slice_get invs k ≡ Some inv → turn inv s typ ≡ t → lets table mask back k ≡ true
+
+-- the mask of a move lets through those that make it
+pub move_lets : (bound : ℕ) (invs : List Invariant) (table : List (List Bool)) (x typ s t : ℕ) → AreMarked bound invs table → x ≤ bound
+    → ((k : ℕ) (inv : Invariant) (z : ℕ) → slice_get invs k ≡ Some inv → step inv z x ≡ step inv z typ) → s ≤ 1 → t ≤ s + 1 → LetsThrough invs table (move_row x s t) (s == t) typ s t
+move_lets bound invs table x typ s t h le acts low near = record {
+  only = λ k inv g p at r on. eqb-true (turn inv s typ) t (sym (made k inv at) ∙ on);
+  all = λ k inv at is. made k inv at ∙ eq-eqb (turn inv s typ) t is;
+}
+  where
+    made : (k : ℕ) (inv : Invariant) → slice_get invs k ≡ Some inv → lets table (move_row x s t) (s == t) k ≡ (turn inv s typ == t)
+    made k inv at =
+        move_made inv x s t (is_on table (move_row x s t) k) low near ((h.marked k inv at).moves x (move_place s t) le (place_low s t low near))
+        ∙ ap (λ (z : ℕ). z == t) (turn_acts inv s x typ (acts k inv (phase_of inv.kind s) at))
+
+-- nothing leaves the last phase
+pub last_lets : (bound : ℕ) (invs : List Invariant) (table : List (List Bool)) (typ : ℕ) → AreMarked bound invs table → LetsThrough invs table ALL_ROW false typ LAST_PHASE LAST_PHASE
+last_lets bound invs table typ h = record {
+  only = λ k inv g p at r on. last_stays inv g p LAST_PHASE typ r refl;
+  all = λ k inv at is. (h.marked k inv at).all;
+}
+
+module _ (invs : List Invariant) (old new : List (List Bool)) (p q typ s t mask : ℕ) (back changed : Bool) (through : LetsThrough invs old mask back typ s t)
+    (in_p : p < MAX_PARTITIONS) (in_q : q < MAX_PARTITIONS) (low : s < STATES) (next : t < STATES) (h : IsPassed old new (label_row p s) (label_row q t) mask back changed) where
   -- what a move finds at the end of an edge is reached
   pub carried_follows : FollowsAlong p q typ (found_in invs old) (found_in invs new)
   carried_follows g edge is_typ before k inv r z at in_r in_z on = elim (cases_eq (label_row r z) (label_row q t)) [
     | inr ne ↦ before k inv r z at in_r in_z (ap (λ (y : List Bool). is_set y k) (sym (h.others (label_row r z) ne)) ∙ on)
     | inl same ↦
         let e = same_label r z q t in_z next same in
-        elim (or_cases (is_on old (label_row q t) k) (passes old (label_row p s) (move_row x s t) (s == t) k) (sym (h.here k) ∙ ap (λ (y : ℕ). is_on new y k) (sym same) ∙ on)) [
+        elim (or_cases (is_on old (label_row q t) k) (passes old (label_row p s) mask back k) (sym (h.here k) ∙ ap (λ (y : ℕ). is_on new y k) (sym same) ∙ on)) [
           | inl was ↦ before k inv r z at in_r in_z (ap (λ (y : ℕ). is_on old y k) same ∙ was)
           | inr now ↦
-              let b = and_parts (is_on old (label_row p s) k) (cond (s == t) (not (is_on old (move_row x s t) k)) (is_on old (move_row x s t) k)) now in
-              let made : step inv s typ ≡ t = eqb-true (step inv s typ) t (sym (mask_step bound invs old k x typ s t inv marked at le (acts k inv s at) low next) ∙ b.1) in
-              let more : Reached inv g q (step inv s (g.typ q)) = reached_more inv g p s q (before k inv p s at in_p low b.0) edge in
-              subst₂ (λ (a b : ℕ). Reached inv g a b) (sym e.0) (ap (λ (y : ℕ). step inv s y) is_typ ∙ made ∙ sym e.1) more
+              let b = and_parts (is_on old (label_row p s) k) (lets old mask back k) now in
+              let was : ReachedIn inv g p s = before k inv p s at in_p low b.0 in
+              let made : turn inv s typ ≡ t = through.only k inv g p at was b.1 in
+              let more : ReachedIn inv g q (turn inv s (g.typ q)) = reached_turn inv g p s q was edge in
+              subst₂ (λ (a b : ℕ). ReachedIn inv g a b) (sym e.0) (ap (λ (y : ℕ). turn inv s y) is_typ ∙ made ∙ sym e.1) more
         ]
   ]
 
-  -- a move finds at the end of an edge the steps of what was found at its beginning
+  -- a move finds at the end of an edge the turns of what was found at its beginning
   pub carried_over : IsCarried p s typ q t (found_in invs old) (found_in invs new)
   carried_over k inv at on made =
       h.here k
-      ∙ or_right (is_on old (label_row q t) k) (passes old (label_row p s) (move_row x s t) (s == t) k)
-      (and_from (is_on old (label_row p s) k) (cond (s == t) (not (is_on old (move_row x s t) k)) (is_on old (move_row x s t) k)) on
-      (mask_step bound invs old k x typ s t inv marked at le (acts k inv s at) low next ∙ eq-eqb (step inv s typ) t made))
+      ∙ or_right (is_on old (label_row q t) k) (passes old (label_row p s) mask back k)
+      (and_from (is_on old (label_row p s) k) (lets old mask back k) on (through.all k inv at made))
 
-module _ (bound : ℕ) (invs : List Invariant) (old new : List (List Bool)) (x typ t : ℕ) (changed : Bool)
-    (marked : AreMarked bound invs old) (le : x ≤ bound) (acts : (k : ℕ) (inv : Invariant) (z : ℕ) → slice_get invs k ≡ Some inv → step inv z x ≡ step inv z typ)
-    (next : t < STATES) (h : IsPassed old new ALL_ROW (label_row INITIAL t) (move_row x 0 t) (0 == t) changed) where
+module _ (bound : ℕ) (invs : List Invariant) (old new : List (List Bool)) (t : ℕ) (changed : Bool)
+    (marked : AreMarked bound invs old) (next : t < STATES) (h : IsPassed old new (first_row t) (label_row INITIAL t) ALL_ROW false changed) where
   -- what INITIAL begins with is reached there
-  pub started_at : StartsAt typ (found_in invs old) (found_in invs new)
+  pub started_at : StartsAt (found_in invs old) (found_in invs new)
   started_at g is_typ before k inv r z at in_r in_z on = elim (cases_eq (label_row r z) (label_row INITIAL t)) [
     | inr ne ↦ before k inv r z at in_r in_z (ap (λ (y : List Bool). is_set y k) (sym (h.others (label_row r z) ne)) ∙ on)
     | inl same ↦
         let e = same_label r z INITIAL t in_z next same in
-        elim (or_cases (is_on old (label_row INITIAL t) k) (passes old ALL_ROW (move_row x 0 t) (0 == t) k) (sym (h.here k) ∙ ap (λ (y : ℕ). is_on new y k) (sym same) ∙ on)) [
+        elim (or_cases (is_on old (label_row INITIAL t) k) (passes old (first_row t) ALL_ROW false k) (sym (h.here k) ∙ ap (λ (y : ℕ). is_on new y k) (sym same) ∙ on)) [
           | inl was ↦ before k inv r z at in_r in_z (ap (λ (y : ℕ). is_on old y k) same ∙ was)
           | inr now ↦
-              let b = and_parts (is_on old ALL_ROW k) (cond (0 == t) (not (is_on old (move_row x 0 t) k)) (is_on old (move_row x 0 t) k)) now in
-              let made : step inv 0 typ ≡ t = eqb-true (step inv 0 typ) t (sym (mask_step bound invs old k x typ 0 t inv marked at le (acts k inv 0 at) (omega arith) next) ∙ b.1) in
+              let b = and_parts (is_on old (first_row t) k) (is_on old ALL_ROW k) now in
+              let first : first_phase inv ≡ t = eqb-true (first_phase inv) t (sym ((marked.marked k inv at).first t next) ∙ b.0) in
               let begin : Reached inv g INITIAL (step inv 0 (g.typ INITIAL)) = ([], refl, refl) in
-              subst₂ (λ (a b : ℕ). Reached inv g a b) (sym e.0) (ap (λ (y : ℕ). step inv 0 y) is_typ ∙ made ∙ sym e.1) begin
+              let is : step inv 0 (g.typ INITIAL) ≡ phase_of inv.kind z =
+              ap (λ (y : ℕ). step inv 0 y) is_typ ∙ sym (phase_phase inv.kind (step inv 0 INITIAL)) ∙ ap (λ (y : ℕ). phase_of inv.kind y) (first ∙ sym e.1) in
+              subst₂ (λ (a b : ℕ). Reached inv g a b) (sym e.0) is begin
         ]
   ]
 
-  -- the state that INITIAL begins with is found there
-  pub started : HasStart typ t (found_in invs new)
+  -- the phase that INITIAL begins with is found there
+  pub started : HasStart t (found_in invs new)
   started k inv at made =
       h.here k
-      ∙ or_right (is_on old (label_row INITIAL t) k) (passes old ALL_ROW (move_row x 0 t) (0 == t) k)
-      (and_from (is_on old ALL_ROW k) (cond (0 == t) (not (is_on old (move_row x 0 t) k)) (is_on old (move_row x 0 t) k)) (marked.marked k inv at).all
-      (mask_step bound invs old k x typ 0 t inv marked at le (acts k inv 0 at) (omega arith) next ∙ eq-eqb (step inv 0 typ) t made))
+      ∙ or_right (is_on old (label_row INITIAL t) k) (passes old (first_row t) ALL_ROW false k)
+      (and_from (is_on old (first_row t) k) (is_on old ALL_ROW k) ((marked.marked k inv at).first t next ∙ eq-eqb (first_phase inv) t made) (marked.marked k inv at).all)
+
+-- a move that no monitor makes is carried by itself
+pub far_carried : (p s typ q t : ℕ) (found : Found) → s ≡ 0 → 1 < t → IsCarried p s typ q t found found
+far_carried p s typ q t found e far k inv at on made =
+    let is : turn inv 0 typ ≡ t = ap (λ (z : ℕ). turn inv z typ) (sym e) ∙ made in
+    absurd (omega (arith, far, is, turn_near inv typ))
 
 -- a row got what another passes, where the numbers of the rows are given by other terms
 pub passed_at : (old new : List (List Bool)) (a b to at mask by : ℕ) (back changed : Bool) → a ≡ b → to ≡ at → mask ≡ by

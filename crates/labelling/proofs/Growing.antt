@@ -1,21 +1,22 @@
 -- What is found grows until it is all that is reached.
-use Rattle.std.proofs.Common.{◌≡◌, ◌≢◌, ℕ, ◌+◌, ◌*◌, ◌/◌, ◌%◌, ◌<◌, ◌≤◌, ◌==◌, ◌&&◌, ◌||◌, Bool, true, false, cond, set, List, [], ◌∷◌, length, get_or, slice_get, Some, Contains, refl, sym, ap, ◌∙◌, subst, subst₂, arith, inl, inr}
-use Rattle.std.proofs.lemmas.Bool.{cases_eq, or_cases, or_parts, false≢true, true≢false, cond_both}
+use Rattle.std.proofs.Common.{◌≡◌, ◌≢◌, ℕ, ◌+◌, ◌*◌, ◌/◌, ◌%◌, ◌<◌, ◌≤◌, ◌||◌, Bool, true, false, set, List, [], ◌∷◌, length, get_or, slice_get, Some, Contains, refl, sym, ap, ◌∙◌, subst, subst₂, arith, inl, inr}
+use Rattle.std.proofs.lemmas.Bool.{cases_eq, or_cases, or_parts, false≢true, true≢false}
 use Rattle.std.proofs.lemmas.List.{get_or_default, get_or-set_same, get_or-set_other}
 use Rattle.std.proofs.lemmas.List.Elements.{All-contains}
 use Rattle.limits.specs.declared.TheConstants.{MAX_PARTITIONS, INITIAL}
-use Rattle.invariants.specs.declared.Kind.{Kind}
-use Rattle.invariants.specs.declared.Kind.TheVariants.{AF, NF, AP, IB}
 use Rattle.invariants.specs.declared.Invariant.{Invariant}
-use Rattle.invariants.specs.Monitors.{step, step_of, run, run_of}
-use Rattle.invariants.proofs.Agree.{step-le}
+use Rattle.invariants.specs.Monitors.{step, run}
 use Rattle.partition_model.specs.Graphs.{Graph, Walk, word}
-use Rattle.partition_model.specs.Labels.{Reached}
 use Rattle.partition_graph.specs.declared.links.Link.{Link}
+use Rattle.partition_graph.specs.declared.view.View.{View}
+use Rattle.partition_graph.specs.declared.view.View.TheVariants.{Plain, Merged}
 use Rattle.partition_graph.specs.Links.{AreLinksOf, HasIds}
-use Rattle.labelling.specs.declared.layout.TheConstants.{STATES, LAST_STATE}
+use Rattle.partition_graph.specs.Seen.{seen}
+use Rattle.labelling.specs.declared.layout.TheConstants.{STATES, LAST_PHASE}
 use Rattle.labelling.specs.Found.{Found, IsReachedIn, IsExact, Grows, HasStart, IsCarried, IsFollowed, IsNothing, IsSameBut, IsSpread, IsStill, KeepsSpread}
+use Rattle.labelling.specs.Phases.{phase_of, first_phase, turn}
 use Rattle.labelling.specs.Rounds.{AreSpread}
+use Rattle.labelling.proofs.Turning.{phase_phase, turn_low, first_low, last_stays}
 
 -- where nothing is found, what is found is the same
 pub grows_none : (found : Found) → Grows found found false
@@ -49,9 +50,9 @@ moves_on p q typ place first old new changed more a b before here m below = elim
 ]
 
 -- where all moves along a link are carried, what was found at its beginning is spread
-pub spread_of_moves : (p q typ : ℕ) (old new : Found) → IsCarried p LAST_STATE typ q LAST_STATE old new
+pub spread_of_moves : (p q typ : ℕ) (old new : Found) → IsCarried p LAST_PHASE typ q LAST_PHASE old new
     → ((m : ℕ) → m < 6 → IsCarried p (m / STATES) typ q (m % STATES) old new) → IsSpread p typ q old new
-spread_of_moves p q typ old new last h s t low next stays = elim (cases_eq s LAST_STATE) [
+spread_of_moves p q typ old new last h s t low next stays = elim (cases_eq s LAST_PHASE) [
   | inl same ↦ subst₂ (λ (y z : ℕ). IsCarried p y typ q z old new) (sym same) (sym (stays same)) last
   | inr ne ↦
       let first : (s * STATES + t) / STATES ≡ s = omega arith in
@@ -141,79 +142,47 @@ first_spread links g none begun marks are nothing same but inside link there sti
     let ne : link.from ≢ INITIAL = λ e. true≢false (sym (ap (λ (z : ℕ). get_or (set marks INITIAL true) z false) e ∙ get_or-set_same marks INITIAL true false inside) ∙ still) in
     absurd (false≢true (sym (nothing.has k link.from s ids.0 low) ∙ but k link.from s ne low on))
 
--- a step leads to one of the three states
-step_low : (inv : Invariant) (s x : ℕ) → s < STATES → step inv s x < STATES
-step_low inv s x low = let h : step inv s x ≤ 2 = step-le inv.kind inv.a inv.b s x (omega arith) in omega arith
-
--- a monitor for AF is never in the last state
-af_step : (a b s x : ℕ) → s ≤ 1 → step_of AF a b s x ≤ 1
-af_step a b s x le =
-    cond_both (x == a) 1 (cond (x == b) 0 s) (λ z. z ≤ 1) (λ _. omega arith) (λ _. cond_both (x == b) 0 s (λ z. z ≤ 1) (λ _. omega arith) (λ _. le))
-
-af_run : (a b s : ℕ) (w : List ℕ) → s ≤ 1 → run_of AF a b s w ≤ 1
-af_run a b s [] le = le
-af_run a b s (x ∷ w) le = af_run a b (step_of AF a b s x) w (af_step a b s x le)
-
-nf_last : (u v : Bool) → ◌≡◌ {A = ℕ} (cond (u && true) 2 (cond (v && false) 1 2)) 2
-nf_last true v = refl
-nf_last false true = refl
-nf_last false false = refl
-
-ap_last : (u v : Bool) → ◌≡◌ {A = ℕ} (cond (u && false) 2 (cond (v && false) 1 2)) 2
-ap_last true true = refl
-ap_last true false = refl
-ap_last false true = refl
-ap_last false false = refl
-
-ib_last : (u v : Bool) → ◌≡◌ {A = ℕ} (cond (u && false) 2 (cond (u && false) 1 (cond (v && false) 0 2))) 2
-ib_last true true = refl
-ib_last true false = refl
-ib_last false true = refl
-ib_last false false = refl
-
--- and no monitor leaves it
-last_of : (kind : Kind) (a b x : ℕ) (w : List ℕ) → run_of kind a b 0 w ≡ LAST_STATE → step_of kind a b LAST_STATE x ≡ LAST_STATE
-last_of AF a b x w e = absurd (omega (arith, e, af_run a b 0 w (omega arith)))
-last_of NF a b x w e = nf_last (x == b) (x == a)
-last_of AP a b x w e = ap_last (x == b) (x == a)
-last_of IB a b x w e = ib_last (x == a) (x == b)
-
--- where the last state is reached, no step leads out of it
-pub last_stays : (inv : Invariant) (g : Graph) (p s x : ℕ) → Reached inv g p s → s ≡ LAST_STATE → step inv s x ≡ LAST_STATE
-last_stays inv g p s x r e = ap (λ (z : ℕ). step inv z x) e ∙ last_of inv.kind inv.a inv.b x (word g (INITIAL ∷ r.0)) (r.2 ∙ e)
-
 module _ (g : Graph) (links : List Link) (found : Found) (are : AreLinksOf links g) (sound : IsReachedIn g found)
     (closed : (link : Link) → Contains links link → IsSpread link.from (g.typ link.to) link.to found found) where
   along : (k : ℕ) (inv : Invariant) → slice_get found.invs k ≡ Some inv → (p : ℕ) (walk : List ℕ) (q s : ℕ) → p < MAX_PARTITIONS → s < STATES
-      → Walk g p walk q → found.has k p s ≡ true → found.has k q (run inv s (word g walk)) ≡ true
-  along k inv at p [] q s in_p low w on = subst (λ (x : ℕ). found.has k x s ≡ true) w on
+      → Walk g p walk q → found.has k p s ≡ true → found.has k q (phase_of inv.kind (run inv (phase_of inv.kind s) (word g walk))) ≡ true
+  along k inv at p [] q s in_p low w on = subst₂ (λ (x y : ℕ). found.has k x y ≡ true) w (sym (phase_phase inv.kind s)) on
   along k inv at p (r ∷ rs) q s in_p low w on =
       let link : Link = record { from = p; to = r } in
       let there : Contains links link = (are.edges link).1 w.0 in
       let ids : HasIds link = All-contains HasIds links link are.ids there in
-      let next : step inv s (g.typ r) < STATES = step_low inv s (g.typ r) low in
-      along k inv at r rs q (step inv s (g.typ r)) ids.1 next w.1
-      (closed link there s (step inv s (g.typ r)) low next (last_stays inv g p s (g.typ r) (sound k inv p s at in_p low on)) k inv at on refl)
+      let next : turn inv s (g.typ r) < STATES = turn_low inv s (g.typ r) low in
+      subst (λ (x : ℕ). found.has k q (phase_of inv.kind (run inv x (word g rs))) ≡ true) (phase_phase inv.kind (step inv (phase_of inv.kind s) (g.typ r)))
+      (along k inv at r rs q (turn inv s (g.typ r)) ids.1 next w.1
+      (closed link there s (turn inv s (g.typ r)) low next (last_stays inv g p s (g.typ r) (sound k inv p s at in_p low on)) k inv at on refl))
 
   -- where all is followed, what is found is what is reached
-  pub exact : ((t : ℕ) → t < STATES → HasStart (g.typ INITIAL) t found) → IsExact g found
-  exact starts k inv p s at in_p low = (
+  pub exact : g.typ INITIAL ≡ INITIAL → ((t : ℕ) → t < STATES → HasStart t found) → IsExact g found
+  exact typ starts k inv p s at in_p low = (
     λ on. sound k inv p s at in_p low on,
     λ r.
-        let first : step inv 0 (g.typ INITIAL) < STATES = step_low inv 0 (g.typ INITIAL) (omega arith) in
-        subst (λ (x : ℕ). found.has k p x ≡ true) r.2
-        (along k inv at INITIAL r.0 p (step inv 0 (g.typ INITIAL)) (omega arith) first r.1 (starts (step inv 0 (g.typ INITIAL)) first k inv at refl)),
+        let first : first_phase inv < STATES = first_low inv in
+        let begins : phase_of inv.kind (first_phase inv) ≡ step inv 0 (g.typ INITIAL) = phase_phase inv.kind (step inv 0 INITIAL) ∙ ap (λ (x : ℕ). step inv 0 x) (sym typ) in
+        let is : phase_of inv.kind (run inv (phase_of inv.kind (first_phase inv)) (word g r.0)) ≡ s =
+        ap (λ (x : ℕ). phase_of inv.kind (run inv x (word g r.0))) begins ∙ ap (λ (x : ℕ). phase_of inv.kind x) r.2 ∙ phase_phase inv.kind s in
+        subst (λ (x : ℕ). found.has k p x ≡ true) is
+        (along k inv at INITIAL r.0 p (first_phase inv) (omega arith) first r.1 (starts (first_phase inv) first k inv at refl)),
   )
+
+-- INITIAL has its own type in each view
+pub initial_typ : (v : View) → (seen v).typ INITIAL ≡ INITIAL
+initial_typ (Plain g) = refl
+initial_typ (Merged g p q) = refl
 
 -- nothing found is all reached
 pub nothing_reached : (g : Graph) (found : Found) → IsNothing found → IsReachedIn g found
 nothing_reached g found none k inv p s at in_p low on = absurd (false≢true (sym (none.has k p s in_p low) ∙ on))
 
--- with one more state, the first of the states are found with which INITIAL begins
-pub starts_more : (x state : ℕ) (old new : Found) → new.invs ≡ old.invs → ((k p s : ℕ) → old.has k p s ≡ true → new.has k p s ≡ true)
-    → ((t : ℕ) → t < state → HasStart x t old) → HasStart x state new → (t : ℕ) → t < state + 1 → HasStart x t new
-starts_more x state old new same keeps before here t below = elim (cases_eq t state) [
-  | inl e ↦ subst (λ (z : ℕ). HasStart x z new) (sym e) here
+-- with one more phase, the first of the phases are found in which monitors are at INITIAL
+pub starts_more : (phase : ℕ) (old new : Found) → new.invs ≡ old.invs → ((k p s : ℕ) → old.has k p s ≡ true → new.has k p s ≡ true)
+    → ((t : ℕ) → t < phase → HasStart t old) → HasStart phase new → (t : ℕ) → t < phase + 1 → HasStart t new
+starts_more phase old new same keeps before here t below = elim (cases_eq t phase) [
+  | inl e ↦ subst (λ (z : ℕ). HasStart z new) (sym e) here
   | inr ne ↦ λ k inv at made. keeps k INITIAL t (before t (omega (arith, below, ne)) k inv (subst (λ (is : List Invariant). slice_get is k ≡ Some inv) same at) made)
 ]
 
@@ -225,6 +194,6 @@ exact_same g old new same has h k inv p s at in_p low =
     (λ on. was.0 (sym (has k p s in_p low) ∙ on), λ r. has k p s in_p low ∙ was.1 r)
 
 -- what INITIAL begins with is found still where more is
-pub starts_on : (x t : ℕ) (old new : Found) → new.invs ≡ old.invs → ((k p s : ℕ) → old.has k p s ≡ true → new.has k p s ≡ true)
-    → HasStart x t old → HasStart x t new
-starts_on x t old new same keeps h k inv at made = keeps k INITIAL t (h k inv (subst (λ (is : List Invariant). slice_get is k ≡ Some inv) same at) made)
+pub starts_on : (t : ℕ) (old new : Found) → new.invs ≡ old.invs → ((k p s : ℕ) → old.has k p s ≡ true → new.has k p s ≡ true)
+    → HasStart t old → HasStart t new
+starts_on t old new same keeps h k inv at made = keeps k INITIAL t (h k inv (subst (λ (is : List Invariant). slice_get is k ≡ Some inv) same at) made)

@@ -1,4 +1,5 @@
 pub mod Passing
+pub mod Turning
 pub mod Marking
 pub mod Finding
 pub mod Growing

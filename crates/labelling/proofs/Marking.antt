@@ -1,5 +1,5 @@
 -- Marks of invariants.
-use Rattle.std.proofs.Common.{◌≡◌, ◌≢◌, ℕ, ◌+◌, ◌*◌, ◌/◌, ◌%◌, ◌<◌, ◌≤◌, ◌==◌, Bool, true, false, not, cond, eqb, List, [], set, refl, sym, ap, ap₂, ◌∙◌, subst, arith, inl, inr}
+use Rattle.std.proofs.Common.{◌≡◌, ◌≢◌, ℕ, zero, suc, ◌+◌, ◌*◌, ◌<◌, ◌≤◌, ◌==◌, Bool, true, false, not, eqb, List, [], set, refl, sym, ap, ◌∙◌, subst, arith, inl, inr}
 use Rattle.std.proofs.lemmas.List.{get_or-set_same, get_or-set_other}
 use Rattle.std.proofs.lemmas.Bool.{cases_eq, cases_lt, ne_eqb}
 use Rattle.invariants.specs.declared.Kind.{Kind}
@@ -8,7 +8,9 @@ use Rattle.invariants.specs.declared.Invariant.{Invariant}
 use Rattle.invariants.specs.Monitors.{step, step_of, is_bad}
 use Rattle.bit_rows.specs.Tables.{row_at, is_set, HasShape}
 use Rattle.labelling.specs.declared.layout.TheConstants.{STATES, LABEL_ROWS, BROKEN_ROW, ALL_ROW, MOVE_ROWS, MOVES}
-use Rattle.labelling.specs.Layout.{is_on, bad_row, move_row, is_move, IsApart, IsMarked}
+use Rattle.labelling.specs.Layout.{is_on, bad_row, first_row, moves_row, is_move, IsApart, IsMarked}
+use Rattle.labelling.specs.Phases.{phase_of, first_phase, turn}
+use Rattle.labelling.proofs.Turning.{phase_phase}
 
 -- the truth value that is put stands in its place
 pub put_here : (old new : List (List Bool)) (n m r k : ℕ) (on : Bool) → HasShape old n m → r < n → k < m
@@ -44,24 +46,22 @@ step_other_of IB a b s x na nb = let e : eqb x a ≡ false = ne_eqb x a na in le
 pub step_other : (inv : Invariant) (s x : ℕ) → x ≢ inv.a → x ≢ inv.b → step inv s x ≡ s
 step_other inv s x na nb = step_other_of inv.kind inv.a inv.b s x na nb
 
-differs : (b : Bool) → cond b (not b) b ≡ false
-differs true = refl
-differs false = refl
+-- a type that an invariant does not name leaves the phase
+turn_other : (inv : Invariant) (s x : ℕ) → x ≢ inv.a → x ≢ inv.b → turn inv s x ≡ s
+turn_other inv s x na nb = ap (λ (z : ℕ). phase_of inv.kind z) (step_other inv (phase_of inv.kind s) x na nb) ∙ phase_phase inv.kind s
 
 -- a type that an invariant does not name makes no move
-pub no_move : (inv : Invariant) (x s t : ℕ) → x ≢ inv.a → x ≢ inv.b → is_move inv x s t ≡ false
-no_move inv x s t na nb = ap (λ (z : ℕ). cond (s == t) (not (z == t)) (z == t)) (step_other inv s x na nb) ∙ differs (s == t)
-
--- what the mask of a move lets through is the step
-pub move_tells : (b made m : Bool) → m ≡ cond b (not made) made → cond b (not m) m ≡ made
-move_tells true true m e = ap not e
-move_tells true false m e = ap not e
-move_tells false made m e = e
+pub no_move : (inv : Invariant) (x m : ℕ) → m < MOVES → x ≢ inv.a → x ≢ inv.b → is_move inv x m ≡ false
+no_move inv x zero low na nb = ap (λ (z : ℕ). z == 1) (turn_other inv 0 x na nb)
+no_move inv x (suc zero) low na nb = ap (λ (z : ℕ). z == 0) (turn_other inv 1 x na nb)
+no_move inv x (suc (suc zero)) low na nb = ap (λ (z : ℕ). not (z == 1)) (turn_other inv 1 x na nb)
+no_move inv x (suc (suc (suc zero))) low na nb = ap (λ (z : ℕ). z == 2) (turn_other inv 1 x na nb)
+no_move inv x (suc (suc (suc (suc m)))) low na nb = absurd (omega (arith, low))
 
 -- the rows of the moves at a type are apart from those at another
-pub apart_moves : (x y s t k : ℕ) → y ≢ x → s < STATES → t < STATES → IsApart x k (move_row y s t) k
-apart_moves x y s t k ne low next = elim (cases_lt y x) [
-  | inl less ↦ inr (inl (omega (arith, less)))
+pub apart_moves : (x y m k : ℕ) → y ≢ x → m < MOVES → IsApart x k (moves_row y + m) k
+apart_moves x y m k ne low = elim (cases_lt y x) [
+  | inl less ↦ inr (inl (omega (arith, less, low)))
   | inr more ↦ inr (inr (omega (arith, more, ne)))
 ]
 
@@ -71,70 +71,61 @@ pub marked_same : (bound : ℕ) (old new : List (List Bool)) (k : ℕ) (inv : In
 marked_same bound old new k inv same h = record {
   all = same ALL_ROW (omega arith) (λ e. absurd (omega (arith, e))) ∙ h.all;
   bad = λ s low. same (bad_row s) (omega arith) (λ e. absurd (omega (arith, e))) ∙ h.bad s low;
-  moves = λ x s t le low next. same (move_row x s t) (omega arith) (λ e. absurd (omega (arith, e))) ∙ h.moves x s t le low next;
+  first = λ s low. same (first_row s) (omega arith) (λ e. absurd (omega (arith, e))) ∙ h.first s low;
+  moves = λ x m le low. same (moves_row x + m) (omega arith) (λ e. absurd (omega (arith, e))) ∙ h.moves x m le low;
 }
 
--- an invariant is marked once its bad states and the moves at both its types are
+-- an invariant is marked once its bad phases, its first phase and the moves at both its types are
 pub marked_more : (bound : ℕ) (first one other : List (List Bool)) (k : ℕ) (inv : Invariant)
     → is_on first ALL_ROW k ≡ true → ((s : ℕ) → s < STATES → is_on first (bad_row s) k ≡ is_bad inv s)
+    → ((s : ℕ) → s < STATES → is_on first (first_row s) k ≡ (first_phase inv == s))
     → ((r : ℕ) → MOVE_ROWS ≤ r → is_on first r k ≡ false)
-    → ((s t : ℕ) → s < STATES → t < STATES → is_on one (move_row inv.a s t) k ≡ is_move inv inv.a s t)
+    → ((m : ℕ) → m < MOVES → is_on one (moves_row inv.a + m) k ≡ is_move inv inv.a m)
     → ((r j : ℕ) → IsApart inv.a k r j → is_on one r j ≡ is_on first r j)
-    → ((s t : ℕ) → s < STATES → t < STATES → is_on other (move_row inv.b s t) k ≡ is_move inv inv.b s t)
+    → ((m : ℕ) → m < MOVES → is_on other (moves_row inv.b + m) k ≡ is_move inv inv.b m)
     → ((r j : ℕ) → IsApart inv.b k r j → is_on other r j ≡ is_on one r j) → IsMarked bound other k inv
-marked_more bound first one other k inv all bad blank a apart_a b apart_b = record {
+marked_more bound first one other k inv all bad begins blank a apart_a b apart_b = record {
   all = apart_b ALL_ROW k (inr (inl (omega arith))) ∙ apart_a ALL_ROW k (inr (inl (omega arith))) ∙ all;
-  bad = λ s low. apart_b (bad_row s) k (inr (inl (omega arith))) ∙ apart_a (bad_row s) k (inr (inl (omega arith))) ∙ bad s low;
-  moves = λ x s t le low next. elim (cases_eq x inv.b) [
-    | inl same ↦ subst (λ (z : ℕ). is_on other (move_row z s t) k ≡ is_move inv z s t) (sym same) (b s t low next)
+  bad = λ s low. apart_b (bad_row s) k (inr (inl (omega (arith, low)))) ∙ apart_a (bad_row s) k (inr (inl (omega (arith, low)))) ∙ bad s low;
+  first = λ s low. apart_b (first_row s) k (inr (inl (omega (arith, low)))) ∙ apart_a (first_row s) k (inr (inl (omega (arith, low)))) ∙ begins s low;
+  moves = λ x m le low. elim (cases_eq x inv.b) [
+    | inl same ↦ subst (λ (z : ℕ). is_on other (moves_row z + m) k ≡ is_move inv z m) (sym same) (b m low)
     | inr not_b ↦
-        apart_b (move_row x s t) k (apart_moves inv.b x s t k not_b low next)
+        apart_b (moves_row x + m) k (apart_moves inv.b x m k not_b low)
         ∙ elim (cases_eq x inv.a) [
-          | inl same ↦ subst (λ (z : ℕ). is_on one (move_row z s t) k ≡ is_move inv z s t) (sym same) (a s t low next)
+          | inl same ↦ subst (λ (z : ℕ). is_on one (moves_row z + m) k ≡ is_move inv z m) (sym same) (a m low)
           | inr not_a ↦
-              apart_a (move_row x s t) k (apart_moves inv.a x s t k not_a low next)
-              ∙ blank (move_row x s t) (omega arith) ∙ sym (no_move inv x s t not_a not_b)
+              apart_a (moves_row x + m) k (apart_moves inv.a x m k not_a low)
+              ∙ blank (moves_row x + m) (omega arith) ∙ sym (no_move inv x m low not_a not_b)
         ]
   ];
 }
 
 -- what rows say of the first moves at a type
 abbrev pub HasMoves : List (List Bool) → ℕ → Invariant → ℕ → ℕ → Type 0
-HasMoves table k inv x bound =
-    (m : ℕ) → m < bound → is_on table (MOVE_ROWS + x * MOVES + m) k ≡ is_move inv x (m / STATES) (m % STATES)
+HasMoves table k inv x bound = (m : ℕ) → m < bound → is_on table (moves_row x + m) k ≡ is_move inv x m
 
 -- the rows say of one more move at a type
 pub moves_more : (old new : List (List Bool)) (n count x k place row : ℕ) (inv : Invariant) (on : Bool) → HasShape old n count
-    → MOVE_ROWS + (x + 1) * MOVES ≤ n → k < count → place < MOVES → row ≡ move_row x (place / STATES) (place % STATES) → on ≡ is_move inv x (place / STATES) (place % STATES)
+    → MOVE_ROWS + (x + 1) * MOVES ≤ n → k < count → place < MOVES → row ≡ moves_row x + place → on ≡ is_move inv x place
     → new ≡ set old row (set (row_at old row) k on) → HasMoves old k inv x place → HasMoves new k inv x (place + 1)
 moves_more old new n count x k place row inv on shape room number low at is_on_is is before m below =
-    let here : row ≡ MOVE_ROWS + x * MOVES + place = omega (arith, at) in
     elim (cases_eq m place) [
       | inl same ↦
-          ap (λ (z : ℕ). is_on new (MOVE_ROWS + x * MOVES + z) k) same ∙ ap (λ (z : ℕ). is_on new z k) (sym here)
-          ∙ put_here old new n count row k on shape (omega (arith, here)) number is ∙ is_on_is
-          ∙ ap (λ (z : ℕ). is_move inv x (z / STATES) (z % STATES)) (sym same)
+          ap (λ (z : ℕ). is_on new (moves_row x + z) k) same ∙ ap (λ (z : ℕ). is_on new z k) (sym at)
+          ∙ put_here old new n count row k on shape (omega (arith, at, low, room)) number is ∙ is_on_is
+          ∙ ap (λ (z : ℕ). is_move inv x z) (sym same)
       | inr ne ↦
-          put_row old new row (MOVE_ROWS + x * MOVES + m) k k on is (λ e. absurd (omega (arith, e, here, ne)))
+          put_row old new row (moves_row x + m) k k on is (λ e. absurd (omega (arith, e, at, ne)))
           ∙ before m (omega (arith, below, ne))
     ]
 
--- where rows say of all moves at a type, each row says what it should
-pub moves_all : (table : List (List Bool)) (k x : ℕ) (inv : Invariant) → HasMoves table k inv x MOVES
-    → (s t : ℕ) → s < STATES → t < STATES → is_on table (move_row x s t) k ≡ is_move inv x s t
-moves_all table k x inv h s t low next =
-    let place : MOVE_ROWS + x * MOVES + (s * STATES + t) ≡ move_row x s t = omega arith in
-    let first : (s * STATES + t) / STATES ≡ s = omega arith in
-    let second : (s * STATES + t) % STATES ≡ t = omega arith in
-    ap (λ (z : ℕ). is_on table z k) (sym place) ∙ h (s * STATES + t) (omega arith) ∙ ap₂ (λ (y z : ℕ). is_move inv x y z) first second
-
 -- what is put for a move leaves all that is apart from its type
 pub moves_apart : (old new : List (List Bool)) (n count x k place row : ℕ) (on : Bool) → HasShape old n count
-    → MOVE_ROWS + (x + 1) * MOVES ≤ n → k < count → place < MOVES → row ≡ move_row x (place / STATES) (place % STATES)
+    → MOVE_ROWS + (x + 1) * MOVES ≤ n → k < count → place < MOVES → row ≡ moves_row x + place
     → new ≡ set old row (set (row_at old row) k on) → (r j : ℕ) → IsApart x k r j → is_on new r j ≡ is_on old r j
 moves_apart old new n count x k place row on shape room number low at is r j apart =
-    let here : row ≡ MOVE_ROWS + x * MOVES + place = omega (arith, at) in
     elim apart [
-      | inl other ↦ put_other old new n count row r j k on shape (omega (arith, here)) number is other
-      | inr outside ↦ put_row old new row r j k on is (λ e. elim outside [ inl before ↦ omega (arith, before, e, here) | inr behind ↦ omega (arith, behind, e, here) ])
+      | inl other ↦ put_other old new n count row r j k on shape (omega (arith, at, low, room)) number is other
+      | inr outside ↦ put_row old new row r j k on is (λ e. elim outside [ inl before ↦ omega (arith, before, e, at) | inr behind ↦ omega (arith, behind, e, at, low) ])
     ]

@@ -8,8 +8,9 @@ use Rattle.clashes.specs.Marks.{Marks}
 use Rattle.models.specs.Models.{has_state}
 use Rattle.labelling.specs.declared.layout.TheConstants.{LABEL_ROWS}
 use Rattle.labelling.specs.Layout.{is_on, label_row}
+use Rattle.labelling.specs.Phases.{phase_at}
 
--- the invariants; for each id and state, in their order, a row with a truth value for each invariant; and marks that tell
+-- the invariants; for each id and phase, in their order, a row with a truth value for each invariant; and marks that tell
 -- what merges lose
 pub record Labelling : Type 0 where
   pub invs : List Invariant
@@ -18,7 +19,7 @@ pub record Labelling : Type 0 where
 
 -- whether the state s of the invariant with number k is found at p
 abbrev pub is_found : Labelling → ℕ → ℕ → ℕ → Bool
-is_found labels k p s = is_on labels.rows (label_row p s) k
+is_found labels k p s = is_on labels.rows (label_row p (phase_at labels.invs k s)) k
 
 -- the number of a set of states: 1 for the state 0, plus 2 for the state 1, plus 4 for the state 2
 abbrev pub number_of : Bool → Bool → Bool → ℕ

@@ -2,30 +2,44 @@
 use Rattle.std.specs.Prelude.{◌≡◌, ◌≢◌, ◌⊎◌, ℕ, ◌+◌, ◌*◌, ◌<◌, ◌≤◌, ◌==◌, Bool, true, not, if◌then◌else◌, List, length, slice_get, Some}
 use Rattle.limits.specs.declared.TheConstants.{LAST_TYPE}
 use Rattle.invariants.specs.declared.Invariant.{Invariant}
-use Rattle.invariants.specs.Monitors.{step, is_bad}
+use Rattle.invariants.specs.Monitors.{is_bad}
 use Rattle.bit_rows.specs.Tables.{row_at, is_set, HasShape}
-use Rattle.labelling.specs.declared.layout.TheConstants.{STATES, LABEL_ROWS, BROKEN_ROW, ALL_ROW, MOVE_ROWS, MOVES}
+use Rattle.labelling.specs.declared.layout.TheConstants.{STATES, LABEL_ROWS, BROKEN_ROW, FIRST_ROWS, ALL_ROW, MOVE_ROWS, MOVES}
+use Rattle.labelling.specs.Phases.{first_phase, turn}
 
--- the row of a state at an id
+-- the row of a phase at an id
 abbrev pub label_row : ℕ → ℕ → ℕ
 label_row p s = p * STATES + s
 
--- the row of a bad state
+-- the row of a bad phase
 abbrev pub bad_row : ℕ → ℕ
 bad_row s = LABEL_ROWS + s
 
+-- the row of a phase in which monitors are at INITIAL
+abbrev pub first_row : ℕ → ℕ
+first_row s = FIRST_ROWS + s
+
+-- the first row of the moves at the type x
+abbrev pub moves_row : ℕ → ℕ
+moves_row x = MOVE_ROWS + x * MOVES
+
+-- the place of the move from s to t among them; one row serves both moves from phase 0
+abbrev pub move_place : ℕ → ℕ → ℕ
+move_place s t = if s == 0 then 0 else t + 1
+
 -- the row of the move from s to t at the type x
 abbrev pub move_row : ℕ → ℕ → ℕ → ℕ
-move_row x s t = MOVE_ROWS + x * MOVES + s * STATES + t
+move_row x s t = moves_row x + move_place s t
 
 -- the truth value of the invariant with number k in row r
 abbrev pub is_on : List (List Bool) → ℕ → ℕ → Bool
 is_on table r k = is_set (row_at table r) k
 
--- what the row of a move says of an invariant: that x leads from s to t, and where the two are one state that x leads out
--- of it
-abbrev pub is_move : Invariant → ℕ → ℕ → ℕ → Bool
-is_move inv x s t = if s == t then not (step inv s x == t) else (step inv s x == t)
+-- what the row at a place says of an invariant: that x leads from phase 0 to 1, from 1 to 0, out of 1, from 1 to 2
+abbrev pub is_move : Invariant → ℕ → ℕ → Bool
+is_move inv x m =
+    if m == 0 then turn inv 0 x == 1 else (if m == 1 then turn inv 1 x == 0
+    else (if m == 2 then not (turn inv 1 x == 1) else turn inv 1 x == 2))
 
 -- the types that these invariants name are below the bound
 abbrev pub AreNamedBelow : ℕ → List Invariant → Type 0
@@ -37,8 +51,8 @@ AreNamedBelow bound invs =
 pub record IsMarked (bound : ℕ) (table : List (List Bool)) (k : ℕ) (inv : Invariant) : Type 0 where
   pub all : is_on table ALL_ROW k ≡ true
   pub bad : (s : ℕ) → s < STATES → is_on table (bad_row s) k ≡ is_bad inv s
-  pub moves : (x s t : ℕ) → x ≤ bound → s < STATES → t < STATES
-      → is_on table (move_row x s t) k ≡ is_move inv x s t
+  pub first : (s : ℕ) → s < STATES → is_on table (first_row s) k ≡ (first_phase inv == s)
+  pub moves : (x m : ℕ) → x ≤ bound → m < MOVES → is_on table (moves_row x + m) k ≡ is_move inv x m
 
 -- the row tells what is found or noted, and so is blank at first
 abbrev pub IsFree : ℕ → Type 0
@@ -46,7 +60,7 @@ IsFree r = (r < LABEL_ROWS) ⊎ (r ≡ BROKEN_ROW)
 
 -- the place is of another invariant than the one with number k, or in no row of a move at x
 abbrev pub IsApart : ℕ → ℕ → ℕ → ℕ → Type 0
-IsApart x k r j = (j ≢ k) ⊎ ((r < move_row x 0 0) ⊎ (move_row (x + 1) 0 0 ≤ r))
+IsApart x k r j = (j ≢ k) ⊎ ((r < moves_row x) ⊎ (moves_row (x + 1) ≤ r))
 
 -- each invariant is marked
 pub record AreMarked (bound : ℕ) (invs : List Invariant) (table : List (List Bool)) : Type 0 where

@@ -2,23 +2,26 @@
 ghost use Rattle.std.specs.Prelude.{◌≡◌, ◌≤◌, ◌<◌, ℕ, true, false, length, not, IfOk, MatchOption, slice_get, slice_index_or, Some};
 ghost use Rattle.limits.specs.declared.TheConstants.{INITIAL, LAST_TYPE, MAX_INVARIANTS, MAX_PARTITIONS};
 ghost use Rattle.invariants.specs.declared.Invariant.{Invariant};
-ghost use Rattle.labelling.specs.declared.layout.TheConstants.{STATES};
+ghost use Rattle.labelling.specs.declared.layout.TheConstants.{LAST_PHASE, STATES};
 ghost use Rattle.labelling.specs.Layout.{AreMarked};
 
 use crate::carrying::{clear_labels, note_broken, pass};
-use crate::layout::{ALL_ROW, BROKEN_ROW, MOVE_ROWS, MOVES, label_row, move_row};
+use crate::layout::{
+    ALL_ROW, BROKEN_ROW, LAST_PHASE, MOVE_ROWS, MOVES, first_row, label_row, move_row,
+};
 use crate::marks::{bound_of, mark_all};
+use crate::phases::phase_of;
 use bit_rows::Rows;
-use invariants::{Invariant, Monitor};
+use invariants::Invariant;
 use limits::INITIAL;
 use std::alloc::{AllocError, Global};
 
-/// The states that are found of the monitors of invariants, and what each type does to states.
+/// The phases that are found of the monitors of invariants, and what each type does to phases.
 #[derive(Drop)]
 pub(crate) struct Board {
     rows: Rows,
     invs: Vec<Invariant>,
-    /// Types from this number on leave each state of each invariant as it is.
+    /// Types from this number on leave each phase of each invariant as it is.
     bound: usize,
     ghost marked: { AreMarked bound invs.items rows },
 }
@@ -26,6 +29,7 @@ pub(crate) struct Board {
 impl Board {
     ghost use Rattle.invariants.specs.Monitors.{step};
     ghost use Rattle.labelling.specs.Boards.{found};
+    ghost use Rattle.labelling.specs.Phases.{phase_at};
     ghost use Rattle.labelling.specs.Found.{AreNoted, FollowsAlong, Grows, HasStart, IsCarried, IsNothing, IsSameBut, StartsAt};
 
     /// A board of these invariants, with nothing found.
@@ -54,9 +58,10 @@ impl Board {
         requires number { k < length (found self.now).invs }
         requires id { p < MAX_PARTITIONS }
         requires state { state < STATES }
-        ensures { result ≡ (found self.now).has k p state }
+        ensures { result ≡ (found self.now).has k p (phase_at (found self.now).invs k state) }
     {
-        self.rows.get(label_row(p, state), k)
+        let phase = phase_of(self.invs[k].kind, state);
+        self.rows.get(label_row(p, phase), k)
     }
 
     /// Leaves nothing found.
@@ -67,50 +72,71 @@ impl Board {
         clear_labels(&mut self.rows);
     }
 
-    /// Finds the state at INITIAL, which has this type, for those invariants that begin with it.
-    pub fn start(&mut self, typ: u16, state: u8)
-        requires { state < STATES }
+    /// Finds the phase at INITIAL for those invariants that are in it there.
+    pub fn start(&mut self, phase: u8)
+        requires { phase < STATES }
         ensures same { (found self.new).invs ≡ (found self.old).invs }
         ensures keeps { (k p s : ℕ) → (found self.old).has k p s ≡ true
             → (found self.new).has k p s ≡ true }
 
         // What is new is at INITIAL alone and is reached there, and all that begins so is found.
-        ensures sound { StartsAt typ (found self.old) (found self.new) }
-        ensures start { HasStart typ state (found self.new) }
+        ensures sound { StartsAt (found self.old) (found self.new) }
+        ensures start { HasStart phase (found self.new) }
         ensures others { IsSameBut INITIAL (found self.old) (found self.new) }
     {
-        let before = Monitor::start();
-        let mask = move_row(self.row_type(typ), before, state);
         pass(
             &mut self.rows,
+            first_row(phase),
+            label_row(INITIAL, phase),
             ALL_ROW,
-            label_row(INITIAL, state),
-            mask,
-            before == state,
+            false,
         );
     }
 
-    /// Finds the state `next` at q for those invariants that have `state` at p, and which the type of q brings from
-    /// there to `next`. It says whether that is more than was found.
-    pub fn carry(&mut self, p: u32, state: u8, typ: u16, q: u32, next: u8) -> bool
+    /// Finds the phase `next` at q for those invariants that have `phase` at p, which is not the last, and which the
+    /// type of q brings from there to `next`. It says whether that is more than was found.
+    pub fn carry(&mut self, p: u32, phase: u8, typ: u16, q: u32, next: u8) -> bool
         requires from { p < MAX_PARTITIONS }
-        requires state { state < STATES }
+        requires phase { phase < LAST_PHASE }
         requires to { q < MAX_PARTITIONS }
         requires next { next < STATES }
 
         // What is found, and where.
         ensures grows { Grows (found self.old) (found self.new) result }
         ensures sound { FollowsAlong p q typ (found self.old) (found self.new) }
-        ensures carried { IsCarried p state typ q next (found self.old) (found self.new) }
+        ensures carried { IsCarried p phase typ q next (found self.old) (found self.new) }
         ensures others { IsSameBut q (found self.old) (found self.new) }
     {
-        let mask = move_row(self.row_type(typ), state, next);
+        if next > phase + 1 {
+            return false;
+        }
+        let mask = move_row(self.row_type(typ), phase, next);
         pass(
             &mut self.rows,
-            label_row(p, state),
+            label_row(p, phase),
             label_row(q, next),
             mask,
-            state == next,
+            phase == next,
+        )
+    }
+
+    /// Finds the last phase at q for those invariants that have it at p: nothing leaves it. It says whether that is more
+    /// than was found.
+    pub fn keep_last(&mut self, p: u32, q: u32) -> bool
+        requires from { p < MAX_PARTITIONS }
+        requires to { q < MAX_PARTITIONS }
+        ensures grows { Grows (found self.old) (found self.new) result }
+        ensures sound { (typ : ℕ) → FollowsAlong p q typ (found self.old) (found self.new) }
+        ensures carried { (typ : ℕ)
+            → IsCarried p LAST_PHASE typ q LAST_PHASE (found self.old) (found self.new) }
+        ensures others { IsSameBut q (found self.old) (found self.new) }
+    {
+        pass(
+            &mut self.rows,
+            label_row(p, LAST_PHASE),
+            label_row(q, LAST_PHASE),
+            ALL_ROW,
+            false,
         )
     }
 
@@ -124,7 +150,7 @@ impl Board {
         usize::from(typ).min(self.bound)
     }
 
-    /// Notes for which invariants a bad state is found at TERMINAL.
+    /// Notes for which invariants a bad phase is found at TERMINAL.
     pub fn note(&mut self)
         ensures same { (found self.new).invs ≡ (found self.old).invs }
         ensures labels { (k p s : ℕ) → p < MAX_PARTITIONS → s < STATES

@@ -28,7 +28,7 @@ pub(crate) fn pass(rows: &mut Rows, from: usize, to: usize, mask: usize, back: b
     rows.or_and_into(to, from, mask)
 }
 
-/// Leaves no state at any id.
+/// Leaves no phase at any id.
 pub(crate) fn clear_labels(rows: &mut Rows)
     requires { LABEL_ROWS ≤ length rows.old }
     ensures shape { KeepsShape rows.old rows.new }
@@ -40,7 +40,7 @@ pub(crate) fn clear_labels(rows: &mut Rows)
     }
 }
 
-/// Notes for which invariants a bad state is found at TERMINAL.
+/// Notes for which invariants a bad phase is found at TERMINAL.
 pub(crate) fn note_broken(rows: &mut Rows)
     requires shape { HasShape rows.old (length rows.old) (length (row_at rows.old BROKEN_ROW)) }
     requires room { BROKEN_ROW < length rows.old }

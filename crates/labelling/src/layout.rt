@@ -1,58 +1,82 @@
 //! Which row of the table says what.
 ghost use Rattle.std.specs.Prelude.{◌≡◌, ◌≤◌, ◌<◌, ◌+◌, ◌*◌};
 ghost use Rattle.limits.specs.declared.TheConstants.{LAST_TYPE, MAX_PARTITIONS};
-ghost use Rattle.labelling.specs.Layout.{label_row, bad_row, move_row};
+ghost use Rattle.labelling.specs.Layout.{label_row, bad_row, first_row, moves_row, move_row};
 
 use limits::MAX_PARTITIONS;
 
-/// How many states a monitor has.
+/// How many states a monitor has, and how many phases.
 pub(crate) const STATES: usize = 3;
 
-/// The last of them.
-pub(crate) const LAST_STATE: u8 = 2;
+/// The last phase.
+pub(crate) const LAST_PHASE: u8 = 2;
 
-/// How many rows say which states are found: one for each id and state. They are the first rows.
+/// How many rows say which phases are found: one for each id and phase. They are the first rows.
 pub(crate) const LABEL_ROWS: usize = MAX_PARTITIONS as usize * STATES;
 
-/// The row of the invariants for which a bad state is found at TERMINAL. Those before it are of the bad states.
+/// The row of the invariants for which a bad phase is found at TERMINAL. Those before it are of the bad phases.
 pub(crate) const BROKEN_ROW: usize = LABEL_ROWS + STATES;
 
-/// The row of all invariants.
-pub(crate) const ALL_ROW: usize = BROKEN_ROW + 1;
+/// The first of the rows that say in which phase monitors are at INITIAL.
+pub(crate) const FIRST_ROWS: usize = BROKEN_ROW + 1;
 
-/// The first of the rows that say what a type does to a state.
+/// The row of all invariants.
+pub(crate) const ALL_ROW: usize = FIRST_ROWS + STATES;
+
+/// The first of the rows that say what a type does to a phase.
 pub(crate) const MOVE_ROWS: usize = ALL_ROW + 1;
 
-/// How many of these a type has: one for each state before it and state after it.
-pub(crate) const MOVES: usize = STATES * STATES;
+/// How many of these a type has: one for phase 0, which stays or becomes 1, and one for each phase that 1 becomes.
+/// Nothing leaves phase 2.
+pub(crate) const MOVES: usize = 4;
 
-/// The row of the invariants for which the state is found at p.
-pub(crate) fn label_row(p: u32, state: u8) -> usize
+/// The row of the invariants for which the phase is found at p.
+pub(crate) fn label_row(p: u32, phase: u8) -> usize
     requires id { p < MAX_PARTITIONS }
-    requires state { state < STATES }
-    ensures value { result ≡ label_row p state }
+    requires phase { phase < STATES }
+    ensures value { result ≡ label_row p phase }
     ensures within { result < LABEL_ROWS }
 {
-    p as usize * STATES + state as usize
+    p as usize * STATES + phase as usize
 }
 
-/// The row of the invariants whose bad state this is.
-pub(crate) fn bad_row(state: u8) -> usize
-    requires { state < STATES }
-    ensures value { result ≡ bad_row state }
+/// The row of the invariants whose bad phase this is.
+pub(crate) fn bad_row(phase: u8) -> usize
+    requires { phase < STATES }
+    ensures value { result ≡ bad_row phase }
     ensures within { (LABEL_ROWS ≤ result) × (result < BROKEN_ROW) }
 {
-    LABEL_ROWS + state as usize
+    LABEL_ROWS + phase as usize
 }
 
-/// The row of the move from `state` to `next` at a type: of the invariants for which it is made where the two differ,
-/// and of those for which it is not made where they are the same.
-pub(crate) fn move_row(typ: usize, state: u8, next: u8) -> usize
+/// The row of the invariants whose monitors are in this phase at INITIAL.
+pub(crate) fn first_row(phase: u8) -> usize
+    requires { phase < STATES }
+    ensures value { result ≡ first_row phase }
+    ensures within { (FIRST_ROWS ≤ result) × (result < ALL_ROW) }
+{
+    FIRST_ROWS + phase as usize
+}
+
+/// The first row of the moves at a type.
+pub(crate) fn moves_row(typ: usize) -> usize
+    requires { typ ≤ LAST_TYPE + 1 }
+    ensures value { result ≡ moves_row typ }
+    ensures within { (MOVE_ROWS ≤ result) × (result + MOVES ≤ MOVE_ROWS + (typ + 1) * MOVES) }
+{
+    MOVE_ROWS + typ * MOVES
+}
+
+/// The row of the move from `phase` to `next` at a type: of the invariants for which it is made where the two differ, and
+/// of those for which it is not made where they are the same. One row serves both moves from phase 0.
+pub(crate) fn move_row(typ: usize, phase: u8, next: u8) -> usize
     requires typ { typ ≤ LAST_TYPE + 1 }
-    requires state { state < STATES }
     requires next { next < STATES }
-    ensures value { result ≡ move_row typ state next }
+    ensures value { result ≡ move_row typ phase next }
     ensures within { (MOVE_ROWS ≤ result) × (result < MOVE_ROWS + (typ + 1) * MOVES) }
 {
-    MOVE_ROWS + typ * MOVES + state as usize * STATES + next as usize
+    if phase == 0 {
+        return moves_row(typ);
+    }
+    moves_row(typ) + next as usize + 1
 }

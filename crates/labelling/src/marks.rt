@@ -2,11 +2,12 @@
 ghost use Rattle.std.specs.Prelude.{◌≡◌, ◌≢◌, ◌≤◌, ◌<◌, ◌+◌, ◌*◌, ℕ, true, false, length, slice_get, Some};
 ghost use Rattle.bit_rows.specs.Tables.{HasShape, KeepsShape};
 ghost use Rattle.invariants.specs.declared.Invariant.{Invariant};
-ghost use Rattle.labelling.specs.declared.layout.TheConstants.{MOVES, MOVE_ROWS, STATES};
+ghost use Rattle.labelling.specs.declared.layout.TheConstants.{MOVES, MOVE_ROWS};
 ghost use Rattle.limits.specs.declared.TheConstants.{LAST_TYPE};
-ghost use Rattle.labelling.specs.Layout.{is_on, is_move, move_row, AreMarked, AreNamedBelow, IsApart, IsFree, IsMarked};
+ghost use Rattle.labelling.specs.Layout.{is_on, is_move, moves_row, AreMarked, AreNamedBelow, IsApart, IsFree, IsMarked};
 
-use crate::layout::{ALL_ROW, bad_row, move_row};
+use crate::layout::{ALL_ROW, bad_row, first_row, moves_row};
+use crate::phases::{first_phase, turn};
 use bit_rows::Rows;
 use invariants::{Invariant, Monitor};
 
@@ -53,37 +54,40 @@ fn mark(rows: &mut Rows, bound: usize, count: usize, k: usize, inv: Invariant)
     ensures others { (r j : ℕ) → j ≢ k → is_on rows.new r j ≡ is_on rows.old r j }
 {
     rows.put(ALL_ROW, k, true);
-    for state in 0..3 {
-        rows.put(bad_row(state), k, Monitor::bad(inv, state));
+    rows.put(first_row(first_phase(inv)), k, true);
+    for phase in 0..3 {
+        rows.put(bad_row(phase), k, Monitor::bad(inv, phase));
     }
     mark_moves(rows, count, k, inv, inv.a);
     mark_moves(rows, count, k, inv, inv.b);
 }
 
-/// Marks what a type does to the states of the monitor of the invariant with number k.
+/// Marks what a type does to the phases of the monitor of the invariant with number k.
 fn mark_moves(rows: &mut Rows, count: usize, k: usize, inv: Invariant, typ: u16)
     requires named { typ ≤ LAST_TYPE }
     requires shape { (n : ℕ) × (MOVE_ROWS + (typ + 1) * MOVES ≤ n) × HasShape rows.old n count }
     requires number { k < count }
 
-    // What the type does to each state is marked, and all else stays.
+    // What the type does to each phase is marked, and all else stays.
     ensures shape { KeepsShape rows.old rows.new }
-    ensures moves { (s t : ℕ) → s < STATES → t < STATES
-        → is_on rows.new (move_row typ s t) k ≡ is_move inv typ s t }
+    ensures moves { (m : ℕ) → m < MOVES
+        → is_on rows.new (moves_row typ + m) k ≡ is_move inv typ m }
     ensures others { (r j : ℕ) → IsApart typ k r j → is_on rows.new r j ≡ is_on rows.old r j }
 {
-    for place in 0..9 {
-        let (state, next) = (place / 3, place % 3);
-        let on = is_move(inv, typ, state, next);
-        rows.put(move_row(usize::from(typ), state, next), k, on);
+    for place in 0..4 {
+        let on = is_move(inv, typ, place);
+        rows.put(moves_row(usize::from(typ)) + place, k, on);
     }
 }
 
-/// What the row of a move says of the invariant.
-fn is_move(inv: Invariant, typ: u16, state: u8, next: u8) -> bool
-    requires { state < STATES }
-    ensures { result ≡ is_move inv typ state next }
+/// What the row at a place says of the invariant.
+fn is_move(inv: Invariant, typ: u16, place: usize) -> bool
+    ensures { result ≡ is_move inv typ place }
 {
-    let made = Monitor::step(inv, state, typ) == next;
-    if state == next { !made } else { made }
+    match place {
+        0 => turn(inv, 0, typ) == 1,
+        1 => turn(inv, 1, typ) == 0,
+        2 => turn(inv, 1, typ) != 1,
+        _ => turn(inv, 1, typ) == 2,
+    }
 }

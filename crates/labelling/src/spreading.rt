@@ -1,4 +1,4 @@
-//! States that are carried along edges until nothing more is found.
+//! Phases that are carried along edges until nothing more is found.
 ghost use Rattle.std.specs.Prelude.{◌≡◌, ◌<◌, ℕ, true, false, length};
 ghost use Rattle.limits.specs.declared.TheConstants.{INITIAL, MAX_PARTITIONS};
 ghost use Rattle.partition_model.specs.Graphs.{Graph};
@@ -11,7 +11,6 @@ ghost use Rattle.labelling.specs.Rounds.{AreSpread};
 ghost use Rattle.partition_graph.specs.Links.{AreLinksOf, HasIds};
 
 use crate::board::Board;
-use crate::layout::LAST_STATE;
 use limits::{INITIAL, MAX_PARTITIONS};
 use partition_graph::{Link, View};
 
@@ -26,20 +25,20 @@ fn no_marks() -> [bool; IDS]
     [false; IDS]
 }
 
-/// Finds the states of INITIAL, which has this type.
-fn start(board: &mut Board, typ: u16)
+/// Finds the phases of INITIAL.
+fn start(board: &mut Board)
     requires { IsNothing (found board.old) }
     ensures same { (found board.new).invs ≡ (found board.old).invs }
-    ensures sound { (g : Graph) → g.typ INITIAL ≡ typ → IsReachedIn g (found board.new) }
-    ensures start { (t : ℕ) → t < STATES → HasStart typ t (found board.new) }
+    ensures sound { (g : Graph) → g.typ INITIAL ≡ INITIAL → IsReachedIn g (found board.new) }
+    ensures start { (t : ℕ) → t < STATES → HasStart t (found board.new) }
     ensures others { IsSameBut INITIAL (found board.old) (found board.new) }
 {
-    for state in 0..3 {
-        board.start(typ, state);
+    for phase in 0..3 {
+        board.start(phase);
     }
 }
 
-/// Finds at the end of a link, which has this type, what the states at its beginning become there, and says whether
+/// Finds at the end of a link, which has this type, what the phases at its beginning become there, and says whether
 /// that is more than was found.
 fn spread(board: &mut Board, link: Link, typ: u16) -> bool
     requires { HasIds link }
@@ -48,7 +47,7 @@ fn spread(board: &mut Board, link: Link, typ: u16) -> bool
     ensures spread { IsSpread link.from typ link.to (found board.old) (found board.new) }
     ensures others { IsSameBut link.to (found board.old) (found board.new) }
 {
-    let mut changed = board.carry(link.from, LAST_STATE, typ, link.to, LAST_STATE);
+    let mut changed = board.keep_last(link.from, link.to);
     for place in 0..6 {
         let more = board.carry(link.from, place / 3, typ, link.to, place % 3);
         changed = changed | more;
@@ -123,7 +122,7 @@ pub(crate) fn label(board: &mut Board, view: &View<'_>, links: &[Link])
     ensures noted { AreNoted (found board.new) }
 {
     board.clear();
-    start(board, view.type_of(INITIAL));
+    start(board);
     let mut recent = no_marks();
     recent[INITIAL as usize] = true;
     let mut now = no_marks();

@@ -1,6 +1,6 @@
-use Rattle.std.proofs.Common.{◌≡◌, ℕ, false, slice_get, Some, subst, subst₂, sym, ◌∙◌, arith, inl, inr}
+use Rattle.std.proofs.Common.{◌≡◌, ◌<◌, ℕ, false, length, slice_get, Some, subst, subst₂, sym, ◌∙◌, arith, inl, inr}
 use Rattle.std.proofs.lemmas.Bool.{cases_eq}
-use Rattle.std.proofs.lemmas.Option.{get_or_from_slice_get, slice_get-get_or}
+use Rattle.std.proofs.lemmas.Option.{get_or_from_slice_get, slice_get-get_or, slice_get_within}
 use Rattle.invariants.specs.declared.Invariant.{Invariant}
 use Rattle.invariants.specs.declared.Kind.TheVariants.{AF}
 use Rattle.labelling.specs.Layout.{is_on, IsMarked}
@@ -28,3 +28,11 @@ loop-k-preserved c =
         | inr ne ↦ e.others r j ne ∙ i.free r j f
       ];
     }
+
+pub returns-clause-marked : goal.returns-clause-marked
+returns-clause-marked c = record {
+  limit = c.requires.limit;
+  named = c.requires.named;
+  shape = c.loop-k.invariant.shape;
+  marked = λ k inv at. let inside : k < length c.args.invs.now = slice_get_within c.args.invs.now k inv at in c.loop-k.invariant.marked k inv (omega (arith, inside)) at;
+}

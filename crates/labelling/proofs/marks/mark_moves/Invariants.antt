@@ -1,13 +1,12 @@
-use Rattle.std.proofs.Common.{◌≡◌, ◌<◌, ◌+◌, ◌*◌, ◌/◌, ◌%◌, ℕ}
+use Rattle.std.proofs.Common.{◌≡◌, ◌<◌, ◌+◌, ℕ}
 use Rattle.bit_rows.specs.Tables.{KeepsShape}
-use Rattle.labelling.specs.declared.layout.TheConstants.{MOVES, MOVE_ROWS, STATES}
-use Rattle.labelling.specs.Layout.{is_on, is_move, IsApart}
+use Rattle.labelling.specs.Layout.{is_on, is_move, moves_row, IsApart}
 use Rattle.labelling.proofs.marks.mark_moves.Given as goal
 
 abbrev pub invariant-loop-place : goal.invariant-loop-place
 invariant-loop-place l =
     record {
       shape : KeepsShape l.fn.rows l.rows;
-      moves : (m : ℕ) → m < l.place → is_on l.rows (MOVE_ROWS + l.typ * MOVES + m) l.k ≡ is_move l.inv l.typ (m / STATES) (m % STATES);
+      moves : (m : ℕ) → m < l.place → is_on l.rows (moves_row l.typ + m) l.k ≡ is_move l.inv l.typ m;
       others : (r j : ℕ) → IsApart l.typ l.k r j → is_on l.rows r j ≡ is_on l.fn.rows r j;
     }

@@ -1,10 +1,9 @@
-use Rattle.std.proofs.Common.{ℕ, true, sym, refl, subst, ◌∙◌, arith}
+use Rattle.std.proofs.Common.{true, refl, ◌∙◌, arith}
 use Rattle.std.proofs.lemmas.List.{length-set}
 use Rattle.limits.specs.declared.TheConstants.{INITIAL}
-use Rattle.labelling.specs.Found.{HasStart}
 use Rattle.partition_graph.specs.Seen.{seen}
 use Rattle.labelling.specs.Boards.{found}
-use Rattle.labelling.proofs.Growing.{exact, exact_same, first_spread, starts_on}
+use Rattle.labelling.proofs.Growing.{initial_typ, exact, exact_same, first_spread, starts_on}
 use Rattle.labelling.proofs.spreading.label.Goals as goal
 
 pub labels-init : goal.labels-init
@@ -13,8 +12,8 @@ labels-init c =
     let e = c.start.ensures in
     record {
       same = e.same ∙ c.clear.ensures.same;
-      sound = e.sound g (sym c.type_of.ensures);
-      start = λ t low. subst (λ (x : ℕ). HasStart x t (found c.start.new.board)) c.type_of.ensures (e.start t low);
+      sound = e.sound g (initial_typ c.args.view.now);
+      start = λ t low. e.start t low;
       recent_room = length-set c.no_marks-recent.result INITIAL true ∙ c.no_marks-recent.ensures.room;
       now_room = c.no_marks-now.ensures.room;
       none = c.no_marks-now.ensures.none;
@@ -27,7 +26,7 @@ labels-preserved c =
     record {
       same = e.grows.same ∙ c.labels.invariant.same;
       sound = e.sound c.labels.invariant.sound;
-      start = λ t low. starts_on _ t (found c.labels.board) (found c.follow_all.new.board) e.grows.same e.grows.keeps (c.labels.invariant.start t low);
+      start = λ t low. starts_on t (found c.labels.board) (found c.follow_all.new.board) e.grows.same e.grows.keeps (c.labels.invariant.start t low);
       recent_room = c.follow_all.auto.now ∙ c.labels.invariant.now_room;
       now_room = c.no_marks-now-in-labels.ensures.room;
       none = c.no_marks-now-in-labels.ensures.none;
@@ -44,7 +43,7 @@ returns c =
     record {
       same = c.note.ensures.same ∙ e.grows.same ∙ i.same;
       exact = exact_same g new (found c.note.new.self) c.note.ensures.same c.note.ensures.labels
-          (exact g c.args.links.now new c.requires (e.sound i.sound) (λ link there. e.after link there (e.quiet refl link.from))
-          (λ t low. starts_on _ t old new e.grows.same e.grows.keeps (i.start t low)));
+          (exact g c.args.links.now new c.requires (e.sound i.sound) (λ link there. e.after link there (e.quiet refl link.from)) (initial_typ c.args.view.now)
+          (λ t low. starts_on t old new e.grows.same e.grows.keeps (i.start t low)));
       noted = c.note.ensures.noted;
     }

@@ -1,5 +1,5 @@
 use Rattle.std.proofs.Common.{◌≡◌, ◌<◌, ℕ, length}
-use Rattle.limits.specs.declared.TheConstants.{INITIAL, MAX_PARTITIONS}
+use Rattle.limits.specs.declared.TheConstants.{MAX_PARTITIONS}
 use Rattle.partition_graph.specs.Seen.{seen}
 use Rattle.labelling.specs.declared.layout.TheConstants.{STATES}
 use Rattle.labelling.specs.Boards.{found}
@@ -12,7 +12,7 @@ invariant-labels l =
     record {
       same : (found l.board).invs ≡ (found l.fn.board).invs;
       sound : IsReachedIn (seen l.view) (found l.board);
-      start : (t : ℕ) → t < STATES → HasStart ((seen l.view).typ INITIAL) t (found l.board);
+      start : (t : ℕ) → t < STATES → HasStart t (found l.board);
       recent_room : length l.recent ≡ MAX_PARTITIONS;
       now_room : length l.now ≡ MAX_PARTITIONS;
       none : (p : ℕ) → IsStill l.now p;

@@ -5,10 +5,10 @@ use Rattle.labelling.proofs.spreading.spread.Goals as goal
 
 pub loop-place-init : goal.loop-place-init
 loop-place-init c = record {
-  grows = c.carry-changed.ensures.grows;
-  sound = c.carry-changed.ensures.sound;
-  last = c.carry-changed.ensures.carried;
-  others = c.carry-changed.ensures.others;
+  grows = c.keep_last-changed.ensures.grows;
+  sound = c.keep_last-changed.ensures.sound c.args.typ;
+  last = c.keep_last-changed.ensures.carried c.args.typ;
+  others = c.keep_last-changed.ensures.others;
   moves = λ m none. absurd (omega (arith, none));
 }
 

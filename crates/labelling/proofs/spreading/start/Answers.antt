@@ -3,20 +3,20 @@ use Rattle.labelling.specs.Boards.{found}
 use Rattle.labelling.proofs.Growing.{nothing_reached, same_but_more, starts_more}
 use Rattle.labelling.proofs.spreading.start.Goals as goal
 
-pub loop-state-init : goal.loop-state-init
-loop-state-init c = record {
+pub loop-phase-init : goal.loop-phase-init
+loop-phase-init c = record {
   same = refl;
   sound = λ g is. nothing_reached g (found c.args.board.now) c.requires;
   others = λ k p s ne low on. on;
   start = λ t none. absurd (omega (arith, none));
 }
 
-pub loop-state-preserved : goal.loop-state-preserved
-loop-state-preserved c =
+pub loop-phase-preserved : goal.loop-phase-preserved
+loop-phase-preserved c =
     let e = c.start.ensures in
     record {
-      same = e.same ∙ c.loop-state.invariant.same;
-      sound = λ g is. e.sound g is (c.loop-state.invariant.sound g is);
-      others = same_but_more _ (found c.args.board.now) (found c.loop-state.board) (found c.start.new.self) c.loop-state.invariant.others e.others;
-      start = starts_more c.args.typ c.loop-state.state (found c.loop-state.board) (found c.start.new.self) e.same e.keeps c.loop-state.invariant.start e.start;
+      same = e.same ∙ c.loop-phase.invariant.same;
+      sound = λ g is. e.sound g is (c.loop-phase.invariant.sound g is);
+      others = same_but_more _ (found c.args.board.now) (found c.loop-phase.board) (found c.start.new.self) c.loop-phase.invariant.others e.others;
+      start = starts_more c.loop-phase.phase (found c.loop-phase.board) (found c.start.new.self) e.same e.keeps c.loop-phase.invariant.start e.start;
     }

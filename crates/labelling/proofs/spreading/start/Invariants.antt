@@ -5,11 +5,11 @@ use Rattle.labelling.specs.Boards.{found}
 use Rattle.labelling.specs.Found.{HasStart, IsReachedIn, IsSameBut}
 use Rattle.labelling.proofs.spreading.start.Given as goal
 
-abbrev pub invariant-loop-state : goal.invariant-loop-state
-invariant-loop-state l =
+abbrev pub invariant-loop-phase : goal.invariant-loop-phase
+invariant-loop-phase l =
     record {
       same : (found l.board).invs ≡ (found l.fn.board).invs;
-      sound : (g : Graph) → g.typ INITIAL ≡ l.typ → IsReachedIn g (found l.board);
+      sound : (g : Graph) → g.typ INITIAL ≡ INITIAL → IsReachedIn g (found l.board);
       others : IsSameBut INITIAL (found l.fn.board) (found l.board);
-      start : (t : ℕ) → t < l.state → HasStart l.typ t (found l.board);
+      start : (t : ℕ) → t < l.phase → HasStart t (found l.board);
     }

@@ -1,6 +1,7 @@
 use Rattle.std.proofs.Common.{Bool, ◌∙◌, ap, ap₂}
 use Rattle.labelling.specs.Labelled.{Labelling, digit, number_of}
 use Rattle.labelling.specs.Layout.{is_on, label_row}
+use Rattle.labelling.specs.Phases.{phase_at}
 use Rattle.labelling.proofs.Telling.{digit_same}
 use Rattle.labelling.proofs.planes.Planes.states.Goals as goal
 
@@ -8,5 +9,5 @@ pub returns-clause-value : goal.returns-clause-value
 returns-clause-value c =
     let board = c.self.inside.board in
     c.number_of.ensures.value ∙ ap₂ (λ (x y : Bool). number_of x y c.has-3.result) c.has.ensures c.has-2.ensures
-    ∙ ap (λ (x : Bool). number_of (is_on board.rows (label_row c.args.p 0) c.args.inv) (is_on board.rows (label_row c.args.p 1) c.args.inv) x) c.has-3.ensures
+    ∙ ap (λ (x : Bool). number_of (is_on board.rows (label_row c.args.p (phase_at board.invs.items c.args.inv 0)) c.args.inv) (is_on board.rows (label_row c.args.p (phase_at board.invs.items c.args.inv 1)) c.args.inv) x) c.has-3.ensures
     ∙ digit_same board.invs.items board.rows c.self.inside.clashes c.args.inv c.args.p c.requires.id ∙ ap (λ (x : Labelling). digit x c.args.inv c.args.p) c.self.view_is
