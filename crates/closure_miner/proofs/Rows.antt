@@ -1,6 +1,6 @@
 -- Lists of sets of types after a write to one of them.
-use Rattle.std.proofs.Common.{◌≡◌, ℕ, zero, suc, ◌+◌, ◌<◌, ◌≤◌, Bool, true, false, not, ◌&&◌, ◌||◌, cond, eqb, List, [], ◌∷◌, All, length, set, get_or, replicate, refl, sym, ap, ◌∙◌, arith, inl, inr}
-use Rattle.std.proofs.lemmas.Bool.{cases_eq, cases_lt, eq-eqb, ne_eqb}
+use Rattle.std.proofs.Common.{◌≡◌, ℕ, zero, suc, ◌+◌, ◌<◌, ◌≤◌, Bool, true, false, not, ◌&&◌, ◌||◌, eqb, List, [], ◌∷◌, All, length, set, get_or, replicate, refl, sym, ap, ◌∙◌, arith, inl, inr}
+use Rattle.std.proofs.lemmas.Bool.{cases_eq, eq-eqb, ne_eqb}
 use Rattle.closure_miner.specs.Sets.{has_at}
 
 -- a truth value and true is this truth value
@@ -19,11 +19,6 @@ and-swap true true c = sym (and-true c)
 and-swap true false true = refl
 and-swap true false false = refl
 and-swap false f c = refl
-
--- one of two, as a choice
-pub or-cond : (x y : Bool) → (x || y) ≡ cond x true y
-or-cond true y = refl
-or-cond false y = refl
 
 -- a set keeps its types where another set is not asked
 keep-both : (x t y : Bool) → t ≡ false → (x && (not t || y)) ≡ x
@@ -107,46 +102,9 @@ with-number x p b t is = elim (cases_eq b p) [
   | inr other ↦ ap (λ e. e || t) (ne_eqb b p other ∙ sym (ne_eqb x (b + 2) (λ e. other (omega arith))))
 ]
 
--- what a set has that was given a type, among those that were given it so far
-pub added-so_far : {S : Type 0} (has : S → ℕ → Bool) (old sets : List S) (i p : ℕ) (was new : S) → i < length sets → was ≡ get_or sets i was → ((q : ℕ) → has new q ≡ (eqb q p || has was q))
-    → ((a b : ℕ) → a < i → has_at has sets a b ≡ (eqb b p || has_at has old a b)) → ((a b : ℕ) → i ≤ a → has_at has sets a b ≡ has_at has old a b)
-    → (a b : ℕ) → a < i + 1 → has_at has (set sets i new) a b ≡ (eqb b p || has_at has old a b)
-added-so_far has old sets i p was new inside before with so_far left a b reached = elim (cases_eq a i) [
-  | inl same ↦
-      ap (λ k. has_at has (set sets i new) k b) same ∙ at-written has sets i new b inside ∙ with b
-      ∙ ap (λ t. eqb b p || t) (at-before has sets i b was inside before ∙ left i b (omega arith) ∙ ap (λ k. has_at has old k b) (sym same))
-  | inr other ↦
-      let below : a < i = elim (cases_lt a i) [ inl lt ↦ lt | inr ge ↦ absurd (other (omega arith)) ] in
-      at-other has sets i a new b other ∙ so_far a b below
-]
-
--- the sets that were not yet given it
-pub added-left : {S : Type 0} (has : S → ℕ → Bool) (old sets : List S) (i : ℕ) (new : S) → ((a b : ℕ) → i ≤ a → has_at has sets a b ≡ has_at has old a b)
-    → (a b : ℕ) → i + 1 ≤ a → has_at has (set sets i new) a b ≡ has_at has old a b
-added-left has old sets i new left a b past = at-other has sets i a new b (λ e. (let no : ⊥ = omega arith in no)) ∙ left a b (omega arith)
-
--- where the set of a type keeps only what the set at its place in another list has, no other set changes
-pub at-both_places : {S : Type 0} (has : S → ℕ → Bool) (old other : List S) (p : ℕ) (was new s : S) (x a b : ℕ) → x ≡ p + 2 → p < length old → p < length other
-    → was ≡ get_or old p was → s ≡ get_or other p s → ((q : ℕ) → has new q ≡ (has was q && has s q))
-    → has_at has (set old p new) a b ≡ (has_at has old a b && (not (eqb x (a + 2)) || has_at has other a b))
-at-both_places has old other p was new s x a b is inside within before there both =
-    at-both has old p was new s x a b is inside before both
-    ∙ ap (λ t. has_at has old a b && t) (elim (cases_eq a p) [
-      | inl same ↦ ap (λ t. not (eqb x (a + 2)) || t) (at-before has other p b s within there ∙ ap (λ k. has_at has other k b) (sym same))
-      | inr differ ↦
-          let no : eqb x (a + 2) ≡ false = ne_eqb x (a + 2) (λ e. differ (omega arith)) in
-          ap (λ t. not t || has s b) no ∙ sym (ap (λ t. not t || has_at has other a b) no)
-    ])
-
--- what comes before the next event of each type, where an event was put before all
-pub at-next : {S : Type 0} (has : S → ℕ → Bool) (old more : List S) (p : ℕ) (none : S) (x : ℕ) → x ≡ p + 2 → p < length more → ((q : ℕ) → has none q ≡ false)
-    → (a b : ℕ) → has_at has more a b ≡ (eqb b p || has_at has old a b)
-    → has_at has (set more p none) a b ≡ cond (eqb x (a + 2)) false (eqb x (b + 2) || has_at has old a b)
-at-next has old more p none x is inside lacks a b with = elim (cases_eq a p) [
-  | inl same ↦
-      ap (λ k. has_at has (set more p none) k b) same ∙ at-written has more p none b inside ∙ lacks b
-      ∙ sym (ap (λ t. cond t false (eqb x (b + 2) || has_at has old a b)) (eq-eqb x (a + 2) (omega arith)))
-  | inr other ↦
-      at-other has more p a none b other ∙ with ∙ with-number x p b (has_at has old a b) is
-      ∙ sym (ap (λ t. cond t false (eqb x (b + 2) || has_at has old a b)) (ne_eqb x (a + 2) (λ e. other (omega arith))))
+-- what is only asked of one number may be asked in another form there
+pub only-where : (x a : ℕ) (u v : Bool) → (x ≡ a → u ≡ v) → (not (eqb x a) || u) ≡ (not (eqb x a) || v)
+only-where x a u v same = elim (cases_eq x a) [
+  | inl e ↦ ap (λ t. not (eqb x a) || t) (same e)
+  | inr other ↦ ap (λ t. not t || u) (ne_eqb x a other) ∙ sym (ap (λ t. not t || v) (ne_eqb x a other))
 ]

@@ -6,7 +6,8 @@
 //! what the set at hand denies. A set of types has a bit for each, in one word for up to 128 types and else in two. So the work
 //! is a few steps for each event; every 128 events it is looked whether the rest of the trace can still strike out anything,
 //! and if not the trace is read no further from that side. Where InterruptedBy is asked for, a trace is read once more from its
-//! end, with the set of the types that come before the next event of each type. At the end each candidate is looked at once.
+//! end, with the list of the types that come, the soonest first; what stands there before the type of an event is what comes
+//! before its next one. At the end each candidate is looked at once.
 #![tactic(auto)]
 
 ghost use Rattle.std.specs.Prelude.{◌≡◌, ◌≤◌, length, IfOk};
@@ -40,7 +41,7 @@ fn standing_after<S: TypeSet>(
 {
     let mut standing = Standing::make(alloc, kinds, types)?;
     for t in 0..traces.trace_count() {
-        standing.read(traces.events(t));
+        standing.read(traces.events(t))?;
     }
     Ok(standing)
 }

@@ -1,5 +1,5 @@
 //! The candidates that hold of every trace that was read, in sets of types.
-ghost use Rattle.std.specs.Prelude.{ℕ, ◌≡◌, ◌≤◌, ◌<◌, ◌+◌, ◌==◌, ◌&&◌, ◌||◌, ◌↔◌, not, true, false, if◌then◌else◌, length, replicate, All, ◌∷◌, ◌++◌, [], IfOk, cond};
+ghost use Rattle.std.specs.Prelude.{ℕ, ◌≡◌, ◌≤◌, ◌<◌, ◌+◌, ◌==◌, ◌&&◌, ◌||◌, ◌↔◌, not, true, false, length, replicate, All, ◌∷◌, ◌++◌, [], IfOk, IfErr, OnOk, OnErr, cond};
 ghost use Rattle.invariants.specs.Candidates.{invariant};
 ghost use Rattle.limits.specs.declared.TheConstants.{FIRST_TYPE};
 ghost use Rattle.closure_miner.specs.declared.type_sets.TheConstants.{MAX_SET_TYPES};
@@ -32,14 +32,13 @@ pub struct Standing<S> {
     everywhere: S,
     /// For each type, those that stand between any two events of it.
     between: Vec<S>,
-    /// For each type, those that come before its next event, while a trace is read.
-    until: Vec<S>,
+    /// The types of the events that were read of a trace from its end, each once, the soonest first.
+    coming: Vec<u16>,
     ghost few: { types ≤ MAX_SET_TYPES },
     ghost followed_each: { length followed.items ≡ types },
     ghost met_each: { length met.items ≡ types },
     ghost preceded_each: { length preceded.items ≡ types },
     ghost between_each: { length between.items ≡ types },
-    ghost until_each: { length until.items ≡ types },
 }
 
 /// After how many events it is looked whether the rest of a trace can strike out anything.
@@ -197,80 +196,114 @@ fn read_from_start<S: TypeSet>(preceded: &mut [S], all: S, events: &[u16])
     }
 }
 
-/// Makes each of the sets this one.
-fn fill<S: TypeSet>(sets: &mut [S], set: S)
-    ensures { All (λ s. s ≡ set) sets.new }
+/// Puts a type before those that come, up to where it stood among them, and gives those that came before it there; where
+/// it was not among them, gives the last one, for which no place is left.
+fn shift_in<S: TypeSet>(coming: &mut [u16], x: u16) -> Result<S, u16>
+    requires numbers { All (IsTypeNumber S.room) coming.old }
+    requires number { IsTypeNumber S.room x }
+    ensures numbers { All (IsTypeNumber S.room) coming.new }
+
+    // Where it was among them, each type is met as it was, and this one first.
+    ensures before { IfOk result (λ before. (b : ℕ) → S.has before b ≡ always_preceded (b + FIRST_TYPE) x coming.old) }
+    ensures first { OnOk result ((a b : ℕ) → always_preceded b a coming.new ≡ always_preceded b a (x ∷ coming.old)) }
+
+    // Where it was not, all are there.
+    ensures absent { OnErr result (occurs x coming.old ≡ false) }
+    ensures last { IfErr result (λ last. coming.new ++ last ∷ [] ≡ x ∷ coming.old) }
+    ensures last_number { IfErr result (λ last. IsTypeNumber S.room last) }
 {
-    for a in 0..sets.len() {
-        sets[a] = set;
+    let mut before = S::none();
+    let mut carried = x;
+    for i in 0..coming.len() {
+        let next = coming[i];
+        coming[i] = carried;
+        if next == x {
+            return Ok(before);
+        }
+        before = before.with(place_of(next));
+        carried = next;
+    }
+    Err(carried)
+}
+
+/// Puts a type before those that come, and gives those that come before its next event: all, where it does not come.
+fn put_first<S: TypeSet>(coming: &mut Vec<u16>, x: u16, all: S) -> Result<S, AllocError>
+    requires numbers { All (IsTypeNumber S.room) coming.old.items }
+    requires number { IsTypeNumber S.room x }
+    ensures numbers { OnOk result (All (IsTypeNumber S.room) coming.new.items) }
+    ensures before { IfOk result (λ before. (b : ℕ) → S.has all b ≡ true
+        → S.has before b ≡ always_preceded (b + FIRST_TYPE) x coming.old.items) }
+    ensures first { OnOk result ((a b : ℕ) → always_preceded b a coming.new.items
+        ≡ always_preceded b a (x ∷ coming.old.items)) }
+{
+    match shift_in(coming, x) {
+        Ok(before) => Ok(before),
+        Err(last) => {
+            coming.push(last)?;
+            Ok(all)
+        }
     }
 }
 
-/// Adds the type at this place to each of the sets.
-#[inline]
-fn add_to_each<S: TypeSet>(sets: &mut [S], place: usize)
-    requires { place < S.room }
-    ensures { (a b : ℕ) → a < length sets.old → has_at S.has sets.new a b ≡ (b == place || has_at S.has sets.old a b) }
-{
-    for a in 0..sets.len() {
-        sets[a] = sets[a].with(place);
-    }
-}
-
-/// Strikes out what an event breaks of what interrupts what, and puts it before those in `until`.
-#[inline]
-fn strike_between<S: TypeSet>(between: &mut [S], until: &mut [S], x: u16)
+/// Strikes out what an event breaks of what interrupts what, and puts its type before those that come.
+fn strike_between<S: TypeSet>(
+    between: &mut [S],
+    coming: &mut Vec<u16>,
+    all: S,
+    x: u16,
+) -> Result<(), AllocError>
     requires few { length between.old ≤ S.room }
-    requires same { length until.old ≡ length between.old }
+    requires all { HasAll S.has (length between.old) all }
+    requires numbers { All (IsTypeNumber S.room) coming.old.items }
     requires number { IsTypeNumber (length between.old) x }
-
-    // Which types come before the next event of each type.
-    ensures until { (a b : ℕ) → a < length until.old → has_at S.has until.new a b
-        ≡ (if x == a + FIRST_TYPE then false else (x == b + FIRST_TYPE || has_at S.has until.old a b)) }
+    ensures numbers { OnOk result (All (IsTypeNumber S.room) coming.new.items) }
+    ensures first { OnOk result ((a b : ℕ) → always_preceded b a coming.new.items
+        ≡ always_preceded b a (x ∷ coming.old.items)) }
 
     // Which pairs of a type and what interrupts it still stand.
-    ensures between { (a b : ℕ) → has_at S.has between.new a b ≡ (has_at S.has between.old a b
-        && (not (x == a + FIRST_TYPE) || has_at S.has until.old a b)) }
+    ensures between { OnOk result ((a b : ℕ) → b < length between.old → has_at S.has between.new a b
+        ≡ (has_at S.has between.old a b
+        && (not (x == a + FIRST_TYPE) || always_preceded (b + FIRST_TYPE) (a + FIRST_TYPE) coming.old.items))) }
 {
+    let before = put_first(coming, x, all)?;
     let place = place_of(x);
-    between[place] = between[place].both(until[place]);
-    add_to_each(until, place);
-    until[place] = S::none();
+    between[place] = between[place].both(before);
+    Ok(())
 }
 
 /// Strikes out what a trace breaks of what interrupts what, where that is asked for: it is read from its
-/// end, up to where nothing of it stands.
+/// end, up to where nothing of it stands. No type comes yet.
 fn read_between<S: TypeSet>(
     kinds: Kinds,
     between: &mut [S],
-    until: &mut [S],
+    coming: &mut Vec<u16>,
     all: S,
     events: &[u16],
-)
+) -> Result<(), AllocError>
     requires few { length between.old ≤ S.room }
-    requires same { length until.old ≡ length between.old }
     requires all { HasAll S.has (length between.old) all }
+    requires empty { coming.old.items ≡ [] }
     requires numbers { All (IsTypeNumber (length between.old)) events.now }
 
     // Which pairs of a type and what interrupts it still stand.
-    ensures between { kinds ≡ Four → (a b : ℕ) → a < length between.old → b < length between.old
+    ensures between { OnOk result (kinds ≡ Four → (a b : ℕ) → a < length between.old → b < length between.old
         → has_at S.has between.new a b ≡ (has_at S.has between.old a b
-        && interrupted (a + FIRST_TYPE) (b + FIRST_TYPE) events.now) }
+        && interrupted (a + FIRST_TYPE) (b + FIRST_TYPE) events.now)) }
 {
     match kinds {
-        Kinds::Three => return,
+        Kinds::Three => return Ok(()),
         Kinds::Four => {}
     }
-    fill(until, all);
     let none = S::none();
     let mut left = events.len();
     while left > 0 {
         if left % STRIDE == 0 && are_all(between, none) {
-            return;
+            return Ok(());
         }
         left -= 1;
-        strike_between(between, until, events[left]);
+        strike_between(between, coming, all, events[left])?;
     }
+    Ok(())
 }
 
 impl<S: TypeSet> Standing<S> {
@@ -298,24 +331,26 @@ impl<S: TypeSet> Standing<S> {
             preceded: sets_of(alloc, types, all)?,
             everywhere: all,
             between: sets_of(alloc, types, all)?,
-            until: sets_of(alloc, types, all)?,
+            coming: Vec::new(alloc),
         })
     }
 
     /// Strikes out the candidates that a trace breaks.
-    pub fn read(&mut self, events: &[u16])
+    pub fn read(&mut self, events: &[u16]) -> Result<(), AllocError>
         requires room { (self.old).types ≤ S.room }
         requires numbers { All (IsTypeNumber (self.old).types) events.now }
         ensures kinds { (self.new).kinds ≡ (self.old).kinds }
         ensures types { (self.new).types ≡ (self.old).types }
-        ensures stands { (words : List (List ℕ)) → Stands S.has self.old words
-            → Stands S.has self.new (words ++ word_with events.now ∷ []) }
+        ensures stands { OnOk result ((words : List (List ℕ)) → Stands S.has self.old words
+            → Stands S.has self.new (words ++ word_with events.now ∷ [])) }
     {
         let all = S::first(self.types);
         let seen = read_from_end(&mut self.followed, &mut self.met, all, events);
         self.everywhere = self.everywhere.both(seen);
         read_from_start(&mut self.preceded, all, events);
-        read_between(self.kinds, &mut self.between, &mut self.until, all, events);
+        self.coming.clear();
+        read_between(self.kinds, &mut self.between, &mut self.coming, all, events)?;
+        Ok(())
     }
 
     /// Adds the candidates that each trace has a type, of those that still stand.

@@ -10,7 +10,7 @@ loop-t-preserved g c = record {
   types = c.read.ensures.types ∙ c.loop-t.invariant.types;
   stands =
       subst (Stands g.S.TypeSet.has c.read.new.self) (sym (words-more c.args.traces.now.traces c.loop-t.t c.events.result.now (omega arith) c.events.ensures.events))
-      (c.read.ensures.stands (map word_of (take c.loop-t.t c.args.traces.now.traces)) c.loop-t.invariant.stands);
+      (c.in_ok-read.ensures.stands (map word_of (take c.loop-t.t c.args.traces.now.traces)) c.loop-t.invariant.stands);
 }
 
 pub returns-clause-stands : goal.returns-clause-stands

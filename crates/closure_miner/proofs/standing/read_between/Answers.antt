@@ -1,8 +1,9 @@
-use Rattle.std.proofs.Common.{◌≡◌, ℕ, List, [], ◌+◌, ◌-◌, ◌∷◌, ◌&&◌, ◌||◌, not, false, cond, eqb, get_or, length, take, drop, take-append-drop, arith, ap, ap₂, sym, ◌∙◌}
+use Rattle.std.proofs.Common.{◌≡◌, ℕ, List, [], ◌+◌, ◌-◌, ◌∷◌, ◌&&◌, ◌||◌, not, true, false, All, subst, cond, eqb, get_or, length, take, drop, take-append-drop, arith, ap, ap₂, sym, ◌∙◌}
 use Rattle.std.proofs.lemmas.List.{drop_all}
 use Rattle.invariants.specs.Holds.{always_preceded, interrupted}
+use Rattle.traces.specs.Kept.{IsTypeNumber}
 use Rattle.closure_miner.specs.Sets.{has_at}
-use Rattle.closure_miner.proofs.Rows.{and-true, and-swap, or-cond, at-all}
+use Rattle.closure_miner.proofs.Rows.{and-true, and-swap, at-all}
 use Rattle.closure_miner.proofs.Events.{rest-more}
 use Rattle.closure_miner.proofs.Rests.{between-behind, still-false}
 use Rattle.closure_miner.proofs.standing.read_between.Goals as goal
@@ -13,10 +14,8 @@ loop-left-init g c =
     let none : drop (length events) events ≡ [] = drop_all (length events) events (omega arith) in
     record {
       within = omega arith;
-      same = omega (arith, c.fill.auto.sets, c.requires.same);
-      until = λ a b in_a in_b.
-          at-all g.S.TypeSet.has c.fill.new.sets c.args.all a b c.fill.ensures (omega (arith, c.fill.auto.sets, c.requires.same)) ∙ c.requires.all b in_b
-          ∙ sym (ap (λ w. always_preceded (b + 2) (a + 2) w) none);
+      coming = λ a b. ap (always_preceded b a) (c.requires.empty ∙ sym none);
+      numbers = subst (All (IsTypeNumber g.S.TypeSet.room)) (sym c.requires.empty) (λ k d inside. absurd (omega arith));
       between = λ a b in_a in_b.
           sym (ap (λ w. has_at g.S.TypeSet.has c.args.between.now a b && interrupted (a + 2) (b + 2) w) none ∙ and-true (has_at g.S.TypeSet.has c.args.between.now a b));
     }
@@ -31,14 +30,12 @@ loop-left-preserved g c =
     let old = c.args.between.now in
     record {
       within = omega arith;
-      same = omega (arith, c.strike_between.auto.between, c.strike_between.auto.until, c.loop-left.invariant.same);
-      until = λ a b in_a in_b.
-          c.strike_between.ensures.until a b (omega (arith, c.loop-left.invariant.same, c.loop-left.auto.between))
-          ∙ ap (λ t. cond (eqb x (a + 2)) false (eqb x (b + 2) || t)) (c.loop-left.invariant.until a b in_a in_b)
-          ∙ ap (cond (eqb x (a + 2)) false) (or-cond (eqb x (b + 2)) (always_preceded (b + 2) (a + 2) word)) ∙ ap (λ w. always_preceded (b + 2) (a + 2) w) rest;
+      coming = λ a b.
+          c.in_ok-strike_between.ensures.first a b ∙ ap (λ t. cond (eqb x a) false (cond (eqb x b) true t)) (c.loop-left.invariant.coming a b) ∙ ap (always_preceded b a) rest;
+      numbers = c.in_ok-strike_between.ensures.numbers;
       between = λ a b in_a in_b.
-          c.strike_between.ensures.between a b
-          ∙ ap₂ (λ f o. f && (not (eqb x (a + 2)) || o)) (c.loop-left.invariant.between a b in_a in_b) (c.loop-left.invariant.until a b in_a in_b)
+          c.in_ok-strike_between.ensures.between a b (omega (arith, c.loop-left.auto.between))
+          ∙ ap₂ (λ f o. f && (not (eqb x (a + 2)) || o)) (c.loop-left.invariant.between a b in_a in_b) (c.loop-left.invariant.coming (a + 2) (b + 2))
           ∙ and-swap (has_at g.S.TypeSet.has old a b) (interrupted (a + 2) (b + 2) word) (not (eqb x (a + 2)) || always_preceded (b + 2) (a + 2) word)
           ∙ ap (λ w. has_at g.S.TypeSet.has old a b && interrupted (a + 2) (b + 2) w) rest;
     }

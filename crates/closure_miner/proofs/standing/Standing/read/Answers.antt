@@ -36,6 +36,6 @@ returns-clause-stands g c = λ words st.
     (λ four a b in_a in_b.
     ap (λ t. has_at g.S.TypeSet.has t a b)
     (with_items_is old.between c.read_between.new.between (omega (arith, c.read_between.auto.between, lengths c.deref_mut-4.ensures.value, old.between.ok.0)))
-    ∙ c.read_between.ensures.between four a b (omega (arith, many_last)) (omega (arith, many_last))
+    ∙ c.in_ok-read_between.ensures.between four a b (omega (arith, many_last)) (omega (arith, many_last))
     ∙ ap (λ t. has_at g.S.TypeSet.has t a b && interrupted (a + 2) (b + 2) events) c.deref_mut-4.ensures.value)
     st
