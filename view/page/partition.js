@@ -95,6 +95,7 @@ function eventsText(p) {
 function showPartition(p) {
   const typ = typeOf.get(p), found = blocksOf(p);
   markPartition(p);
+  show([p]);
   answer(make("h3", {}, typeText(typ), ` @${p}`), make("p", {}, eventsText(p)), whySection(p),
     make("div", { class: "columns" },
       edgeTable("Edges into it", entering.get(p), 0, p), edgeTable("Edges out of it", leaving.get(p), 1, p)),
@@ -112,7 +113,7 @@ function question([typ, ids]) {
   const ask = () => (blocksOf(ids[0]).length === 1 ? showBlock(blocksOf(ids[0])[0]) : showPartition(ids[0]));
   const count = inWords(ids.length), named = `Why ${count} partitions of ${data.plain[typ]}?`;
   const text = ids.length === 2 ? `, @${ids[0]} and @${ids[1]}. ` : ". ";
-  return make("span", {}, typeText(typ), ` is in the graph as ${count} boxes${text}`,
+  return make("span", {}, typeText(typ), ` is ${count} boxes in the graph${text}`,
     make("button", { click: ask, "aria-label": named }, `Why ${count}?`));
 }
 
