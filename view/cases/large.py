@@ -67,7 +67,8 @@ def check_opening(page, made):
 
 def check_large(page, room):
     root = large_model()
-    same("large: 900 partitions, and more than 16,000 blocks", (len(root["partitions"]), len(root["blocks"])), (900, 16354))
+    same("large: 900 partitions, and more than 16,000 blocks", (len(root["partitions"]), len(root["blocks"])), (
+        900, 16354))
     began = time.time()
     made = make(room, "large.html", store(room, "large.model", root))
     print(f"        made in {time.time() - began:.1f} s, {os.path.getsize(made)} bytes, {len(root['edges'])} edges")
@@ -123,6 +124,7 @@ def check_dense(page, room):
     boxes = page.js("return [...document.querySelectorAll('.node rect')]"
                     "  .map(box => box.getAttribute('x') + ' ' + box.getAttribute('y'))")
     same("dense: no box is on another", (len(boxes), len(set(boxes))), (72, 72))
-    same("dense: its edges", page.text("#carried"), "5040 of 5040 edges are shown. They carry 5040 of 5040 steps (100 %).")
+    same("dense: its edges", page.text("#carried"),
+         "5040 of 5040 edges are shown. They carry 5040 of 5040 steps (100 %).")
     page.choose("least", "2")
     same("dense: the slider hides its rare edges", page.count(".edge:not(.rare)"), 0)

@@ -27,8 +27,8 @@ def check_active(page, name):
     """Each thing that takes clicks or keys is in the tree, with the role of such a thing and a name."""
     nodes = [z for z in tree(page) if state(z, "focusable") and value(z, "role") not in ("RootWebArea", "option")]
     same(f"{name}: each control is in the tree", len(nodes), page.js(CONTROLS))
-    lacking = [(value(z, "role"), value(z, "name")) for z in nodes if value(z, "role") not in ACTIVE or not value(z, "name")]
-    same(f"{name}: each has a role and a name", lacking, [])
+    found = [(value(z, "role"), value(z, "name")) for z in nodes]
+    same(f"{name}: each has a role and a name", [z for z in found if z[0] not in ACTIVE or not z[1]], [])
 
 
 def said(page):
@@ -37,6 +37,7 @@ def said(page):
     found = [page.browser.execute_cdp_cmd("DOM.resolveNode", {"backendNodeId": z["backendDOMNodeId"]}) for z in spoken]
     texts = []
     for node in found:
-        call = {"objectId": node["object"]["objectId"], "functionDeclaration": "function () { return this.textContent }"}
+        text = "function () { return this.textContent }"
+        call = {"objectId": node["object"]["objectId"], "functionDeclaration": text}
         texts.append(page.browser.execute_cdp_cmd("Runtime.callFunctionOn", call)["result"]["value"])
     return texts

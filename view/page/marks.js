@@ -87,6 +87,7 @@ function markPartition(p) {
 // what is to follow.
 function run(steps, follow = () => {}) {
   clearMarks();
+  if (!steps.length) return;
   drawing.classList.add("marked", "walking");
   let at = 0;
   const step = () => {

@@ -31,7 +31,7 @@ function filled(made, attributes, parts) {
     if (name === "click") made.addEventListener("click", value);
     else made.setAttribute(name, value);
   }
-  made.append(...parts.flat(4));
+  made.append(...parts.flat(Infinity));
   return made;
 }
 
@@ -41,7 +41,7 @@ const makeDrawn = (tag, attributes, ...parts) =>
 const link = (click, ...parts) => make("button", { class: "link", click }, parts);
 
 function fill(element, ...parts) {
-  element.replaceChildren(...parts.flat(4));
+  element.replaceChildren(...parts.flat(Infinity));
   return element;
 }
 

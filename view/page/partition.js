@@ -16,8 +16,9 @@ function whyTwo(at) {
   };
   return make("div", { class: "why" },
     make("p", { class: "sentence" },
-      make("strong", {}, partitionText(p), " and ", partitionText(q), " are two, because in the log ", meaning(invariant)),
-      " (", invariantText(invariant), "). ", side === 2 ? [] : sides(invariant, side ? q : p, side ? p : q),
+      make("strong", {}, partitionText(p), " and ", partitionText(q), " are two, because in the log ",
+        meaning(invariant)), " (", invariantText(invariant), "). ",
+      side === 2 ? [] : sides(invariant, side ? q : p, side ? p : q),
       "If the two were one, the graph would have the path below, which no trace took. It breaks the invariant: ",
       breach(invariant), "."),
     pathList(path.map(stepText)),
@@ -66,7 +67,8 @@ function edgeTable(title, list, end, p) {
       make("td", { class: "count" }, percent(edge[2], countOf.get(p))));
   };
   const titles = end ? ["to", "count", "share"] : ["from", "count there", "share here"];
-  return make("div", {}, make("h4", {}, title), rows.length ? paged("table", rows, row, titles) : make("p", {}, "none"));
+  return make("div", {}, make("h4", {}, title),
+    rows.length ? paged("table", rows, row, titles) : make("p", {}, "none"));
 }
 
 // One of the three lists of the invariants of a type.

@@ -6,7 +6,8 @@ let hits = [], hit = -1;
 
 function search() {
   const wanted = byId("search").value.toLowerCase();
-  hits = data.partitions.map(([p]) => p).filter((p) => wanted && data.texts[typeOf.get(p)].toLowerCase().includes(wanted));
+  const fits = (typ) => wanted && data.texts[typ].toLowerCase().includes(wanted);
+  hits = data.partitions.filter(([, typ]) => fits(typ)).map(([p]) => p);
   hit = -1;
   const found = new Set(hits);
   for (const [p] of data.partitions) nodeOf(p).classList.toggle("hit", found.has(p));

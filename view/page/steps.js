@@ -47,7 +47,8 @@ function thenText(x, members) {
   const typ = typeThen(x), then = [...members.keys()].filter((y) => typeThen(y) === typ);
   const today = [...(members.get(x) || [])].sort((a, b) => a - b);
   const same = x < 2 || (today.length === 1 && today[0] === x);
-  return [typeText(typ), then.length > 1 ? " @" + x : "", same ? [] : make("small", {}, ` (now ${listed(today) || "gone"})`)];
+  const note = same ? [] : make("small", {}, ` (now ${listed(today) || "gone"})`);
+  return [typeText(typ), then.length > 1 ? " @" + x : "", note];
 }
 
 function runSplit(k, detail) {
@@ -95,7 +96,8 @@ function runMerge(m, detail) {
   const [p, q] = data.merges[m], one = now(p), [, place, then] = data.splits[q - firstNew], word = then.map(typeThen);
   const { path, ends } = followed(word, place, one), next = path.length;
   const steps = path.map((x, at) => [partitionText(x), at === place ? ` (${listed([p, q])} as one)` : ""]);
-  const said = make("p", {}, next === word.length ? WHOLE : noEdge(ends, next === place ? partitionText(one) : typeText(word[next])));
+  const end = next === place ? partitionText(one) : typeText(word[next]);
+  const said = make("p", {}, next === word.length ? WHOLE : noEdge(ends, end));
   detailed(detail, pathList(steps), said);
   tell(`The path now: ${path.map(partitionName).join(", ")}. ${said.textContent}`);
   run(path.map((x) => [x]), () => {
@@ -114,9 +116,9 @@ function noEdge(ends, next) {
 }
 
 function mergeRow(m) {
-  const [p, q] = data.merges[m], k = q - firstNew, detail = make("div");
-  const known = data.splits[k] && typeOf.has(now(p));
-  const ask = make("button", { class: "step", click: () => runMerge(m, detail) }, `see how far its path comes now`);
+  const [p, q] = data.merges[m], k = q - firstNew, split = data.splits[k], detail = make("div");
+  const known = split && split[1] > 0 && split[2][0] === 0 && typeOf.has(now(p));
+  const ask = make("button", { class: "step", click: () => runMerge(m, detail) }, "see how far its path comes now");
   return make("li", {}, typeText(typeThen(q)), ` @${q} was merged into @${p}`,
     now(p) === p ? "" : `, which is part of @${now(p)} now`, ", because no invariant is lost if the two are one. ",
     "A path could only show a loss, so the file has none for a merge. ",
