@@ -166,7 +166,8 @@ def check_steps(page):
          "(merged into @3 later). run its path")
     same("shop: the merge", rows[2],
          "search @9 was merged into @3, because no invariant is lost if the two are one. "
-         "A path could only show a loss, so the file has none for a merge. Step 1 had made @9: see how far its path comes now")
+         "A path could only show a loss, so the file has none for a merge. "
+         "Step 1 had made @9: see how far its path comes now")
     page.click("#panel-steps .step")
     page.after_walk()
     same("shop: the path of the first split, with what was one then", page.texts("#panel-steps .path li"), [
@@ -277,8 +278,9 @@ def check_readers(page):
     nodes = tree(page)
     graph = [(value(z, "role"), value(z, "description")) for z in nodes
              if value(z, "name") == "Graph of the model shop.model" and value(z, "description")]
-    same("shop: the graph has a title and a description", graph, [("group",
-         "10 partitions and 14 edges. Each trace of the log is a path from INITIAL to TERMINAL. cart has 2 partitions.")])
+    same("shop: the graph has a title and a description", graph, [(
+        "group", "10 partitions and 14 edges. Each trace of the log is a path from INITIAL to TERMINAL. "
+        "cart has 2 partitions.")])
     names = [value(z, "name") for z in nodes if value(z, "role") == "button"]
     same("shop: the boxes and the dashed line are buttons", [z for z in names if "cart" in z], [
         "Why two partitions of cart?", "Why two: cart @6 and cart @10", "cart, partition 6, 5 of 7 events",
