@@ -7,7 +7,9 @@ import time
 from cases.browser import HERE, Keys, check_closed, make, same, store
 
 OPENS_WITHIN = 3000  # milliseconds by the clock, for the page of the large model
-OWN_WORK = 800  # milliseconds of the processor that it may take, however busy the machine is
+OWN_WORK = 1000  # milliseconds of the processor that it may take, however busy the machine is
+BUSY = 3  # processes that wait for each processor, from which on the clock says nothing
+CLICK_WORK = 500  # milliseconds of the processor for a click
 KINDS, LANES = 24, (38, 37)
 
 
@@ -41,18 +43,39 @@ def large_model():
 
 
 DRAWN = "const done = arguments[0]; requestAnimationFrame(() => setTimeout(() => done(performance.now())))"
+CLICK = "document.getElementById('p30').dispatchEvent(new MouseEvent('click', {bubbles: true}))"
+
+
+def worked(page):
+    """The milliseconds of the processor that the main thread of the page has taken since this began to be counted."""
+    found = page.browser.execute_cdp_cmd("Performance.getMetrics", {})["metrics"]
+    return 1000 * next(entry["value"] for entry in found if entry["name"] == "TaskDuration")
+
+
+def measured(page, act):
+    """How many milliseconds of the clock pass from an act until its picture is drawn, by the clock of the page that is
+    there at the end, and how many of the processor's the page's main thread takes for it."""
+    page.browser.execute_cdp_cmd("Performance.enable", {"timeDomain": "threadTicks"})
+    before, began = worked(page), act()
+    passed, after = page.browser.execute_async_script(DRAWN), worked(page)
+    page.browser.execute_cdp_cmd("Performance.disable", {})
+    return passed - (began or 0), after - before
 
 
 def opening(page, file):
-    """How many milliseconds pass, by the clock, from the call of the page until its first picture after it is loaded is
-    drawn, and how many of the processor's the page's main thread takes for it."""
+    """What it takes to open a page, from the call of the page on."""
     page.open("about:blank")
-    page.browser.execute_cdp_cmd("Performance.enable", {"timeDomain": "threadTicks"})
-    page.open(file)
-    passed = page.browser.execute_async_script(DRAWN)
-    found = page.browser.execute_cdp_cmd("Performance.getMetrics", {})["metrics"]
-    page.browser.execute_cdp_cmd("Performance.disable", {})
-    return passed, 1000 * next(entry["value"] for entry in found if entry["name"] == "TaskDuration")
+    return measured(page, lambda: page.open(file))
+
+
+# Whether the first script hides the graph before it is read, and what then shows it again.
+WAITS = """const root = document.documentElement, first = document.scripts[0], graph = document.getElementById('drawing');
+    const before = (first.compareDocumentPosition(graph) & Node.DOCUMENT_POSITION_FOLLOWING) > 0;
+    const shown = getComputedStyle(graph).display;
+    root.className = /"(.*)"/.exec(first.textContent)[1];
+    const hidden = getComputedStyle(graph).display;
+    root.className = "";
+    return [before, shown, hidden]"""
 
 
 def check_opening(page, made):
@@ -61,8 +84,12 @@ def check_opening(page, made):
     passed, own = (sorted(column)[2] for column in zip(*times))
     print("        opened in " + ", ".join(f"{z:.0f} ms ({o:.0f} of the processor)" for z, o in times)
           + f"; load {os.getloadavg()[0]:.1f} on {os.cpu_count()} processors")
-    same("large: it opens within 3 s by the clock, the middle one of five", passed <= OPENS_WITHIN, True)
-    same("large: the page's own work takes at most 0.8 s, the middle one of five", own <= OWN_WORK, True)
+    if os.getloadavg()[0] <= BUSY * os.cpu_count():
+        same("large: it opens within 3 s by the clock, the middle one of five", passed <= OPENS_WITHIN, True)
+    else:
+        print("        the machine is so busy that the clock says nothing of the page: that case is left out")
+    same("large: the graph is hidden while the page is read", page.js(WAITS), [True, "block", "none"])
+    same("large: the page's own work takes at most 1 s, the middle one of five", own <= OWN_WORK, True)
 
 
 def check_large(page, room):
@@ -77,10 +104,9 @@ def check_large(page, room):
          "".join(f"call{t} is 38 boxes in the graph. Why 38?" for t in range(3)) + "21 more types")
     ready = page.js("return document.documentElement.dataset.ready")
     same("large: it is ready, without dashed lines", (ready, page.count(".dash")), ("yes", 0))
-    took = page.js("const start = performance.now();"
-                   "document.getElementById('p30').dispatchEvent(new MouseEvent('click', {bubbles: true}));"
-                   "return performance.now() - start")
-    same(f"large: a click answers within 1 s ({took:.0f} ms)", took <= 1000, True)
+    passed, own = measured(page, lambda: page.js("const began = performance.now();" + CLICK + "; return began"))
+    print(f"        a click is answered in {passed:.0f} ms ({own:.0f} of the processor)")
+    same("large: a click takes at most half a second of the processor", own <= CLICK_WORK, True)
     same("large: its blocks are drawn on demand", (
         page.count(".dash"), page.count("#panel-partition > ul > li")), (37, 37))
     page.js("document.querySelector('#panel-partition ul button').click()")

@@ -81,11 +81,16 @@ IN_SIGHT = """return [...document.querySelectorAll(arguments[0])].map(x => x.get
     .every(box => box.top >= 0 && box.bottom <= innerHeight && box.left >= 0 && box.right <= innerWidth)"""
 
 
-def check_first(page):
-    """What a newcomer sees: the question why there are two carts, and after one click the answer beside the graph."""
-    size = {"width": 1280, "height": 720, "deviceScaleFactor": 1, "mobile": False}
+def resize(page, width, height):
+    """Gives the page a window of this size."""
+    size = {"width": width, "height": height, "deviceScaleFactor": 1, "mobile": False}
     page.browser.execute_cdp_cmd("Emulation.setDeviceMetricsOverride", size)
     page.open(page.js("return location.href"))
+
+
+def check_first(page):
+    """What a newcomer sees: the question why there are two carts, and after one click the answer beside the graph."""
+    resize(page, 1280, 720)
     same("shop: the question above the graph", page.text("#hint"),
          "cart is two boxes in the graph, @6 and @10. Why two?")
     same("shop: it is in sight, with both carts and the sign between them", page.js(
@@ -96,6 +101,10 @@ def check_first(page):
         "Why two partitions of cart?", SENTENCE))
     same("shop: the answer is in sight, with both carts", page.js(
         IN_SIGHT, ".sentence, #panel-partition .path, #p6, #p10"), True)
+    resize(page, 1000, 480)
+    page.click("#hint button")
+    page.after_walk()
+    same("shop: the answer is in sight in a low window too", page.js(IN_SIGHT, "#panel-partition h3, .sentence"), True)
     page.browser.execute_cdp_cmd("Emulation.clearDeviceMetricsOverride", {})
     page.click("#clear")
     same("shop: at first it says what is to click", page.texts("#panel-partition p")[1],

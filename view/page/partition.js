@@ -142,9 +142,11 @@ function welcome() {
   return [key, advice, make("h3", {}, "Types with several partitions"), paged("ul", several, row)];
 }
 
-// Shows an answer in the first tab.
+// Shows an answer in the first tab. It is brought into sight when it is drawn: sooner, a large graph is laid out twice.
 function answer(...parts) {
   fill(openTab("partition"), parts);
-  byId("panels").scrollTop = 0;
-  byId("side").scrollIntoView({ block: "nearest" });
+  requestAnimationFrame(() => {
+    byId("panels").scrollTop = 0;
+    byId("side").scrollIntoView({ block: "nearest" });
+  });
 }

@@ -21,7 +21,7 @@ function typeThen(x) {
 // Shows a step's path below its sentence.
 function detailed(detail, ...parts) {
   fill(detail, parts);
-  detail.scrollIntoView({ block: "nearest" });
+  requestAnimationFrame(() => detail.scrollIntoView({ block: "nearest" }));
 }
 
 const listed = (ids) => ids.map((p) => "@" + p).join(" and ");
