@@ -72,7 +72,7 @@ def opening(page, file):
 WAITS = """const root = document.documentElement, first = document.scripts[0], graph = document.getElementById('drawing');
     const before = (first.compareDocumentPosition(graph) & Node.DOCUMENT_POSITION_FOLLOWING) > 0;
     const shown = getComputedStyle(graph).display;
-    root.className = /"(.*)"/.exec(first.textContent)[1];
+    root.className = (/"(.*)"/.exec(first.textContent) || ["", ""])[1];
     const hidden = getComputedStyle(graph).display;
     root.className = "";
     return [before, shown, hidden]"""

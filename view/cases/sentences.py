@@ -1,6 +1,9 @@
 """A made model with a block of each form of invariant, and merges of each sort: what the page says of them."""
 from cases.browser import check_closed, make, same, store
 
+# The paths of the blocks: the page keeps only what one differs in from the one before.
+PATHS = ([0, 2, 4, 3, 1], [0, 4, 1], [0, 2, 4, 4, 3, 1], [0, 2, 4, 4, 4, 3, 1], [0, 4, 4, 1])
+STEPS = {0: "INITIAL", 1: "TERMINAL", 2: "a", 3: "b", 4: "c (@4 and @5 as one)"}
 ALIKE, FIRST, SECOND = "111111", "111121", "111112"  # labels in which neither, the first or the second c is critical
 
 
@@ -13,7 +16,7 @@ def sentences_model():
         "edges": [[0, 2, 1], [0, 5, 2], [2, 4, 1], [3, 1, 1], [4, 3, 1], [5, 1, 2]],
         "invariants": [["AF", 2, 3, FIRST], ["AF", 0, 3, SECOND], ["NF", 2, 3, FIRST], ["AP", 2, 3, "222221"],
                        ["NF", 3, 3, ALIKE]],
-        "blocks": [[4, 5, at, path] for at in range(5)],
+        "blocks": [[4, 5, at, path] for at, path in enumerate(PATHS)],
         "splits": [[0, 2, path], [0, 2, [0, 2, 4, 1]], [0, 2, [0, 2, 4, 1]], [0, 1, [0, 4, 1]]],
         "merges": [[4, 6], [5, 7], [5, 8]],
     }
@@ -50,6 +53,8 @@ def check_sentences(page, room):
         page.after_walk()
         same(f"sentences: block {at + 1}", page.text("#panel-partition .sentence"),
              f"c @4 and c @5 are two, because in the log {why}{IF_ONE}{breach}")
+        same(f"sentences: the path of block {at + 1}", page.texts("#panel-partition .path li"),
+             [STEPS[p] for p in PATHS[at]])
     page.click("#tab-steps")
     for at, (steps, said, lacks) in enumerate(MERGES):
         row = f"#panel-steps ol > li:nth-child({at + 5}) "

@@ -116,10 +116,14 @@ function run(steps, follow = () => {}) {
 
 let blockList = null, blocksAt = null;
 
-// Reads the blocks when they are first asked for.
+// Reads the blocks when they are first asked for. The path of one is given by what it shares with the one before.
 function blocks() {
   if (!blockList) {
-    blockList = JSON.parse(byId("blocks").textContent);
+    let path = [];
+    blockList = JSON.parse(byId("blocks").textContent).map(([p, q, place, head, tail, middle, side]) => {
+      path = [...path.slice(0, head), ...middle, ...path.slice(path.length - tail)];
+      return [p, q, place, path, side];
+    });
     blocksAt = grouped(blockList, ([p, q], at) => [[p, at], [q, at]]);
   }
   return blockList;
