@@ -8,7 +8,7 @@ from cases.browser import HERE, Keys, check_closed, make, same, store
 
 OPENS_WITHIN = 3000  # milliseconds by the clock, for the page of the large model
 OWN_WORK = 1000  # milliseconds of the processor that it may take, however busy the machine is
-BUSY = 3  # processes that wait for each processor, from which on the clock says nothing
+BUSY = 5  # processes that wait for each processor, from which on the clock says nothing
 CLICK_WORK = 500  # milliseconds of the processor for a click
 KINDS, LANES = 24, (38, 37)
 

@@ -113,6 +113,8 @@ def check_first(page):
 
 
 def check_titles(page):
+    ActionChains(page.browser).move_to_element(page.find("h1")).perform()
+    page.open(page.js("return location.href"))
     before = page.count("#drawing .edge title, #drawing .node title")
     for part in ("#p3 rect", "#e9 .line"):
         page.js("document.querySelector(arguments[0])"
