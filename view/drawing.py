@@ -3,7 +3,7 @@ import math
 import unicodedata
 
 from layout import Layout, Line, Node, drawn_by, middle_of
-from texts import escaped, plain, segments, shortened, width
+from texts import escaped, plain, plural, segments, shortened, width
 
 COLUMN = 8.0
 MOST_SHOWN = 30
@@ -17,17 +17,23 @@ def short_segments(text):
     return [[0, shortened("".join(f"[{shown}]" if marked else shown for marked, shown in pieces), MOST_SHOWN)]]
 
 
-def events(count):
-    return f"{count} event" if count == 1 else f"{count} events"
+def size_of(model, p):
+    """How many events a partition has, and of how many of its type if it does not have all."""
+    count = model.count_of[p]
+    if p < 2:
+        return plural(count, "trace")
+    if not model.has_number(p):
+        return plural(count, "event")
+    return f"{count} of " + plural(sum(model.count_of[q] for q in model.siblings[model.type_of[p]]), "event")
 
 
 def box(model, p):
     """The content of a partition's box: the pieces of its first line, its number, and its second line."""
-    typ, count = model.type_of[p], model.count_of[p]
+    typ = model.type_of[p]
     number = f" @{p}" if model.has_number(p) else ""
     if number and any(unicodedata.bidirectional(c) in ("R", "AL") for c in model.texts[typ]):
         number = "\u200e" + number  # so that the number stays to the right of a text that runs to the left
-    return short_segments(model.texts[typ]), number, f"{count} trace" + "s" * (count != 1) if p < 2 else events(count)
+    return short_segments(model.texts[typ]), number, size_of(model, p)
 
 
 def columns_of_box(pieces, number, below):
@@ -96,7 +102,7 @@ def drawn_text(pieces):
     return shown
 
 
-def drawn_line(line, thick, words, share):
+def drawn_line(line, thick, words):
     """An edge, with its attributes and its label."""
     label = ""
     shown = line.label if line.spot else line.label[:1] if line.label[0] in "+−" else ""
@@ -106,7 +112,7 @@ def drawn_line(line, thick, words, share):
     wide = number_text(thick)
     return (
         f'<g {words}><path class="line" d="{route_of(line)}" stroke-width="{wide}"/>'
-        f'<path class="head" d="{head_of(line, thick)}"/>{label}{share}</g>'
+        f'<path class="head" d="{head_of(line, thick)}"/>{label}</g>'
     )
 
 
@@ -116,16 +122,11 @@ def drawn_edges(model, layout, differences):
         p, q, count = edge
         share = count / max(1, model.count_of[p])
         new = differences and (model.type_of[p], model.type_of[q]) in differences.new_edges
-        title = f"{plain(name_of(model, p))} → {plain(name_of(model, q))}: {count} of {model.count_of[p]}"
         words = f'class="edge{" new" if new else ""}" id="e{at}"'
-        rows.append(drawn_line(line, 1.2 + 4.8 * min(1, share), words, f"<title>{escaped(title)}</title>"))
+        rows.append(drawn_line(line, 1.2 + 4.8 * min(1, share), words))
     for line in layout.lines[len(model.edges) :]:
-        rows.append(drawn_line(line, 2, 'class="edge gone"', ""))
+        rows.append(drawn_line(line, 2, 'class="edge gone"'))
     return rows
-
-
-def name_of(model, p):
-    return model.texts[model.type_of[p]] + (f" @{p}" if model.has_number(p) else "")
 
 
 def drawn_box(node, words, label, pieces, number, below):
@@ -136,8 +137,7 @@ def drawn_box(node, words, label, pieces, number, below):
         f'width="{number_text(node.width)}" height="{number_text(node.height)}" rx="8"/>'
         f'<text x="{middle}" y="{number_text(node.y - 3)}">{drawn_text(pieces)}'
         f'<tspan class="number">{escaped(number)}</tspan></text>'
-        f'<text class="below" x="{middle}" y="{number_text(node.y + 13)}">{escaped(below)}</text>'
-        f"<title>{escaped(label)}</title></g>"
+        f'<text class="below" x="{middle}" y="{number_text(node.y + 13)}">{escaped(below)}</text></g>'
     )
 
 
@@ -147,13 +147,24 @@ def drawn_boxes(model, layout, differences):
         new = differences and typ in differences.new_types
         pieces, number, below = box(model, p)
         label = f"{'new: ' if new else ''}{plain(model.texts[typ])}, partition {p}, {below}"
-        words = f'class="node{" end" if p < 2 else ""}{" new" if new else ""}" id="p{p}" role="button" tabindex="-1"'
+        kinds = (" end" if p < 2 else "") + (" several" if model.has_number(p) else "") + (" new" if new else "")
+        words = f'class="node{kinds}" id="p{p}" role="button" tabindex="-1"'
         rows.append(drawn_box(layout.nodes[f"p{p}"], words, label, pieces, number + (" +" if new else ""), below))
     for typ in differences.gone_types if differences else ():
         label = f"gone: {plain(differences.texts[typ])}"
         pieces = short_segments(differences.texts[typ])
         rows.append(drawn_box(layout.nodes[f"g{typ}"], 'class="node gone" role="img"', label, pieces, " −", "gone"))
     return rows
+
+
+def description(model):
+    """The graph in a few words, for who does not see it."""
+    several = [typ for typ, ids in model.siblings.items() if len(ids) > 1]
+    text = f"{plural(len(model.partitions), 'partition')} and {plural(len(model.edges), 'edge')}. "
+    text += "Each trace of the log is a path from INITIAL to TERMINAL. "
+    if len(several) > 3:
+        return text + f"{len(several)} types have several partitions."
+    return text + "".join(f"{plain(model.texts[t])} has {len(model.siblings[t])} partitions. " for t in several)
 
 
 def svg(model, differences):
@@ -165,7 +176,8 @@ def svg(model, differences):
     }
     size = f"0 0 {number_text(layout.width)} {number_text(layout.height)}"
     text = "\n".join(
-        [f'<svg id="drawing" class="drawing" viewBox="{size}" role="group" aria-labelledby="graph-title">']
+        [f'<svg id="drawing" class="drawing" viewBox="{size}" role="group" aria-labelledby="graph-title" '
+         f'aria-describedby="graph-text"><desc id="graph-text">{escaped(description(model))}</desc>']
         + ['<g id="edges">'] + drawn_edges(model, layout, differences)
         + ['</g><g id="dashes"></g><g id="nodes">'] + drawn_boxes(model, layout, differences)
         + ['</g><g id="badges" aria-hidden="true"></g></svg>']

@@ -102,6 +102,21 @@ def sides_of(model):
     return sides
 
 
+def short_paths(blocks):
+    """The blocks with what their paths differ in: [p, q, invariant, head, tail, middle], where the path begins with as
+    many ids of the path of the block before as head says, and ends with as many as tail says."""
+    before, rows = [], []
+    for p, q, inv, path in blocks:
+        most, head, tail = min(len(before), len(path)), 0, 0
+        while head < most and before[head] == path[head]:
+            head += 1
+        while tail < most - head and before[-1 - tail] == path[-1 - tail]:
+            tail += 1
+        rows.append([p, q, inv, head, tail, path[head : len(path) - tail]])
+        before = path
+    return rows
+
+
 class Differences:
     """What the new model has and the old one lacks, and the other way round; types beyond those of the new model get
     the numbers after them."""

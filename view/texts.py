@@ -47,6 +47,10 @@ def width(text):
     return sum(2 if unicodedata.east_asian_width(c) in "WF" or ord(c) > 0x1F000 else 1 for c in text)
 
 
+def plural(count, word):
+    return f"{count} {word}" if count == 1 else f"{count} {word}s"
+
+
 def shortened(text, most):
     """The text itself if it has at most so many characters, else its beginning and its end around an ellipsis."""
     if len(text) <= most:
