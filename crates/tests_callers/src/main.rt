@@ -8,7 +8,7 @@ use infer_core::{Stage, Workbench, log_is_typed};
 use model_check::{Verdict, check};
 use model_file::{read_model, write_model};
 use models::models_are_shaped;
-use std::alloc::Global;
+use std::alloc::{AllocError, Global};
 use std::io;
 use std::marker::Brand;
 use std::sync::ledger::{Blank, Ledger};
@@ -26,19 +26,20 @@ fn small_log(alloc: Global) -> Result<TraceSet, AddError> {
 }
 
 /// Writes the inferred model, reads it back and checks it.
-fn recheck(alloc: Global, bench: &Workbench) -> Option<Verdict>
+fn recheck(alloc: Global, bench: &Workbench) -> Result<Verdict, AllocError>
     requires { (bench.now).stage ≡ Stage.Inferred }
 {
     models_are_shaped();
     log_is_typed(bench.traces());
-    let model = bench.model(alloc).ok()?;
+    let model = bench.model(alloc)?;
     let written = write_model(alloc, &model);
     drop(model);
-    let text = written.ok()?;
-    let read = read_model(alloc, text.as_slice()).ok()?;
-    let verdict = check(alloc, &read, bench.traces());
-    drop(read);
-    verdict.ok()
+    let text = written?;
+    // What was written reads back, so only memory can be missing.
+    match read_model(alloc, text.as_slice()) {
+        Ok(read) => check(alloc, &read, bench.traces()),
+        Err(_) => Err(AllocError),
+    }
 }
 
 /// Infers the model of the log and checks it. None stands for a limit, or for too little memory.
@@ -48,10 +49,12 @@ fn verdict<L: Ledger>(alloc: Global, blank: Blank) -> Option<Verdict>
     requires stands { 0 < blank.parts }
 {
     let traces = small_log(alloc).ok()?;
-    let mut bench = Workbench::open(alloc, traces).ok()?;
+    let Ok(mut bench) = Workbench::open(alloc, traces) else {
+        return None;
+    };
     let mut steps = Steps::<L>::open(blank);
     let verdict = match bench.infer(&mut steps) {
-        Ok(()) => recheck(alloc, &bench),
+        Ok(()) => recheck(alloc, &bench).ok(),
         Err(_) => None,
     };
     drop(bench);
