@@ -444,7 +444,7 @@ COMMANDS = {"invariants": "Invariants", "graph": "Graph", "infer": "Infer", "che
 
 
 def options_of(words):
-    """What the words give, by its name; None where they can't be read. An option of a value may be there twice."""
+    """What the words give, by its name; None where they can't be read. An option may be there once."""
     given = {"flags": [], "operands": []}
     words = list(words)
     while words:
@@ -453,11 +453,11 @@ def options_of(words):
             given["operands"] += words
             break
         if word in ("-e", "-m", "-n"):
-            if not words or (len(words[0]) > 1 and words[0].startswith("-")):
+            if word in given or not words or (len(words[0]) > 1 and words[0].startswith("-")):
                 return None
             given[word] = words.pop(0)
         elif len(word) > 1 and word.startswith("-"):
-            if word not in ("-p", "-i", "-j") or word in given["flags"]:
+            if word not in ("-p", "-i", "-j", "-r") or word in given["flags"]:
                 return None
             given["flags"].append(word)
         else:
@@ -474,6 +474,8 @@ def task(words):
     rules, model, flags = given.get("-e"), given.get("-m"), given["flags"]
     if command not in COMMANDS or rules == "" or model == "" or "" in files:
         return None
+    if "-r" in flags and command != "invariants":
+        return None
     name = COMMANDS[command]
     if command == "graph" and model is not None:
         if rules is not None or flags or files:
@@ -482,9 +484,13 @@ def task(words):
     elif (command == "check") != (model is not None) or (rules is not None) == ("-p" in flags):
         return None
     form = "Plain" if "-p" in flags else None if rules is None else "Rules(%s)" % quoted(rules)
-    shown = name, some(form), some(None if model is None else quoted(model)), truth("-i" in flags), truth("-j" in flags)
+    shown = name, some(form), some(None if model is None else quoted(model))
+    on = tuple(truth(flag in flags) for flag in ("-i", "-j", "-r"))
     listed = ", ".join(quoted(file) for file in files)
-    return "Task { command: %s, form: %s, model: %s, ignore: %s, join: %s, number: None, files: [%s] }" % (shown + (listed,))
+    return (
+        "Task { command: %s, form: %s, model: %s, ignore: %s, join: %s, number: None, interrupted: %s, files: [%s] }"
+        % (shown + on + (listed,))
+    )
 
 
 def arguments(parts):

@@ -8,7 +8,7 @@ ghost use Rattle.count_miner.specs.Counts.{cell, interrupted_count};
 use invariants::Kinds;
 use limits::FIRST_TYPE;
 
-/// Adds one to the count of each type that comes sooner than so many events from the end.
+/// Adds one to the count of each type whose next event is more than `limit` events from the end, and so comes sooner.
 fn add_sooner(row: &mut [u32], next: &[u32], limit: u32)
     requires within { length row.old ≤ length next.now }
     requires room { (k : ℕ) → k < length row.old → slice_index row.old k + 1 < 2 ^ 32 }

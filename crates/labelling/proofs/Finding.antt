@@ -3,7 +3,7 @@ use Rattle.std.proofs.Common.{◌≡◌, ◌≢◌, ◌↔◌, ℕ, ◌<◌, ◌
 use Rattle.std.proofs.lemmas.Bool.{cases_eq, or_cases, and_parts, or_left, or_right, and_from, eqb-true, eq-eqb}
 use Rattle.limits.specs.declared.TheConstants.{MAX_PARTITIONS, INITIAL, TERMINAL}
 use Rattle.invariants.specs.declared.Kind.{Kind}
-use Rattle.invariants.specs.declared.Kind.TheVariants.{AF, NF, AP}
+use Rattle.invariants.specs.declared.Kind.TheVariants.{AF, NF, AP, IB}
 use Rattle.invariants.specs.declared.Invariant.{Invariant}
 use Rattle.invariants.specs.Monitors.{step, bad_of}
 use Rattle.partition_model.specs.Graphs.{Graph}
@@ -148,6 +148,7 @@ pub bad_low : (kind : Kind) → bad_of kind < STATES
 bad_low AF = omega arith
 bad_low NF = omega arith
 bad_low AP = omega arith
+bad_low IB = omega arith
 
 -- those are noted for which the bad state is found at TERMINAL
 pub noted : (bound : ℕ) (invs : List Invariant) (old new : List (List Bool)) → AreMarked bound invs old

@@ -5,7 +5,7 @@ use Rattle.std.proofs.lemmas.List.{get_or_default, get_or-set_same, get_or-set_o
 use Rattle.std.proofs.lemmas.List.Elements.{All-contains}
 use Rattle.limits.specs.declared.TheConstants.{MAX_PARTITIONS, INITIAL}
 use Rattle.invariants.specs.declared.Kind.{Kind}
-use Rattle.invariants.specs.declared.Kind.TheVariants.{AF, NF, AP}
+use Rattle.invariants.specs.declared.Kind.TheVariants.{AF, NF, AP, IB}
 use Rattle.invariants.specs.declared.Invariant.{Invariant}
 use Rattle.invariants.specs.Monitors.{step, step_of, run, run_of}
 use Rattle.invariants.proofs.Agree.{step-le}
@@ -165,11 +165,18 @@ ap_last true false = refl
 ap_last false true = refl
 ap_last false false = refl
 
+ib_last : (u v : Bool) → ◌≡◌ {A = ℕ} (cond (u && false) 2 (cond (u && false) 1 (cond (v && false) 0 2))) 2
+ib_last true true = refl
+ib_last true false = refl
+ib_last false true = refl
+ib_last false false = refl
+
 -- and no monitor leaves it
 last_of : (kind : Kind) (a b x : ℕ) (w : List ℕ) → run_of kind a b 0 w ≡ LAST_STATE → step_of kind a b LAST_STATE x ≡ LAST_STATE
 last_of AF a b x w e = absurd (omega (arith, e, af_run a b 0 w (omega arith)))
 last_of NF a b x w e = nf_last (x == b) (x == a)
 last_of AP a b x w e = ap_last (x == b) (x == a)
+last_of IB a b x w e = ib_last (x == a) (x == b)
 
 -- where the last state is reached, no step leads out of it
 pub last_stays : (inv : Invariant) (g : Graph) (p s x : ℕ) → Reached inv g p s → s ≡ LAST_STATE → step inv s x ≡ LAST_STATE

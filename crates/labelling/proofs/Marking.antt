@@ -3,7 +3,7 @@ use Rattle.std.proofs.Common.{◌≡◌, ◌≢◌, ℕ, ◌+◌, ◌*◌, ◌/�
 use Rattle.std.proofs.lemmas.List.{get_or-set_same, get_or-set_other}
 use Rattle.std.proofs.lemmas.Bool.{cases_eq, cases_lt, ne_eqb}
 use Rattle.invariants.specs.declared.Kind.{Kind}
-use Rattle.invariants.specs.declared.Kind.TheVariants.{AF, NF, AP}
+use Rattle.invariants.specs.declared.Kind.TheVariants.{AF, NF, AP, IB}
 use Rattle.invariants.specs.declared.Invariant.{Invariant}
 use Rattle.invariants.specs.Monitors.{step, step_of, is_bad}
 use Rattle.bit_rows.specs.Tables.{row_at, is_set, HasShape}
@@ -38,6 +38,7 @@ step_other_of : (kind : Kind) (a b s x : ℕ) → x ≢ a → x ≢ b → step_o
 step_other_of AF a b s x na nb = let e : eqb x a ≡ false = ne_eqb x a na in let f : eqb x b ≡ false = ne_eqb x b nb in rw (e, f) refl
 step_other_of NF a b s x na nb = let e : eqb x a ≡ false = ne_eqb x a na in let f : eqb x b ≡ false = ne_eqb x b nb in rw (e, f) refl
 step_other_of AP a b s x na nb = let e : eqb x a ≡ false = ne_eqb x a na in let f : eqb x b ≡ false = ne_eqb x b nb in rw (e, f) refl
+step_other_of IB a b s x na nb = let e : eqb x a ≡ false = ne_eqb x a na in let f : eqb x b ≡ false = ne_eqb x b nb in rw (e, f) refl
 
 -- a type that an invariant does not name leaves the state
 pub step_other : (inv : Invariant) (s x : ℕ) → x ≢ inv.a → x ≢ inv.b → step inv s x ≡ s

@@ -96,7 +96,7 @@ impl Entry for Merge {
     }
 }
 
-/// The kind with the name that the value is. An invariant of kind IB is no candidate of a model, which the rule of invariants refuses.
+/// The kind with the name that the value is. `IB` is read too, and then refused by the rule of invariants, since a model lists three kinds.
 #[tactic(auto, unfolding(crate::specs::Entries::kind_in))]
 fn kind_of(value: &Value) -> Option<Kind>
     ensures { result ≡ kind_in (view value.now) }
