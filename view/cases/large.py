@@ -8,7 +8,7 @@ from cases.browser import HERE, Keys, check_closed, make, same, store
 
 OPENS_WITHIN = 3000  # milliseconds by the clock, for the page of the large model
 OWN_WORK = 1000  # milliseconds of the processor that it may take, however busy the machine is
-BUSY = 5  # processes that wait for each processor, from which on the clock says nothing
+BUSY = 2  # times longer by the clock than by the processor: beyond this the clock says nothing of the page
 CLICK_WORK = 500  # milliseconds of the processor for a click
 KINDS, LANES = 24, (38, 37)
 
@@ -78,13 +78,21 @@ WAITS = """const root = document.documentElement, first = document.scripts[0], g
     return [before, shown, hidden]"""
 
 
+def slowness():
+    """How many times longer by the clock than by the processor this script works now: 1 on an idle machine."""
+    passed, own = time.monotonic(), time.process_time()
+    while time.process_time() < own + 0.2:
+        pass
+    return (time.monotonic() - passed) / 0.2
+
+
 def check_opening(page, made):
     """Opens a page five times. The middle one counts: neither the luckiest nor the one that met a busy machine."""
-    times = [opening(page, made) for _ in range(5)]
-    passed, own = (sorted(column)[2] for column in zip(*times))
-    print("        opened in " + ", ".join(f"{z:.0f} ms ({o:.0f} of the processor)" for z, o in times)
-          + f"; load {os.getloadavg()[0]:.1f} on {os.cpu_count()} processors")
-    if os.getloadavg()[0] <= BUSY * os.cpu_count():
+    times = [(*opening(page, made), slowness()) for _ in range(5)]
+    passed, own, slow = (sorted(column)[2] for column in zip(*times))
+    print("        opened in " + ", ".join(f"{z:.0f} ms ({o:.0f} of the processor)" for z, o, _ in times)
+          + f"; work of this script takes {slow:.1f} times longer than on an idle machine")
+    if slow <= BUSY:
         same("large: it opens within 3 s by the clock, the middle one of five", passed <= OPENS_WITHIN, True)
     else:
         print("        the machine is so busy that the clock says nothing of the page: that case is left out")
