@@ -30,7 +30,7 @@ pub struct Standing<S> {
     preceded: Vec<S>,
     /// The types that every trace has.
     everywhere: S,
-    /// For each type, those that stand between any two events of it.
+    /// For each type, those that stand between any two events of it in every trace, where IB is asked for; else all.
     between: Vec<S>,
     /// The types of the events that were read of a trace from its end, each once, the soonest first.
     coming: Vec<u16>,
