@@ -1,6 +1,6 @@
 //! Temporal invariants between event types: what they are, which of them a log is asked for, and how a machine reads a word for one.
 //!
-//! The invariants are those of Beschastnikh, Brun, Schneider, Sloan and Ernst (ESEC/FSE 2011).
+//! AlwaysFollowedBy, NeverFollowedBy and AlwaysPrecedes are those of Beschastnikh, Brun, Schneider, Sloan and Ernst (ESEC/FSE 2011).
 //! A trace is read as a word of type numbers: 0 is INITIAL, 1 is TERMINAL, and a log with T types has the numbers 2 to T + 1 for them (crate `limits` names the three numbers).
 //! `Seq` and `Text` are the lists and the texts of public data, and the records are what a model says. No call here takes memory.
 #![tactic(auto)]
