@@ -1,13 +1,16 @@
 use Rattle.std.proofs.Common.{subst, sym}
 use Rattle.command_line.specs.Task.{task_held}
 use Rattle.command_line.specs.declared.table.Command.{Command}
+use Rattle.invariants.specs.declared.Kinds.{Kinds}
 use Rattle.synoptic_cli.specs.Commands.{AnswersBy}
+use Rattle.synoptic_cli.specs.Commands.PrintInvariants as print_invariants
 use Rattle.synoptic_cli.specs.Halts.{Gives}
 use Rattle.synoptic_cli.proofs.commands.answer.Goals as goal
 
 pub returns-in-Invariants : goal.returns-in-Invariants
 returns-in-Invariants c =
-    subst (λ (command : Command). Gives (AnswersBy command (task_held c.args.task.now) c.args.material) c.answer.result) (sym c.in-Invariants.is) c.answer.ensures
+    subst (λ (command : Command). Gives (AnswersBy command (task_held c.args.task.now) c.args.material) c.answer.result) (sym c.in-Invariants.is)
+    (subst (λ (kinds : Kinds). Gives (print_invariants.Answers kinds c.args.material) c.answer.result) c.kinds_of.ensures c.answer.ensures)
 
 pub returns-in-Graph : goal.returns-in-Graph
 returns-in-Graph c =
