@@ -171,9 +171,8 @@ def numbered(parts):
 
 
 def mine(parts):
-    kinds, _, first = parts[0].partition(" ")
-    kinds = int(kinds)
-    types, traces = numbered([first] + parts[1:])
+    kinds = int(parts[0])
+    types, traces = numbered(parts[1:])
     if len(types) > 20:
         found = mined_by_sets(kinds, types, traces)
     else:
@@ -215,13 +214,13 @@ def random_logs(words):
         traces = []
         for types in (4, 1 + number % 4, 4):
             traces.append(" ".join("abcd"[below(types)] for _ in range(below(limit))))
-        cases.append(["mine", str(kinds), "|".join(traces)])
+        cases.append(["mine", "|".join([str(kinds)] + traces)])
     return cases
 
 
 def chain(words):
     """`chain KINDS COUNT`: a trace of so many types, each of them once."""
-    return [["mine", words[0]] + [str(number) for number in range(int(words[1]))]]
+    return [["mine", words[0], "|"] + [str(number) for number in range(int(words[1]))]]
 
 
 # Reports.

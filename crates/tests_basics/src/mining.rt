@@ -81,9 +81,9 @@ fn both(alloc: Global, first: String, second: String) -> Result<String, AllocErr
     format!(in alloc; "{first}\n{second}")
 }
 
-/// `mine KINDS TRACE|TRACE..`: what either miner finds.
+/// `mine KINDS|TRACE|TRACE..`: what either miner finds.
 pub fn mined(alloc: Global, words: &str) -> Result<String, AllocError> {
-    let (number_of_kinds, log) = halves(words, ' ');
+    let (number_of_kinds, log) = halves(words, '|');
     let kinds = kinds(number_of_kinds);
     let log = log_of(alloc, log)?;
     let counted = listed(alloc, mine(alloc, kinds, &log.traces));
