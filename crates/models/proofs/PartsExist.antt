@@ -4,7 +4,7 @@ use Rattle.std.proofs.lemmas.Bool.{cases_eq, or_cases}
 use Rattle.std.proofs.lemmas.Option.{none-some}
 use Rattle.std.specs.List.{AllByRecursion}
 use Rattle.invariants.specs.declared.Kind.{Kind}
-use Rattle.invariants.specs.declared.Kind.TheVariants.{AF, NF, AP}
+use Rattle.invariants.specs.declared.Kind.TheVariants.{AF, NF, AP, IB}
 use Rattle.invariants.specs.declared.Invariant.{Invariant}
 use Rattle.invariants.specs.declared.records.Partition.{Partition}
 use Rattle.invariants.specs.declared.records.Edge.{Edge}
@@ -33,9 +33,21 @@ use Rattle.model_shape.specs.Shapes.{listing_of, listed_type, is_listed}
 -- two kinds are the same or not
 kind-or-not : (a b : Kind) → OrNot (a ≡ b)
 kind-or-not AF AF = inl refl
+kind-or-not AF NF = inr (λ e. cc e)
+kind-or-not AF AP = inr (λ e. cc e)
+kind-or-not AF IB = inr (λ e. cc e)
+kind-or-not NF AF = inr (λ e. cc e)
 kind-or-not NF NF = inl refl
+kind-or-not NF AP = inr (λ e. cc e)
+kind-or-not NF IB = inr (λ e. cc e)
+kind-or-not AP AF = inr (λ e. cc e)
+kind-or-not AP NF = inr (λ e. cc e)
 kind-or-not AP AP = inl refl
-kind-or-not a b = inr (λ e. cc e)
+kind-or-not AP IB = inr (λ e. cc e)
+kind-or-not IB AF = inr (λ e. cc e)
+kind-or-not IB NF = inr (λ e. cc e)
+kind-or-not IB AP = inr (λ e. cc e)
+kind-or-not IB IB = inl refl
 
 -- invariants of the same kind and types are the same
 same-invariant : (x y : Invariant) → x.kind ≡ y.kind → x.a ≡ y.a → x.b ≡ y.b → x ≡ y

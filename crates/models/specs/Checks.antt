@@ -1,6 +1,7 @@
 -- When a model is valid for a log, and the first part in which it fails.
 use Rattle.std.specs.Prelude.{◌≡◌, ◌≢◌, ◌↔◌, ℕ, zero, suc, ◌<◌, List, [], ◌∷◌, map, length, slice_get, Some, Contains}
 use Rattle.std.specs.List.{AllByRecursion}
+use Rattle.invariants.specs.declared.Kinds.TheVariants.{Three}
 use Rattle.invariants.specs.declared.Invariant.{Invariant}
 use Rattle.invariants.specs.declared.records.Listed.{Listed}
 use Rattle.invariants.specs.declared.records.Block.{Block}
@@ -76,9 +77,9 @@ IsFirstPart m log (part.Block p q) =
 pub record Promises (m : Model) (log : TypedWords) : Type 0 where
   -- its types are those of the log
   pub types : m.types ≡ log.types
-  -- it lists exactly the candidates that hold, by places, of every word
+  -- it lists exactly the candidates of three kinds that hold, by places, of every word
   pub listed : (inv : Invariant)
-      → Contains (listing_of m) inv ↔ IsListed (length log.types) (map with_ends log.words) inv
+      → Contains (listing_of m) inv ↔ IsListed Three (length log.types) (map with_ends log.words) inv
   -- in the order of the candidates, none twice
   pub order : (j k i n : ℕ) (first second : Invariant)
       → slice_get (listing_of m) j ≡ Some first → slice_get (listing_of m) k ≡ Some second
