@@ -6,6 +6,7 @@ pub mod Listed
 pub mod Same
 pub mod Starting
 pub mod Counting
+pub mod Marking
 pub mod Stitched
 pub mod Known
 pub mod Following

@@ -20,7 +20,7 @@ use Rattle.partition_model.proofs.MergedGraph.{merge_is_merged}
 use Rattle.partition_model.proofs.Passes.{live-member, member-live}
 use Rattle.partition_model.proofs.Runs.{split-typed, split-In}
 use Rattle.replay_check.specs.Laid.{laid, moved, HaveIdsBelow}
-use Rattle.replay_check.specs.Shown.{Shows, Knows, HasTypes, HasCounts, count_at, graph_in, named_by}
+use Rattle.replay_check.specs.Shown.{Shows, Knows, HasTypes, HasEdges, graph_in, named_by}
 use Rattle.replay_check.proofs.Laying.{laid-moved, high, AreHigh}
 
 -- ---- ids
@@ -64,27 +64,24 @@ breaks-to g k m z same inv (x ∷ xs) a b =
     ((b.0.0, i.0), λ h. b.1 (subst (λ (w : List ℕ). Holds inv w) (sym e) h))
 
 -- what breaks an invariant in the graph of the tables breaks it in that of the assignment, and no more
-pub breaks-same : (h : Assignment) (types counts : List ℕ) → IsTyped h → HasTypes h types → HasCounts h counts → (inv : Invariant) (path : List ℕ)
-    → AllByRecursion (λ p. p < MAX_PARTITIONS) path → Breaks (graph_in counts types) inv path ↔ Breaks (G h) inv path
-breaks-same h types counts typed t c inv path a = (
-  breaks-to (graph_in counts types) (G h) MAX_PARTITIONS start there inv path a,
-  breaks-to (G h) (graph_in counts types) MAX_PARTITIONS (sym start) back inv path a,
+pub breaks-same : (h : Assignment) (types : List ℕ) (rows : List (List Bool)) → IsTyped h → HasTypes h types → HasEdges h rows → (inv : Invariant) (path : List ℕ)
+    → AllByRecursion (λ p. p < MAX_PARTITIONS) path → Breaks (graph_in rows types) inv path ↔ Breaks (G h) inv path
+breaks-same h types rows typed t c inv path a = (
+  breaks-to (graph_in rows types) (G h) MAX_PARTITIONS start there inv path a,
+  breaks-to (G h) (graph_in rows types) MAX_PARTITIONS (sym start) back inv path a,
 )
   where
     start : get_or types 0 0 ≡ type_of h 0
     start = t 0 refl
 
-    same : (p q : ℕ) → p < MAX_PARTITIONS → q < MAX_PARTITIONS → nat_lt 0 (count_at counts p q) ≡ (G h).edge p q
-    same p q b d = ap (λ n. nat_lt 0 n) (c p q b d)
-
     kind : (p q : ℕ) → (G h).edge p q ≡ true → get_or types q 0 ≡ type_of h q
     kind p q e = t q ((graphs_are_formed h typed).between p q e).1
 
-    there : (p q : ℕ) → p < MAX_PARTITIONS → q < MAX_PARTITIONS → (graph_in counts types).edge p q ≡ true → ((G h).edge p q ≡ true) × ((graph_in counts types).typ q ≡ (G h).typ q)
-    there p q b d e = let f : (G h).edge p q ≡ true = sym (same p q b d) ∙ e in (f, kind p q f)
+    there : (p q : ℕ) → p < MAX_PARTITIONS → q < MAX_PARTITIONS → (graph_in rows types).edge p q ≡ true → ((G h).edge p q ≡ true) × ((graph_in rows types).typ q ≡ (G h).typ q)
+    there p q b d e = let f : (G h).edge p q ≡ true = sym (c p q b) ∙ e in (f, kind p q f)
 
-    back : (p q : ℕ) → p < MAX_PARTITIONS → q < MAX_PARTITIONS → (G h).edge p q ≡ true → ((graph_in counts types).edge p q ≡ true) × ((G h).typ q ≡ (graph_in counts types).typ q)
-    back p q b d e = (same p q b d ∙ e, sym (kind p q e))
+    back : (p q : ℕ) → p < MAX_PARTITIONS → q < MAX_PARTITIONS → (G h).edge p q ≡ true → ((graph_in rows types).edge p q ≡ true) × ((G h).typ q ≡ (graph_in rows types).typ q)
+    back p q b d e = (c p q b ∙ e, sym (kind p q e))
 
 -- ---- a split
 

@@ -1,6 +1,7 @@
 -- What the lists of a replay show of an assignment.
 use Rattle.std.specs.Prelude.{ℕ, ◌≡◌, ◌+◌, ◌*◌, ◌<◌, ◌≤◌, nat_lt, Bool, true, false, List, slice_index, slice_index_or}
 use Rattle.limits.specs.declared.TheConstants.{FIRST_TYPE, MAX_PARTITIONS}
+use Rattle.bit_rows.specs.Tables.{row_at, is_set}
 use Rattle.partition_model.specs.Graphs.{Graph}
 use Rattle.partition_model.specs.Assignments.{Assignment, IsTyped, is_live, type_of, size, edge_count, renamed}
 use Rattle.replay_check.specs.Laid.{laid, HaveIdsBelow}
@@ -28,14 +29,22 @@ pub record Knows (h : Assignment) (live : List Bool) (types : List ℕ) : Type 0
 abbrev pub count_at : List ℕ → ℕ → ℕ → ℕ
 count_at counts p q = slice_index counts (p * MAX_PARTITIONS + q)
 
--- the graph that counts of edges and types of ids show
-abbrev pub graph_in : List ℕ → List ℕ → Graph
-graph_in counts types =
+-- whether the row of an id has the one that follows it
+abbrev pub has_edge : List (List Bool) → ℕ → ℕ → Bool
+has_edge rows p q = is_set (row_at rows p) q
+
+-- the graph that rows of edges and types of ids show
+abbrev pub graph_in : List (List Bool) → List ℕ → Graph
+graph_in rows types =
     record {
       typ = λ p. slice_index types p;
-      edge = λ p q. nat_lt 0 (count_at counts p q);
+      edge = λ p q. has_edge rows p q;
       listed = λ p. nat_lt p MAX_PARTITIONS;
     }
+
+-- the edges of an assignment
+abbrev pub HasEdges : Assignment → List (List Bool) → Type 0
+HasEdges h rows = (p q : ℕ) → p < MAX_PARTITIONS → has_edge rows p q ≡ nat_lt 0 (edge_count h p q)
 
 -- the counts of the edges of an assignment
 abbrev pub HasCounts : Assignment → List ℕ → Type 0

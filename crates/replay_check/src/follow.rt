@@ -8,6 +8,7 @@ ghost use Rattle.replay_check.specs.Shown.{Shows};
 
 use crate::answer::Replay;
 use crate::counts::EdgeCounts;
+use crate::edges::EdgeRows;
 use crate::graph::{has_graph, live_ids};
 use crate::ids::{own_places, rename};
 use crate::merges::first_wrong_merge;
@@ -65,10 +66,11 @@ pub fn follow(
     ensures { IfOk result (λ answer. (h : Assignment) → Shows h first ids.old types.old
         → IsFollowed model.now h first answer) }
 {
-    let mut counts = EdgeCounts::make(alloc)?;
-    if let Some(k) = first_wrong_split(model, first, ids, types, &mut counts) {
+    let mut edges = EdgeRows::make(alloc)?;
+    if let Some(k) = first_wrong_split(model, first, ids, types, &mut edges) {
         return Ok(Replay::No(ReplayPart::Split(k)));
     }
+    let mut counts = EdgeCounts::make(alloc)?;
     let answer = follow_merges(alloc, model, ids, types, &mut counts)?;
     Ok(answer)
 }

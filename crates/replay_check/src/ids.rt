@@ -24,7 +24,10 @@ pub fn lay_ids(alloc: Global, traces: &TraceSet) -> Result<Vec<u16>, AllocError>
     ensures below { IfOk result (λ ids.
         HaveIdsBelow (length (traces.now).types + FIRST_TYPE) (by_type (typed_words traces.now).words)) }
 {
+    // Called for its contract alone, which says how many events there are at most: so the ids are few.
     let _events = traces.event_count();
+
+    // Called for its contract alone, which says how many types there are at most: so each id is in range.
     let _types = traces.types();
     let mut ids = Vec::new(alloc);
     for t in 0..traces.trace_count() {

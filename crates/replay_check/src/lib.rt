@@ -1,6 +1,6 @@
 //! Whether the history of a model is justified: its splits and its merges, followed one after another from the first graph of a log, are each permitted in their turn and lead to the graph of the model.
 //!
-//! Nothing here infers. The ids of all events stand in one list, trace behind trace; a split gives some of them a new id, and the merges rename ids. At the end partitions and edges are counted once and compared with those of the model.
+//! Nothing here infers. The ids of all events stand in one list, trace behind trace; a split reads which edges there are from rows of bits and gives some events a new id, and the merges rename ids. At the end partitions and edges are counted once and compared with those of the model.
 #![tactic(auto)]
 
 ghost use Rattle.std.specs.Prelude.{IfOk};
@@ -10,6 +10,7 @@ ghost use Rattle.replay_check.specs.Answers.{IsReplay};
 
 mod answer;
 mod counts;
+mod edges;
 mod follow;
 mod graph;
 mod ids;

@@ -9,5 +9,5 @@ invariant-loop-id l =
     record {
       bound : l.state ≤ 2;
       within : l.before < MAX_PARTITIONS;
-      follows : IsFollowing (graph_in l.counts.counts.items l.types) l.inv l.path (drop l.id-index l.id-items) l.before l.state;
+      follows : IsFollowing (graph_in l.edges.rows l.types) l.inv l.path (drop l.id-index l.id-items) l.before l.state;
     }
