@@ -53,6 +53,8 @@ def check_sentences(page, room):
         page.after_walk()
         same(f"sentences: block {at + 1}", page.text("#panel-partition .sentence"),
              f"c @4 and c @5 are two, because in the log {why}{IF_ONE}{breach}")
+        same(f"sentences: the caption of block {at + 1}, whose path the graph has already or would not have as one",
+             page.text("#caption"), "Marked: the path of c @4 and c @5 as one. ")
         same(f"sentences: the path of block {at + 1}", page.texts("#panel-partition .path li"),
              [STEPS[p] for p in PATHS[at]])
     page.click("#tab-steps")
@@ -64,3 +66,27 @@ def check_sentences(page, room):
         same(f"sentences: where it ends, merge {at + 1}", page.text(row + "div p"), said)
         same(f"sentences: what has no edge, merge {at + 1}", page.names(".node.second"), lacks)
     check_closed(page, "sentences")
+    check_around(page, room)
+
+
+def around_model():
+    """Five types lead to one partition of a sixth, and none to the other. It is not the model of a log."""
+    before, path = range(2, 7), [0, 2, 7, 1]
+    labels = "1" * 9
+    return {
+        "types": ["v", "w", "x", "y", "z", "c"], "version": 1,
+        "partitions": [[0, 0, 16], [1, 1, 16]] + [[t, t, t] for t in before] + [[7, 7, 20], [8, 7, 1]],
+        "edges": [[0, t, t] for t in before] + [[0, 8, 1]] + [[t, 7, t] for t in before] + [[7, 1, 20], [8, 1, 1]],
+        "invariants": [["AF", 0, 7, labels]], "blocks": [[7, 8, 0, path]], "splits": [[0, 2, path]], "merges": [],
+    }
+
+
+def check_around(page, room):
+    page.open(make(room, "around.html", store(room, "around.model", around_model())))
+    page.click("#hint button")
+    page.after_walk()
+    same("sentences: of many partitions before one of the two, three are named", page.text("#panel-partition .around"),
+         "c @7 is reached from z (6 of its 20 events), y (5 of 20), x (4 of 20) and 2 others (5 of 20), "
+         "and leads to TERMINAL alone (20 of 20). "
+         "c @8 is reached from INITIAL alone (1 of its 1 event), and leads to TERMINAL alone (1 of 1).")
+    check_closed(page, "around")

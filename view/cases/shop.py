@@ -14,6 +14,13 @@ def check_graph(page):
     same("shop: its facts", page.text("#facts"),
          "12 traces, 39 events, 7 types, 10 partitions, 14 edges, 41 invariants, 2 splits, 1 merge, 1 block.")
     labels = "6 of 12,6 of 12,3 of 6,3 of 6,3 of 5,2 of 5,8 of 8,2 of 6,2 of 6,2 of 6,5 of 5,4 of 4,3 of 3,2 of 2"
+    same("shop: what splits, merges and blocks are", [
+        (title.split()[1], title.split(",")[0]) for title in page.js(
+            "return [...document.querySelectorAll('#facts [title]')].map(x => x.title)")], [
+        ("split", "A split divided a partition in two"),
+        ("merge", "A merge made two partitions of one type one again"),
+        ("block", "A block is the reason why two partitions of one type are not one: "
+                  "a path that the graph would have if they were")])
     same("shop: labels of edges", sorted(page.texts(".edge text")), sorted(labels.split(",")))
     wide = page.js("return [...document.querySelectorAll('.edge .line')].map(x => x.getAttribute('stroke-width') * 1)")
     same("shop: an edge is as wide as its share", (wide[6] == max(wide), wide[0] > wide[7]), (True, True))
@@ -48,7 +55,14 @@ def check_search(page):
     same("shop: Enter shows the first of them", page.text("#panel-partition h3"), "cart @6")
     page.find("#search").send_keys(Keys.ENTER)
     same("shop: Enter shows the next", page.text("#panel-partition h3"), "cart @10")
-    page.choose("search", "")
+    for how, act in (("the button", lambda: page.click("#clear")),
+                     ("Escape", lambda: page.find("#frame").send_keys(Keys.ESCAPE))):
+        page.choose("search", "car")
+        found = page.count(".node.hit")
+        act()
+        same(f"shop: {how} clears the word and the frames of a search too", (
+            found, page.find("#search").get_property("value"), page.text("#found"), page.count(".node.hit")), (
+            2, "", "", 0))
 
 
 def check_slider(page):
@@ -77,6 +91,14 @@ SENTENCE = (
     "Some paths lead from cart @10 to the end with no checkout. If the two were one, the graph would have the path "
     "below, which no trace took. It breaks the invariant: it has login without a later checkout."
 )
+AROUND = (
+    "cart @6 is reached from offers (3 of its 5 events) and search (2 of 5), and leads to checkout alone (5 of 5). "
+    "cart @10 is reached from guest alone (2 of its 2 events), and leads to leave alone (2 of 2)."
+)
+CAPTION = (
+    "Marked: the path of cart @6 and cart @10 as one. No trace took this path: it would be possible if the two were "
+    "one. Its counts are of traces that take parts of it."
+)
 IN_SIGHT = """return [...document.querySelectorAll(arguments[0])].map(x => x.getBoundingClientRect())
     .every(box => box.top >= 0 && box.bottom <= innerHeight && box.left >= 0 && box.right <= innerWidth)"""
 
@@ -95,18 +117,23 @@ def check_first(page):
          "cart is two boxes in the graph, @6 and @10. Why two?")
     same("shop: it is in sight, with both carts and the sign between them", page.js(
         IN_SIGHT, "#hint button, #p6, #p10, .dash rect"), True)
+    top = page.js(TOPS, "#tabs")
     page.click("#hint button")
     page.after_walk()
     same("shop: the answer to it", (page.text("#panel-partition h3"), page.text("#panel-partition .sentence")), (
-        "Why two partitions of cart?", SENTENCE))
+        "Why two boxes (partitions) of cart?", SENTENCE))
     same("shop: the answer is in sight, with both carts", page.js(
         IN_SIGHT, ".sentence, #panel-partition .path, #p6, #p10"), True)
+    same("shop: so is the caption of its path, which moves nothing", (
+        page.js(IN_SIGHT, "#caption"), page.js(TOPS, "#tabs")), (True, top))
     resize(page, 1000, 480)
     page.click("#hint button")
     page.after_walk()
     same("shop: the answer is in sight in a low window too", page.js(IN_SIGHT, "#panel-partition h3, .sentence"), True)
     page.browser.execute_cdp_cmd("Emulation.clearDeviceMetricsOverride", {})
     page.click("#clear")
+    same("shop: at first it says what a count means",
+         "3 of 6 at an arrow means 3 of the 6 events of the box it leaves" in page.text("#panel-partition p"), True)
     same("shop: at first it says what is to click", page.texts("#panel-partition p")[1],
          "Click a box for its events, its edges and its invariants, "
          "or a dashed line for why the two partitions that it joins must stay two.")
@@ -116,11 +143,12 @@ def check_titles(page):
     ActionChains(page.browser).move_to_element(page.find("h1")).perform()
     page.open(page.js("return location.href"))
     before = page.count("#drawing .edge title, #drawing .node title")
-    for part in ("#p3 rect", "#e9 .line"):
+    for part in ("#p3 rect", "#e9 .line", "#e0 .line"):
         page.js("document.querySelector(arguments[0])"
                 "  .dispatchEvent(new PointerEvent('pointerover', {bubbles: true}))", part)
-    same("shop: titles come with the pointer", (before, page.texts("#p3 title, #e9 title")), (
-        0, ["guest → cart @10: 2 of 6", "search, partition 3, 5 events"]))
+    same("shop: titles come with the pointer", (before, page.texts("#p3 title, #e0 title, #e9 title")), (
+        0, ["INITIAL → login: 6 of the 12 traces", "guest → cart @10: 2 of the 6 events of the box it leaves",
+            "search, partition 3, 5 events"]))
 
 
 def check_why(page):
@@ -128,13 +156,24 @@ def check_why(page):
     page.click_drawn(".dash rect")
     page.after_walk()
     same("shop: why two carts, by the dashed line", page.text("#panel-partition .sentence"), SENTENCE)
+    same("shop: from where and to where each of them goes", page.text("#panel-partition .around"), AROUND)
     same("shop: the path of the block", page.texts("#panel-partition .path li"), [
         "INITIAL", "login", "search", "cart (@6 and @10 as one)", "leave", "TERMINAL"])
     same("shop: the path in the graph", page.names("#nodes .on"), ["p0", "p1", "p2", "p3", "p6", "p7", "p10"])
     same("shop: its edges", page.names("#edges .on"), ["e0", "e2", "e5", "e11", "e13"])
     same("shop: its steps are numbered", sorted(page.texts(".badge text")), ["1", "2", "3", "4", "4", "5", "6"])
     same("shop: two partitions are framed as one", (page.count(".as-one"), page.count(".dash.on")), (2, 1))
+    same("shop: the caption of the path", page.text("#caption"), CAPTION)
+    page.click("#tab-invariants")
+    same("shop: in another tab, the path keeps its marks and its caption", (
+        page.count("#edges .on"), page.text("#caption")), (5, CAPTION))
+    page.choose("least", "40")
+    same("shop: with hidden edges, the line of what the others carry stands below the caption", page.js(TALL), True)
+    page.choose("least", "0")
+    same("shop: with all edges, it makes room for the caption", page.js(TALL), False)
     page.click("#clear")
+    same("shop: without marks there is no caption", (page.text("#caption"), page.js(TALL)), ("", True))
+    check_running(page)
     page.click_drawn("#p10 rect")
     page.after_walk()
     same("shop: why two carts, by a cart", page.text("#panel-partition .sentence"), SENTENCE)
@@ -142,6 +181,33 @@ def check_why(page):
     page.click("#panel-partition .again")
     page.after_walk()
     same("shop: its path runs again", page.count("#edges .on"), 5)
+
+
+SCROLL = "document.querySelector(arguments[0]).scrollIntoView({block: 'nearest'})"
+TOPS = "return [...document.querySelectorAll(arguments[0])].map(x => x.getBoundingClientRect().top)"
+TALL = "return document.getElementById('carried').clientHeight > 9"
+# A click, and at once what is there: the button and whether it takes clicks, what is told after a click at it, and how
+# much the texts of three boxes are dimmed, of which the last one is on no path yet.
+AT_ONCE = """document.querySelector(arguments[0]).dispatchEvent(new MouseEvent('click', {bubbles: true}));
+    const again = document.querySelector('.again'), told = document.getElementById('told');
+    const found = [again.textContent, again.getAttribute('aria-disabled')], before = told.textContent;
+    again.click();
+    return [...found, told.textContent === before, ...['p6', 'p10', 'p7'].map(
+        x => getComputedStyle(document.querySelector('#' + x + ' text')).fillOpacity)]"""
+
+
+def check_running(page):
+    """While a path runs, its button says so, and the two partitions of the question are not dimmed."""
+    for name, wanted in (("a cart", "#p10"), ("the dashed line", ".dash"), ("the question", "#hint button")):
+        same(f"shop: while the path runs, after a click at {name}", page.js(AT_ONCE, wanted), [
+            "running", "true", True, "1", "1", "0.5"])
+    page.after_walk()
+    same("shop: when the path has ended, it can be run again", page.js(
+        "const again = document.querySelector('.again');"
+        "return [again.textContent, again.getAttribute('aria-disabled')]"), ["run the path again", None])
+    page.click("#panel-partition .again")
+    page.click("#clear")
+    same("shop: nor does it run when the marks are cleared", page.count(".walking, [aria-disabled]"), 0)
 
 
 def check_invariants(page):
@@ -179,10 +245,22 @@ def check_steps(page):
          "search @9 was merged into @3, because no invariant is lost if the two are one. "
          "A path could only show a loss, so the file has none for a merge. "
          "Step 1 had made @9: see how far its path comes now")
+    for at in range(3):
+        page.js(SCROLL, f"#panel-steps > ol > li:nth-child({at + 1})")
+        tops = page.js(TOPS, "#panel-steps .step")
+        page.js("document.querySelectorAll('#panel-steps .step')[arguments[0]].click()", at)
+        page.after_walk()
+        path = f"#panel-steps > ol > li:nth-child({at + 1}) .path"
+        same(f"shop: the path of step {at + 1} moves no button, and is in sight", (
+            page.js(TOPS, "#panel-steps .step"), page.js(IN_SIGHT, path)), (tops, True))
+    same("shop: the caption of a merge", page.text("#caption"),
+         "Marked: the path of step 1, as far as the graph has it now.")
     page.click("#panel-steps .step")
     page.after_walk()
-    same("shop: the path of the first split, with what was one then", page.texts("#panel-steps .path li"), [
-        "INITIAL", "login", "search", "cart (now @6 and @10)", "leave", "TERMINAL"])
+    same("shop: the caption of a split", page.text("#caption"), "Marked: the path of step 1. "
+         "No trace took this path: the graph had it before that step.")
+    same("shop: the path of the first split, with what was one then", page.texts("#panel-steps .path")[:1], [
+        "INITIALloginsearchcart (now @6 and @10)leaveTERMINAL"])
     same("shop: this path in the graph", page.names("#nodes .on"), ["p0", "p1", "p2", "p3", "p6", "p7", "p10"])
     page.js("document.querySelectorAll('#panel-steps .step')[2].click()")
     page.after_walk()
@@ -207,6 +285,7 @@ def check_paths(page):
     page.js("document.querySelectorAll('#panel-paths button.taken')[4].click()")
     page.after_walk()
     same("shop: a path in the graph", page.names("#edges .on"), ["e1", "e8", "e11"])
+    same("shop: the caption of a path of traces", page.text("#caption"), "Marked: a path that 2 traces take.")
 
 
 def check_keyboard(page):
@@ -252,7 +331,8 @@ def check_said(page):
     page.click_drawn("#p3 rect")
     tells("a partition", "search: All 5 events of its type.")
     page.click_drawn(".dash rect")
-    tells("why two", SENTENCE)
+    tells("why two", SENTENCE + " " + AROUND)
+    tells("whose path is marked", CAPTION)
     page.click("#panel-partition .again")
     tells("the path again", "The path runs again")
     page.choose("search", "car")

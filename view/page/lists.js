@@ -46,7 +46,7 @@ function invariantsPanel() {
 
 function runPath(count, ids) {
   tell(`${plural(count, "trace")}: ${ids.map(partitionName).join(", ")}`);
-  run(ids.map((p) => [p]));
+  run(ids.map((p) => [p]), `a path that ${plural(count, "trace")} ${count === 1 ? "takes" : "take"}.`);
 }
 
 function pathRow([count, ids], total, most) {

@@ -5,13 +5,15 @@ const nodeOf = (p) => byId("p" + p);
 const edgeOf = (at) => byId("e" + at);
 const badgeOf = new Map(); // the badge of a partition, and its text
 const framed = new Set();
-let timer = 0;
+let timer = 0, runner = null; // the clock of the path that runs, and the button that is to run it again
 
 function clearMarks() {
   clearInterval(timer);
+  setRunner(null);
+  byId("caption").replaceChildren();
   drawing.classList.remove("marked", "walking");
-  for (const part of drawing.querySelectorAll(".on, .near, .second")) {
-    part.classList.remove("on", "near", "second");
+  for (const part of drawing.querySelectorAll(".on, .near, .second, .asked")) {
+    part.classList.remove("on", "near", "second", "asked");
     part.removeAttribute("aria-current");
   }
   byId("badges").replaceChildren();
@@ -21,6 +23,8 @@ function clearMarks() {
 
 function removeMarks() {
   clearMarks();
+  byId("search").value = "";
+  search();
   tell("The marks are removed");
 }
 
@@ -83,12 +87,29 @@ function markPartition(p) {
   }
 }
 
-// Runs along a path: each step is a list of partitions, which are taken as one if they are several. At the end comes
-// what is to follow.
-function run(steps, follow = () => {}) {
+// The button whose path runs says so, and takes no click until the path has ended. It keeps the focus.
+function setRunner(button) {
+  if (runner) {
+    runner.textContent = runner.dataset.text;
+    runner.removeAttribute("aria-disabled");
+  }
+  runner = button;
+  if (!runner) return;
+  runner.dataset.text = runner.textContent;
+  runner.textContent = "running";
+  runner.setAttribute("aria-disabled", "true");
+}
+
+// Runs along a path: each step is a list of partitions, which are taken as one if they are several. The caption says
+// whose path it is. The asked partitions are never dimmed, the button is the one that runs the path again, and what is
+// to follow comes at the end.
+function run(steps, caption, { asked = [], button = null, follow = () => {} } = {}) {
   clearMarks();
   if (!steps.length) return;
+  fill(byId("caption"), "Marked: ", caption);
   drawing.classList.add("marked", "walking");
+  for (const p of asked) nodeOf(p).classList.add("asked");
+  setRunner(button);
   let at = 0;
   const step = () => {
     mark(steps[at], "on", at + 1);
@@ -103,6 +124,7 @@ function run(steps, follow = () => {}) {
   const finish = () => {
     clearInterval(timer);
     drawing.classList.remove("walking");
+    setRunner(null);
     follow();
   };
   show([...new Set(steps.flat())]);
@@ -110,6 +132,19 @@ function run(steps, follow = () => {}) {
   if (!still) timer = setInterval(step, Math.min(450, 4000 / steps.length));
   step();
   while (still && at < steps.length) step();
+}
+
+// Whether the graph has a path through one partition of each of these steps; or, as one, whether it would have it if the
+// partitions of each step were one.
+function hasPath(steps, asOne) {
+  let ends = steps[0];
+  for (const step of steps.slice(1)) {
+    const next = new Set(ends.flatMap((p) => leaving.get(p) || []).map((at) => data.edges[at][1]));
+    const reached = step.filter((q) => next.has(q));
+    if (!reached.length) return false;
+    ends = asOne ? step : reached;
+  }
+  return true;
 }
 
 // ---- Blocks, as dashed lines ----

@@ -5,7 +5,25 @@
 
 // The path of a block as steps to run, with its two partitions as one.
 const blockSteps = ([p, q, , path]) => path.filter((x) => typeOf.has(x)).map((x) => (x === p ? [p, q] : [x]));
+const MOST_NAMED = 3; // partitions that are named before or after one of the two
 const pathList = (steps) => make("ol", { class: "path" }, steps.map((step) => make("li", {}, step)));
+
+// The partitions at the other ends of the edges into or out of a partition, with the counts of its events: each if they
+// are few, and else the three with the most and the number of the others.
+function namedEnds(p, list, end) {
+  const rows = (list || []).map((at) => data.edges[at]).sort((a, b) => b[2] - a[2]), all = countOf.get(p);
+  const named = rows.slice(0, MOST_NAMED).map((edge) => [partitionText(edge[end]), edge[2]]);
+  const others = rows.slice(MOST_NAMED), sum = others.reduce((total, edge) => total + edge[2], 0);
+  if (others.length) named.push([plural(others.length, "other"), sum]);
+  const joint = (at) => (at === 0 ? "" : at === named.length - 1 ? " and " : ", ");
+  if (!rows.length) return "nothing";
+  const alone = rows.length === 1 ? " alone" : "", of = (at) => (at + end ? all : "its " + plural(all, "event"));
+  return named.map(([name, count], at) => [joint(at), name, `${alone} (${count} of ${of(at)})`]);
+}
+
+// What a partition is reached from and where it leads, by the edges of the graph.
+const aroundText = (p) => [partitionText(p), " is reached from ", namedEnds(p, entering.get(p), 0), ", and leads to ",
+  namedEnds(p, leaving.get(p), 1), "."];
 
 // Why two partitions are two: the sentences, the path, and the way to run it again.
 function whyTwo(at) {
@@ -21,30 +39,48 @@ function whyTwo(at) {
       side === 2 ? [] : sides(invariant, side ? q : p, side ? p : q),
       "If the two were one, the graph would have the path below, which no trace took. It breaks the invariant: ",
       breach(invariant), "."),
+    make("p", { class: "around" }, aroundText(p), " ", make("br"), aroundText(q)),
     pathList(path.map(stepText)),
-    make("button", { class: "again", click: () => runBlock(block) }, "run the path again"));
+    make("button", { class: "again", click: () => runAgain(block) }, "run the path again"));
+}
+
+// Whether no trace takes the path of a block, since the graph does not have it, and it would have it if the two
+// partitions were one.
+function onlyAsOne(block) {
+  const [, , , path] = block, steps = blockSteps(block);
+  return path[0] === 0 && steps.length === path.length && !hasPath(steps, false) && hasPath(steps, true);
 }
 
 function runBlock(block) {
+  const [p, q] = block, whose = ["the path of ", partitionText(p), " and ", partitionText(q), " as one. "];
+  const none = [make("strong", {}, "No trace took this path: it would be possible if the two were one."),
+    " Its counts are of traces that take parts of it."];
+  const button = byId("panel-partition").querySelector(".again");
+  run(blockSteps(block), [whose, onlyAsOne(block) ? none : []], { asked: [p, q], button });
+}
+
+function runAgain(block) {
+  if (runner) return;
   tell("The path runs again");
-  run(blockSteps(block));
+  runBlock(block);
 }
 
 function showBlock(at) {
   const block = blocks()[at], [p, q] = block;
   drawDashes(p, at);
   const why = whyTwo(at);
-  answer(make("h3", {}, "Why two partitions of ", typeText(typeOf.get(p)), "?"), why,
+  answer(make("h3", {}, "Why two boxes (partitions) of ", typeText(typeOf.get(p)), "?"), why,
     make("p", {}, "Show ", partitionButton(p), " or ", partitionButton(q)));
-  tell(why.querySelector(".sentence").textContent);
-  run(blockSteps(block));
+  tell(why.querySelector(".sentence").textContent + " " + why.querySelector(".around").textContent);
+  runBlock(block);
 }
 
 // What keeps a partition from being one with others of its type.
 function whySection(p) {
   const found = blocksOf(p), others = siblingsOf(p).length - 1;
   if (!others) return [];
-  const title = make("h4", {}, `Why not one with ${others === 1 ? "the other" : `the ${others} others`} of its type?`);
+  const rest = others === 1 ? "the other" : `the ${others} others`;
+  const title = make("h4", {}, `Why not one box (partition) with ${rest} of its type?`);
   if (!found.length) return [title, make("p", {}, "The file has no block that says so.")];
   if (found.length === 1) return [title, whyTwo(found[0])];
   const row = (at) => {
@@ -103,7 +139,7 @@ function showPartition(p) {
       edgeTable("Edges into it", entering.get(p), 0, p), edgeTable("Edges out of it", leaving.get(p), 1, p)),
     make("h4", {}, "Invariants of its type"), lists(typ));
   tell(`${partitionName(p)}: ${eventsText(p)}`);
-  if (found.length === 1) run(blockSteps(blocks()[found[0]]));
+  if (found.length === 1) runBlock(blocks()[found[0]]);
 }
 
 // ---- What is shown first ----
@@ -135,6 +171,7 @@ function welcome() {
     ids.length > 12 ? `and ${ids.length - 12} more` : "");
   const key = make("p", {}, "A box is a partition: some events of one type. "
     + "An arrow says that an event of the one is followed at once by one of the other, the thicker the more often. "
+    + "For example, 3 of 6 at an arrow means 3 of the 6 events of the box it leaves. "
     + "Each trace of the log is a path from INITIAL to TERMINAL.");
   const advice = make("p", {}, "Click a box for its events, its edges and its invariants"
     + (several.length ? ", or a dashed line for why the two partitions that it joins must stay two." : "."));

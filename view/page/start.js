@@ -40,6 +40,7 @@ function hideRare() {
     if (isShown(at)) [edges, steps] = [edges + 1, steps + count];
   });
   byId("least-shown").textContent = byId("least").value + " %";
+  byId("carried").classList.toggle("all", byId("least").value === "0");
   let text = `${edges} of ${data.edges.length} edges are shown. `;
   text += `They carry ${steps} of ${all} steps (${percent(steps, all)})`;
   if (data.paths) {

@@ -18,11 +18,8 @@ function typeThen(x) {
   return x;
 }
 
-// Shows a step's path below its sentence.
-function detailed(detail, ...parts) {
-  fill(detail, parts);
-  requestAnimationFrame(() => detail.scrollIntoView({ block: "nearest" }));
-}
+// A line with the button that runs the path of a step, and room for that path, so that nothing moves when it comes.
+const runLine = (button, detail) => make("div", { class: "run" }, button, detail);
 
 const listed = (ids) => ids.map((p) => "@" + p).join(" and ");
 
@@ -53,9 +50,12 @@ function thenText(x, members) {
 
 function runSplit(k, detail) {
   const path = data.splits[k][2], members = partitionsBefore(k);
-  detailed(detail, pathList(path.map((x) => thenText(x, members))));
+  fill(detail, pathList(path.map((x) => thenText(x, members))));
   tell("Its path: " + path.map((x) => data.plain[typeThen(x)]).join(", "));
-  run(path.map((x) => [...(members.get(x) || [])]).filter((ids) => ids.length));
+  const steps = path.map((x) => [...(members.get(x) || [])]).filter((ids) => ids.length);
+  const none = steps.length === path.length && path[0] === 0 && !hasPath(steps, false);
+  run(steps, [`the path of step ${k + 1}. `,
+    none ? make("strong", {}, "No trace took this path: the graph had it before that step.") : []]);
 }
 
 function splitRow(k) {
@@ -66,7 +66,7 @@ function splitRow(k) {
     invariantText(invariant), "): ", breach(invariant), ". Traces followed it as far as ", divided(), ` @${path[at]}, `,
     "and none went on along it. So the ", divided(), " events there that are followed at once by ", next,
     ` got a partition of their own, @${fresh}`, typeOf.has(fresh) ? ". " : ` (merged into @${now(fresh)} later). `,
-    make("button", { class: "step", click: () => runSplit(k, detail) }, "run its path"), detail);
+    runLine(make("button", { class: "step", click: () => runSplit(k, detail) }, "run its path"), detail));
 }
 
 // ---- Merges ----
@@ -92,18 +92,21 @@ function followed(types, place, partition) {
 
 // A merge has no path in the file. What there is to see: the partition that the two are now, and how far the path of
 // the split that had made the one comes now.
-function runMerge(m, detail) {
+function runMerge(m, detail, ended) {
   const [p, q] = data.merges[m], one = now(p), [, place, then] = data.splits[q - firstNew], word = then.map(typeThen);
   const { path, ends } = followed(word, place, one), next = path.length;
   const steps = path.map((x, at) => [partitionText(x), at === place ? ` (${listed([p, q])} as one)` : ""]);
   const end = next === place ? partitionText(one) : typeText(word[next]);
   const said = make("p", {}, next === word.length ? WHOLE : noEdge(ends, end));
-  detailed(detail, pathList(steps), said);
+  fill(detail, pathList(steps));
+  fill(ended, said);
+  requestAnimationFrame(() => ended.scrollIntoView({ block: "nearest" }));
   tell(`The path now: ${path.map(partitionName).join(", ")}. ${said.textContent}`);
-  run(path.map((x) => [x]), () => {
+  const follow = () => {
     frame([one]);
     if (next < word.length) mark(next === place ? [one] : siblings.get(word[next]) || [], "second", "no edge");
-  });
+  };
+  run(path.map((x) => [x]), `the path of step ${q - firstNew + 1}, as far as the graph has it now.`, { follow });
 }
 
 const WHOLE = "The graph has this path, so the file is not what an inference leaves: ask synoptic check.";
@@ -116,13 +119,15 @@ function noEdge(ends, next) {
 }
 
 function mergeRow(m) {
-  const [p, q] = data.merges[m], k = q - firstNew, split = data.splits[k], detail = make("div");
+  const [p, q] = data.merges[m], k = q - firstNew, split = data.splits[k];
+  const detail = make("div"), ended = make("div", { class: "ended" });
   const known = split && split[1] > 0 && split[2][0] === 0 && typeOf.has(now(p));
-  const ask = make("button", { class: "step", click: () => runMerge(m, detail) }, "see how far its path comes now");
+  const click = () => runMerge(m, detail, ended);
+  const ask = make("button", { class: "step", click }, "see how far its path comes now");
   return make("li", {}, typeText(typeThen(q)), ` @${q} was merged into @${p}`,
     now(p) === p ? "" : `, which is part of @${now(p)} now`, ", because no invariant is lost if the two are one. ",
     "A path could only show a loss, so the file has none for a merge. ",
-    known ? [`Step ${k + 1} had made @${q}: `, ask] : [], detail);
+    known ? [`Step ${k + 1} had made @${q}: `, runLine(ask, detail), ended] : []);
 }
 
 function stepsPanel() {

@@ -110,7 +110,8 @@ function addTitle(event) {
   const part = event.target.closest(".node, .edge[id]");
   if (!part || part.querySelector("title")) return;
   const [p, q, count] = part.id[0] === "e" ? data.edges[Number(part.id.slice(1))] : [];
-  const text = count ? `${partitionName(p)} → ${partitionName(q)}: ${count} of ${countOf.get(p)}`
+  const source = p === 0 ? plural(traces, "trace") : `${plural(countOf.get(p), "event")} of the box it leaves`;
+  const text = count ? `${partitionName(p)} → ${partitionName(q)}: ${count} of the ${source}`
     : part.getAttribute("aria-label");
   part.append(makeDrawn("title", {}, text));
 }
