@@ -1,0 +1,11 @@
+pub mod Laying
+pub mod Showing
+pub mod Steps
+pub mod Breaking
+pub mod Listed
+pub mod Same
+pub mod Starting
+pub mod Counting
+pub mod Stitched
+pub mod Known
+pub mod Following

@@ -1,0 +1,13 @@
+use Rattle.std.proofs.Common.{◌≡◌, ◌+◌, ◌<◌, ◌∷◌, ℕ, drop}
+use Rattle.limits.specs.declared.TheConstants.{MAX_PARTITIONS}
+use Rattle.replay_check.specs.Shown.{count_at}
+use Rattle.replay_check.proofs.Counting.{steps}
+use Rattle.replay_check.proofs.counts.count_along.Given as goal
+
+abbrev pub invariant-loop-id : goal.invariant-loop-id
+invariant-loop-id l =
+    record {
+      within : l.before < MAX_PARTITIONS;
+      counted : (p q : ℕ) → p < MAX_PARTITIONS → q < MAX_PARTITIONS
+          → count_at l.counts p q + steps p q (l.before ∷ drop l.id-index l.ids) ≡ steps p q (1 ∷ l.ids);
+    }

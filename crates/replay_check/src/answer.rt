@@ -1,0 +1,11 @@
+//! What a replay answers.
+use models::ReplayPart;
+
+/// Whether the steps that a model names lead from a log to its graph.
+#[derive(Clone, Copy, Debug, PartialEq, Eq)]
+pub enum Replay {
+    /// They do, and each is permitted in its turn.
+    Yes,
+    /// They do not, and this is the first step that fails.
+    No(ReplayPart),
+}

@@ -1,0 +1,51 @@
+//! Whether the history of a model is justified: its splits and its merges, followed one after another from the first graph of a log, are each permitted in their turn and lead to the graph of the model.
+//!
+//! Nothing here infers. The ids of all events stand in one list, trace behind trace; a split gives some of them a new id, and the merges rename ids. At the end partitions and edges are counted once and compared with those of the model.
+#![tactic(auto)]
+
+ghost use Rattle.std.specs.Prelude.{IfOk};
+ghost use Rattle.model_shape.specs.Shapes.{IsWellShaped};
+ghost use Rattle.models.specs.Models.{typed_words};
+ghost use Rattle.replay_check.specs.Answers.{IsReplay};
+
+mod answer;
+mod counts;
+mod follow;
+mod graph;
+mod ids;
+mod listing;
+mod merges;
+mod splits;
+mod stitch;
+
+pub use answer::Replay;
+use follow::follow;
+use ids::{lay_ids, own_places};
+use invariants::Model;
+use limits::FIRST_TYPE;
+use listing::are_same;
+pub use models::ReplayPart;
+use std::alloc::{AllocError, Global};
+use traces::TraceSet;
+
+/// Whether the history of the well-shaped model is justified by the log of these traces: `Yes`, or `No` with the first step that fails, in the order types, splits, merges, graph. Neither the model nor the traces change. `AllocError` comes where there is not enough memory for the ids of the events or for the tables of ids and edges.
+pub fn replay(alloc: Global, model: &Model, traces: &TraceSet) -> Result<Replay, AllocError>
+    requires { IsWellShaped model.now }
+    ensures { IfOk result (λ answer. IsReplay model.now (typed_words traces.now) answer) }
+{
+    let types = traces.types();
+    if !are_same(model.types.as_slice(), types.as_slice()) {
+        return Ok(Replay::No(ReplayPart::Types));
+    }
+    let first_new = types.len() as u32 + FIRST_TYPE;
+    let mut ids = lay_ids(alloc, traces)?;
+    let mut id_types = own_places(alloc)?;
+    let answer = follow(
+        alloc,
+        model,
+        first_new,
+        ids.as_mut_slice(),
+        id_types.as_mut_slice(),
+    )?;
+    Ok(answer)
+}
