@@ -439,7 +439,14 @@ def sink(parts):
 
 # Command lines.
 
-COMMANDS = {"invariants": "Invariants", "graph": "Graph", "infer": "Infer", "check": "Check", "paths": "Paths"}
+COMMANDS = {
+    "invariants": "Invariants",
+    "graph": "Graph",
+    "infer": "Infer",
+    "check": "Check",
+    "replay": "Replay",
+    "paths": "Paths",
+}
 
 
 def options_of(words):
@@ -480,7 +487,7 @@ def task(words):
         if rules is not None or flags or files:
             return None
         name = "GraphOfModel"
-    elif (command == "check") != (model is not None) or (rules is not None) == ("-p" in flags):
+    elif (command in ("check", "replay")) != (model is not None) or (rules is not None) == ("-p" in flags):
         return None
     form = "Plain" if "-p" in flags else None if rules is None else "Rules(%s)" % quoted(rules)
     shown = name, some(form), some(None if model is None else quoted(model))

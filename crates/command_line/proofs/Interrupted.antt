@@ -21,6 +21,7 @@ rows-keep = record {
   graph_of_model = λ is. cc;
   infer = λ is. cc;
   check = λ is. cc;
+  replay = λ is. cc;
   paths = λ is. cc;
   bench = λ is. cc;
 }

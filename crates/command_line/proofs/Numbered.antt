@@ -26,6 +26,7 @@ rows-need = record {
   graph_of_model = λ is. cc;
   infer = λ is. cc;
   check = λ is. cc;
+  replay = λ is. cc;
   paths = λ is. cc;
   bench = λ is. refl;
 }

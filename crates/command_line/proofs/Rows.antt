@@ -19,6 +19,7 @@ pub record OfRows (P : Row → Type 0) : Type 0 where
   pub graph_of_model : P (model_row commands.GraphOfModel)
   pub infer : P (log_row commands.Infer)
   pub check : P (log_and_model_row commands.Check)
+  pub replay : P (log_and_model_row commands.Replay)
   pub paths : P (log_row commands.Paths)
   pub bench : P (number_row commands.Bench)
 
@@ -43,8 +44,9 @@ of-word P all text given =
     (step P (bytes_eq text (codes "graph")) (graph_row given) _ (of-graph P all given)
     (step P (bytes_eq text (codes "infer")) (log_row commands.Infer) _ all.infer
     (step P (bytes_eq text (codes "check")) (log_and_model_row commands.Check) _ all.check
+    (step P (bytes_eq text (codes "replay")) (log_and_model_row commands.Replay) _ all.replay
     (step P (bytes_eq text (codes "paths")) (log_row commands.Paths) _ all.paths
-    (step P (bytes_eq text (codes "bench")) (number_row commands.Bench) None all.bench (none P))))))
+    (step P (bytes_eq text (codes "bench")) (number_row commands.Bench) None all.bench (none P)))))))
 
 -- what a row tells of the task that it allows
 abbrev pub Tells : (Row → Type 0) → (Task → Type 0) → Use → Type 0

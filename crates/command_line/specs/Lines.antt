@@ -47,6 +47,10 @@ model_of form ignore join files = asks commands.Infer (Some form) None ignore jo
 abbrev pub check_of : Text → LineForm → Bool → Bool → List Text → Option Task
 check_of name form ignore join files = asks commands.Check (Some form) (Some name) ignore join files
 
+-- the replay of a file's model over a log
+abbrev pub replay_of : Text → LineForm → Bool → Bool → List Text → Option Task
+replay_of name form ignore join files = asks commands.Replay (Some form) (Some name) ignore join files
+
 -- the paths of a log
 abbrev pub paths_of : LineForm → Bool → Bool → List Text → Option Task
 paths_of form ignore join files = asks commands.Paths (Some form) None ignore join files
@@ -99,6 +103,10 @@ pub record TakesLines : Type 0 where
       ≡ check_of (codes "m") Plain false false (codes "a" ∷ [])
   pub check_rules : task_of (codes "check" ∷ codes "-ije" ∷ codes "x" ∷ codes "-m" ∷ codes "m" ∷ [])
       ≡ check_of (codes "m") (Rules (codes "x")) true true []
+  pub replay : task_of (codes "replay" ∷ codes "-m" ∷ codes "m" ∷ codes "-p" ∷ codes "a" ∷ [])
+      ≡ replay_of (codes "m") Plain false false (codes "a" ∷ [])
+  pub replay_rules : task_of (codes "replay" ∷ codes "-ije" ∷ codes "x" ∷ codes "-m" ∷ codes "m" ∷ [])
+      ≡ replay_of (codes "m") (Rules (codes "x")) true true []
   pub paths : task_of (codes "paths" ∷ codes "-e" ∷ codes "x" ∷ codes "-ij" ∷ codes "a" ∷ [])
       ≡ paths_of (Rules (codes "x")) true true (codes "a" ∷ [])
   pub bench : task_of (codes "bench" ∷ codes "-n" ∷ codes "20000" ∷ []) ≡ bench_of 20000
@@ -121,7 +129,6 @@ pub record RefusesLines : Type 0 where
   pub help_letter : task_of (codes "invariants" ∷ codes "-p" ∷ codes "-h" ∷ []) ≡ None
   pub version : task_of (codes "invariants" ∷ codes "-p" ∷ codes "--version" ∷ []) ≡ None
   pub unknown_command : task_of (codes "guess" ∷ codes "-p" ∷ []) ≡ None
-  pub other_command : task_of (codes "replay" ∷ codes "-m" ∷ codes "m" ∷ codes "-p" ∷ []) ≡ None
   pub graph_no_form : task_of (codes "graph" ∷ []) ≡ None
   pub graph_both_forms : task_of (codes "graph" ∷ codes "-p" ∷ codes "-e" ∷ codes "x" ∷ []) ≡ None
   pub graph_model_and_file : task_of (codes "graph" ∷ codes "-m" ∷ codes "m" ∷ codes "a" ∷ []) ≡ None
@@ -137,6 +144,12 @@ pub record RefusesLines : Type 0 where
       task_of (codes "check" ∷ codes "-m" ∷ codes "m" ∷ codes "-p" ∷ codes "-e" ∷ codes "x" ∷ []) ≡ None
   pub check_number :
       task_of (codes "check" ∷ codes "-m" ∷ codes "m" ∷ codes "-p" ∷ codes "-n" ∷ codes "3" ∷ []) ≡ None
+  pub replay_no_model : task_of (codes "replay" ∷ codes "-p" ∷ []) ≡ None
+  pub replay_no_form : task_of (codes "replay" ∷ codes "-m" ∷ codes "m" ∷ []) ≡ None
+  pub replay_both_forms :
+      task_of (codes "replay" ∷ codes "-m" ∷ codes "m" ∷ codes "-p" ∷ codes "-e" ∷ codes "x" ∷ []) ≡ None
+  pub replay_number :
+      task_of (codes "replay" ∷ codes "-m" ∷ codes "m" ∷ codes "-p" ∷ codes "-n" ∷ codes "3" ∷ []) ≡ None
   pub paths_model : task_of (codes "paths" ∷ codes "-m" ∷ codes "m" ∷ codes "-p" ∷ []) ≡ None
   pub bench_no_number : task_of (codes "bench" ∷ []) ≡ None
   pub bench_none : task_of (codes "bench" ∷ codes "-n" ∷ codes "0" ∷ []) ≡ None
@@ -151,6 +164,8 @@ pub record RefusesLines : Type 0 where
   pub interrupted_infer : task_of (codes "infer" ∷ codes "-p" ∷ codes "-r" ∷ []) ≡ None
   pub interrupted_check :
       task_of (codes "check" ∷ codes "-m" ∷ codes "m" ∷ codes "-p" ∷ codes "-r" ∷ []) ≡ None
+  pub interrupted_replay :
+      task_of (codes "replay" ∷ codes "-m" ∷ codes "m" ∷ codes "-p" ∷ codes "-r" ∷ []) ≡ None
   pub interrupted_paths : task_of (codes "paths" ∷ codes "-p" ∷ codes "-r" ∷ []) ≡ None
   pub interrupted_bench : task_of (codes "bench" ∷ codes "-n" ∷ codes "3" ∷ codes "-r" ∷ []) ≡ None
 

@@ -83,6 +83,7 @@ row_of text has_model =
     else if bytes_eq text (codes "graph") then Some (graph_row has_model)
     else if bytes_eq text (codes "infer") then Some (log_row commands.Infer)
     else if bytes_eq text (codes "check") then Some (log_and_model_row commands.Check)
+    else if bytes_eq text (codes "replay") then Some (log_and_model_row commands.Replay)
     else if bytes_eq text (codes "paths") then Some (log_row commands.Paths)
     else if bytes_eq text (codes "bench") then Some (number_row commands.Bench)
     else None

@@ -20,6 +20,8 @@ pub enum Command {
     Infer,
     /// Check the model that stands in a file against a log.
     Check,
+    /// Follow the history of the model that stands in a file over a log, step by step.
+    Replay,
     /// Print the paths that the traces of a log take through its model.
     Paths,
     /// Make a log of so many sessions, infer its model, write it, read it back and check it, and print how large all is.
@@ -154,6 +156,7 @@ pub fn row_of(text: &str, has_model: bool) -> Option<Row>
         "graph" => Some(graph_row(has_model)),
         "infer" => Some(log_row(Command::Infer)),
         "check" => Some(log_and_model_row(Command::Check)),
+        "replay" => Some(log_and_model_row(Command::Replay)),
         "paths" => Some(log_row(Command::Paths)),
         "bench" => Some(number_row(Command::Bench)),
         _ => None,
