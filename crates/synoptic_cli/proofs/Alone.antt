@@ -4,9 +4,13 @@ use Rattle.outside.specs.Inputs.{Files}
 use Rattle.invariants.specs.declared.records.Model.{Model}
 use Rattle.models.specs.Models.{typed_words, TypedWords}
 use Rattle.models.specs.declared.parts.Part.{Part}
+use Rattle.models.specs.declared.parts.ReplayPart.{ReplayPart}
 use Rattle.models.proofs.FirstParts.{one_first_part}
+use Rattle.models.proofs.FirstSteps.{one_first_step}
 use Rattle.model_check.specs.declared.verdict.Verdict.{Verdict}
 use Rattle.model_check.specs.declared.verdict.Verdict.TheVariants.{Yes, No}
+use Rattle.replay_check.specs.declared.answer.Replay as rust
+use Rattle.replay_check.specs.declared.answer.Replay.TheVariants as outcomes
 use Rattle.command_line.specs.Task.{Task, task_of}
 use Rattle.traces.specs.Words.{Log}
 use Rattle.models.specs.Laws.{OneModel}
@@ -15,7 +19,7 @@ use Rattle.made_logs.specs.MadeLogs.{made_log}
 use Rattle.model_file.specs.Tree.{file_text}
 use Rattle.reports.specs.Paths.{path_report}
 use Rattle.command_line.specs.declared.table.Command.{Command}
-use Rattle.command_line.specs.declared.table.Command.TheVariants.{Invariants, Graph, GraphOfModel, Infer, Check, Paths, Bench}
+use Rattle.command_line.specs.declared.table.Command.TheVariants.{Invariants, Graph, GraphOfModel, Infer, Check, Replay, Paths, Bench}
 use Rattle.synoptic_cli.specs.declared.answer.Answer.{Answer}
 use Rattle.synoptic_cli.specs.declared.material.Material.{Material}
 use Rattle.synoptic_cli.specs.declared.status.LimitKind.{LimitKind}
@@ -30,6 +34,7 @@ use Rattle.synoptic_cli.specs.Commands.CheckModel.{Says, answer_of}
 use Rattle.synoptic_cli.specs.Commands.Inference.{AnswersInferred, PassesLimit}
 use Rattle.synoptic_cli.specs.Commands.InferModel.{WritesModel}
 use Rattle.synoptic_cli.specs.Commands.PrintPaths.{TellsPaths}
+use Rattle.synoptic_cli.specs.Commands.ReplayModel as replay_model
 use Rattle.synoptic_cli.specs.Commands.RunBench.{TellsRun, summary}
 use Rattle.synoptic_cli.specs.Commands.RunBench as run_bench
 use Rattle.synoptic_cli.specs.Endings.{EndsAfter, EndsAreOne, HasStatus, StatusesAreOne, end_status, told_stages}
@@ -40,6 +45,13 @@ one-verdict m log Yes Yes a b = refl
 one-verdict m log Yes (No part) a b = absurd (b.0 a.0)
 one-verdict m log (No part) Yes a b = absurd (a.0 b.0)
 one-verdict m log (No part) (No other) a b = ap (λ (p : Part). No p) (one_first_part m log part other a.1 b.1)
+
+-- and one outcome of a replay
+one-outcome : (m : Model) (log : TypedWords) (v w : rust.Replay) → replay_model.Says m log v → replay_model.Says m log w → v ≡ w
+one-outcome m log outcomes.Yes outcomes.Yes a b = refl
+one-outcome m log outcomes.Yes (outcomes.No part) a b = absurd (b.0 a)
+one-outcome m log (outcomes.No part) outcomes.Yes a b = absurd (a.0 b)
+one-outcome m log (outcomes.No part) (outcomes.No other) a b = ap (λ (p : ReplayPart). outcomes.No p) (one_first_step m log part other a.1 b.1)
 
 -- the laws of inference that this rests on
 pub record Laws : Type 0 where
@@ -94,6 +106,9 @@ one-answer laws Infer task m r s a b = one-inferred laws (typed_words m.log) (Wr
 one-answer laws Check task m r s a b =
     let same : a.verdict ≡ b.verdict = one-verdict m.model (typed_words m.log) a.verdict b.verdict a.exact b.exact in
     a.value ∙ (ap (λ (v : Verdict). let t : Result Answer LimitKind = Ok (answer_of v) in t) same ∙ sym b.value)
+one-answer laws Replay task m r s a b =
+    let same : a.outcome ≡ b.outcome = one-outcome m.model (typed_words m.log) a.outcome b.outcome a.exact b.exact in
+    a.value ∙ (ap (λ (v : rust.Replay). let t : Result Answer LimitKind = Ok (replay_model.answer_of v) in t) same ∙ sym b.value)
 one-answer laws Paths task m r s a b = one-inferred laws (typed_words m.log) (TellsPaths m.log) (one-text laws m.log) r s a b
 one-answer laws Bench task m r s a b = one-run laws task.number r s a b
 

@@ -14,7 +14,7 @@ use Rattle.command_line.specs.declared.given.ParseError.{ParseError}
 use Rattle.command_line.specs.declared.given.ParseError.TheVariants as parse_error
 use Rattle.synoptic_cli.specs.declared.answer.Answer.{Answer}
 use Rattle.synoptic_cli.specs.declared.status.Status.{Status}
-use Rattle.synoptic_cli.specs.declared.status.Status.TheVariants.{Done, NoCheck, Usage, Expressions, Log, Limit, ReadFault, WriteFault, Memory, ModelFile}
+use Rattle.synoptic_cli.specs.declared.status.Status.TheVariants.{Done, NoCheck, NoReplay, Usage, Expressions, Log, Limit, ReadFault, WriteFault, Memory, ModelFile}
 use Rattle.synoptic_cli.specs.declared.status.Source.{Source}
 use Rattle.synoptic_cli.specs.Task.{file_stage, log_stages, model_stages, rules_name, RulesFile, Stage, stages_of}
 use Rattle.synoptic_cli.specs.Stages.{SoFar, Stop, and_then, at_start, reads, reads_rules, stop_after, with_rules}
@@ -109,6 +109,7 @@ there (inr c) = inr (inr c)
 pub cause-expected : (status : Status) (words : List (List ℕ)) (old new : World) → HasCause status words old new → IsExpected status words old new
 cause-expected Done words old new cause = if-some old.inputs.files _ (λ files some calm-in calm-patterns calm-out. inl (done-task words cause.0 files Done old new some cause.1 cause.2))
 cause-expected (NoCheck part) words old new cause = if-some old.inputs.files _ (λ files some calm-in calm-patterns calm-out. inl (done-task words cause.0 files (NoCheck part) old new some cause.1 cause.2))
+cause-expected (NoReplay part) words old new cause = if-some old.inputs.files _ (λ files some calm-in calm-patterns calm-out. inl (done-task words cause.0 files (NoReplay part) old new some cause.1 cause.2))
 cause-expected Usage words old new cause = if-some old.inputs.files _ (λ files some calm-in calm-patterns calm-out. inl (subst (λ (asked : Option Task). HasStatus asked files Usage) (sym cause.0) refl))
 cause-expected (Expressions e) words old new cause = if-some old.inputs.files _ (λ files some calm-in calm-patterns calm-out. there (rules-form words cause.0 (rules_name cause.0.form) files e old new some cause.1 refl calm-patterns cause.2))
 cause-expected (Log fault) words old new cause = if-some old.inputs.files _ (λ files some calm-in calm-patterns calm-out. inl (stops-task words cause.0 files (Log fault) old new some cause.1 cause.2))

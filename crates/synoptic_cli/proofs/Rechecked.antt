@@ -1,15 +1,18 @@
--- The model of a log is accepted by its check.
-use Rattle.std.proofs.Common.{◌≡◌, ℕ, Bool, true, false, nat_lt, List, [], ◌∷◌, ◌++◌, length, Option, Some, None, Result, Ok, Err, refl, sym, ap, ◌∙◌, subst}
+-- The model of a log is accepted by its check and by its replay.
+use Rattle.std.proofs.Common.{◌≡◌, ◌≤◌, ℕ, ◌+◌, Bool, true, false, nat_lt, List, [], ◌∷◌, ◌++◌, length, Option, Some, None, Result, Ok, Err, refl, sym, ap, ◌∙◌, subst}
 use Rattle.std.specs.Prelude.{if◌then◌else◌}
 use Rattle.std.proofs.lemmas.List.{append-nil, map-append}
 use Rattle.outside.specs.Inputs.{Files, bytes_of}
 use Rattle.invariants.specs.declared.records.Model.{Model}
 use Rattle.traces.specs.Words.{log_of}
-use Rattle.models.specs.Models.{typed_words}
+use Rattle.models.specs.Models.{typed_words, TypedWords}
 use Rattle.models.specs.Checks.{IsValid}
-use Rattle.models.proofs.Valid.{models-valid}
+use Rattle.models.specs.Histories.{IsJustified}
+use Rattle.models.proofs.Valid.{models-valid, models_pass}
 use Rattle.model_check.specs.declared.verdict.Verdict.{Verdict}
 use Rattle.model_check.specs.declared.verdict.Verdict.TheVariants.{Yes, No}
+use Rattle.replay_check.specs.declared.answer.Replay as rust
+use Rattle.replay_check.specs.declared.answer.Replay.TheVariants as outcomes
 use Rattle.model_file.specs.Reading.{reads as file_reads}
 use Rattle.model_file.specs.declared.refusal.FileError.{FileError}
 use Rattle.log_reader.specs.Reading.{Setting, events_of, first_refusal}
@@ -27,8 +30,9 @@ use Rattle.synoptic_cli.specs.declared.status.Status.TheVariants.{Done}
 use Rattle.synoptic_cli.specs.Commands.{AnswersBy}
 use Rattle.synoptic_cli.specs.Commands.Inference.{PassesNone}
 use Rattle.synoptic_cli.specs.Commands.CheckModel.{Says, answer_of}
+use Rattle.synoptic_cli.specs.Commands.ReplayModel as replay_model
 use Rattle.synoptic_cli.specs.Endings.{EndsAfter, end_status, told_stages}
-use Rattle.synoptic_cli.specs.Rechecks.{InferIsDone, InferredAreAccepted, ModelsAreAccepted, checking}
+use Rattle.synoptic_cli.specs.Rechecks.{HistoriesAreAccepted, InferIsDone, InferredAreAccepted, InferredAreReplayed, ModelsAreAccepted, checking, replaying}
 use Rattle.synoptic_cli.proofs.Bytes.{after-ok, filled_count, reads-append, reads-stop}
 
 -- the same with this model
@@ -140,6 +144,48 @@ pub inferred-accepted : InferredAreAccepted
 inferred-accepted before after task name a status infers none alike wrote told ended =
     let same : EndsAfter task (reads at_start (told_stages after (stages_of task))) (Ok a) = subst (λ (filled : List Filled). EndsAfter task (reads at_start filled) (Ok a)) alike wrote in
     let yes : ended.end ≡ Ok (answer_of Yes) = accepted-after after task name a ended.end (reads at_start (told_stages after (stages_of task))) infers none refl same told ended.ends in
+    (yes, sym ended.is ∙ ap end_status yes)
+
+-- a justified history gives yes
+replayed-yes : (m : Material) (v : rust.Replay) (r : Result Answer LimitKind) → IsJustified m.model (typed_words m.log) → replay_model.Says m.model (typed_words m.log) v → r ≡ Ok (replay_model.answer_of v)
+    → r ≡ Ok (replay_model.answer_of outcomes.Yes)
+replayed-yes m outcomes.Yes r justified says is = is
+replayed-yes m (outcomes.No part) r justified says is = absurd (says.0 justified)
+
+replay-ends-yes : (task : Task) (name : List ℕ) (s : SoFar) (end : Result Answer Stop) → IsJustified s.material.model (typed_words s.material.log) → EndsAfter (replaying task name) (Ok s) end
+    → end ≡ Ok (replay_model.answer_of outcomes.Yes)
+replay-ends-yes task name s (Ok a) justified ends =
+    let same : ◌≡◌ {A = Result Answer LimitKind} (Ok a) (Ok (replay_model.answer_of outcomes.Yes)) = replayed-yes s.material ends.outcome (Ok a) justified ends.exact ends.value in
+    let is : a ≡ replay_model.answer_of outcomes.Yes = cc in
+    ap (λ (x : Answer). let r : Result Answer Stop = Ok x in r) is
+replay-ends-yes task name s (Err last) justified ends =
+    let same : ◌≡◌ {A = Result Answer LimitKind} (Err ends.0) (Ok (replay_model.answer_of outcomes.Yes)) = replayed-yes s.material ends.1.outcome (Err ends.0) justified ends.1.exact ends.1.value in
+    cc
+
+-- a file that says the model of a log, within the limits, passes its replay against that log
+pub histories-accepted : HistoriesAreAccepted
+histories-accepted files task name bytes model so_far end none whole typed is within told read ends =
+    let log : TypedWords = typed_words so_far.material.log in
+    let ids : length log.types + 2 + length model.splits ≤ 1024 = subst (λ (ts : List (List ℕ)). length ts + 2 + length model.splits ≤ 1024) is.types within.ids in
+    let passes = models_pass model log typed is ids in
+    replay-ends-yes task name (put model so_far) end passes.1
+    (subst (λ (r : Result SoFar Stop). EndsAfter (replaying task name) r end) (check-reads files task name bytes model so_far none whole told read) ends)
+
+-- what was inferred of a log is the file of a model whose history is justified by it
+replayed-after : (files : Files) (task : Task) (name : List ℕ) (a : Answer) (end : Result Answer Stop) (r : Result SoFar Stop) → task.command ≡ Infer → task.model ≡ None
+    → reads at_start (told_stages files (stages_of task)) ≡ r → EndsAfter task r (Ok a) → bytes_of files name ≡ Some a.text
+    → EndsAfter (replaying task name) (reads at_start (told_stages files (stages_of (replaying task name)))) end → end ≡ Ok (replay_model.answer_of outcomes.Yes)
+replayed-after files task name a end (Err stop) infers none whole wrote told ends = absurd wrote
+replayed-after files task name a end (Ok s) infers none whole wrote told ends =
+    let answers : AnswersBy Infer task s.material (Ok a) = subst (λ (command : Command). AnswersBy command task s.material (Ok a)) infers wrote in
+    replay-ends-yes task name (put answers.1.model s) end answers.1.justified
+    (subst (λ (r : Result SoFar Stop). EndsAfter (replaying task name) r end) (check-reads files task name a.text answers.1.model s none whole told answers.1.reads_back) ends)
+
+-- a file with the text that an inference answered passes its replay against the same log
+pub inferred-replayed : InferredAreReplayed
+inferred-replayed before after task name a status infers none alike wrote told ended =
+    let same : EndsAfter task (reads at_start (told_stages after (stages_of task))) (Ok a) = subst (λ (filled : List Filled). EndsAfter task (reads at_start filled) (Ok a)) alike wrote in
+    let yes : ended.end ≡ Ok (replay_model.answer_of outcomes.Yes) = replayed-after after task name a ended.end (reads at_start (told_stages after (stages_of task))) infers none refl same told ended.ends in
     (yes, sym ended.is ∙ ap end_status yes)
 
 -- an inference that passes no limit is done

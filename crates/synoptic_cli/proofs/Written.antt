@@ -12,7 +12,7 @@ use Rattle.synoptic_cli.specs.declared.answer.NoAnswer.TheVariants as no_answer
 use Rattle.synoptic_cli.specs.declared.material.Material.{Material}
 use Rattle.synoptic_cli.specs.declared.status.LimitKind.{LimitKind}
 use Rattle.synoptic_cli.specs.declared.status.Status.{Status}
-use Rattle.synoptic_cli.specs.declared.status.Status.TheVariants.{Done, NoCheck, Limit, Memory}
+use Rattle.synoptic_cli.specs.declared.status.Status.TheVariants.{Done, NoCheck, NoReplay, Limit, Memory}
 use Rattle.synoptic_cli.specs.Task.{input_count, stages_of}
 use Rattle.synoptic_cli.specs.Stages.{SoFar, Stop, at_start, reads, stop_after}
 use Rattle.synoptic_cli.specs.Commands.{Answers}
@@ -35,18 +35,21 @@ task-answered task old new m a read answers = record {
 answer-cause : (status : Status) (words : List (List ℕ)) (task : Task) (old new : World) → IsVerdict status → task_of words ≡ Some task → WritesAll status old new task → HasCause status words old new
 answer-cause Done words task old new is asks written = (task, asks, written)
 answer-cause (NoCheck part) words task old new is asks written = (task, asks, written)
+answer-cause (NoReplay part) words task old new is asks written = (task, asks, written)
 answer-cause status words task old new is asks written = absurd is
 
 -- a status that comes with a text leaves the count of refused patterns as it was
 pub verdict-count : (status : Status) (before after : PatternsState) → IsVerdict status → after.refusals ≡ before.refusals → KeepsCount status before after
 verdict-count Done before after is kept = kept
 verdict-count (NoCheck part) before after is kept = kept
+verdict-count (NoReplay part) before after is kept = kept
 verdict-count status before after is kept = absurd is
 
 -- a status that comes with a text is not want of memory
 pub verdict-other : (status : Status) → IsVerdict status → status ≡ Memory → ⊥
 verdict-other Done is same = cc
 verdict-other (NoCheck part) is same = cc
+verdict-other (NoReplay part) is same = cc
 verdict-other status is same = absurd is
 
 -- an answer that was written whole is the cause of its status

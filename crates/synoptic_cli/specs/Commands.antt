@@ -2,7 +2,7 @@
 use Rattle.std.specs.Prelude.{Result}
 use Rattle.command_line.specs.Task.{Task}
 use Rattle.command_line.specs.declared.table.Command.{Command}
-use Rattle.command_line.specs.declared.table.Command.TheVariants.{Invariants, Graph, GraphOfModel, Infer, Check, Paths, Bench}
+use Rattle.command_line.specs.declared.table.Command.TheVariants.{Invariants, Graph, GraphOfModel, Infer, Check, Replay, Paths, Bench}
 use Rattle.synoptic_cli.specs.declared.answer.Answer.{Answer}
 use Rattle.synoptic_cli.specs.declared.material.Material.{Material}
 use Rattle.synoptic_cli.specs.declared.status.LimitKind.{LimitKind}
@@ -13,6 +13,7 @@ use Rattle.synoptic_cli.specs.Commands.PrintGraph as print_graph
 use Rattle.synoptic_cli.specs.Commands.PrintGraphOfModel as print_graph_of_model
 use Rattle.synoptic_cli.specs.Commands.PrintInvariants as print_invariants
 use Rattle.synoptic_cli.specs.Commands.PrintPaths as print_paths
+use Rattle.synoptic_cli.specs.Commands.ReplayModel as replay_model
 use Rattle.synoptic_cli.specs.Commands.RunBench as run_bench
 pub mod Answered
 pub mod CheckModel
@@ -22,6 +23,7 @@ pub mod PrintGraph
 pub mod PrintGraphOfModel
 pub mod PrintInvariants
 pub mod PrintPaths
+pub mod ReplayModel
 pub mod RunBench
 pub mod TypeNames
 
@@ -32,6 +34,7 @@ AnswersBy Graph task m r = print_graph.Answers m r
 AnswersBy GraphOfModel task m r = print_graph_of_model.Answers m r
 AnswersBy Infer task m r = infer_model.Answers m r
 AnswersBy Check task m r = check_model.Answers m r
+AnswersBy Replay task m r = replay_model.Answers m r
 AnswersBy Paths task m r = print_paths.Answers m r
 AnswersBy Bench task m r = run_bench.Answers task.number r
 

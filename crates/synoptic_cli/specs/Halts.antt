@@ -30,7 +30,7 @@ use Rattle.synoptic_cli.specs.declared.material.Material.{Material}
 use Rattle.synoptic_cli.specs.declared.stages.SoFar as rust
 use Rattle.synoptic_cli.specs.declared.status.LimitKind.{LimitKind}
 use Rattle.synoptic_cli.specs.declared.status.Status.{Status}
-use Rattle.synoptic_cli.specs.declared.status.Status.TheVariants.{Done, NoCheck, Usage, Expressions, ReadFault, Memory, ModelFile}
+use Rattle.synoptic_cli.specs.declared.status.Status.TheVariants.{Done, NoCheck, NoReplay, Usage, Expressions, ReadFault, Memory, ModelFile}
 use Rattle.synoptic_cli.specs.declared.status.Source.TheVariants as sources
 use Rattle.synoptic_cli.specs.declared.model_stage.ModelHalt.{ModelHalt}
 use Rattle.synoptic_cli.specs.declared.model_stage.ModelHalt.TheVariants as halts
@@ -160,6 +160,7 @@ pub record ReadsTask (task : Task) (old new : InputState) (material : Material) 
 abbrev pub IsVerdict : Status → Type 0
 IsVerdict Done = ⊤
 IsVerdict (NoCheck part) = ⊤
+IsVerdict (NoReplay part) = ⊤
 IsVerdict status = ⊥
 
 -- what a command gives is what it is to answer, with a verdict, or its limit; where memory is wanted nothing is said

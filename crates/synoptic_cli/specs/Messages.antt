@@ -12,7 +12,7 @@ use Rattle.model_file.specs.declared.refusal.Field.{Field}
 use Rattle.model_file.specs.declared.refusal.Field.TheVariants as fields
 use Rattle.command_line.specs.Task.{Task, task_of}
 use Rattle.synoptic_cli.specs.declared.status.Status.{Status}
-use Rattle.synoptic_cli.specs.declared.status.Status.TheVariants.{Done, NoCheck, Usage, Expressions, Log, Limit, ReadFault, WriteFault, Memory, ModelFile}
+use Rattle.synoptic_cli.specs.declared.status.Status.TheVariants.{Done, NoCheck, NoReplay, Usage, Expressions, Log, Limit, ReadFault, WriteFault, Memory, ModelFile}
 use Rattle.synoptic_cli.specs.declared.status.LogFault.{LogFault}
 use Rattle.synoptic_cli.specs.declared.status.LogFault.TheVariants as faults
 use Rattle.synoptic_cli.specs.declared.status.LimitKind.{LimitKind}
@@ -90,6 +90,7 @@ file_fault file_error.Memory = codes "out of memory"
 abbrev pub task_message : Option Task → Status → List ℕ
 task_message task Done = []
 task_message task (NoCheck part) = []
+task_message task (NoReplay part) = []
 task_message task Usage =
     codes "usage: synoptic infer|check|replay|invariants|graph|paths|bench "
     ++ codes "[-e FILE] [-p] [-m FILE] [-i] [-j] [-n N] [-r] [--] [FILE]...\n"
@@ -116,6 +117,7 @@ Tells text before after =
 abbrev pub code_of : Status → ℕ
 code_of Done = 0
 code_of (NoCheck part) = 1
+code_of (NoReplay part) = 1
 code_of Usage = 2
 code_of (Expressions e) = 3
 code_of (Log fault) = 4

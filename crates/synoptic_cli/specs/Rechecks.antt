@@ -1,11 +1,13 @@
--- When an inference is done, and what a check says of what was inferred.
+-- When an inference is done, and what a check and a replay say of what was inferred.
 use Rattle.std.specs.Prelude.{ℕ, ◌≡◌, List, Some, None, Result, Ok}
 use Rattle.outside.specs.Inputs.{Files, bytes_of}
 use Rattle.invariants.specs.declared.records.Model.{Model}
 use Rattle.models.specs.Models.{typed_words, IsModelOf}
 use Rattle.models.specs.Laws.{IsTypedLog}
+use Rattle.models.specs.Limits.{KeepsLimits}
 use Rattle.model_check.specs.declared.verdict.Verdict.TheVariants.{Yes}
 use Rattle.model_file.specs.Reading as model_file
+use Rattle.replay_check.specs.declared.answer.Replay.TheVariants as outcomes
 use Rattle.command_line.specs.Task.{Task}
 use Rattle.command_line.specs.declared.table.Command.TheVariants as commands
 use Rattle.synoptic_cli.specs.declared.answer.Answer.{Answer}
@@ -15,6 +17,7 @@ use Rattle.synoptic_cli.specs.Task.{stages_of}
 use Rattle.synoptic_cli.specs.Stages.{SoFar, Stop, at_start, reads}
 use Rattle.synoptic_cli.specs.Commands.CheckModel.{answer_of}
 use Rattle.synoptic_cli.specs.Commands.Inference.{PassesNone}
+use Rattle.synoptic_cli.specs.Commands.ReplayModel as replay_model
 use Rattle.synoptic_cli.specs.Endings.{EndsOver, EndsTold, told_stages}
 
 -- the check of the named file against the log that the task reads
@@ -43,6 +46,34 @@ InferredAreAccepted =
     → EndsOver task (told_stages before (stages_of task)) (Ok a) → bytes_of after name ≡ Some a.text
     → (told : EndsTold after (checking task name) status)
     → (told.end ≡ Ok (answer_of Yes)) × (status ≡ Done)
+
+-- the replay of the named file against the log that the task reads
+abbrev pub replaying : Task → List ℕ → Task
+replaying task name = record task { command = commands.Replay; model = Some name }
+
+-- where the file says the model of the log that the task reads, whose words use exactly its types, and that model is
+-- within the limits, its replay against that log ends with yes
+abbrev pub HistoriesAreAccepted : Type 0
+HistoriesAreAccepted =
+    (files : Files) (task : Task) (name bytes : List ℕ) (model : Model) (so_far : SoFar)
+    (end : Result Answer Stop)
+    → task.model ≡ None → reads at_start (told_stages files (stages_of task)) ≡ Ok so_far
+    → IsTypedLog (typed_words so_far.material.log) → IsModelOf model (typed_words so_far.material.log)
+    → KeepsLimits model
+    → bytes_of files name ≡ Some bytes → model_file.reads bytes ≡ Ok model
+    → EndsOver (replaying task name) (told_stages files (stages_of (replaying task name))) end
+    → end ≡ Ok (replay_model.answer_of outcomes.Yes)
+
+-- What the inference of a log answers over some files is accepted by its replay too: over files in which the task's own
+-- inputs are the same, and the named one has that answer's text, the replay ends with yes, and so with this status alone.
+abbrev pub InferredAreReplayed : Type 0
+InferredAreReplayed =
+    (before after : Files) (task : Task) (name : List ℕ) (a : Answer) (status : Status)
+    → task.command ≡ commands.Infer → task.model ≡ None
+    → told_stages before (stages_of task) ≡ told_stages after (stages_of task)
+    → EndsOver task (told_stages before (stages_of task)) (Ok a) → bytes_of after name ≡ Some a.text
+    → (told : EndsTold after (replaying task name) status)
+    → (told.end ≡ Ok (replay_model.answer_of outcomes.Yes)) × (status ≡ Done)
 
 -- where the inputs of an inference are read with no refusal, and it passes no limit, the status is this alone
 abbrev pub InferIsDone : Type 0

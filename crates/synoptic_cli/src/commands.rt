@@ -7,10 +7,12 @@ ghost use Rattle.synoptic_cli.specs.Halts.{Gives};
 mod check_model;
 mod infer_model;
 mod inference;
+mod numbered;
 mod print_graph;
 mod print_graph_of_model;
 mod print_invariants;
 mod print_paths;
+mod replay_model;
 mod run_bench;
 
 use crate::answer::{Answer, NoAnswer};
@@ -31,6 +33,7 @@ pub fn answer(alloc: Global, task: &Task<'_>, material: Material) -> Result<Answ
         Command::GraphOfModel => print_graph_of_model::answer(alloc, material),
         Command::Infer => infer_model::answer(alloc, material),
         Command::Check => check_model::answer(alloc, material),
+        Command::Replay => replay_model::answer(alloc, material),
         Command::Paths => print_paths::answer(alloc, material),
         Command::Bench => {
             drop(material);

@@ -1,6 +1,6 @@
 //! Laws over the endings of runs.
 ghost use Rattle.synoptic_cli.specs.Endings.{EndsAreOne, StatusesAreOne};
-ghost use Rattle.synoptic_cli.specs.Rechecks.{InferIsDone, InferredAreAccepted, ModelsAreAccepted};
+ghost use Rattle.synoptic_cli.specs.Rechecks.{HistoriesAreAccepted, InferIsDone, InferredAreAccepted, InferredAreReplayed, ModelsAreAccepted};
 
 use infer_core::{ends_exclude, one_final};
 use models::one_model;
@@ -28,4 +28,12 @@ pub fn infer_is_done()
 pub fn models_are_accepted()
     ensures models { ModelsAreAccepted }
     ensures inferred { InferredAreAccepted }
+{}
+
+/// Over files that are told, where one of them says the very model of the log that a task reads, within the limits,
+/// `replay` of it against that log ends with `yes`. So it does for a file with the text that `infer` answered of that
+/// log, by the same rules and options, and then the words and the files have the status `Done`.
+pub fn histories_are_accepted()
+    ensures models { HistoriesAreAccepted }
+    ensures inferred { InferredAreReplayed }
 {}

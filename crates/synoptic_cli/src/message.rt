@@ -213,6 +213,7 @@ fn write_message<E: Sink>(
     match status {
         Status::Done => Ok(()),
         Status::NoCheck(_) => Ok(()),
+        Status::NoReplay(_) => Ok(()),
         Status::Usage => write_whole(err, USAGE),
         Status::Expressions(error) => write_rule_error(error, err),
         Status::Log(fault) => write_log_fault(task, fault, err),

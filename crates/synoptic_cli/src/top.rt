@@ -77,6 +77,8 @@ fn status_without_task(error: ParseError) -> Status
 ///     what is promised of it.
 ///   - `NoCheck`: as `Done`, for `check` alone. The model in the file is not valid for the log. The named part is the first
 ///     that fails, in the order of `Part`, first at the number or the pair that it names. The answer names it.
+///   - `NoReplay`: as `Done`, for `replay` alone. The history of the model in the file is not justified by the log. The named
+///     step is the first that fails, in the order of `ReplayPart`. The answer names it.
 ///   - `Usage`: the words ask for nothing that is known. Inputs and patterns are untouched.
 ///   - `Expressions`: the file of rules has this refusal, which is never want of memory. It alone was opened, and was read
 ///     to its end, or to one byte past its limit. A pattern that is too deep or too large is refused at the named line only
@@ -91,11 +93,12 @@ fn status_without_task(error: ParseError) -> Status
 ///     that is not there, nothing before it is refused, and no fault was counted. The inputs before it were opened, and it
 ///     too unless its opening failed. Where a read of it failed, it is still open, with what stands behind some front of it;
 ///     otherwise nothing is open.
-///   - `WriteFault`: the task has an answer, as for `Done` or `NoCheck`. `out` counted a fault, and has a front of the answer.
+///   - `WriteFault`: the task has an answer, as for `Done`, `NoCheck` or `NoReplay`. `out` counted a fault, and has a front of
+///     the answer.
 ///   - `Memory`: memory was wanted, for the words, the inputs or the answer, or there are 2^32 files or more. No clause says
 ///     when. No more inputs were opened than the task has.
 ///
-///   But for `Done`, `NoCheck` and `WriteFault`, `out` is untouched.
+///   But for `Done`, `NoCheck`, `NoReplay` and `WriteFault`, `out` is untouched.
 /// - `expected`: where files are known and no fault or refusal was counted, the status is the one that the words and the
 ///   files have (`runs_end_alike`: there is no other). The exceptions are want of memory, and a pattern that nests too deep,
 ///   at the named line.

@@ -1,36 +1,17 @@
 //! `check`: tells whether the model of a file is valid for a log.
-ghost use Rattle.std.specs.Prelude.{◌≡◌, ◌++◌, IfOk, OnOk, Ok, codes, decimal};
+ghost use Rattle.std.specs.Prelude.{◌≡◌, IfOk, Ok};
 ghost use Rattle.model_shape.specs.Shapes.{IsWellShaped};
 ghost use Rattle.synoptic_cli.specs.Commands.CheckModel.{Answers, answer_of, no_text};
 ghost use Rattle.synoptic_cli.specs.Halts.{Gives, IsVerdict};
 
 use crate::answer::{Answer, NoAnswer};
+use crate::commands::numbered::{numbered_line, push_number};
 use crate::material::Material;
 use crate::status::Status;
 use invariants::Seq;
-use itoa::Buffer;
 use model_check::{Part, Verdict, check};
 use models::{first_part_fails, valid_tells};
 use std::alloc::{AllocError, Global};
-
-/// Puts a number in decimal digits at the end of the text.
-fn push_number(text: &mut Vec<u8>, number: u32) -> Result<(), AllocError>
-    ensures { OnOk result (text.new.items ≡ text.old.items ++ decimal number) }
-{
-    let mut digits = Buffer::new();
-    text.extend_from_slice(digits.format(number).as_bytes())
-}
-
-/// The line of a part that has a number.
-fn numbered_line(alloc: Global, what: &str, number: u32) -> Result<Seq<u8>, AllocError>
-    ensures { IfOk result (λ text. text ≡ what.now ++ decimal number ++ codes "\n") }
-{
-    let mut text = Vec::new(alloc);
-    text.extend_from_slice(what.as_bytes())?;
-    push_number(&mut text, number)?;
-    text.push(10)?;
-    Ok(Seq::from_vec(text))
-}
 
 /// The line of a pair of partitions without a block.
 fn pair_line(alloc: Global, p: u32, q: u32) -> Result<Seq<u8>, AllocError>

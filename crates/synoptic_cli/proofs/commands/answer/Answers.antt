@@ -32,6 +32,10 @@ pub returns-in-Check : goal.returns-in-Check
 returns-in-Check c =
     subst (λ (command : Command). Gives (AnswersBy command (task_held c.args.task.now) c.args.material) c.answer-in-Check.result) (sym c.in-Check.is) c.answer-in-Check.ensures
 
+pub returns-in-Replay : goal.returns-in-Replay
+returns-in-Replay c =
+    subst (λ (command : Command). Gives (AnswersBy command (task_held c.args.task.now) c.args.material) c.answer-in-Replay.result) (sym c.in-Replay.is) c.answer-in-Replay.ensures
+
 pub returns-in-Bench : goal.returns-in-Bench
 returns-in-Bench c =
     subst (λ (command : Command). Gives (AnswersBy command (task_held c.args.task.now) c.args.material) c.answer-in-Bench.result) (sym c.in-Bench.is) c.answer-in-Bench.ensures
