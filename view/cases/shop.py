@@ -14,13 +14,12 @@ def check_graph(page):
     same("shop: its facts", page.text("#facts"),
          "12 traces, 39 events, 7 types, 10 partitions, 14 edges, 41 invariants, 2 splits, 1 merge, 1 block.")
     labels = "6 of 12,6 of 12,3 of 6,3 of 6,3 of 5,2 of 5,8 of 8,2 of 6,2 of 6,2 of 6,5 of 5,4 of 4,3 of 3,2 of 2"
-    same("shop: what splits, merges and blocks are", [
-        (title.split()[1], title.split(",")[0]) for title in page.js(
-            "return [...document.querySelectorAll('#facts [title]')].map(x => x.title)")], [
-        ("split", "A split divided a partition in two"),
-        ("merge", "A merge made two partitions of one type one again"),
-        ("block", "A block is the reason why two partitions of one type are not one: "
-                  "a path that the graph would have if they were")])
+    titles = page.js("return [...document.querySelectorAll('#facts [title]')].map(x => [x.textContent, x.title])")
+    same("shop: what splits, merges and blocks are", [[text, title.split(",")[0]] for text, title in titles], [
+        ["2 splits", "A split divided a partition in two"],
+        ["1 merge", "A merge made two partitions of one type one again"],
+        ["1 block", "A block is the reason why two partitions of one type are not one: "
+                    "a path that the graph would have if they were"]])
     same("shop: labels of edges", sorted(page.texts(".edge text")), sorted(labels.split(",")))
     wide = page.js("return [...document.querySelectorAll('.edge .line')].map(x => x.getAttribute('stroke-width') * 1)")
     same("shop: an edge is as wide as its share", (wide[6] == max(wide), wide[0] > wide[7]), (True, True))
