@@ -1,5 +1,5 @@
 //! What a model says, as data: its partitions and edges, and the steps that led to it.
-use crate::{Invariant, Seq, Text};
+use crate::{Invariant, Kinds, Seq, Text};
 
 /// A partition of events.
 #[derive(Clone, Copy, Debug, PartialEq, Eq)]
@@ -70,11 +70,13 @@ pub struct Block {
 pub struct Model {
     /// The texts of the types, of which the first has the number 2.
     pub types: Seq<Text>,
+    /// Which kinds of invariants were asked for.
+    pub kinds: Kinds,
     /// The partitions, ascending by their ids.
     pub partitions: Seq<Partition>,
     /// The edges, ascending by the ids that they leave and then by those that they enter.
     pub edges: Seq<Edge>,
-    /// The invariants, in the order of the candidates.
+    /// The invariants, in the order of the candidates of these kinds.
     pub invariants: Seq<Listed>,
     /// The steps of refinement, in their order.
     pub splits: Seq<Split>,

@@ -13,12 +13,12 @@ pub const TERMINAL: u32 = 1;
 pub const FIRST_TYPE: u32 = 2;
 
 /// How many types of events a log has at most.
-pub const MAX_TYPES: u32 = 128;
+pub const MAX_TYPES: u32 = 256;
 
-/// The greatest number of a type for which labels and marks have room. No type of a log has a greater one, and 256 types have just this room.
+/// The greatest number that a type of a log has.
 pub const LAST_TYPE: u16 = 257;
 
-/// How many invariants labels and marks have room for: all candidates of four kinds between 256 types. No log has so many.
+/// How many invariants a log has at most: all candidates of four kinds between `MAX_TYPES` types.
 pub const MAX_INVARIANTS: usize = 262_144;
 
 /// How many events a log has at most, over all its traces.
@@ -49,7 +49,16 @@ pub const MAX_PARTITIONS: u32 = 1024;
 pub const MAX_PATH_NUMBERS: u32 = 4_000_000;
 
 /// How many bytes a model file has at most.
-pub const MAX_MODEL_BYTES: usize = 134_217_728;
+pub const MAX_MODEL_BYTES: usize = 536_870_912;
+
+/// How many bytes the text of a model has at most, as it is written to a file.
+pub const MAX_WRITTEN_BYTES: usize = 330_000_000;
+
+/// How many types a model file of version 1 has at most.
+pub const VERSION_1_TYPES: u32 = 128;
+
+/// How many bytes a model file of version 1 has at most.
+pub const VERSION_1_BYTES: usize = 134_217_728;
 
 /// How many splits the refinement of a log has at most, and how many merges its coarsening: each makes or takes a partition of events.
 pub const MAX_STEPS: u32 = 1022;

@@ -28,7 +28,7 @@ pub enum ReadError {
     TypeTooLong(At),
     /// The line's trace text has more than 1,024 bytes.
     TraceTooLong(At),
-    /// The line's type would be the 129th.
+    /// The line's type would be the 257th.
     TypeLimit(At),
     /// The line's event would be the 1,000,001st.
     EventLimit(At),

@@ -1,7 +1,7 @@
 -- In a list that ascends each is before all that come later.
 use Rattle.std.proofs.Common.{◌≡◌, ℕ, zero, suc, ◌<◌, ◌⊎◌, List, [], ◌∷◌, Some, subst, ◌∙◌, arith, inl, inr}
 use Rattle.std.specs.List.{slice_get}
-use Rattle.invariants.specs.declared.Kinds.TheVariants.{Three}
+use Rattle.invariants.specs.declared.Kinds.{Kinds}
 use Rattle.invariants.proofs.EachKinds.{candidates-differ}
 use Rattle.model_shape.specs.Ascending.{LeadsTo, Ascends, PartitionBefore, EdgeBefore, BlockBefore, CandidateBefore, AscendingTells}
 
@@ -30,9 +30,9 @@ two-pass a b c d e f (inr p) (inl q) = inl (let s : a ≡ c = p.0 in omega (arit
 two-pass a b c d e f (inr p) (inr q) = inr (p.0 ∙ q.0, let x : b < d = p.1 in let y : d < f = q.1 in omega (arith, x, y))
 
 -- so it is in the order of the candidates
-candidates-pass : (types : ℕ) → Passes (CandidateBefore types)
-candidates-pass types x y z p q =
-    let same : p.later ≡ q.place = candidates-differ Three types p.later q.place y p.there q.here in
+candidates-pass : (kinds : Kinds) (types : ℕ) → Passes (CandidateBefore kinds types)
+candidates-pass kinds types x y z p q =
+    let same : p.later ≡ q.place = candidates-differ kinds types p.later q.place y p.there q.here in
     let a : p.place < p.later = p.order in
     let b : q.place < q.later = q.order in
     record { place = p.place; later = q.later; here = p.here; there = q.there; order = omega (arith, a, b, same) }
@@ -43,6 +43,6 @@ ascending_tells =
     record {
       partitions = in-order PartitionBefore (λ x y z p q. omega (arith, p, q));
       edges = in-order EdgeBefore (λ x y z p q. two-pass x.from x.to y.from y.to z.from z.to p q);
-      invariants = λ types. in-order (CandidateBefore types) (candidates-pass types);
+      invariants = λ kinds types. in-order (CandidateBefore kinds types) (candidates-pass kinds types);
       blocks = in-order BlockBefore (λ x y z p q. two-pass x.p x.q y.p y.q z.p z.q p q);
     }

@@ -1,10 +1,11 @@
 -- Lists that ascend, and the orders in which the lists of a model do.
 use Rattle.std.specs.Prelude.{◌≡◌, ℕ, ◌<◌, ◌⊎◌, List, [], ◌∷◌, slice_get, Some}
 use Rattle.invariants.specs.declared.Invariant.{Invariant}
+use Rattle.invariants.specs.declared.Kinds.{Kinds}
 use Rattle.invariants.specs.declared.records.Partition.{Partition}
 use Rattle.invariants.specs.declared.records.Edge.{Edge}
 use Rattle.invariants.specs.declared.records.Block.{Block}
-use Rattle.invariants.specs.Candidates.{candidates}
+use Rattle.invariants.specs.Candidates.{candidates_for}
 
 -- k is before the first of the list, where there is one
 abbrev pub LeadsTo : {K : Type 0} → (K → K → Type 0) → K → List K → Type 0
@@ -28,12 +29,12 @@ EdgeBefore x y = (x.from < y.from) ⊎ ((x.from ≡ y.from) × (x.to < y.to))
 abbrev pub BlockBefore : Block → Block → Type 0
 BlockBefore x y = (x.p < y.p) ⊎ ((x.p ≡ y.p) × (x.q < y.q))
 
--- invariants by their places among the candidates for so many types
-pub record CandidateBefore (types : ℕ) (x y : Invariant) : Type 0 where
+-- invariants by their places among the candidates of these kinds for so many types
+pub record CandidateBefore (kinds : Kinds) (types : ℕ) (x y : Invariant) : Type 0 where
   pub place : ℕ
   pub later : ℕ
-  pub here : slice_get (candidates types) place ≡ Some x
-  pub there : slice_get (candidates types) later ≡ Some y
+  pub here : slice_get (candidates_for kinds types) place ≡ Some x
+  pub there : slice_get (candidates_for kinds types) later ≡ Some y
   pub order : place < later
 
 -- each is before all that come later
@@ -45,6 +46,6 @@ IsInOrder {K} Before ks =
 pub record AscendingTells : Type 0 where
   pub partitions : (xs : List Partition) → Ascends PartitionBefore xs → IsInOrder PartitionBefore xs
   pub edges : (xs : List Edge) → Ascends EdgeBefore xs → IsInOrder EdgeBefore xs
-  pub invariants : (types : ℕ) (xs : List Invariant)
-      → Ascends (CandidateBefore types) xs → IsInOrder (CandidateBefore types) xs
+  pub invariants : (kinds : Kinds) (types : ℕ) (xs : List Invariant)
+      → Ascends (CandidateBefore kinds types) xs → IsInOrder (CandidateBefore kinds types) xs
   pub blocks : (xs : List Block) → Ascends BlockBefore xs → IsInOrder BlockBefore xs

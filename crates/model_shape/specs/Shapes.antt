@@ -1,8 +1,10 @@
--- What a model must be like to be written to a file and read from one: seven rules, one for each of its lists.
+-- What a model must be like to be written to a file and read from one: seven rules, one for each of its lists. A file of version 1 asks for two things more.
 use Rattle.std.specs.Prelude.{◌≡◌, ◌≢◌, ℕ, ◌+◌, ◌<◌, ◌≤◌, ◌==◌, ◌||◌, Bool, true, false, if◌then◌else◌, List, [], ◌∷◌, length, map, slice_get, Some, Contains}
 use Rattle.std.specs.List.{AllByRecursion}
-use Rattle.limits.specs.declared.TheConstants.{INITIAL, TERMINAL, FIRST_TYPE, MAX_TYPES, MAX_EVENTS, MAX_EDGE_COUNT, MAX_TYPE_BYTES, MAX_PARTITIONS, MAX_PATH_NUMBERS}
+use Rattle.limits.specs.declared.TheConstants.{INITIAL, TERMINAL, FIRST_TYPE, MAX_TYPES, MAX_EVENTS, MAX_EDGE_COUNT, MAX_TYPE_BYTES, MAX_PARTITIONS, MAX_PATH_NUMBERS, VERSION_1_TYPES}
 use Rattle.invariants.specs.declared.Invariant.{Invariant}
+use Rattle.invariants.specs.declared.Kinds.{Kinds}
+use Rattle.invariants.specs.declared.Kinds.TheVariants.{Three}
 use Rattle.invariants.specs.declared.records.Partition.{Partition}
 use Rattle.invariants.specs.declared.records.Edge.{Edge}
 use Rattle.invariants.specs.declared.records.Listed.{Listed}
@@ -10,7 +12,7 @@ use Rattle.invariants.specs.declared.records.Split.{Split}
 use Rattle.invariants.specs.declared.records.Merge.{Merge}
 use Rattle.invariants.specs.declared.records.Block.{Block}
 use Rattle.invariants.specs.declared.records.Model.{Model}
-use Rattle.invariants.specs.Candidates.{candidates}
+use Rattle.invariants.specs.Candidates.{candidates_for}
 use Rattle.model_shape.specs.Numbers.{split_numbers, block_numbers}
 use Rattle.model_shape.specs.Ascending.{Ascends, PartitionBefore, EdgeBefore, BlockBefore, CandidateBefore}
 
@@ -90,16 +92,16 @@ pub record AreShapedEdges (partitions : List Partition) (xs : List Edge) : Type 
 
 -- ---- invariants
 
--- a candidate of Three for so many types, with a label for each of so many partitions
-pub record IsShapedListed (types partitions : ℕ) (x : Listed) : Type 0 where
-  pub candidate : Contains (candidates types) x.inv
+-- a candidate of these kinds for so many types, with a label for each of so many partitions
+pub record IsShapedListed (kinds : Kinds) (types partitions : ℕ) (x : Listed) : Type 0 where
+  pub candidate : Contains (candidates_for kinds types) x.inv
   pub count : length x.labels ≡ partitions
   pub labels : AllByRecursion IsLabel x.labels
 
 -- such invariants, in the order of the candidates
-pub record AreShapedInvariants (types partitions : ℕ) (xs : List Listed) : Type 0 where
-  pub order : Ascends (CandidateBefore types) (map (λ l. l.inv) xs)
-  pub each : AllByRecursion (IsShapedListed types partitions) xs
+pub record AreShapedInvariants (kinds : Kinds) (types partitions : ℕ) (xs : List Listed) : Type 0 where
+  pub order : Ascends (CandidateBefore kinds types) (map (λ l. l.inv) xs)
+  pub each : AllByRecursion (IsShapedListed kinds types partitions) xs
 
 -- ---- merges
 
@@ -156,7 +158,12 @@ pub record IsWellShaped (m : Model) : Type 0 where
   pub types : AreTypes m.types
   pub partitions : AreShapedPartitions (length m.types) m.partitions
   pub edges : AreShapedEdges m.partitions m.edges
-  pub invariants : AreShapedInvariants (length m.types) (length m.partitions) m.invariants
+  pub invariants : AreShapedInvariants m.kinds (length m.types) (length m.partitions) m.invariants
   pub merges : AreShapedMerges m.merges
   pub splits : AreShapedSplits (length m.invariants) m.splits
   pub blocks : AreShapedBlocks (length m.invariants) m.partitions m.splits m.blocks
+
+-- what a file of version 1 can say: three kinds of invariants, and fewer types
+pub record IsOfVersion1 (m : Model) : Type 0 where
+  pub kinds : m.kinds ≡ Three
+  pub types : length m.types ≤ VERSION_1_TYPES

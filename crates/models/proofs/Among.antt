@@ -5,7 +5,8 @@ use Rattle.invariants.specs.declared.Invariant.{Invariant}
 use Rattle.invariants.specs.declared.records.Partition.{Partition}
 use Rattle.invariants.specs.declared.records.Edge.{Edge}
 use Rattle.invariants.specs.declared.records.Block.{Block}
-use Rattle.invariants.specs.Candidates.{candidates}
+use Rattle.invariants.specs.declared.Kinds.{Kinds}
+use Rattle.invariants.specs.Candidates.{candidates_for}
 use Rattle.partition_model.specs.Listings.{AscendIds, AscendEdges}
 use Rattle.partition_model.specs.Coarsening.{AscendFrom}
 use Rattle.model_shape.specs.Ascending.{LeadsTo, Ascends, PartitionBefore, EdgeBefore, BlockBefore, CandidateBefore}
@@ -49,11 +50,11 @@ blocks-ascend p q [] a = tt
 blocks-ascend p q (x ∷ xs) a = (first-block x xs a.1, blocks-ascend x.p x.q xs a.1)
 
 -- where invariants ascend from behind a candidate, the next one comes after it
-first-candidate : (types k : ℕ) (x : Invariant) (xs : List Invariant) → slice_get (candidates types) k ≡ Some x → AscendAmong (candidates types) (suc k) xs → LeadsTo (CandidateBefore types) x xs
-first-candidate types k x [] e a = tt
-first-candidate types k x (y ∷ ys) e a = let l : suc k ≤ a.0 = a.1 in record { place = k; later = a.0; here = e; there = a.2; order = omega (arith, l) }
+first-candidate : (kinds : Kinds) (types k : ℕ) (x : Invariant) (xs : List Invariant) → slice_get (candidates_for kinds types) k ≡ Some x → AscendAmong (candidates_for kinds types) (suc k) xs → LeadsTo (CandidateBefore kinds types) x xs
+first-candidate kinds types k x [] e a = tt
+first-candidate kinds types k x (y ∷ ys) e a = let l : suc k ≤ a.0 = a.1 in record { place = k; later = a.0; here = e; there = a.2; order = omega (arith, l) }
 
 -- invariants that ascend among the candidates stand in their order
-pub candidates-ascend : (types low : ℕ) (xs : List Invariant) → AscendAmong (candidates types) low xs → Ascends (CandidateBefore types) xs
-candidates-ascend types low [] a = tt
-candidates-ascend types low (x ∷ xs) a = (first-candidate types a.0 x xs a.2 a.3, candidates-ascend types (suc a.0) xs a.3)
+pub candidates-ascend : (kinds : Kinds) (types low : ℕ) (xs : List Invariant) → AscendAmong (candidates_for kinds types) low xs → Ascends (CandidateBefore kinds types) xs
+candidates-ascend kinds types low [] a = tt
+candidates-ascend kinds types low (x ∷ xs) a = (first-candidate kinds types a.0 x xs a.2 a.3, candidates-ascend kinds types (suc a.0) xs a.3)

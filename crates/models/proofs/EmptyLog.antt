@@ -1,5 +1,6 @@
 -- The definitions on the log with no events.
 use Rattle.std.proofs.Common.{◌≡◌, ℕ, [], ◌∷◌, refl, arith}
+use Rattle.invariants.specs.declared.Kinds.TheVariants.{Three}
 use Rattle.invariants.specs.declared.records.Model.{Model}
 use Rattle.partition_model.specs.Assignments.{Event, events, G}
 use Rattle.partition_model.specs.Coarsening.{IsPair}
@@ -13,10 +14,10 @@ use Rattle.model_shape.specs.Shapes.{end_of, IsWellShaped}
 use Rattle.models.specs.Limits.{IsWithinLimits, KeepsLimits}
 
 abbrev nothing : TypedWords
-nothing = record { types = []; words = [] }
+nothing = record { kinds = Three; types = []; words = [] }
 
 abbrev empty : Model
-empty = record { types = []; partitions = end_of 0 0 ∷ end_of 1 0 ∷ []; edges = []; invariants = []; splits = []; merges = []; blocks = [] }
+empty = record { types = []; kinds = Three; partitions = end_of 0 0 ∷ end_of 1 0 ∷ []; edges = []; invariants = []; splits = []; merges = []; blocks = [] }
 
 no-pair : (p q : ℕ) → IsPair (G []) p q → ⊥
 no-pair p q i =
@@ -27,6 +28,7 @@ is_model : IsModelOf empty nothing
 is_model =
     record {
       types = refl;
+      kinds = refl;
       refined = [];
       end = [];
       splits = (tt, refl);

@@ -5,6 +5,7 @@ use Rattle.std.specs.List.{AllByRecursion}
 use Rattle.invariants.specs.Candidates.{candidates, invariant}
 use Rattle.invariants.specs.Monitors.{step, is_bad}
 use Rattle.invariants.specs.declared.Kind.{Kind}
+use Rattle.invariants.specs.declared.Kinds.TheVariants.{Three}
 use Rattle.invariants.specs.declared.Kind.TheVariants.{AF, NF, AP}
 use Rattle.invariants.specs.declared.records.Partition.{Partition}
 use Rattle.invariants.specs.declared.records.Edge.{Edge}
@@ -33,7 +34,7 @@ abbrev texts : List (List ℕ)
 texts = (97 ∷ []) ∷ (99 ∷ []) ∷ (100 ∷ []) ∷ (98 ∷ []) ∷ (101 ∷ []) ∷ []
 
 abbrev log : TypedWords
-log = record { types = texts; words = (2 ∷ 3 ∷ 4 ∷ []) ∷ (5 ∷ 3 ∷ 6 ∷ []) ∷ [] }
+log = record { kinds = Three; types = texts; words = (2 ∷ 3 ∷ 4 ∷ []) ∷ (5 ∷ 3 ∷ 6 ∷ []) ∷ [] }
 
 abbrev partition : ℕ → ℕ → ℕ → Partition
 partition id typ count = record { id = id; typ = typ; count = count }
@@ -53,6 +54,7 @@ abbrev model_with : Split → Model
 model_with s =
     record {
       types = texts;
+      kinds = Three;
       partitions = partition 0 0 2 ∷ partition 1 1 2 ∷ partition 2 2 1 ∷ partition 3 3 1 ∷ partition 4 4 1 ∷ partition 5 5 1 ∷ partition 6 6 1 ∷ partition 7 3 1 ∷ [];
       edges = edge 0 2 1 ∷ edge 0 5 1 ∷ edge 2 3 1 ∷ edge 3 4 1 ∷ edge 4 1 1 ∷ edge 5 7 1 ∷ edge 6 1 1 ∷ edge 7 6 1 ∷ [];
       invariants =

@@ -1,5 +1,5 @@
 -- The model of a log within the limits is well shaped.
-use Rattle.std.proofs.Common.{◌≡◌, ℕ, suc, ◌+◌, ◌<◌, ◌≤◌, ◌==◌, ◌&&◌, not, Bool, true, false, cond, List, [], ◌∷◌, ◌++◌, map, filter, length, slice_get, Some, sym, ◌∙◌, refl, ap, subst, inl, inr, arith, le-ltb, lt-ltb, count_by, sum_by, length-append, add-zero}
+use Rattle.std.proofs.Common.{◌≡◌, ℕ, suc, ◌+◌, ◌<◌, ◌≤◌, ◌==◌, ◌&&◌, not, Bool, true, false, cond, List, [], ◌∷◌, ◌++◌, map, filter, length, slice_get, Some, sym, ◌∙◌, refl, ap, subst, subst₂, inl, inr, arith, le-ltb, lt-ltb, count_by, sum_by, length-append, add-zero}
 use Rattle.std.proofs.lemmas.Bool.{cases_Bool, and_parts}
 use Rattle.std.proofs.lemmas.Option.{slice_get_within}
 use Rattle.std.proofs.lemmas.List.{length-map}
@@ -7,13 +7,14 @@ use Rattle.std.proofs.lemmas.List.Sums.{length-filter, sum_by-cons, count_by-le-
 use Rattle.std.specs.List.{AllByRecursion, range_with_len}
 use Rattle.std.specs.Prelude.{Contains}
 use Rattle.invariants.specs.declared.Invariant.{Invariant}
+use Rattle.invariants.specs.declared.Kinds.{Kinds}
 use Rattle.invariants.specs.declared.records.Partition.{Partition}
 use Rattle.invariants.specs.declared.records.Listed.{Listed}
 use Rattle.invariants.specs.declared.records.Split.{Split}
 use Rattle.invariants.specs.declared.records.Merge.{Merge}
 use Rattle.invariants.specs.declared.records.Block.{Block}
 use Rattle.invariants.specs.declared.records.Model.{Model}
-use Rattle.invariants.specs.Candidates.{candidates}
+use Rattle.invariants.specs.Candidates.{candidates_for}
 use Rattle.invariants.specs.Mined.{holds_of_all}
 use Rattle.partition_model.specs.Graphs.{Graph, Walk, IsPath, Satisfies, IsLeastViolation, IsFormed, Merged}
 use Rattle.partition_model.specs.Assignments.{Event, Assignment, events, G, IsTyped, type_of, types_of, ids_of, id_list, pairs, edge_count, size, members, is_live, by_type, inner_words, with_ends}
@@ -212,33 +213,33 @@ ascend-filter p all (x ∷ xs) low f =
     ]
 
 -- the mined invariants ascend among the candidates
-mined-ascends : (log : TypedWords) → AscendAmong (candidates (length log.types)) 0 (mined_of log)
-mined-ascends log = ascend-filter (holds_of_all (map with_ends log.words)) (candidates (length log.types)) (candidates (length log.types)) 0 (λ j. ap (slice_get (candidates (length log.types))) (omega arith))
+mined-ascends : (log : TypedWords) → AscendAmong (candidates_for log.kinds (length log.types)) 0 (mined_of log)
+mined-ascends log = ascend-filter (holds_of_all (map with_ends log.words)) (candidates_for log.kinds (length log.types)) (candidates_for log.kinds (length log.types)) 0 (λ j. ap (slice_get (candidates_for log.kinds (length log.types))) (omega arith))
 
 -- each mined invariant is a candidate
-mined-candidate : (log : TypedWords) (inv : Invariant) → In inv (mined_of log) → Contains (candidates (length log.types)) inv
+mined-candidate : (log : TypedWords) (inv : Invariant) → In inv (mined_of log) → Contains (candidates_for log.kinds (length log.types)) inv
 mined-candidate log inv i =
-    Contains-In inv (candidates (length log.types)) (In-filter (holds_of_all (map with_ends log.words)) inv (candidates (length log.types)) i).0
+    Contains-In inv (candidates_for log.kinds (length log.types)) (In-filter (holds_of_all (map with_ends log.words)) inv (candidates_for log.kinds (length log.types)) i).0
 
 -- each listed invariant of the model of a log is well shaped
-shaped-listed : (m : Model) (log : TypedWords) (k : IsModelOf m log) (l : Listed) → In l m.invariants → IsShapedListed (length m.types) (length m.partitions) l
+shaped-listed : (m : Model) (log : TypedWords) (k : IsModelOf m log) (l : Listed) → In l m.invariants → IsShapedListed m.kinds (length m.types) (length m.partitions) l
 shaped-listed m log k l i =
     let r : AreReached l.inv k.end m.partitions l.labels = all_in (λ l. AreReached l.inv k.end m.partitions l.labels) l m.invariants k.labels i in
     let c : In l.inv (mined_of log) = subst (λ (xs : List Invariant). In l.inv xs) k.listing (map-In (λ (x : Listed). x.inv) l m.invariants i) in
     record {
-      candidate = subst (λ (ts : List (List ℕ)). Contains (candidates (length ts)) l.inv) (sym k.types) (mined-candidate log l.inv c);
+      candidate = subst₂ (λ (kinds : Kinds) (ts : List (List ℕ)). Contains (candidates_for kinds (length ts)) l.inv) (sym k.kinds) (sym k.types) (mined-candidate log l.inv c);
       count = r.count;
       labels = r.each;
     }
 
 -- the listed invariants of the model of a log are well shaped
-shaped-invariants : (m : Model) (log : TypedWords) → IsModelOf m log → AreShapedInvariants (length m.types) (length m.partitions) m.invariants
+shaped-invariants : (m : Model) (log : TypedWords) → IsModelOf m log → AreShapedInvariants m.kinds (length m.types) (length m.partitions) m.invariants
 shaped-invariants m log k =
-    let a : AscendAmong (candidates (length log.types)) 0 (listing_of m) = subst (λ (xs : List Invariant). AscendAmong (candidates (length log.types)) 0 xs) (sym k.listing) (mined-ascends log) in
-    let b : Ascends (CandidateBefore (length log.types)) (listing_of m) = candidates-ascend (length log.types) 0 (listing_of m) a in
+    let a : AscendAmong (candidates_for log.kinds (length log.types)) 0 (listing_of m) = subst (λ (xs : List Invariant). AscendAmong (candidates_for log.kinds (length log.types)) 0 xs) (sym k.listing) (mined-ascends log) in
+    let b : Ascends (CandidateBefore log.kinds (length log.types)) (listing_of m) = candidates-ascend log.kinds (length log.types) 0 (listing_of m) a in
     record {
-      order = subst (λ (ts : List (List ℕ)). Ascends (CandidateBefore (length ts)) (listing_of m)) (sym k.types) b;
-      each = all_from (IsShapedListed (length m.types) (length m.partitions)) m.invariants (shaped-listed m log k);
+      order = subst₂ (λ (kinds : Kinds) (ts : List (List ℕ)). Ascends (CandidateBefore kinds (length ts)) (listing_of m)) (sym k.kinds) (sym k.types) b;
+      each = all_from (IsShapedListed m.kinds (length m.types) (length m.partitions)) m.invariants (shaped-listed m log k);
     }
 
 -- each merge of coarsening is well shaped

@@ -1,7 +1,6 @@
 -- What a valid model tells.
 use Rattle.std.proofs.Common.{◌↔◌, ℕ, List, [], ◌∷◌, map, length, slice_get, Contains, sym, ◌∙◌, ap, subst}
 use Rattle.std.specs.List.{AllByRecursion}
-use Rattle.invariants.specs.declared.Kinds.TheVariants.{Three}
 use Rattle.invariants.specs.declared.Invariant.{Invariant}
 use Rattle.invariants.specs.declared.records.Listed.{Listed}
 use Rattle.invariants.specs.declared.records.Model.{Model}
@@ -46,9 +45,9 @@ pub valid_tells : ValidTells
 valid_tells m log v =
     record {
       types = v.types;
-      listed = λ inv. subst (λ (ls : List Invariant). Contains ls inv ↔ IsListed Three (length log.types) (map with_ends log.words) inv) (sym v.listing) (mined_tells Three (length log.types) (map with_ends log.words) inv);
+      listed = λ inv. subst (λ (ls : List Invariant). Contains ls inv ↔ IsListed log.kinds (length log.types) (map with_ends log.words) inv) (sym v.listing) (mined_tells log.kinds (length log.types) (map with_ends log.words) inv);
       order = λ j k i n first second ej ek ei en l.
-          mined_keeps_order Three (length log.types) (map with_ends log.words) j k i n first second
+          mined_keeps_order log.kinds (length log.types) (map with_ends log.words) j k i n first second
           (sym (ap (λ (ls : List Invariant). slice_get ls j) v.listing) ∙ ej) (sym (ap (λ (ls : List Invariant). slice_get ls k) v.listing) ∙ ek) ei en l;
       accepted = λ w c. all_in (IsAccepted m) w log.words v.traces (In-Contains log.words w c);
       satisfied = λ inv path c i. all_in (λ x. Satisfies (graph_of m) x) inv (listing_of m) (valid_satisfies m log v) (In-Contains (listing_of m) inv c) path i;

@@ -157,9 +157,9 @@ one-listing h xs a (l ∷ ls) (k ∷ ks) e r s =
     ap₂ (λ (x : Listed) (z : List Listed). x ∷ z) (same-listed l k i d) (one-listing h xs a ls ks j r.1 s.1)
 
 -- models whose parts are the same are the same
-same-model : (a b : Model) → a.types ≡ b.types → a.partitions ≡ b.partitions → a.edges ≡ b.edges → a.invariants ≡ b.invariants
+same-model : (a b : Model) → a.types ≡ b.types → a.kinds ≡ b.kinds → a.partitions ≡ b.partitions → a.edges ≡ b.edges → a.invariants ≡ b.invariants
     → a.splits ≡ b.splits → a.merges ≡ b.merges → a.blocks ≡ b.blocks → a ≡ b
-same-model a b t p e i s m k = λ d. record { types = t d; partitions = p d; edges = e d; invariants = i d; splits = s d; merges = m d; blocks = k d }
+same-model a b t x p e i s m k = λ d. record { types = t d; kinds = x d; partitions = p d; edges = e d; invariants = i d; splits = s d; merges = m d; blocks = k d }
 
 -- a log has at most one model
 pub one_model : OneModel
@@ -176,4 +176,4 @@ one_model a b log x y =
     subst₂ (λ (h : Assignment) (z : List Partition). AllByRecursion (λ l. AreReached l.inv h z l.labels) b.invariants) (sym m.1) (sym p) y.labels in
     let i : a.invariants ≡ b.invariants = one-listing x.end a.partitions x.partitions a.invariants b.invariants (x.listing ∙ sym y.listing) x.labels bl in
     let k : a.blocks ≡ b.blocks = one_blocks invs (G x.end) a.blocks b.blocks x.blocks (subst (λ (h : Assignment). AreBlocks invs (G h) b.blocks) (sym m.1) y.blocks) in
-    same-model a b (x.types ∙ sym y.types) p e i s.0 m.0 k
+    same-model a b (x.types ∙ sym y.types) (x.kinds ∙ sym y.kinds) p e i s.0 m.0 k

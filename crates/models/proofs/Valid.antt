@@ -11,7 +11,7 @@ use Rattle.invariants.specs.declared.records.Model.{Model}
 use Rattle.invariants.specs.Holds.{Holds, holds}
 use Rattle.invariants.specs.Monitors.{step}
 use Rattle.invariants.specs.Mined.{holds_of_all}
-use Rattle.invariants.specs.Candidates.{candidates}
+use Rattle.invariants.specs.Candidates.{candidates_for}
 use Rattle.invariants.proofs.Agree.{step-le}
 use Rattle.invariants.proofs.ByPlaces.{holds-Holds}
 use Rattle.partition_model.specs.Graphs.{IsPath, word, Accepts, Satisfies, Breaks, Merged, IsLeastViolation}
@@ -53,7 +53,7 @@ filter-holds words (inv ∷ invs) =
 
 -- each mined invariant holds of each word
 pub mined-hold : (log : TypedWords) → HoldAll log.words (mined_of log)
-mined-hold log = filter-holds log.words (candidates (length log.types))
+mined-hold log = filter-holds log.words (candidates_for log.kinds (length log.types))
 
 -- where an invariant stands in the listing, it stands at that place of the list with its labels
 get-map : (xs : List Listed) (k : ℕ) (inv : Invariant) → slice_get (map (λ l. l.inv) xs) k ≡ Some inv → (l : Listed) × (slice_get xs k ≡ Some l) × (l.inv ≡ inv)

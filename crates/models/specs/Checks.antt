@@ -1,13 +1,12 @@
 -- When a model is valid for a log, and the first part in which it fails.
 use Rattle.std.specs.Prelude.{◌≡◌, ◌≢◌, ◌↔◌, ℕ, zero, suc, ◌<◌, List, [], ◌∷◌, map, length, slice_get, Some, Contains}
 use Rattle.std.specs.List.{AllByRecursion}
-use Rattle.invariants.specs.declared.Kinds.TheVariants.{Three}
 use Rattle.invariants.specs.declared.Invariant.{Invariant}
 use Rattle.invariants.specs.declared.records.Listed.{Listed}
 use Rattle.invariants.specs.declared.records.Block.{Block}
 use Rattle.invariants.specs.declared.records.Model.{Model}
 use Rattle.invariants.specs.Holds.{Holds}
-use Rattle.invariants.specs.Candidates.{candidates}
+use Rattle.invariants.specs.Candidates.{candidates_for}
 use Rattle.invariants.specs.Mined.{IsListed}
 use Rattle.partition_model.specs.Graphs.{Accepts, Breaks, IsPath, Merged, word}
 use Rattle.partition_model.specs.Assignments.{with_ends}
@@ -77,14 +76,14 @@ IsFirstPart m log (part.Block p q) =
 pub record Promises (m : Model) (log : TypedWords) : Type 0 where
   -- its types are those of the log
   pub types : m.types ≡ log.types
-  -- it lists exactly the candidates of three kinds that hold, by places, of every word
+  -- it lists exactly the candidates of the kinds asked for that hold, by places, of every word
   pub listed : (inv : Invariant)
-      → Contains (listing_of m) inv ↔ IsListed Three (length log.types) (map with_ends log.words) inv
+      → Contains (listing_of m) inv ↔ IsListed log.kinds (length log.types) (map with_ends log.words) inv
   -- in the order of the candidates, none twice
   pub order : (j k i n : ℕ) (first second : Invariant)
       → slice_get (listing_of m) j ≡ Some first → slice_get (listing_of m) k ≡ Some second
-      → slice_get (candidates (length log.types)) i ≡ Some first
-      → slice_get (candidates (length log.types)) n ≡ Some second
+      → slice_get (candidates_for log.kinds (length log.types)) i ≡ Some first
+      → slice_get (candidates_for log.kinds (length log.types)) n ≡ Some second
       → j < k → i < n
   -- each word is the word of a path
   pub accepted : (w : List ℕ) → Contains log.words w

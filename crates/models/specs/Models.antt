@@ -3,11 +3,12 @@ use Rattle.std.specs.Prelude.{◌≡◌, ◌↔◌, ◌==◌, ◌&&◌, ◌||◌
 use Rattle.std.specs.List.{AllByRecursion}
 use Rattle.traces.specs.Words.{Log}
 use Rattle.invariants.specs.declared.Invariant.{Invariant}
+use Rattle.invariants.specs.declared.Kinds.{Kinds}
 use Rattle.invariants.specs.declared.records.Partition.{Partition}
 use Rattle.invariants.specs.declared.records.Edge.{Edge}
 use Rattle.invariants.specs.declared.records.Listed.{Listed}
 use Rattle.invariants.specs.declared.records.Model.{Model}
-use Rattle.invariants.specs.Mined.{mined}
+use Rattle.invariants.specs.Mined.{mined_for}
 use Rattle.partition_model.specs.Graphs.{Graph}
 use Rattle.partition_model.specs.Assignments.{Assignment, with_ends, is_live, G}
 use Rattle.partition_model.specs.Labels.{IsInductive, Reached}
@@ -16,18 +17,19 @@ use Rattle.partition_model.specs.Refinement.{IsRefined}
 use Rattle.partition_model.specs.Coarsening.{Coarsens, AreBlocks}
 use Rattle.model_shape.specs.Shapes.{listed_type, is_listed, listing_of, IsLabel}
 
--- what inference needs of a log: the texts of its types, and its words without their ends
+-- what inference needs of a log: the kinds of invariants that it is asked for, the texts of its types, and its words without their ends
 pub record TypedWords : Type 0 where
+  pub kinds : Kinds
   pub types : List (List ℕ)
   pub words : List (List ℕ)
 
--- the same of the log of some traces
-abbrev pub typed_words : Log → TypedWords
-typed_words log = record { types = log.types; words = map (λ trace. trace.events) log.traces }
+-- the same of the log of some traces, which is asked for these kinds
+abbrev pub typed_words : Kinds → Log → TypedWords
+typed_words kinds log = record { kinds = kinds; types = log.types; words = map (λ trace. trace.events) log.traces }
 
--- the invariants that hold of every word
+-- the invariants of these kinds that hold of every word
 abbrev pub mined_of : TypedWords → List Invariant
-mined_of log = mined (length log.types) (map with_ends log.words)
+mined_of log = mined_for log.kinds (length log.types) (map with_ends log.words)
 
 -- whether there is an edge from p to q
 abbrev pub has_edge : ℕ → ℕ → List Edge → Bool
@@ -72,9 +74,10 @@ pub record AreReached (inv : Invariant) (h : Assignment) (partitions : List Part
   pub states : (p s : ℕ) → is_live h p ≡ true → s < 3
       → IsInLabel partitions labels p s ↔ Reached inv (G h) p s
 
--- the model of a log: the run of refinement and then that of coarsening, the graph at their end with the reached states, and why no further merge is made
+-- the model of a log, which is asked for some kinds of invariants: the run of refinement and then that of coarsening, the graph at their end with the reached states, and why no further merge is made
 pub record IsModelOf (m : Model) (log : TypedWords) : Type 0 where
   pub types : m.types ≡ log.types
+  pub kinds : m.kinds ≡ log.kinds
   pub refined : Assignment
   pub end : Assignment
   pub splits : IsRefined (mined_of log) (length log.types) log.words m.splits refined

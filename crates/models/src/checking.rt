@@ -6,7 +6,7 @@ pub fn valid_satisfies()
     ensures { ValidSatisfies }
 {}
 
-/// A valid model lists exactly the candidates of three kinds that hold of every word, has a path for each word and no path that breaks one of them, and for each pair of one type the path that is written breaks one once the two are merged.
+/// A valid model lists exactly the candidates of the kinds asked for that hold of every word, has a path for each word and no path that breaks one of them, and for each pair of one type the path that is written breaks one once the two are merged.
 pub fn valid_tells()
     ensures { ValidTells }
 {}

@@ -21,7 +21,7 @@ use traces::TraceSet;
 /// Why an event was not added.
 #[derive(Clone, Copy, Debug, PartialEq, Eq)]
 pub enum AddError {
-    /// Its text would be a 129th type.
+    /// Its text would be a 257th type.
     TypeLimit,
     /// It would be the 1,000,001st event, and meets no limit on types.
     EventLimit,
@@ -229,7 +229,7 @@ impl Builder {
     /// Adds an event of the trace of this key, at most 1,024 bytes of text, and of the type of this text, 1 to
     /// 256 bytes. Its time is in billionths of whatever unit the log takes, from any beginning; an event without a time has 0.
     ///
-    /// `TypeLimit` comes exactly where the text is new and 128 types stand, `EventLimit` exactly where that is
+    /// `TypeLimit` comes exactly where the text is new and 256 types stand, `EventLimit` exactly where that is
     /// not so and 1,000,000 events stand. Each refusal leaves the builder as it was.
     #[inline(never)]
     pub fn add(

@@ -38,7 +38,7 @@ impl Laid {
     }
 }
 
-/// The types and the traces of a log: at most 128 types and 1,000,000 events.
+/// The types and the traces of a log: at most 256 types and 1,000,000 events.
 ///
 /// Contracts see the log. A trace is the numbers of its events' types, counted from 2 in the order in which
 /// the types were first met; 0 and 1 are kept for its two ends, INITIAL and TERMINAL. The events of a trace stand
