@@ -1,7 +1,7 @@
 pub mod Bits
 pub mod Rows
 pub mod Events
-pub mod Coming
+pub mod Sooner
 pub mod Traces
 pub mod Lists
 pub mod Rests

@@ -1,6 +1,9 @@
 -- Lists of sets of types after a write to one of them.
-use Rattle.std.proofs.Common.{◌≡◌, ℕ, zero, suc, ◌+◌, ◌<◌, Bool, true, false, not, ◌&&◌, ◌||◌, eqb, List, [], ◌∷◌, All, length, set, get_or, replicate, refl, sym, ap, ◌∙◌, arith, inl, inr}
+use Rattle.std.proofs.Common.{◌≡◌, ℕ, zero, suc, ◌+◌, ◌<◌, ◌≤◌, Bool, true, false, not, ◌&&◌, ◌||◌, cond, eqb, List, [], ◌∷◌, All, Vec, length, set, get_or, replicate, refl, sym, ap, ◌∙◌, arith, inl, inr}
 use Rattle.std.proofs.lemmas.Bool.{cases_eq, eq-eqb, ne_eqb}
+use Rattle.std.proofs.lemmas.List.{get_or-replicate, get_or-set_same, get_or-set_other}
+use Rattle.std.specs.declared.alloc.Global.{Global}
+use Rattle.closure_miner.specs.Rows.{in_row}
 use Rattle.closure_miner.specs.Sets.{has_at}
 
 -- a truth value and true is this truth value
@@ -63,18 +66,18 @@ at-other has (s ∷ old) (suc p) (suc a) new b other = at-other has old p a new 
 pub at-before : {S : Type 0} (has : S → ℕ → Bool) (old : List S) (p b : ℕ) (was : S) → p < length old → was ≡ get_or old p was → has was b ≡ has_at has old p b
 at-before has old p b was inside is = ap (λ s. has s b) is ∙ sym (at-place has old p b was inside)
 
--- where the set of a type keeps only the types of another, no other set changes
-pub at-both : {S : Type 0} (has : S → ℕ → Bool) (old : List S) (p : ℕ) (was new s : S) (x a b : ℕ) → x ≡ p + 2 → p < length old → was ≡ get_or old p was
-    → ((q : ℕ) → has new q ≡ (has was q && has s q))
-    → has_at has (set old p new) a b ≡ (has_at has old a b && (not (eqb x (a + 2)) || has s b))
-at-both has old p was new s x a b is inside before both = elim (cases_eq a p) [
+-- where the set of a type keeps only some types, no other set changes
+pub at-both : {S : Type 0} (has : S → ℕ → Bool) (old : List S) (p : ℕ) (was new : S) (kept : ℕ → Bool) (x a b : ℕ) → x ≡ p + 2 → p < length old → was ≡ get_or old p was
+    → ((q : ℕ) → has new q ≡ (has was q && kept q))
+    → has_at has (set old p new) a b ≡ (has_at has old a b && (not (eqb x (a + 2)) || kept b))
+at-both has old p was new kept x a b is inside before both = elim (cases_eq a p) [
   | inl same ↦
       ap (λ k. has_at has (set old p new) k b) same ∙ at-written has old p new b inside ∙ both b
-      ∙ ap (λ t. t && has s b) (at-before has old p b was inside before ∙ ap (λ k. has_at has old k b) (sym same))
-      ∙ sym (ap (λ t. has_at has old a b && (not t || has s b)) (eq-eqb x (a + 2) (omega arith)))
+      ∙ ap (λ t. t && kept b) (at-before has old p b was inside before ∙ ap (λ k. has_at has old k b) (sym same))
+      ∙ sym (ap (λ t. has_at has old a b && (not t || kept b)) (eq-eqb x (a + 2) (omega arith)))
   | inr other ↦
       at-other has old p a new b other
-      ∙ sym (keep-both (has_at has old a b) (eqb x (a + 2)) (has s b) (ne_eqb x (a + 2) (λ e. other (omega arith))))
+      ∙ sym (keep-both (has_at has old a b) (eqb x (a + 2)) (kept b) (ne_eqb x (a + 2) (λ e. other (omega arith))))
 ]
 
 -- where the set of a type takes the types of another, no other set changes
@@ -107,4 +110,43 @@ pub only-where : (x a : ℕ) (u v : Bool) → (x ≡ a → u ≡ v) → (not (eq
 only-where x a u v same = elim (cases_eq x a) [
   | inl e ↦ ap (λ t. not (eqb x a) || t) (same e)
   | inr other ↦ ap (λ t. not t || u) (ne_eqb x a other) ∙ sym (ap (λ t. not t || v) (ne_eqb x a other))
+]
+
+-- where nothing is asked at one number, all stays
+pub all-kept : (x a : ℕ) (o u : Bool) → (x ≡ a → u ≡ true) → o ≡ (o && (not (eqb x a) || u))
+all-kept x a o u kept = elim (cases_eq x a) [
+  | inl e ↦ sym (ap (λ t. o && (not (eqb x a) || t)) (kept e) ∙ ap (λ t. o && t) (or-on (not (eqb x a))) ∙ and-true o)
+  | inr other ↦ sym (ap (λ t. o && (not t || u)) (ne_eqb x a other) ∙ and-true o)
+]
+  where
+    or-on : (t : Bool) → (t || true) ≡ true
+    or-on true = refl
+    or-on false = refl
+
+-- nothing stands in an empty row
+pub none-in : (row : List Bool) (b : ℕ) → length row ≡ 0 → get_or row b false ≡ false
+none-in [] b empty = refl
+none-in (stands ∷ row) b empty = absurd (omega (arith, empty))
+
+-- nothing stands past the last row
+pub none-at : (rows : List (Vec Bool Global)) (a b : ℕ) → length rows ≤ a → has_at in_row rows a b ≡ false
+none-at [] a b past = refl
+none-at (row ∷ rows) zero b past = absurd (omega (arith, past))
+none-at (row ∷ rows) (suc a) b past = none-at rows a b (omega (arith, past))
+
+-- in full rows all stands
+pub at-full : (rows : List (Vec Bool Global)) (n a b : ℕ) → All (λ row. row.items ≡ replicate n true) rows → a < length rows → b < n → has_at in_row rows a b ≡ true
+at-full [] n a b each in_a in_b = absurd (omega (arith, in_a))
+at-full (row ∷ rows) n zero b each in_a in_b = ap (λ (xs : List Bool). get_or xs b false) (each 0 row (omega arith)) ∙ get_or-replicate n b true false in_b
+at-full (row ∷ rows) n (suc a) b each in_a in_b = at-full rows n a b (λ k d inside. each (suc k) d (omega arith)) (omega (arith, in_a)) in_b
+
+-- what stands at the place of a type after a write at that of an event
+pub set-at : (xs : List ℕ) (p v x k : ℕ) → x ≡ p + 2 → p < length xs → get_or (set xs p v) k 0 ≡ cond (eqb x (k + 2)) v (get_or xs k 0)
+set-at xs p v x k is inside = elim (cases_eq k p) [
+  | inl here ↦
+      ap (λ n. get_or (set xs p v) n 0) here ∙ get_or-set_same xs p v 0 inside
+      ∙ sym (ap (λ t. cond t v (get_or xs k 0)) (eq-eqb x (k + 2) (omega arith)))
+  | inr other ↦
+      get_or-set_other xs p k v 0 other
+      ∙ sym (ap (λ t. cond t v (get_or xs k 0)) (ne_eqb x (k + 2) (λ e. other (omega arith))))
 ]

@@ -1,3 +1,4 @@
+pub mod Rows
 pub mod Sets
 pub mod Standing
 pub mod Wide

@@ -9,6 +9,7 @@ use Rattle.invariants.specs.Candidates.{invariant}
 use Rattle.invariants.specs.Mined.{holds_of_all}
 use Rattle.closure_miner.specs.declared.standing.Standing.{Standing}
 use Rattle.closure_miner.specs.Sets.{has_at}
+use Rattle.closure_miner.specs.Rows.{in_row}
 
 -- the word of a trace with these events
 abbrev pub word_with : List ℕ → List ℕ
@@ -33,5 +34,5 @@ pub record Stands {S : Type 0} (has : S → ℕ → Bool) (standing : Standing S
   pub everywhere : (b : ℕ) → b < standing.types
       → has standing.everywhere b ≡ holds_of_all words (invariant AF INITIAL (b + FIRST_TYPE))
   pub between : standing.kinds ≡ Four → (a b : ℕ) → a < standing.types → b < standing.types
-      → has_at has standing.between.items a b
+      → has_at in_row standing.between.rows.items a b
       ≡ holds_of_all words (invariant IB (a + FIRST_TYPE) (b + FIRST_TYPE))

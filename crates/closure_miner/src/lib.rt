@@ -6,8 +6,8 @@
 //! what the set at hand denies. A set of types has a bit for each, in one word for up to 128 types and else in two. So the work
 //! is a few steps for each event; every 128 events it is looked whether the rest of the trace can still strike out anything,
 //! and if not the trace is read no further from that side. Where InterruptedBy is asked for, a trace is read once more from its
-//! end, with the list of the types that come, the soonest first; what stands there before the type of an event is what comes
-//! before its next one. At the end each candidate is looked at once.
+//! end, with the place of the next event of each type: what comes later than the next event of an event's own type is struck out
+//! of the row of that type, many types at once. At the end each candidate is looked at once.
 #![tactic(auto)]
 
 ghost use Rattle.std.specs.Prelude.{◌≡◌, ◌≤◌, length, IfOk};
@@ -16,6 +16,7 @@ ghost use Rattle.invariants.specs.Mined.{mined_for};
 ghost use Rattle.traces.specs.Words.{words_of};
 ghost use Rattle.closure_miner.specs.Standing.{Stands};
 
+mod between;
 mod standing;
 mod type_sets;
 
@@ -39,9 +40,11 @@ fn standing_after<S: TypeSet>(
     ensures types { IfOk result (λ standing. standing.types ≡ types) }
     ensures stands { IfOk result (λ standing. Stands S.has standing (words_of traces.now)) }
 {
+    // No trace has more events than all of them.
+    let _event_count = traces.event_count();
     let mut standing = Standing::make(alloc, kinds, types)?;
     for t in 0..traces.trace_count() {
-        standing.read(traces.events(t))?;
+        standing.read(traces.events(t));
     }
     Ok(standing)
 }

@@ -1,14 +1,16 @@
 //! The candidates that hold of every trace that was read, in sets of types.
-ghost use Rattle.std.specs.Prelude.{ℕ, ◌≡◌, ◌≤◌, ◌<◌, ◌+◌, ◌==◌, ◌&&◌, ◌||◌, ◌↔◌, not, true, false, length, replicate, All, ◌∷◌, ◌++◌, [], IfOk, IfErr, OnOk, OnErr, cond};
+ghost use Rattle.std.specs.Prelude.{ℕ, ◌≡◌, ◌≤◌, ◌<◌, ◌+◌, ◌^◌, ◌==◌, ◌&&◌, ◌||◌, ◌↔◌, not, true, length, replicate, All, ◌∷◌, ◌++◌, [], IfOk, cond};
 ghost use Rattle.invariants.specs.Candidates.{invariant};
 ghost use Rattle.limits.specs.declared.TheConstants.{FIRST_TYPE};
 ghost use Rattle.closure_miner.specs.declared.type_sets.TheConstants.{MAX_SET_TYPES};
 ghost use Rattle.invariants.specs.Holds.{occurs, always_followed, never_followed, always_preceded, interrupted};
 ghost use Rattle.invariants.specs.declared.Kinds.TheVariants.{Four};
 ghost use Rattle.traces.specs.Kept.{IsTypeNumber};
+ghost use Rattle.closure_miner.specs.Rows.{in_row};
 ghost use Rattle.closure_miner.specs.Sets.{has_at, HasAll};
 
-use crate::type_sets::{MAX_SET_TYPES, TypeSet};
+use crate::between::Between;
+use crate::type_sets::{MAX_SET_TYPES, STRIDE, TypeSet, place_of};
 use invariants::{Invariant, Kind, Kinds};
 use limits::{FIRST_TYPE, INITIAL};
 use std::alloc::{AllocError, Global};
@@ -30,27 +32,13 @@ pub struct Standing<S> {
     preceded: Vec<S>,
     /// The types that every trace has.
     everywhere: S,
-    /// For each type, those that stand between any two events of it in every trace, where IB is asked for; else all.
-    between: Vec<S>,
-    /// The types of the events that were read of a trace from its end, each once, the soonest first.
-    coming: Vec<u16>,
+    /// For each type, those that stand between any two events of it in every trace, where IB is asked for.
+    between: Between,
     ghost few: { types ≤ MAX_SET_TYPES },
     ghost followed_each: { length followed.items ≡ types },
     ghost met_each: { length met.items ≡ types },
     ghost preceded_each: { length preceded.items ≡ types },
-    ghost between_each: { length between.items ≡ types },
-}
-
-/// After how many events it is looked whether the rest of a trace can strike out anything.
-const STRIDE: usize = 128;
-
-/// The place of a type.
-#[inline]
-fn place_of(number: u16) -> usize
-    requires { FIRST_TYPE ≤ number }
-    ensures { number ≡ result + FIRST_TYPE }
-{
-    (number - FIRST_TYPE as u16) as usize
+    ghost between_each: { kinds ≡ Four → length between.next.items ≡ types },
 }
 
 /// The number of the type at the place.
@@ -60,6 +48,16 @@ fn number_of(place: usize) -> u16
     ensures { result ≡ place + FIRST_TYPE }
 {
     place as u16 + FIRST_TYPE as u16
+}
+
+/// How many types it is told of what stands between their events: all where IB is asked for, and else none.
+fn types_between(kinds: Kinds, types: usize) -> usize
+    ensures { kinds ≡ Four → result ≡ types }
+{
+    match kinds {
+        Kinds::Three => 0,
+        Kinds::Four => types,
+    }
 }
 
 /// Adds an invariant where it stands.
@@ -196,114 +194,20 @@ fn read_from_start<S: TypeSet>(preceded: &mut [S], all: S, events: &[u16])
     }
 }
 
-/// Puts a type before those that come, up to where it stood among them, and gives those that came before it there; where
-/// it was not among them, gives the last one, for which no place is left.
-fn shift_in<S: TypeSet>(coming: &mut [u16], x: u16) -> Result<S, u16>
-    requires numbers { All (IsTypeNumber S.room) coming.old }
-    requires number { IsTypeNumber S.room x }
-    ensures numbers { All (IsTypeNumber S.room) coming.new }
-
-    // Where it was among them, each type is met as it was, and this one first.
-    ensures before { IfOk result (λ before. (b : ℕ) → S.has before b ≡ always_preceded (b + FIRST_TYPE) x coming.old) }
-    ensures first { OnOk result ((a b : ℕ) → always_preceded b a coming.new ≡ always_preceded b a (x ∷ coming.old)) }
-
-    // Where it was not, all are there.
-    ensures absent { OnErr result (occurs x coming.old ≡ false) }
-    ensures last { IfErr result (λ last. coming.new ++ last ∷ [] ≡ x ∷ coming.old) }
-    ensures last_number { IfErr result (λ last. IsTypeNumber S.room last) }
-{
-    let mut before = S::none();
-    let mut carried = x;
-    for i in 0..coming.len() {
-        let next = coming[i];
-        coming[i] = carried;
-        if next == x {
-            return Ok(before);
-        }
-        before = before.with(place_of(next));
-        carried = next;
-    }
-    Err(carried)
-}
-
-/// Puts a type before those that come, and gives those that come before its next event: all, where it does not come.
-fn put_first<S: TypeSet>(coming: &mut Vec<u16>, x: u16, all: S) -> Result<S, AllocError>
-    requires numbers { All (IsTypeNumber S.room) coming.old.items }
-    requires number { IsTypeNumber S.room x }
-    ensures numbers { OnOk result (All (IsTypeNumber S.room) coming.new.items) }
-    ensures before { IfOk result (λ before. (b : ℕ) → S.has all b ≡ true
-        → S.has before b ≡ always_preceded (b + FIRST_TYPE) x coming.old.items) }
-    ensures first { OnOk result ((a b : ℕ) → always_preceded b a coming.new.items
-        ≡ always_preceded b a (x ∷ coming.old.items)) }
-{
-    match shift_in(coming, x) {
-        Ok(before) => Ok(before),
-        Err(last) => {
-            coming.push(last)?;
-            Ok(all)
-        }
-    }
-}
-
-/// Strikes out what an event breaks of what interrupts what, and puts its type before those that come.
-fn strike_between<S: TypeSet>(
-    between: &mut [S],
-    coming: &mut Vec<u16>,
-    all: S,
-    x: u16,
-) -> Result<(), AllocError>
-    requires few { length between.old ≤ S.room }
-    requires all { HasAll S.has (length between.old) all }
-    requires numbers { All (IsTypeNumber S.room) coming.old.items }
-    requires number { IsTypeNumber (length between.old) x }
-    ensures numbers { OnOk result (All (IsTypeNumber S.room) coming.new.items) }
-    ensures first { OnOk result ((a b : ℕ) → always_preceded b a coming.new.items
-        ≡ always_preceded b a (x ∷ coming.old.items)) }
-
-    // Which pairs of a type and what interrupts it still stand.
-    ensures between { OnOk result ((a b : ℕ) → b < length between.old → has_at S.has between.new a b
-        ≡ (has_at S.has between.old a b
-        && (not (x == a + FIRST_TYPE) || always_preceded (b + FIRST_TYPE) (a + FIRST_TYPE) coming.old.items))) }
-{
-    let before = put_first(coming, x, all)?;
-    let place = place_of(x);
-    between[place] = between[place].both(before);
-    Ok(())
-}
-
-/// Strikes out what a trace breaks of what interrupts what, where that is asked for: it is read from its
-/// end, up to where nothing of it stands. No type comes yet.
-fn read_between<S: TypeSet>(
-    kinds: Kinds,
-    between: &mut [S],
-    coming: &mut Vec<u16>,
-    all: S,
-    events: &[u16],
-) -> Result<(), AllocError>
-    requires few { length between.old ≤ S.room }
-    requires all { HasAll S.has (length between.old) all }
-    requires empty { coming.old.items ≡ [] }
-    requires numbers { All (IsTypeNumber (length between.old)) events.now }
-
-    // Which pairs of a type and what interrupts it still stand.
-    ensures between { OnOk result (kinds ≡ Four → (a b : ℕ) → a < length between.old → b < length between.old
-        → has_at S.has between.new a b ≡ (has_at S.has between.old a b
-        && interrupted (a + FIRST_TYPE) (b + FIRST_TYPE) events.now)) }
+/// Strikes out what a trace breaks of what interrupts what, where that is asked for.
+fn read_between(kinds: Kinds, between: &mut Between, events: &[u16])
+    requires numbers { kinds ≡ Four → All (IsTypeNumber (length between.old.next.items)) events.now }
+    requires few { length events.now < 2 ^ 32 }
+    ensures types { length between.new.next.items ≡ length between.old.next.items }
+    ensures left { kinds ≡ Four → (a b : ℕ)
+        → a < length between.old.next.items → b < length between.old.next.items
+        → has_at in_row between.new.rows.items a b ≡ (has_at in_row between.old.rows.items a b
+        && interrupted (a + FIRST_TYPE) (b + FIRST_TYPE) events.now) }
 {
     match kinds {
-        Kinds::Three => return Ok(()),
-        Kinds::Four => {}
+        Kinds::Three => {}
+        Kinds::Four => between.read(events),
     }
-    let none = S::none();
-    let mut left = events.len();
-    while left > 0 {
-        if left % STRIDE == 0 && are_all(between, none) {
-            return Ok(());
-        }
-        left -= 1;
-        strike_between(between, coming, all, events[left])?;
-    }
-    Ok(())
 }
 
 impl<S: TypeSet> Standing<S> {
@@ -330,27 +234,25 @@ impl<S: TypeSet> Standing<S> {
             met: sets_of(alloc, types, S::none())?,
             preceded: sets_of(alloc, types, all)?,
             everywhere: all,
-            between: sets_of(alloc, types, all)?,
-            coming: Vec::new(alloc),
+            between: Between::make(alloc, types_between(kinds, types))?,
         })
     }
 
     /// Strikes out the candidates that a trace breaks.
-    pub fn read(&mut self, events: &[u16]) -> Result<(), AllocError>
+    pub fn read(&mut self, events: &[u16])
         requires room { (self.old).types ≤ S.room }
         requires numbers { All (IsTypeNumber (self.old).types) events.now }
+        requires few { length events.now < 2 ^ 32 }
         ensures kinds { (self.new).kinds ≡ (self.old).kinds }
         ensures types { (self.new).types ≡ (self.old).types }
-        ensures stands { OnOk result ((words : List (List ℕ)) → Stands S.has self.old words
-            → Stands S.has self.new (words ++ word_with events.now ∷ [])) }
+        ensures stands { (words : List (List ℕ)) → Stands S.has self.old words
+            → Stands S.has self.new (words ++ word_with events.now ∷ []) }
     {
         let all = S::first(self.types);
         let seen = read_from_end(&mut self.followed, &mut self.met, all, events);
         self.everywhere = self.everywhere.both(seen);
         read_from_start(&mut self.preceded, all, events);
-        self.coming.clear();
-        read_between(self.kinds, &mut self.between, &mut self.coming, all, events)?;
-        Ok(())
+        read_between(self.kinds, &mut self.between, events);
     }
 
     /// Adds the candidates that each trace has a type, of those that still stand.
@@ -382,7 +284,7 @@ impl<S: TypeSet> Standing<S> {
         if a == b {
             return Ok(());
         }
-        let between = self.between[a].has_place(b);
+        let between = self.between.has(a, b);
         push_standing(list, between, Kind::IB, number_of(a), number_of(b))?;
         Ok(())
     }

@@ -1,11 +1,26 @@
 //! Sets of types, with a bit for each type at the type's place.
-ghost use Rattle.std.specs.Prelude.{ℕ, Bool, true, false, ◌≡◌, ◌≤◌, ◌<◌, ◌==◌, ◌&&◌, ◌||◌, ◌↔◌, nat_lt};
+ghost use Rattle.std.specs.Prelude.{ℕ, Bool, true, false, ◌≡◌, ◌≤◌, ◌<◌, ◌==◌, ◌&&◌, ◌||◌, ◌↔◌, nat_lt, ◌+◌};
+ghost use Rattle.limits.specs.declared.TheConstants.{FIRST_TYPE};
+
+use limits::FIRST_TYPE;
 
 /// How many types a set of one word has room for.
 pub const WORD_TYPES: usize = 128;
 
 /// How many types a set of two words has room for.
 pub const MAX_SET_TYPES: usize = 256;
+
+/// After how many events it is looked whether the rest of a trace can strike out anything.
+pub const STRIDE: usize = 128;
+
+/// The place of a type.
+#[inline]
+pub fn place_of(number: u16) -> usize
+    requires { FIRST_TYPE ≤ number }
+    ensures { number ≡ result + FIRST_TYPE }
+{
+    (number - FIRST_TYPE as u16) as usize
+}
 
 /// A set of types. The first type has place 0.
 pub trait TypeSet: Copy + Drop {

@@ -7,7 +7,7 @@ returns-clause-later g c = λ b. c.with.ensures b ∙ with-number c.args.x c.pla
 
 pub returns-clause-followed : goal.returns-clause-followed
 returns-clause-followed g c = λ a b.
-    at-both g.S.TypeSet.has c.args.followed.now c.place_of-place.result c.index-followed-place.result c.both.result c.args.later c.args.x a b c.place_of-place.ensures
+    at-both g.S.TypeSet.has c.args.followed.now c.place_of-place.result c.index-followed-place.result c.both.result (g.S.TypeSet.has c.args.later) c.args.x a b c.place_of-place.ensures
     (omega (arith, c.place_of-place.ensures, c.requires.number.1)) c.index-followed-place.is c.both.ensures
 
 pub returns-clause-never : goal.returns-clause-never

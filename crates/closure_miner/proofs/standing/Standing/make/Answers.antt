@@ -1,7 +1,9 @@
 use Rattle.closure_miner.proofs.Traces.{stands-first}
-use Rattle.std.proofs.Common.{refl}
+use Rattle.std.proofs.Common.{◌≡◌, refl, arith}
+use Rattle.invariants.specs.declared.Kinds.TheVariants.{Four}
 use Rattle.closure_miner.proofs.standing.Standing.make.Goals as goal
 
 pub returns-clause-stands : goal.returns-clause-stands
 returns-clause-stands g c =
-    stands-first g.S.TypeSet.has _ c.first-all.result c.none.result c.first-all.ensures c.none.ensures c.in_ok-sets_of.ensures c.in_ok-sets_of-2.ensures c.in_ok-sets_of-3.ensures refl c.in_ok-sets_of-4.ensures
+    stands-first g.S.TypeSet.has _ c.first-all.result c.none.result c.first-all.ensures c.none.ensures c.in_ok-sets_of.ensures c.in_ok-sets_of-2.ensures c.in_ok-sets_of-3.ensures refl
+    (λ (four : c.args.kinds ≡ Four) a b in_a in_b. c.in_ok-make.ensures.all a b (omega (arith, in_a, c.types_between.ensures four)) (omega (arith, in_b, c.types_between.ensures four)))

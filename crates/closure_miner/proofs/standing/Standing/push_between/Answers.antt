@@ -6,7 +6,6 @@ use Rattle.invariants.specs.Candidates.{invariant}
 use Rattle.invariants.specs.Mined.{holds_of_all}
 use Rattle.closure_miner.specs.Standing.{of_interrupted}
 use Rattle.closure_miner.proofs.Lists.{one-added}
-use Rattle.closure_miner.proofs.Rows.{at-before}
 use Rattle.closure_miner.proofs.standing.Standing.push_between.Goals as goal
 
 pub returns-in-Three : goal.returns-in-Three
@@ -29,10 +28,9 @@ returns g c = λ words st.
     let b : ℕ = c.args.b + 2 in
     let old : List Invariant = c.args.list.now.items in
     let one : List Invariant = invariant IB a b ∷ [] in
-    one-added p IB a b c.number_of.result c.number_of-2.result c.has_place-between.result [] old c.push_standing.new.list.items c.push_standing.new.list.items
+    one-added p IB a b c.number_of.result c.number_of-2.result c.has-between.result [] old c.push_standing.new.list.items c.push_standing.new.list.items
     c.number_of.ensures c.number_of-2.ensures
-    (c.has_place-between.ensures ∙ at-before g.S.TypeSet.has self.between.items c.args.a c.args.b c.index.result.now (omega (arith, self.between_each, c.requires.a)) c.index.ensures
-    ∙ st.between c.in-Four.is c.args.a c.args.b c.requires.a c.requires.b)
+    (c.has-between.ensures ∙ st.between c.in-Four.is c.args.a c.args.b c.requires.a c.requires.b)
     c.in_ok-push_standing.ensures (sym (append-nil c.push_standing.new.list.items))
     ∙ sym (ap (λ k. old ++ filter p (of_interrupted k a b)) c.in-Four.is
     ∙ ap (λ t. old ++ filter p (cond t [] one)) (ne_eqb a b (λ e. c.if-a-b.false (omega arith))))
