@@ -1,5 +1,5 @@
 //! What a merge loses, for all invariants at once.
-ghost use Rattle.std.specs.Prelude.{◌≡◌, ◌≢◌, ◌<◌, ◌≤◌, length, IfOk, MatchOption};
+ghost use Rattle.std.specs.Prelude.{◌≡◌, ◌≢◌, ◌<◌, ◌≤◌, ◌+◌, length, IfOk, MatchOption};
 ghost use Rattle.limits.specs.declared.TheConstants.{LAST_TYPE, MAX_INVARIANTS};
 ghost use Rattle.partition_model.specs.Assignments.{Assignment, G, IsTyped};
 ghost use Rattle.partition_model.specs.Coarsening.{merge, IsPair};
@@ -12,6 +12,8 @@ use limits::MAX_PARTITIONS;
 use partition_graph::{Links, PartGraph, View};
 use std::alloc::{AllocError, Global};
 use std::marker::Model;
+use std::sync::ledger::Ledger;
+use steps::Steps;
 
 /// For each of some invariants and each id of a graph two marks: whether some walk from INITIAL to the id brings the
 /// monitor into its critical state, and whether some walk from there to TERMINAL brings it from that state into its bad
@@ -50,19 +52,21 @@ impl Clashes {
         Ok(Clashes { board, links })
     }
 
-    /// Finds the marks of this graph. What was marked before plays no part.
-    pub fn find(&mut self, graph: &PartGraph)
+    /// Finds the marks of this graph. What was marked before plays no part. It counts one step.
+    pub fn find<L: Ledger>(&mut self, graph: &PartGraph, steps: &mut Steps<L>)
         ensures invs { (self.new).invs ≡ (self.old).invs }
         ensures marks { AreMarksOf self.new (G (graph.now).traces) }
+        ensures counted { steps.new ≡ steps.old + 1 }
     {
+        steps.tick();
         self.links.gather(&View::Plain(graph));
         self.board.clear(graph.ids_used());
         grow(&mut self.board, self.links.as_slice(), graph);
     }
 
     /// Where the marks were those of a graph of which `merge(p, q)` made this one, makes them those of this one: the
-    /// marks of q go to p, and spread from there.
-    pub fn join(&mut self, graph: &PartGraph, p: u32, q: u32)
+    /// marks of q go to p, and spread from there. It counts one step.
+    pub fn join<L: Ledger>(&mut self, graph: &PartGraph, p: u32, q: u32, steps: &mut Steps<L>)
         requires kept { p < MAX_PARTITIONS }
         requires gone { q < MAX_PARTITIONS }
         requires apart { p ≢ q }
@@ -72,7 +76,9 @@ impl Clashes {
         ensures marks { (h : Assignment) → IsTyped h → IsPair (G h) p q
             → (graph.now).traces ≡ merge p q h
             → AreMarksOf self.old (G h) → AreMarksOf self.new (G (graph.now).traces) }
+        ensures counted { steps.new ≡ steps.old + 1 }
     {
+        steps.tick();
         self.links.gather(&View::Plain(graph));
         self.board.join(p, q);
         grow_from(&mut self.board, self.links.as_slice(), graph, p);

@@ -1,6 +1,6 @@
 -- What the pass over the blocks keeps.
-use Rattle.std.proofs.Common.{◌≡◌, ℕ, ◌+◌, ◌<◌, ◌≤◌, List, [], ◌∷◌, ◌++◌, length, map, get_or, slice_get, Option, None, Some, is_some, MatchOption, true, All, sym, ◌∙◌, refl, ap, ap₂, subst, subst₂, arith, length-append, append_assoc}
-use Rattle.std.proofs.lemmas.Bool.{true≢false}
+use Rattle.std.proofs.Common.{◌≡◌, ℕ, ◌+◌, ◌<◌, ◌≤◌, List, [], ◌∷◌, ◌++◌, length, map, get_or, slice_get, Option, None, Some, is_some, MatchOption, true, false, All, inl, inr, sym, ◌∙◌, refl, ap, ap₂, subst, subst₂, arith, length-append, append_assoc}
+use Rattle.std.proofs.lemmas.Bool.{cases_lt, true≢false}
 use Rattle.std.proofs.lemmas.List.{map-append, length-map}
 use Rattle.std.proofs.lemmas.List.Sums.{sum_by-cons}
 use Rattle.std.proofs.lemmas.List.Elements.{All-push, All-weaker, All-nil, All-head, All-tail}
@@ -35,7 +35,9 @@ use Rattle.coarsener.specs.declared.pairs.Pair.{Pair}
 use Rattle.coarsener.specs.Pairs.{HasIds, HasNoPairBehind, IsNextPair}
 use Rattle.coarsener.specs.Blocking.{pair_count, paths_of, EndsWithoutRoom}
 use Rattle.coarsener.proofs.Deciding.{none}
-use Rattle.coarsener.proofs.Remaining.{Remain, remain-start, remain-next, remain-none, remain-some}
+use Rattle.coarsener.specs.Telling.{TellByLabels}
+use Rattle.labelling.specs.Labelled.{Labelling, AreLabelsOf}
+use Rattle.coarsener.proofs.Remaining.{Remain, remain-start, remain-next, remain-none, remain-some, remain-two, one-pair}
 
 -- one more at the end
 pub all-push : {X : Type 0} (P : X → Type 0) (xs : List X) (x : X) → AllByRecursion P xs → P x → AllByRecursion P (xs ++ x ∷ [])
@@ -263,3 +265,35 @@ pub pairs-some : (parts : Parts) (r : Option Pair) → HasIds parts → is_some 
 pairs-some parts None ids e n = absurd (true≢false (sym e))
 pairs-some parts (Some x) ids e n =
     remain-some (G parts.traces) 2 2 x.p x.q (pairs_below parts.used (G parts.traces)) (remain-start (G parts.traces) parts.used (parts-below parts ids)) n
+
+-- where there is no pair, labels tell all that there is to tell
+pub no-labels : (planes : Labelling) (g : Graph) → HasNoPairBehind g 2 2 → TellByLabels planes g
+no-labels planes g n u v i =
+    let l : 2 ≤ u = i.low in
+    let o : u < v = i.order in
+    absurd (n u v i (elim (cases_lt 2 u) [ inl k ↦ inl k | inr k ↦ inr (omega arith, omega arith) ]))
+
+-- where there is a first pair, there is one at least
+pub some-pair : (parts : Parts) (p q : ℕ) → HasIds parts → IsNextPair (G parts.traces) 2 2 p q → 0 < pair_count parts
+some-pair parts p q ids f =
+    remain-some (G parts.traces) 2 2 p q (pairs_below parts.used (G parts.traces)) (remain-start (G parts.traces) parts.used (parts-below parts ids)) f
+
+-- where there is none, there are none
+pub no-pair : (parts : Parts) → HasIds parts → HasNoPairBehind (G parts.traces) 2 2 → 0 < pair_count parts → ⊥
+no-pair parts ids n l =
+    omega (arith, l, ap (λ (ms : List Merge). length ms) (remain-none (G parts.traces) 2 2 (pairs_below parts.used (G parts.traces)) (remain-start (G parts.traces) parts.used (parts-below parts ids)) n))
+
+-- where a pair comes behind the first one, there are two at least
+pub two-pairs : (parts : Parts) (p q : ℕ) (r : Option Pair) → HasIds parts → IsNextPair (G parts.traces) 2 2 p q → is_some r ≡ true
+    → MatchOption r (HasNoPairBehind (G parts.traces) p q) (λ (x : Pair). IsNextPair (G parts.traces) p q x.p x.q) → 1 < pair_count parts
+two-pairs parts p q None ids f e n = absurd (true≢false (sym e))
+two-pairs parts p q (Some x) ids f e n =
+    remain-two (G parts.traces) 2 2 p q x.p x.q (pairs_below parts.used (G parts.traces)) (remain-start (G parts.traces) parts.used (parts-below parts ids)) f n
+
+-- where none does, the labels after its merge tell what each merge loses
+pub only-pair : (planes : Labelling) (g : Graph) (p q : ℕ) (r : Option Pair) → IsNextPair g 2 2 p q → is_some r ≡ false
+    → MatchOption r (HasNoPairBehind g p q) (λ (x : Pair). IsNextPair g p q x.p x.q) → AreLabelsOf planes (Merged g p q) → TellByLabels planes g
+only-pair planes g p q None f e n l u v i =
+    let o : (p ≡ u) × (q ≡ v) = one-pair g p q f n u v i in
+    subst₂ (λ (x y : ℕ). AreLabelsOf planes (Merged g x y)) o.0 o.1 l
+only-pair planes g p q (Some x) f e n l u v i = absurd (true≢false e)

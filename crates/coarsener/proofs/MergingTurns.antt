@@ -1,7 +1,7 @@
 -- What the pass of coarsening keeps.
-use Rattle.std.proofs.Common.{◌≡◌, ℕ, suc, ◌+◌, ◌-◌, ◌<◌, ◌≤◌, Bool, true, false, cond, List, [], ◌∷◌, ◌++◌, length, count_by, sym, ◌∙◌, refl, ap, subst, subst₂, inl, inr, arith, length-append}
+use Rattle.std.proofs.Common.{◌≡◌, ℕ, suc, ◌+◌, ◌-◌, ◌<◌, ◌≤◌, Bool, true, false, ◌||◌, cond, List, [], ◌∷◌, ◌++◌, length, map, count_by, sym, ◌∙◌, refl, ap, subst, subst₂, inl, inr, arith, length-append}
 use Rattle.std.proofs.lemmas.List.{map-append, length-map}
-use Rattle.std.proofs.lemmas.Bool.{cases_lt, cases_Bool}
+use Rattle.std.proofs.lemmas.Bool.{cases_lt, cases_Bool, true≢false}
 use Rattle.std.proofs.lemmas.List.Sums.{sum_by-cons, count_by-le-length}
 use Rattle.std.specs.List.{range_with_len}
 use Rattle.limits.specs.declared.TheConstants.{MAX_PARTITIONS}
@@ -10,19 +10,25 @@ use Rattle.invariants.specs.declared.records.Merge.{Merge}
 use Rattle.partition_model.specs.Assignments.{Assignment, G, IsTyped, is_live}
 use Rattle.partition_model.specs.Listings.{AreBelow}
 use Rattle.partition_model.specs.Refinement.{SatisfiesAll}
-use Rattle.partition_model.specs.Coarsening.{merge, IsPair, IsNextMerge, NoMerge, Coarsens}
+use Rattle.partition_model.specs.Coarsening.{merge, IsPair, IsNextMerge, NoMerge, PairBefore, Coarsens}
 use Rattle.partition_model.specs.Laws.{LostBefore}
 use Rattle.partition_model.proofs.Lists.{In, bit}
 use Rattle.partition_model.proofs.Listing.{range-In}
 use Rattle.partition_model.proofs.Merging.{gone}
-use Rattle.partition_model.proofs.Passes.{live-back, one_pass_merges}
-use Rattle.partition_bounds.proofs.Merges.{live-below, In-range}
+use Rattle.partition_model.proofs.Passes.{live-back, pair-back, one_pass_merges}
+use Rattle.partition_bounds.proofs.Merges.{graphs_are_below, live-below, In-range}
+use Rattle.partition_bounds.specs.Pairs.{pairs_below}
 use Rattle.partition_bounds.proofs.Pairing.{range-count}
 use Rattle.partition_graph.specs.Parts.{Parts, joined}
 use Rattle.cell_pool.specs.RunLists.{RunLists}
 use Rattle.run_history.specs.Records.{merges_of, merge_of}
 use Rattle.coarsener.specs.Pairs.{HasIds, HasNoPairBehind, IsNextPair}
+use Rattle.coarsener.specs.declared.merging.Marked.{Marked}
+use Rattle.coarsener.specs.declared.merging.Marked.TheVariants.{Nothing, Before, Now}
+use Rattle.coarsener.specs.Blocking.{pair_count}
+use Rattle.coarsener.specs.Marking.{owed, stays_apart}
 use Rattle.coarsener.specs.Deciding.{IsDecided, with_merge}
+use Rattle.coarsener.proofs.Remaining.{remain-start, remain-none, Covers, covers-start, covers-next, covers-merged}
 
 -- these merges lead from h to the end, each the next one
 abbrev pub Merges : List Invariant → Assignment → List Merge → Assignment → Type 0
@@ -104,6 +110,19 @@ pub record IsCoarsening (invs : List Invariant) (old now : Parts) (p q : ℕ) (m
   pub lost : LostBefore invs now.traces p (q + 1)
   pub satisfied : SatisfiesAll (G now.traces) invs
   pub few : length ms + live_count old.used now.traces ≤ live_count old.used old.traces
+
+none-before : (h : Assignment) (u v : ℕ) → IsPair (G h) u v → PairBefore u v 2 3 → ⊥
+none-before h u v i (inl l) = let a : 2 ≤ u = i.low in omega (arith, l)
+none-before h u v i (inr e) =
+    let a : 2 ≤ u = i.low in
+    let o : u < v = i.order in
+    omega (arith, e.0, e.1)
+
+-- before the first pair no merge is made
+pub coarsening-start : (invs : List Invariant) (parts : Parts) (log : RunLists) → SatisfiesAll (G parts.traces) invs → log.merges ≡ [] → IsCoarsening invs parts parts 2 2 (merges_of log)
+coarsening-start invs parts log sat e =
+    subst (λ (ms : List Merge). IsCoarsening invs parts parts 2 2 ms) (sym (ap (map merge_of) e))
+    (record { so_far = refl; used = refl; lost = λ u v i k all. none-before parts.traces u v i k; satisfied = sat; few = omega arith })
 
 -- each pair before the next one is decided
 lost-between : (invs : List Invariant) (h : Assignment) (p q r s : ℕ) → LostBefore invs h p (q + 1) → IsNextPair (G h) p q r s → LostBefore invs h r s
@@ -207,3 +226,111 @@ others-turn invs old new first log log' p q e (inr d) =
 -- the log tells as many merges as it has
 pub merge-count : (log : RunLists) → length (merges_of log) ≡ length log.merges
 merge-count log = length-map log.merges merge_of
+
+-- 1 where a pair stays apart
+abbrev pub kept : Bool → ℕ
+kept true = 1
+kept false = 0
+
+-- each merge, and the first pair that stays apart, are of pairs that there were, and others are still to come
+pub record IsCounted (old now : Parts) (p q merges : ℕ) (apart : Bool) : Type 0 where
+  pub rest : List Merge
+  pub covers : Covers (G now.traces) p q rest
+  pub few : merges + kept apart + length rest ≤ pair_count old
+  -- where no pair stays apart, each that there is comes behind
+  pub behind : apart ≡ false → (u v : ℕ) → IsPair (G now.traces) u v → PairBefore p q u v
+
+all-behind : (h : Assignment) (u v : ℕ) → IsPair (G h) u v → PairBefore 2 2 u v
+all-behind h u v i =
+    let l : 2 ≤ u = i.low in
+    let o : u < v = i.order in
+    elim (cases_lt 2 u) [ inl k ↦ inl k | inr k ↦ inr (omega arith, omega arith) ]
+
+-- so it is before the first pair
+pub counting-start : (parts : Parts) → HasIds parts → IsCounted parts parts 2 2 0 false
+counting-start parts ids =
+    record {
+      rest = pairs_below parts.used (G parts.traces);
+      covers = covers-start (G parts.traces) parts.used (graphs_are_below parts.traces parts.used ids.two ids.below);
+      few = omega arith;
+      behind = λ e u v i. all-behind parts.traces u v i;
+    }
+
+kept-or : (apart : Bool) → kept (apart || true) ≤ kept apart + 1
+kept-or true = omega arith
+kept-or false = omega arith
+
+or-false : (apart : Bool) → (apart || false) ≡ apart
+or-false true = refl
+or-false false = refl
+
+never : (apart : Bool) → (apart || true) ≡ false → ⊥
+never true e = true≢false e
+never false e = true≢false e
+
+-- a pair that was merged is none any more, and all others come behind it
+merged-behind : (h : Assignment) (p q r s u v : ℕ) → IsTyped h → IsNextPair (G h) p q r s → ((x y : ℕ) → IsPair (G h) x y → PairBefore p q x y) → IsPair (G (merge r s h)) u v → PairBefore r s u v
+merged-behind h p q r s u v t n b i =
+    let j : IsPair (G h) u v = pair-back h r s u v t n.pair i in
+    let l : 2 ≤ u = j.low in
+    let o : u < v = j.order in
+    elim (cases_lt r u) [
+      | inl k ↦ inl k
+      | inr k ↦ elim (cases_lt u r) [
+        | inl m ↦ absurd (n.first u v j (b u v j) (inl m))
+        | inr m ↦ elim (cases_lt s v) [
+          | inl w ↦ inr (omega arith, w)
+          | inr w ↦ elim (cases_lt v s) [
+            | inl x ↦ absurd (n.first u v j (b u v j) (inr (omega arith, x)))
+            | inr x ↦ let same : v ≡ s = omega arith in absurd (gone h r s v n.pair (omega arith) i.has_q same)
+          ]
+        ]
+      ]
+    ]
+
+counting-apart : (old now : Parts) (p q r s m : ℕ) (apart : Bool) → IsCounted old now p q m apart → IsNextPair (G now.traces) p q r s → IsCounted old now r s m (apart || true)
+counting-apart old now p q r s m apart c n =
+    let o : (more : List Merge) × (length more < length c.rest) × Covers (G now.traces) r s more = covers-next (G now.traces) p q r s c.rest c.covers n.pair n.behind in
+    record { rest = o.0; covers = o.2; few = omega (arith, o.1, c.few, kept-or apart); behind = λ e u v i. absurd (never apart e) }
+
+counting-merged : (old now : Parts) (p q r s m : ℕ) (apart : Bool) → HasIds now → IsCounted old now p q m apart → IsNextPair (G now.traces) p q r s → IsCounted old (joined r s now) r s (m + 1) (apart || false)
+counting-merged old now p q r s m apart ids c n =
+    let o : (more : List Merge) × (length more < length c.rest) × Covers (G now.traces) r s more = covers-next (G now.traces) p q r s c.rest c.covers n.pair n.behind in
+    record {
+      rest = o.0;
+      covers = covers-merged now.traces r s r s o.0 ids.typed n.pair o.2;
+      few = omega (arith, o.1, c.few, ap kept (or-false apart));
+      behind = λ e u v i. merged-behind now.traces p q r s u v ids.typed n (c.behind (sym (or-false apart) ∙ e)) i;
+    }
+
+-- and behind the next pair, whether it was merged or stays apart
+pub counting-turn : (invs : List Invariant) (old now new : Parts) (p q r s : ℕ) (log log' : RunLists) (apart : Bool) (marked : Marked) → HasIds now → IsCounted old now p q (length log.merges) apart
+    → IsNextPair (G now.traces) p q r s → IsDecided invs now new log log' r s → length log'.merges ≡ length log.merges + owed marked
+    → IsCounted old new r s (length log'.merges) (apart || stays_apart marked)
+counting-turn invs old now new p q r s log log' apart Now ids c n (inl d) e =
+    subst (λ (x : Parts). IsCounted old x r s (length log'.merges) (apart || true)) (sym d.graph)
+    (subst (λ (m : ℕ). IsCounted old now r s m (apart || true)) (sym (ap (λ (l : RunLists). length l.merges) d.told))
+    (counting-apart old now p q r s (length log.merges) apart c n))
+counting-turn invs old now new p q r s log log' apart Nothing ids c n (inl d) e = absurd (omega (arith, e, ap (λ (l : RunLists). length l.merges) d.told))
+counting-turn invs old now new p q r s log log' apart (Before x) ids c n (inl d) e = absurd (omega (arith, e, ap (λ (l : RunLists). length l.merges) d.told))
+counting-turn invs old now new p q r s log log' apart Now ids c n (inr d) e =
+    absurd (omega (arith, e, ap (λ (l : RunLists). length l.merges) d.told, length-append log.merges (record { p = r; q = s } ∷ [])))
+counting-turn invs old now new p q r s log log' apart Nothing ids c n (inr d) e =
+    subst (λ (x : Parts). IsCounted old x r s (length log'.merges) (apart || false)) (sym d.graph)
+    (subst (λ (m : ℕ). IsCounted old (joined r s now) r s m (apart || false)) (sym e) (counting-merged old now p q r s (length log.merges) apart ids c n))
+counting-turn invs old now new p q r s log log' apart (Before x) ids c n (inr d) e =
+    subst (λ (x : Parts). IsCounted old x r s (length log'.merges) (apart || false)) (sym d.graph)
+    (subst (λ (m : ℕ). IsCounted old (joined r s now) r s m (apart || false)) (sym e) (counting-merged old now p q r s (length log.merges) apart ids c n))
+
+-- where no pair stays apart, the last one that was looked at was merged
+pub owed-turn : (apart : Bool) (marked : Marked) → (apart || stays_apart marked) ≡ false → owed marked ≡ 1
+owed-turn apart Nothing e = refl
+owed-turn apart (Before pair) e = refl
+owed-turn apart Now e = absurd (never apart e)
+
+-- and in the end none is left
+pub none-left : (old now : Parts) (p q m : ℕ) → HasIds now → IsCounted old now p q m false → HasNoPairBehind (G now.traces) p q → pair_count now ≡ 0
+none-left old now p q m ids c n =
+    ap (λ (ms : List Merge). length ms)
+    (remain-none (G now.traces) 2 2 (pairs_below now.used (G now.traces)) (remain-start (G now.traces) now.used (graphs_are_below now.traces now.used ids.two ids.below))
+    (λ u v i k. n u v i (c.behind refl u v i)))

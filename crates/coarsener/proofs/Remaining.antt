@@ -3,8 +3,10 @@ use Rattle.std.proofs.Common.{◌≡◌, ◌↔◌, ℕ, ◌<◌, ◌≤◌, Lis
 use Rattle.std.proofs.lemmas.Bool.{cases_lt}
 use Rattle.invariants.specs.declared.records.Merge.{Merge}
 use Rattle.partition_model.specs.Graphs.{Graph}
-use Rattle.partition_model.specs.Coarsening.{IsPair, PairBefore}
+use Rattle.partition_model.specs.Assignments.{Assignment, G, IsTyped}
+use Rattle.partition_model.specs.Coarsening.{merge, IsPair, PairBefore}
 use Rattle.partition_model.specs.Laws.{PairsAscend, IsAmong}
+use Rattle.partition_model.proofs.Passes.{pair-back}
 use Rattle.partition_bounds.specs.Laws.{IsBelow}
 use Rattle.partition_bounds.specs.Pairs.{pair_of, pairs_below}
 use Rattle.partition_bounds.proofs.Ordered.{pair-next}
@@ -78,3 +80,65 @@ remain-none g p q (x ∷ xs) m n = absurd (n x.p x.q (m.pairs x.p x.q (inl (refl
 pub remain-some : (g : Graph) (p q r s : ℕ) (rest : List Merge) → Remain g p q rest → IsNextPair g p q r s → 0 < length rest
 remain-some g p q r s [] m n = absurd (m.all r s n.pair n.behind)
 remain-some g p q r s (x ∷ xs) m n = omega arith
+
+-- each pair behind (p, q) is among these, which ascend from there; others may be among them too
+pub record Covers (g : Graph) (p q : ℕ) (rest : List Merge) : Type 0 where
+  pub ascend : PairsAscend p q rest
+  pub all : (r s : ℕ) → IsPair g r s → PairBefore p q r s → IsAmong r s rest
+
+-- before the first pair all pairs are to come
+pub covers-start : (g : Graph) (n : ℕ) → IsBelow n g → Covers g 2 2 (pairs_below n g)
+covers-start g n b = let m : Remain g 2 2 (pairs_below n g) = remain-start g n b in record { ascend = m.ascend; all = m.all }
+
+covers-among : (g : Graph) (p q r s : ℕ) (rest : List Merge) → Covers g p q rest → IsAmong r s rest → (more : List Merge) × (length more < length rest) × Covers g r s more
+covers-among g p q r s [] c i = absurd i
+covers-among g p q r s (x ∷ xs) c (inl e) = (
+  xs,
+  omega arith,
+  record {
+    ascend = subst₂ (λ (a b : ℕ). PairsAscend a b xs) e.0 e.1 c.ascend.1;
+    all = λ u v i k.
+        still-among r s u v x xs e.0 e.1 k (c.all u v i (pair-next p q r s u v (subst₂ (λ (a b : ℕ). PairBefore p q a b) e.0 e.1 c.ascend.0) k));
+  },
+)
+covers-among g p q r s (x ∷ xs) c (inr i) =
+    let d : Covers g x.p x.q xs = record {
+      ascend = c.ascend.1;
+      all = λ u v j k. still-among x.p x.q u v x xs refl refl k (c.all u v j (pair-next p q x.p x.q u v c.ascend.0 k));
+    } in
+    let o : (more : List Merge) × (length more < length xs) × Covers g r s more = covers-among g x.p x.q r s xs d i in
+    (o.0, omega (arith, o.1), o.2)
+
+-- behind a pair fewer are to come
+pub covers-next : (g : Graph) (p q r s : ℕ) (rest : List Merge) → Covers g p q rest → IsPair g r s → PairBefore p q r s → (more : List Merge) × (length more < length rest) × Covers g r s more
+covers-next g p q r s rest c i b = covers-among g p q r s rest c (c.all r s i b)
+
+-- a merge brings no pairs
+pub covers-merged : (h : Assignment) (p q r s : ℕ) (rest : List Merge) → IsTyped h → IsPair (G h) p q → Covers (G h) r s rest → Covers (G (merge p q h)) r s rest
+covers-merged h p q r s rest t i c = record { ascend = c.ascend; all = λ u v j k. c.all u v (pair-back h p q u v t i j) k }
+
+-- where there are two pairs, the list has both
+pub remain-two : (g : Graph) (p q r s t u : ℕ) (rest : List Merge) → Remain g p q rest → IsNextPair g p q r s → IsNextPair g r s t u → 1 < length rest
+remain-two g p q r s t u rest m n o =
+    let e : (more : List Merge) × (rest ≡ pair_of r s ∷ more) × Remain g r s more = remain-next g p q r s rest m n in
+    omega (arith, ap (λ (ms : List Merge). length ms) e.1, remain-some g r s t u e.0 e.2 o)
+
+-- where no pair comes behind the first one, each pair is that one
+pub one-pair : (g : Graph) (r s : ℕ) → IsNextPair g 2 2 r s → HasNoPairBehind g r s → (p q : ℕ) → IsPair g p q → (r ≡ p) × (s ≡ q)
+one-pair g r s n none p q i =
+    let l : 2 ≤ p = i.low in
+    let o : p < q = i.order in
+    let b : PairBefore 2 2 p q = elim (cases_lt 2 p) [ inl k ↦ inl k | inr k ↦ inr (omega arith, omega arith) ] in
+    elim (cases_lt r p) [
+      | inl k ↦ absurd (none p q i (inl k))
+      | inr k ↦ elim (cases_lt p r) [
+        | inl j ↦ absurd (n.first p q i b (inl j))
+        | inr j ↦ elim (cases_lt s q) [
+          | inl w ↦ absurd (none p q i (inr (omega arith, w)))
+          | inr w ↦ elim (cases_lt q s) [
+            | inl v ↦ absurd (n.first p q i b (inr (omega arith, v)))
+            | inr v ↦ (omega arith, omega arith)
+          ]
+        ]
+      ]
+    ]

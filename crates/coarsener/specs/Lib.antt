@@ -1,3 +1,5 @@
 pub mod Pairs
 pub mod Deciding
 pub mod Blocking
+pub mod Marking
+pub mod Telling

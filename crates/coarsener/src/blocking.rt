@@ -1,6 +1,6 @@
 //! Why pairs stay apart.
-ghost use Rattle.std.specs.Prelude.{◌≡◌, ◌≤◌, ◌<◌, ◌+◌, ◌*◌, ◌++◌, [], List, length, OnOk, OnErr, slice_get, Some, true};
-ghost use Rattle.limits.specs.declared.TheConstants.{MAX_PARTITIONS, MAX_PATH_NUMBERS};
+ghost use Rattle.std.specs.Prelude.{◌≡◌, ◌≤◌, ◌<◌, ◌+◌, ◌*◌, ◌^◌, ◌++◌, [], List, length, OnOk, OnErr, slice_get, Some, true};
+ghost use Rattle.limits.specs.declared.TheConstants.{MAX_INVARIANTS, MAX_PARTITIONS, MAX_PATH_NUMBERS};
 ghost use Rattle.invariants.specs.declared.records.Block.{Block};
 ghost use Rattle.invariants.specs.declared.Invariant.{Invariant};
 ghost use Rattle.partition_model.specs.Graphs.{Graph, Satisfies};
@@ -10,8 +10,12 @@ ghost use Rattle.model_shape.specs.Numbers.{block_numbers};
 ghost use Rattle.cell_pool.specs.Numbers.{KeepsLists};
 ghost use Rattle.run_history.specs.Records.{blocks_of, HoldsPaths};
 ghost use Rattle.clashes.specs.Marks.{AreMarksOf};
+ghost use Rattle.labelling.specs.Labelled.{Labelling};
 ghost use Rattle.coarsener.specs.Deciding.{IsFirstBad, IsFirstLost};
 ghost use Rattle.coarsener.specs.Blocking.{pair_count, paths_of, EndsWithoutRoom};
+ghost use Rattle.coarsener.specs.Marking.{AreMarksNow};
+ghost use Rattle.coarsener.specs.Telling.{TellsLosses};
+ghost use Rattle.partition_model.specs.Refinement.{SatisfiesAll};
 
 use crate::pairs::{Pair, next_pair};
 use cell_pool::{RunLog, Spans};
@@ -54,6 +58,133 @@ fn is_satisfied(bad: Option<usize>, k: usize) -> bool
         return true;
     };
     k < bad
+}
+
+/// What tells which invariants merges lose.
+#[derive(Clone, Copy, Debug)]
+pub(crate) enum Told {
+    /// The labels, which are those of the graph after the merge of its only pair.
+    Labels,
+    /// The marks, where the number is that of the first invariant that the graph itself does not satisfy.
+    Marks(Option<usize>),
+}
+
+/// Finds what tells which invariants the merges of a graph lose. It counts no step where the graph has no pair, one where it
+/// has one, and else two.
+fn tell_losses<L: Ledger>(graph: &PartGraph, planes: &mut Planes, steps: &mut Steps<L>) -> Told
+    ensures tells { TellsLosses result planes.new (G (graph.now).traces) }
+    ensures list { (planes.new).invs ≡ (planes.old).invs }
+    ensures limit { 0 < pair_count graph.now → length (planes.new).invs ≤ MAX_INVARIANTS }
+    ensures more { steps.old ≤ steps.new }
+    ensures few { steps.new ≤ steps.old + pair_count graph.now }
+{
+    let Some(first) = next_pair(graph, Pair::start()) else {
+        return Told::Labels;
+    };
+    if next_pair(graph, first).is_none() {
+        planes.label_all(&View::Merged(graph, first.p, first.q), steps);
+        return Told::Labels;
+    }
+    planes.label_all(&View::Plain(graph), steps);
+    let bad = planes.first_bad();
+    planes.find_clashes(graph, steps);
+    Told::Marks(bad)
+}
+
+/// The number of the first invariant that the merge of the pair loses.
+fn first_lost(planes: &mut Planes, told: Told, pair: Pair) -> Option<usize>
+    requires order { pair.p < pair.q }
+    requires limit { pair.q < MAX_PARTITIONS }
+    ensures first { (h : Assignment) → IsTyped h → IsPair (G h) pair.p pair.q
+        → TellsLosses told planes.old (G h)
+        → IsFirstLost h (planes.old).invs pair.p pair.q result }
+    ensures same { planes.new ≡ planes.old }
+{
+    match told {
+        Told::Labels => planes.first_bad(),
+        Told::Marks(bad) => lost_by(planes, bad, pair),
+    }
+}
+
+/// Whether the graph is known to satisfy the invariant with this number.
+fn is_known(told: Told, k: usize) -> bool
+    ensures { (planes : Labelling) (g : Graph) (inv : Invariant) → TellsLosses told planes g
+        → slice_get planes.invs k ≡ Some inv → result ≡ true → Satisfies g inv }
+{
+    match told {
+        Told::Labels => false,
+        Told::Marks(bad) => is_satisfied(bad, k),
+    }
+}
+
+/// Tells why pairs stay apart, as `blocks` does, by what tells which invariants merges lose. It counts a step for each pair
+/// at most.
+fn blocks_told<L: Ledger>(
+    graph: &PartGraph,
+    finder: &mut Finder,
+    planes: &mut Planes,
+    told: Told,
+    invs: &[Invariant],
+    spans: &mut Spans,
+    log: &mut RunLog,
+    steps: &mut Steps<L>,
+) -> Result<(), EvidenceLimit>
+    requires told { 0 < pair_count graph.now → TellsLosses told planes.old (G (graph.now).traces) }
+    requires few { 0 < pair_count graph.now → length invs.now < 2 ^ 32 }
+    requires ended { NoMerge invs.now (graph.now).traces }
+    requires listed { (planes.old).invs ≡ invs.now }
+    requires numbers { (spans.old).room ≡ MAX_PATH_NUMBERS }
+    requires begun { (log.old).blocks ≡ [] }
+    requires room { pair_count graph.now ≤ (log.old).block_room }
+
+    // All blocks, where there is room for their paths.
+    ensures ok { OnOk result
+        (AreBlocks invs.now (G (graph.now).traces) (blocks_of log.new spans.new)) }
+    ensures within { OnOk result (length (spans.new).numbers ≤ MAX_PATH_NUMBERS) }
+
+    // When the limit is passed, and what stands then.
+    ensures limit { OnErr result ((bs : List Block) → AreBlocks invs.now (G (graph.now).traces) bs
+        → MAX_PATH_NUMBERS < length (spans.old).numbers + block_numbers bs) }
+    ensures err { OnErr result (EndsWithoutRoom invs.now graph.now (blocks_of log.new spans.new)
+        (length (spans.new).numbers)) }
+
+    // What the spans and the log hold in each case.
+    ensures paths { spans.new ≡ record spans.old {
+      numbers = (spans.old).numbers ++ paths_of (blocks_of log.new spans.new);
+    } }
+    ensures stays { KeepsLists (spans.old).numbers (spans.new).numbers }
+    ensures holds { HoldsPaths log.old spans.old → HoldsPaths log.new spans.new }
+    ensures others { log.new ≡ record log.old { blocks = (log.new).blocks } }
+    ensures list { (planes.new).invs ≡ (planes.old).invs }
+
+    // How many steps are counted.
+    ensures more { steps.old ≤ steps.new }
+    ensures few { steps.new ≤ steps.old + pair_count graph.now }
+{
+    prove!(spans.used() <= MAX_PATH_NUMBERS);
+    let mut at = Pair::start();
+    if next_pair(graph, at).is_none() {
+        return Ok(());
+    }
+    while let Some(pair) = next_pair(graph, at) {
+        let Some(k) = first_lost(planes, told, pair) else {
+            unreachable!()
+        };
+        let known = is_known(told, k);
+        let merge = Merge {
+            p: pair.p,
+            q: pair.q,
+        };
+        let Some(path) = finder.least_loss(graph, merge, invs[k], known, steps) else {
+            unreachable!()
+        };
+        let Some(path) = spans.push(path) else {
+            return Err(EvidenceLimit);
+        };
+        log.add_block(pair.p, pair.q, k as u32, path);
+        at = pair;
+    }
+    Ok(())
 }
 
 /// Tells in the log, for each pair of one type, why it stays apart: the first invariant that its merge loses, and the
@@ -105,31 +236,62 @@ pub fn blocks<L: Ledger>(
     ensures more { steps.old ≤ steps.new }
     ensures few { steps.new ≤ steps.old + 2 * pair_count graph.now }
 {
-    prove!(spans.used() <= MAX_PATH_NUMBERS);
-    let mut at = Pair::start();
-    if next_pair(graph, at).is_none() {
-        return Ok(());
-    }
-    planes.label_all(&View::Plain(graph), steps);
-    let bad = planes.first_bad();
-    planes.find_clashes(graph);
-    while let Some(pair) = next_pair(graph, at) {
-        let Some(k) = lost_by(planes, bad, pair) else {
-            unreachable!()
-        };
-        let known = is_satisfied(bad, k);
-        let merge = Merge {
-            p: pair.p,
-            q: pair.q,
-        };
-        let Some(path) = finder.least_loss(graph, merge, invs[k], known, steps) else {
-            unreachable!()
-        };
-        let Some(path) = spans.push(path) else {
-            return Err(EvidenceLimit);
-        };
-        log.add_block(pair.p, pair.q, k as u32, path);
-        at = pair;
-    }
-    Ok(())
+    let told = tell_losses(graph, planes, steps);
+    blocks_told(graph, finder, planes, told, invs, spans, log, steps)
+}
+
+/// Tells why pairs stay apart, as `blocks` does, where the graph satisfies all invariants and the marks are those of the
+/// graph, as `coarsen` leaves them. It counts at most one step for each pair. All else is as `blocks` has it.
+pub fn blocks_marked<L: Ledger>(
+    graph: &PartGraph,
+    finder: &mut Finder,
+    planes: &mut Planes,
+    invs: &[Invariant],
+    spans: &mut Spans,
+    log: &mut RunLog,
+    steps: &mut Steps<L>,
+) -> Result<(), EvidenceLimit>
+    requires satisfied { SatisfiesAll (G (graph.now).traces) invs.now }
+    requires marks { 0 < pair_count graph.now → AreMarksNow planes.old graph.now }
+    requires few { length invs.now < 2 ^ 32 }
+    requires ended { NoMerge invs.now (graph.now).traces }
+    requires listed { (planes.old).invs ≡ invs.now }
+    requires numbers { (spans.old).room ≡ MAX_PATH_NUMBERS }
+    requires begun { (log.old).blocks ≡ [] }
+    requires room { pair_count graph.now ≤ (log.old).block_room }
+
+    // All blocks, where there is room for their paths.
+    ensures ok { OnOk result
+        (AreBlocks invs.now (G (graph.now).traces) (blocks_of log.new spans.new)) }
+    ensures within { OnOk result (length (spans.new).numbers ≤ MAX_PATH_NUMBERS) }
+
+    // When the limit is passed, and what stands then.
+    ensures limit { OnErr result ((bs : List Block) → AreBlocks invs.now (G (graph.now).traces) bs
+        → MAX_PATH_NUMBERS < length (spans.old).numbers + block_numbers bs) }
+    ensures err { OnErr result (EndsWithoutRoom invs.now graph.now (blocks_of log.new spans.new)
+        (length (spans.new).numbers)) }
+
+    // What the spans and the log hold in each case.
+    ensures paths { spans.new ≡ record spans.old {
+      numbers = (spans.old).numbers ++ paths_of (blocks_of log.new spans.new);
+    } }
+    ensures stays { KeepsLists (spans.old).numbers (spans.new).numbers }
+    ensures holds { HoldsPaths log.old spans.old → HoldsPaths log.new spans.new }
+    ensures others { log.new ≡ record log.old { blocks = (log.new).blocks } }
+    ensures list { (planes.new).invs ≡ (planes.old).invs }
+
+    // How many steps are counted.
+    ensures more { steps.old ≤ steps.new }
+    ensures few { steps.new ≤ steps.old + pair_count graph.now }
+{
+    blocks_told(
+        graph,
+        finder,
+        planes,
+        Told::Marks(None),
+        invs,
+        spans,
+        log,
+        steps,
+    )
 }

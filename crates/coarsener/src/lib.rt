@@ -10,5 +10,5 @@ mod blocking;
 mod merging;
 mod pairs;
 
-pub use blocking::{EvidenceLimit, blocks};
+pub use blocking::{EvidenceLimit, blocks, blocks_marked};
 pub use merging::coarsen;

@@ -8,16 +8,60 @@ ghost use Rattle.run_history.specs.Records.{merges_of};
 ghost use Rattle.clashes.specs.Marks.{AreMarksOf};
 ghost use Rattle.coarsener.specs.Blocking.{pair_count};
 ghost use Rattle.coarsener.specs.Deciding.{IsDecided};
+ghost use Rattle.coarsener.specs.Marking.{owed, stays_apart, AreMarkedAs, AreMarksNow};
 
 use crate::pairs::{Pair, next_pair};
 use cell_pool::RunLog;
 use labelling::Planes;
+use limits::MAX_PARTITIONS;
 use partition_graph::PartGraph;
 use std::sync::ledger::Ledger;
 use steps::Steps;
 
-/// Merges the pair and tells the merge, unless this loses an invariant; then nothing changes.
-fn merge_unless_lost(graph: &mut PartGraph, planes: &mut Planes, log: &mut RunLog, pair: Pair)
+/// Of which graph the marks are.
+#[derive(Clone, Copy, Debug)]
+pub(crate) enum Marked {
+    /// Of none yet.
+    Nothing,
+    /// Of the graph before the merge of this pair, which made this one.
+    Before(Pair),
+    /// Of this one.
+    Now,
+}
+
+/// Whether the pair that was looked at last stays apart.
+fn stays_apart(marked: Marked) -> bool
+    ensures { result ≡ stays_apart marked }
+{
+    match marked {
+        Marked::Nothing | Marked::Before(_) => false,
+        Marked::Now => true,
+    }
+}
+
+/// Makes the marks those of the graph, by as many steps as are owed: none where they are so already, and else one.
+fn mark<L: Ledger>(graph: &PartGraph, planes: &mut Planes, marked: Marked, steps: &mut Steps<L>)
+    requires { AreMarkedAs marked planes.old graph.now }
+    ensures marks { AreMarksOf (planes.new).clashes (G (graph.now).traces) }
+    ensures list { (planes.new).invs ≡ (planes.old).invs }
+    ensures listed { (planes.new).clashes.invs ≡ (planes.new).invs }
+    ensures counted { steps.new ≡ steps.old + owed marked }
+{
+    match marked {
+        Marked::Nothing => planes.find_clashes(graph, steps),
+        Marked::Before(pair) => planes.join(graph, pair.p, pair.q, steps),
+        Marked::Now => (),
+    }
+}
+
+/// Merges the pair and tells the merge, unless this loses an invariant; then nothing changes. It says of which graph the
+/// marks are then.
+fn merge_unless_lost(
+    graph: &mut PartGraph,
+    planes: &mut Planes,
+    log: &mut RunLog,
+    pair: Pair,
+) -> Marked
     requires typed { IsTyped (graph.old).traces }
     requires pair { IsPair (G (graph.old).traces) pair.p pair.q }
     requires limit { pair.q < MAX_PARTITIONS }
@@ -26,26 +70,28 @@ fn merge_unless_lost(graph: &mut PartGraph, planes: &mut Planes, log: &mut RunLo
     requires marks { AreMarksOf (planes.old).clashes (G (graph.old).traces) }
     requires room { length (log.old).merges < (log.old).merge_room }
 
-    // What is decided; the marks are those of the graph after it.
+    // What is decided, and of which graph the marks are. A step is owed where a merge was made.
     ensures decided { IsDecided
         (planes.old).invs graph.old graph.new log.old log.new pair.p pair.q }
-    ensures marks { AreMarksOf (planes.new).clashes (G (graph.new).traces) }
-    ensures list { (planes.new).invs ≡ (planes.old).invs }
-    ensures listed { (planes.new).clashes.invs ≡ (planes.new).invs }
+    ensures marked { AreMarkedAs result planes.new graph.new }
+    ensures same { planes.new ≡ planes.old }
+    ensures owes { length (log.new).merges ≡ length (log.old).merges + owed result }
 {
     if planes.first_clash(pair.p, pair.q).is_some() {
-        return;
+        return Marked::Now;
     }
     graph.merge(pair.p, pair.q);
     log.add_merge(pair.p, pair.q);
-    planes.join(graph, pair.p, pair.q);
+    Marked::Before(pair)
 }
 
 /// Merges partitions of one type until each further merge loses an invariant, and tells the merges in the log.
 /// Each is of the first pair, by its lower id and then by its higher one, whose merge loses none.
 ///
 /// The graph satisfies the invariants that the planes were made for. The log has no merges yet, and room for all that can
-/// come. It counts at most a step for each pair of one type that there is at the start, and takes no memory.
+/// come. It takes no memory. It counts at most a step for each pair of one type that there is at the start, and at most
+/// one more than it makes merges: all marks are found once, and after a merge they spread from there. Where pairs are
+/// left, the marks are those of the graph at the end.
 pub fn coarsen<L: Ledger>(
     graph: &mut PartGraph,
     planes: &mut Planes,
@@ -62,19 +108,25 @@ pub fn coarsen<L: Ledger>(
     ensures used { (graph.new).used ≡ (graph.old).used }
     ensures others { log.new ≡ record log.old { merges = (log.new).merges } }
     ensures list { (planes.new).invs ≡ (planes.old).invs }
+    ensures marks { 0 < pair_count graph.new → AreMarksNow planes.new graph.new }
 
     // How many steps are counted.
     ensures more { steps.old ≤ steps.new }
     ensures few { steps.new ≤ steps.old + pair_count graph.old }
+    ensures once { steps.new ≤ steps.old + 1 + length (merges_of log.new) }
 {
-    let _ = steps;
+    prove!(graph.ids_used() <= MAX_PARTITIONS);
     let mut at = Pair::start();
-    if next_pair(graph, at).is_none() {
-        return;
-    }
-    planes.find_clashes(graph);
+    let mut marked = Marked::Nothing;
+    let mut apart = false;
     while let Some(pair) = next_pair(graph, at) {
-        merge_unless_lost(graph, planes, log, pair);
+        mark(graph, planes, marked, steps);
+        marked = merge_unless_lost(graph, planes, log, pair);
+        apart = apart | stays_apart(marked);
         at = pair;
     }
+    if !apart {
+        return;
+    }
+    mark(graph, planes, marked, steps);
 }

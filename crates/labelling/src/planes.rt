@@ -72,6 +72,7 @@ impl Planes {
         ensures labels { AreLabelsOf self.new (seen view.now) }
         ensures same { (self.new).invs ≡ (self.old).invs }
         ensures clashes { (self.new).clashes ≡ (self.old).clashes }
+        ensures few { length (self.new).invs ≤ MAX_INVARIANTS }
         ensures counted { steps.new ≡ steps.old + 1 }
     {
         steps.tick();
@@ -80,16 +81,21 @@ impl Planes {
     }
 
     /// Says of each invariant of the list, in their order, whether the graph that is viewed satisfies it, by labelling it for
-    /// all of them at once. There is a flag for each. It counts no step, and takes no memory.
-    pub fn tell_satisfied(&mut self, view: &View<'_>, flags: &mut [bool])
+    /// all of them at once. There is a flag for each. It counts one step, and takes no memory.
+    pub fn tell_satisfied<L: Ledger>(
+        &mut self,
+        view: &View<'_>,
+        flags: &mut [bool],
+        steps: &mut Steps<L>,
+    )
         requires sound { IsSound view.now }
         requires room { length flags.old ≡ length (self.old).invs }
         ensures told { SaysSatisfied (seen view.now) (self.new).invs flags.new }
         ensures same { (self.new).invs ≡ (self.old).invs }
         ensures clashes { (self.new).clashes ≡ (self.old).clashes }
+        ensures counted { steps.new ≡ steps.old + 1 }
     {
-        self.links.gather(view);
-        label(&mut self.board, view, self.links.as_slice());
+        self.label_all(view, steps);
         self.board.tell_unnoted(flags);
     }
 
@@ -118,19 +124,20 @@ impl Planes {
         self.board.first_noted()
     }
 
-    /// Finds the marks of this graph, which tell what merges lose. The labels stay.
-    pub fn find_clashes(&mut self, graph: &PartGraph)
+    /// Finds the marks of this graph, which tell what merges lose. The labels stay. It counts one step.
+    pub fn find_clashes<L: Ledger>(&mut self, graph: &PartGraph, steps: &mut Steps<L>)
         ensures keeps { KeepsLabels self.old self.new }
         ensures labels { (g : Graph) → AreLabelsOf self.old g → AreLabelsOf self.new g }
         ensures marks { AreMarksOf (self.new).clashes (G (graph.now).traces) }
         ensures few { length (self.new).invs ≤ MAX_INVARIANTS }
+        ensures counted { steps.new ≡ steps.old + 1 }
     {
-        self.clashes.find(graph);
+        self.clashes.find(graph, steps);
     }
 
     /// Where the marks were those of a graph of which `merge(p, q)` made this one, makes them those of this one. The
-    /// labels stay.
-    pub fn join(&mut self, graph: &PartGraph, p: u32, q: u32)
+    /// labels stay. It counts one step.
+    pub fn join<L: Ledger>(&mut self, graph: &PartGraph, p: u32, q: u32, steps: &mut Steps<L>)
         requires kept { p < MAX_PARTITIONS }
         requires gone { q < MAX_PARTITIONS }
         requires apart { p ≢ q }
@@ -143,8 +150,9 @@ impl Planes {
         ensures marks { (h : Assignment) → IsTyped h → IsPair (G h) p q
             → (graph.now).traces ≡ merge p q h → AreMarksOf (self.old).clashes (G h)
             → AreMarksOf (self.new).clashes (G (graph.now).traces) }
+        ensures counted { steps.new ≡ steps.old + 1 }
     {
-        self.clashes.join(graph, p, q);
+        self.clashes.join(graph, p, q, steps);
     }
 
     /// The number of the first invariant for which p and q clash, and `None` where they do for none. Only invariants

@@ -1,148 +1,22 @@
-use Rattle.std.proofs.lemmas.Option.{slice_get-get_or}
-use Rattle.std.proofs.Common.{get_or}
-use Rattle.std.proofs.Common.{◌≡◌, ℕ, ◌+◌, ◌≤◌, ◌<◌, ◌∙◌, List, MatchOption, length, length-append, sym, ap, subst, subst₂, arith}
+use Rattle.std.proofs.Common.{◌∙◌, List, length, ap, arith}
 use Rattle.invariants.specs.declared.Invariant.{Invariant}
-use Rattle.cell_pool.specs.Numbers.{Numbers}
-use Rattle.cell_pool.specs.RunLists.{RunLists}
-use Rattle.run_history.specs.Records.{blocks_of}
-use Rattle.partition_model.specs.Graphs.{Merged}
-use Rattle.partition_model.specs.Assignments.{G}
-use Rattle.partition_model.specs.Refinement.{IsFirstBroken, SatisfiesAll}
-use Rattle.clashes.specs.Marks.{AreMarksOf}
-use Rattle.labelling.specs.Labelled.{Labelling}
-use Rattle.coarsener.specs.declared.pairs.Pair.{Pair}
-use Rattle.coarsener.specs.Pairs.{HasNoPairBehind, IsNextPair}
-use Rattle.coarsener.specs.Blocking.{EndsWithoutRoom, pair_count}
-use Rattle.coarsener.specs.Deciding.{IsFirstBad}
-use Rattle.coarsener.proofs.BlockingTurns.{IsBlocking, blocking-start, blocking-turn, blocking-end, blocking-full, blocking-limit, blocks-few, with_block, none-lost, is-broken, broken-within, pairs-some}
-use Rattle.coarsener.proofs.Deciding.{none}
 use Rattle.coarsener.proofs.blocking.blocks.Goals as goal
 
-pub loop-pair-init : goal.loop-pair-init
-loop-pair-init g c =
-    let same : c.find_clashes.new.self.invs ≡ c.args.planes.now.invs = c.find_clashes.ensures.keeps.invs ∙ c.label_all.ensures.same in
-    let listed : c.find_clashes.new.self.clashes.invs ≡ c.args.invs.now = c.find_clashes.ensures.keeps.listed ∙ same ∙ c.requires.listed in
-    record {
-      low = omega (arith, c.start-at.ensures.p);
-      order = omega (arith, c.start-at.ensures.p, c.start-at.ensures.q);
-      limit = omega (arith, c.start-at.ensures.q);
-      list = same;
-      listed = listed;
-      marks = c.find_clashes.ensures.marks;
-      bad = subst (λ (invs : List Invariant). IsFirstBad (G c.args.graph.now.traces) invs c.first_bad-bad.result)
-          (c.label_all.ensures.same ∙ c.requires.listed ∙ sym listed) (c.first_bad-bad.ensures (G c.args.graph.now.traces) c.label_all.ensures.labels);
-      few = omega (arith, c.find_clashes.ensures.few, ap (λ (invs : List Invariant). length invs) (same ∙ c.requires.listed));
-      some = pairs-some c.args.graph.now c.next_pair.result c.next_pair.ensures.ids c.if-is_none.ensures
-          (subst₂ (λ (p q : ℕ). MatchOption c.next_pair.result (HasNoPairBehind (G c.args.graph.now.traces) p q) (λ (x : Pair). IsNextPair (G c.args.graph.now.traces) p q x.p x.q))
-          c.start-at.ensures.p c.start-at.ensures.q c.next_pair.ensures.next);
-      counted = omega (arith, c.label_all.ensures.counted, ap length c.requires.begun);
-      within = omega (arith, c.used.ensures.value, c.if-prove.false);
-      run = subst₂ (λ (p q : ℕ). IsBlocking c.args.invs.now c.args.graph.now c.args.log.now c.args.log.now c.args.spans.now c.args.spans.now p q)
-          (sym c.start-at.ensures.p) (sym c.start-at.ensures.q)
-          (blocking-start c.args.invs.now c.args.graph.now c.args.log.now c.args.spans.now c.next_pair.ensures.ids c.requires.begun);
-    }
+pub blocks_told-requires-clause-told : goal.blocks_told-requires-clause-told
+blocks_told-requires-clause-told g c some = c.tell_losses-told.ensures.tells
 
-pub unreachable-requires : goal.unreachable-requires
-unreachable-requires g c =
-    let all : SatisfiesAll (Merged (G c.args.graph.now.traces) c.in-Some.pair.p c.in-Some.pair.q) c.loop-pair.planes.clashes.invs =
-    c.in_default-lost_by.ensures.first c.args.graph.now.traces c.in-Some.ensures.ids.typed c.in-Some.ensures.next.pair c.loop-pair.invariant.marks c.loop-pair.invariant.bad in
-    none-lost c.args.invs.now c.args.graph.now.traces c.in-Some.pair.p c.in-Some.pair.q c.in-Some.ensures.ids.typed c.in-Some.ensures.next.pair c.requires.ended
-    (subst (λ (invs : List Invariant). SatisfiesAll (Merged (G c.args.graph.now.traces) c.in-Some.pair.p c.in-Some.pair.q) invs) c.loop-pair.invariant.listed all)
+pub blocks_told-requires-clause-few : goal.blocks_told-requires-clause-few
+blocks_told-requires-clause-few g c some =
+    omega (arith, c.tell_losses-told.ensures.limit some, ap (λ (invs : List Invariant). length invs) (c.tell_losses-told.ensures.list ∙ c.requires.listed))
 
-pub bounds-invs-k : goal.bounds-invs-k
-bounds-invs-k g c =
-    let first : IsFirstBroken (Merged (G c.args.graph.now.traces) c.in-Some.pair.p c.in-Some.pair.q) c.args.invs.now c.in-Some-lost_by.k =
-    subst (λ (invs : List Invariant). IsFirstBroken (Merged (G c.args.graph.now.traces) c.in-Some.pair.p c.in-Some.pair.q) invs c.in-Some-lost_by.k) c.loop-pair.invariant.listed
-    (c.in-Some-lost_by.ensures.first c.args.graph.now.traces c.in-Some.ensures.ids.typed c.in-Some.ensures.next.pair c.loop-pair.invariant.marks c.loop-pair.invariant.bad) in
-    broken-within (Merged (G c.args.graph.now.traces) c.in-Some.pair.p c.in-Some.pair.q) c.args.invs.now c.in-Some-lost_by.k first
+pub blocks_told-requires-clause-listed : goal.blocks_told-requires-clause-listed
+blocks_told-requires-clause-listed g c = c.tell_losses-told.ensures.list ∙ c.requires.listed
 
-pub offset_bounds-invs-k : goal.offset_bounds-invs-k
-offset_bounds-invs-k g c =
-    let within : c.in-Some-lost_by.k < length c.args.invs.now = bounds-invs-k g c in
-    omega (arith, c.loop-pair.invariant.few)
+pub returns-clause-list : goal.returns-clause-list
+returns-clause-list g c = c.blocks_told.ensures.list ∙ c.tell_losses-told.ensures.list
 
-pub unreachable-requires-in_default-least_loss :
-    goal.unreachable-requires-in_default-least_loss
-unreachable-requires-in_default-least_loss g c =
-    let first : IsFirstBroken (Merged (G c.args.graph.now.traces) c.in-Some.pair.p c.in-Some.pair.q) c.args.invs.now c.in-Some-lost_by.k =
-    subst (λ (invs : List Invariant). IsFirstBroken (Merged (G c.args.graph.now.traces) c.in-Some.pair.p c.in-Some.pair.q) invs c.in-Some-lost_by.k) c.loop-pair.invariant.listed
-    (c.in-Some-lost_by.ensures.first c.args.graph.now.traces c.in-Some.ensures.ids.typed c.in-Some.ensures.next.pair c.loop-pair.invariant.marks c.loop-pair.invariant.bad) in
-    is-broken (Merged (G c.args.graph.now.traces) c.in-Some.pair.p c.in-Some.pair.q) c.args.invs.now c.in-Some-lost_by.k first c.in_default-least_loss.ensures.found
-
-pub returns-in_default-push-clause-err : goal.returns-in_default-push-clause-err
-returns-in_default-push-clause-err g c =
-    let first : IsFirstBroken (Merged (G c.args.graph.now.traces) c.in-Some.pair.p c.in-Some.pair.q) c.args.invs.now c.in-Some-lost_by.k =
-    subst (λ (invs : List Invariant). IsFirstBroken (Merged (G c.args.graph.now.traces) c.in-Some.pair.p c.in-Some.pair.q) invs c.in-Some-lost_by.k) c.loop-pair.invariant.listed
-    (c.in-Some-lost_by.ensures.first c.args.graph.now.traces c.in-Some.ensures.ids.typed c.in-Some.ensures.next.pair c.loop-pair.invariant.marks c.loop-pair.invariant.bad) in
-    let room : c.loop-pair.spans.room ≡ c.args.spans.now.room = ap (λ (x : Numbers). x.room) c.loop-pair.invariant.run.paths in
-    subst (λ (x : Numbers). EndsWithoutRoom c.args.invs.now c.args.graph.now (blocks_of c.loop-pair.log x) (length x.numbers)) (sym c.in_default-push.ensures.push.1)
-    (blocking-full c.args.invs.now c.args.graph.now c.args.log.now c.loop-pair.log c.args.spans.now c.loop-pair.spans c.loop-pair.at.p c.loop-pair.at.q
-    c.in-Some.pair.p c.in-Some.pair.q c.in-Some-lost_by.k c.in-Some-least_loss.path.now c.loop-pair.invariant.run c.in-Some.ensures.next first
-    c.in-Some-least_loss.ensures.found (omega (arith, c.in_default-push.ensures.push.0, room, c.requires.numbers)))
-
-pub returns-in_default-push-clause-limit : goal.returns-in_default-push-clause-limit
-returns-in_default-push-clause-limit g c =
-    let run : IsBlocking c.args.invs.now c.args.graph.now c.args.log.now c.loop-pair.log c.args.spans.now c.push.new.self c.loop-pair.at.p c.loop-pair.at.q =
-    subst (λ (x : Numbers). IsBlocking c.args.invs.now c.args.graph.now c.args.log.now c.loop-pair.log c.args.spans.now x c.loop-pair.at.p c.loop-pair.at.q)
-    (sym c.in_default-push.ensures.push.1) c.loop-pair.invariant.run in
-    blocking-limit c.args.invs.now c.args.graph.now c.loop-pair.log c.args.spans.now c.push.new.self c.in-Some.ensures.ids (returns-in_default-push-clause-err g c) run.paths
-
-pub overflow_cast-k : goal.overflow_cast-k
-overflow_cast-k g c =
-    let first : IsFirstBroken (Merged (G c.args.graph.now.traces) c.in-Some.pair.p c.in-Some.pair.q) c.args.invs.now c.in-Some-lost_by.k =
-    subst (λ (invs : List Invariant). IsFirstBroken (Merged (G c.args.graph.now.traces) c.in-Some.pair.p c.in-Some.pair.q) invs c.in-Some-lost_by.k) c.loop-pair.invariant.listed
-    (c.in-Some-lost_by.ensures.first c.args.graph.now.traces c.in-Some.ensures.ids.typed c.in-Some.ensures.next.pair c.loop-pair.invariant.marks c.loop-pair.invariant.bad) in
-    let within : c.in-Some-lost_by.k < length c.args.invs.now = broken-within (Merged (G c.args.graph.now.traces) c.in-Some.pair.p c.in-Some.pair.q) c.args.invs.now c.in-Some-lost_by.k first in
-    omega (arith, c.loop-pair.invariant.few)
-
-pub loop-pair-preserved : goal.loop-pair-preserved
-loop-pair-preserved g c =
-    let first : IsFirstBroken (Merged (G c.args.graph.now.traces) c.in-Some.pair.p c.in-Some.pair.q) c.args.invs.now c.in-Some-lost_by.k =
-    subst (λ (invs : List Invariant). IsFirstBroken (Merged (G c.args.graph.now.traces) c.in-Some.pair.p c.in-Some.pair.q) invs c.in-Some-lost_by.k) c.loop-pair.invariant.listed
-    (c.in-Some-lost_by.ensures.first c.args.graph.now.traces c.in-Some.ensures.ids.typed c.in-Some.ensures.next.pair c.loop-pair.invariant.marks c.loop-pair.invariant.bad) in
-    let run : IsBlocking c.args.invs.now c.args.graph.now c.args.log.now (with_block c.in-Some.pair.p c.in-Some.pair.q c.in-Some-lost_by.k c.in-Some-push.path c.loop-pair.log)
-    c.args.spans.now c.push.new.self c.in-Some.pair.p c.in-Some.pair.q =
-    blocking-turn c.args.invs.now c.args.graph.now c.args.log.now c.loop-pair.log c.args.spans.now c.loop-pair.spans c.push.new.self c.loop-pair.at.p c.loop-pair.at.q
-    c.in-Some.pair.p c.in-Some.pair.q c.in-Some-lost_by.k c.in-Some-least_loss.path.now c.in-Some-push.path c.loop-pair.invariant.run c.in-Some.ensures.next first
-    c.in-Some-least_loss.ensures.found c.in-Some-push.ensures.push c.in-Some-push.ensures.stays in
-    let blocks : length c.add_block.new.self.blocks ≡ length c.loop-pair.log.blocks + 1 =
-    ap (λ (x : RunLists). length x.blocks) c.add_block.ensures ∙ length-append c.loop-pair.log.blocks _ in
-    let room : c.push.new.self.room ≡ c.args.spans.now.room = ap (λ (x : Numbers). x.room) run.paths in
-    record {
-      low = c.in-Some.ensures.next.pair.low;
-      order = omega (arith, c.in-Some.ensures.next.pair.order);
-      limit = c.in-Some.ensures.limit;
-      list = ap (λ (planes : Labelling). planes.invs) c.lost_by.ensures.same ∙ c.loop-pair.invariant.list;
-      listed = ap (λ (planes : Labelling). planes.clashes.invs) c.lost_by.ensures.same ∙ c.loop-pair.invariant.listed;
-      marks = subst (λ (planes : Labelling). AreMarksOf planes.clashes (G c.args.graph.now.traces)) (sym c.lost_by.ensures.same) c.loop-pair.invariant.marks;
-      bad = subst (λ (planes : Labelling). IsFirstBad (G c.args.graph.now.traces) planes.clashes.invs c.first_bad-bad.result) (sym c.lost_by.ensures.same) c.loop-pair.invariant.bad;
-      few = c.loop-pair.invariant.few;
-      some = c.loop-pair.invariant.some;
-      counted = omega (arith, c.in-Some-least_loss.ensures.counted, c.loop-pair.invariant.counted);
-      within = omega (arith, c.in-Some-push.ensures.push.fits, c.requires.numbers);
-      run = subst (λ (x : RunLists). IsBlocking c.args.invs.now c.args.graph.now c.args.log.now x c.args.spans.now c.push.new.self c.in-Some.pair.p c.in-Some.pair.q)
-          (sym c.add_block.ensures) run;
-    }
-
-pub returns-clause-ok : goal.returns-clause-ok
-returns-clause-ok g c =
-    blocking-end c.args.invs.now c.args.graph.now c.args.log.now c.loop-pair.log c.args.spans.now c.loop-pair.spans c.loop-pair.at.p c.loop-pair.at.q
-    c.in_default.ensures.ids c.loop-pair.invariant.run c.in_default.ensures.next
+pub returns-clause-more : goal.returns-clause-more
+returns-clause-more g c = omega (arith, c.tell_losses-told.ensures.more, c.blocks_told.ensures.more)
 
 pub returns-clause-few : goal.returns-clause-few
-returns-clause-few g c =
-    let few : length c.loop-pair.log.blocks ≤ pair_count c.args.graph.now =
-    blocks-few c.args.invs.now c.args.graph.now c.args.log.now c.loop-pair.log c.args.spans.now c.loop-pair.spans c.loop-pair.at.p c.loop-pair.at.q c.loop-pair.invariant.run in
-    let some : 0 < pair_count c.args.graph.now = c.loop-pair.invariant.some in
-    omega (arith, c.loop-pair.invariant.counted)
-
-pub least_loss-requires-clause-known : goal.least_loss-requires-clause-known
-least_loss-requires-clause-known g c t =
-    let first : IsFirstBad (G c.args.graph.now.traces) c.args.invs.now c.first_bad-bad.result =
-    subst (λ (invs : List Invariant). IsFirstBad (G c.args.graph.now.traces) invs c.first_bad-bad.result) c.loop-pair.invariant.listed c.loop-pair.invariant.bad in
-    let lost : IsFirstBroken (Merged (G c.args.graph.now.traces) c.in-Some.pair.p c.in-Some.pair.q) c.args.invs.now c.in-Some-lost_by.k =
-    subst (λ (invs : List Invariant). IsFirstBroken (Merged (G c.args.graph.now.traces) c.in-Some.pair.p c.in-Some.pair.q) invs c.in-Some-lost_by.k) c.loop-pair.invariant.listed
-    (c.in-Some-lost_by.ensures.first c.args.graph.now.traces c.in-Some.ensures.ids.typed c.in-Some.ensures.next.pair c.loop-pair.invariant.marks c.loop-pair.invariant.bad) in
-    let within : c.in-Some-lost_by.k < length c.args.invs.now = broken-within (Merged (G c.args.graph.now.traces) c.in-Some.pair.p c.in-Some.pair.q) c.args.invs.now c.in-Some-lost_by.k lost in
-    c.is_satisfied-known.ensures (G c.args.graph.now.traces) c.args.invs.now (get_or c.args.invs.now c.in-Some-lost_by.k none) first
-    (slice_get-get_or c.args.invs.now c.in-Some-lost_by.k none within) t
+returns-clause-few g c = omega (arith, c.tell_losses-told.ensures.few, c.blocks_told.ensures.few)

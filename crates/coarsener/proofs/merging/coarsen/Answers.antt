@@ -1,14 +1,41 @@
-use Rattle.std.proofs.Common.{◌≡◌, ◌≤◌, ◌<◌, ◌∙◌, List, length, ap, subst, arith}
+use Rattle.std.proofs.Common.{◌≡◌, ◌≤◌, ◌<◌, ◌∙◌, ℕ, Bool, ◌||◌, List, false, length, ap, sym, subst, subst₂, refl, arith}
 use Rattle.limits.specs.declared.TheConstants.{MAX_STEPS}
 use Rattle.invariants.specs.declared.Invariant.{Invariant}
+use Rattle.partition_model.specs.Listings.{AreBelow}
 use Rattle.cell_pool.specs.RunLists.{RunLists}
 use Rattle.run_history.specs.Records.{merges_of}
+use Rattle.labelling.specs.Labelled.{Labelling}
+use Rattle.coarsener.specs.Pairs.{HasIds}
 use Rattle.coarsener.specs.Deciding.{IsDecided}
-use Rattle.coarsener.proofs.MergingTurns.{coarsening-turn, coarsening-few, coarsening-end, others-turn, merge-count}
+use Rattle.coarsener.proofs.MergingTurns.{IsCoarsening, IsCounted, coarsening-start, coarsening-turn, coarsening-few, coarsening-end, counting-start, counting-turn, others-turn, merge-count, none-left, owed-turn}
 use Rattle.coarsener.proofs.merging.coarsen.Goals as goal
 
-pub merge_unless_lost-requires-clause-room : goal.merge_unless_lost-requires-clause-room
-merge_unless_lost-requires-clause-room g c =
+pub loop-pair-init : goal.loop-pair-init
+loop-pair-init g c =
+    let ids : HasIds c.args.graph.now = record {
+      typed = c.ids_used.ensures.typed;
+      below = subst (λ (n : ℕ). AreBelow n c.args.graph.now.traces) c.ids_used.ensures.value c.ids_used.ensures.below;
+      two = omega (arith, c.ids_used.ensures.value, c.ids_used.ensures.two);
+      limit = omega (arith, c.ids_used.ensures.value, c.ids_used.ensures.limit);
+    } in
+    record {
+      low = omega (arith, c.start-at.ensures.p);
+      order = omega (arith, c.start-at.ensures.p, c.start-at.ensures.q);
+      limit = omega (arith, c.start-at.ensures.q);
+      list = refl;
+      marked = tt;
+      others = refl;
+      run = subst₂ (λ (p q : ℕ). IsCoarsening c.args.planes.now.invs c.args.graph.now c.args.graph.now p q (merges_of c.args.log.now)) (sym c.start-at.ensures.p) (sym c.start-at.ensures.q)
+          (coarsening-start c.args.planes.now.invs c.args.graph.now c.args.log.now c.requires.satisfied c.requires.begun);
+      more = omega arith;
+      counted = subst₂ (λ (p q : ℕ). IsCounted c.args.graph.now c.args.graph.now p q (length c.args.log.now.merges) false) (sym c.start-at.ensures.p) (sym c.start-at.ensures.q)
+          (subst (λ (m : ℕ). IsCounted c.args.graph.now c.args.graph.now 2 2 m false) (sym (ap length c.requires.begun)) (counting-start c.args.graph.now ids));
+      last = λ e. refl;
+      once = omega (arith, ap length c.requires.begun);
+    }
+
+pub merge_unless_lost-marked-requires-clause-room : goal.merge_unless_lost-marked-requires-clause-room
+merge_unless_lost-marked-requires-clause-room g c =
     let few : length (merges_of c.loop-pair.log) < 1022 =
     coarsening-few c.args.planes.now.invs c.args.graph.now c.loop-pair.graph c.loop-pair.at.p c.loop-pair.at.q c.in-Some.pair.p c.in-Some.pair.q (merges_of c.loop-pair.log)
     c.in-Some.ensures.ids c.loop-pair.invariant.run c.in-Some.ensures.next.pair in
@@ -18,22 +45,41 @@ merge_unless_lost-requires-clause-room g c =
 
 pub loop-pair-preserved : goal.loop-pair-preserved
 loop-pair-preserved g c =
-    let decided : IsDecided c.args.planes.now.invs c.loop-pair.graph c.merge_unless_lost.new.graph c.loop-pair.log c.merge_unless_lost.new.log c.in-Some.pair.p c.in-Some.pair.q =
-    subst (λ (invs : List Invariant). IsDecided invs c.loop-pair.graph c.merge_unless_lost.new.graph c.loop-pair.log c.merge_unless_lost.new.log c.in-Some.pair.p c.in-Some.pair.q)
-    c.loop-pair.invariant.list c.merge_unless_lost.ensures.decided in
+    let decided : IsDecided c.args.planes.now.invs c.loop-pair.graph c.merge_unless_lost-marked.new.graph c.loop-pair.log c.merge_unless_lost-marked.new.log c.in-Some.pair.p c.in-Some.pair.q =
+    subst (λ (invs : List Invariant). IsDecided invs c.loop-pair.graph c.merge_unless_lost-marked.new.graph c.loop-pair.log c.merge_unless_lost-marked.new.log c.in-Some.pair.p c.in-Some.pair.q)
+    (c.mark.ensures.list ∙ c.loop-pair.invariant.list) c.merge_unless_lost-marked.ensures.decided in
     record {
       low = c.in-Some.ensures.next.pair.low;
       order = omega (arith, c.in-Some.ensures.next.pair.order);
       limit = c.in-Some.ensures.limit;
-      list = c.merge_unless_lost.ensures.list ∙ c.loop-pair.invariant.list;
-      listed = c.merge_unless_lost.ensures.listed;
-      marks = c.merge_unless_lost.ensures.marks;
-      others = others-turn c.args.planes.now.invs c.loop-pair.graph c.merge_unless_lost.new.graph c.args.log.now c.loop-pair.log c.merge_unless_lost.new.log
+      list = ap (λ (planes : Labelling). planes.invs) c.merge_unless_lost-marked.ensures.same ∙ c.mark.ensures.list ∙ c.loop-pair.invariant.list;
+      marked = c.merge_unless_lost-marked.ensures.marked;
+      others = others-turn c.args.planes.now.invs c.loop-pair.graph c.merge_unless_lost-marked.new.graph c.args.log.now c.loop-pair.log c.merge_unless_lost-marked.new.log
           c.in-Some.pair.p c.in-Some.pair.q c.loop-pair.invariant.others decided;
-      run = coarsening-turn c.args.planes.now.invs c.args.graph.now c.loop-pair.graph c.merge_unless_lost.new.graph c.loop-pair.at.p c.loop-pair.at.q c.in-Some.pair.p c.in-Some.pair.q
-          c.loop-pair.log c.merge_unless_lost.new.log c.in-Some.ensures.ids c.loop-pair.invariant.run c.in-Some.ensures.next decided;
+      run = coarsening-turn c.args.planes.now.invs c.args.graph.now c.loop-pair.graph c.merge_unless_lost-marked.new.graph c.loop-pair.at.p c.loop-pair.at.q c.in-Some.pair.p c.in-Some.pair.q
+          c.loop-pair.log c.merge_unless_lost-marked.new.log c.in-Some.ensures.ids c.loop-pair.invariant.run c.in-Some.ensures.next decided;
+      more = omega (arith, c.loop-pair.invariant.more, c.mark.ensures.counted);
+      counted = subst (λ (b : Bool). IsCounted c.args.graph.now c.merge_unless_lost-marked.new.graph c.in-Some.pair.p c.in-Some.pair.q (length c.merge_unless_lost-marked.new.log.merges) (c.loop-pair.apart || b))
+          (sym c.stays_apart-apart.ensures)
+          (counting-turn c.args.planes.now.invs c.args.graph.now c.loop-pair.graph c.merge_unless_lost-marked.new.graph c.loop-pair.at.p c.loop-pair.at.q c.in-Some.pair.p c.in-Some.pair.q
+          c.loop-pair.log c.merge_unless_lost-marked.new.log c.loop-pair.apart c.merge_unless_lost-marked.result c.in-Some.ensures.ids c.loop-pair.invariant.counted c.in-Some.ensures.next decided c.merge_unless_lost-marked.ensures.owes);
+      last = λ e. owed-turn c.loop-pair.apart c.merge_unless_lost-marked.result (ap (λ (b : Bool). c.loop-pair.apart || b) (sym c.stays_apart-apart.ensures) ∙ e);
+      once = omega (arith, c.mark.ensures.counted, c.merge_unless_lost-marked.ensures.owes, c.loop-pair.invariant.once);
     }
 
 pub returns-clause-run : goal.returns-clause-run
 returns-clause-run g c =
     coarsening-end c.args.planes.now.invs c.args.graph.now c.loop-pair.graph c.loop-pair.at.p c.loop-pair.at.q (merges_of c.loop-pair.log) c.loop-pair.invariant.run c.in_default.ensures.next
+
+pub returns-then-not-apart-clause-run : goal.returns-then-not-apart-clause-run
+returns-then-not-apart-clause-run g c =
+    coarsening-end c.args.planes.now.invs c.args.graph.now c.loop-pair.graph c.loop-pair.at.p c.loop-pair.at.q (merges_of c.loop-pair.log) c.loop-pair.invariant.run c.in_default.ensures.next
+
+pub returns-then-not-apart-clause-marks : goal.returns-then-not-apart-clause-marks
+returns-then-not-apart-clause-marks g c some =
+    absurd (omega (
+      arith,
+      some,
+      none-left c.args.graph.now c.loop-pair.graph c.loop-pair.at.p c.loop-pair.at.q (length c.loop-pair.log.merges) c.in_default.ensures.ids
+          (subst (λ (b : Bool). IsCounted c.args.graph.now c.loop-pair.graph c.loop-pair.at.p c.loop-pair.at.q (length c.loop-pair.log.merges) b) c.if-not-apart.true c.loop-pair.invariant.counted) c.in_default.ensures.next,
+    ))

@@ -1,9 +1,8 @@
-use Rattle.std.proofs.Common.{◌≡◌, ◌≤◌, ◌<◌, ◌+◌, ◌-◌, ◌*◌}
+use Rattle.std.proofs.Common.{◌≡◌, ◌≤◌, ◌<◌, ◌+◌, ◌-◌, ◌*◌, false, length}
 use Rattle.limits.specs.declared.TheConstants.{FIRST_TYPE, MAX_PARTITIONS}
-use Rattle.partition_model.specs.Assignments.{G}
 use Rattle.run_history.specs.Records.{merges_of}
-use Rattle.clashes.specs.Marks.{AreMarksOf}
-use Rattle.coarsener.proofs.MergingTurns.{IsCoarsening}
+use Rattle.coarsener.specs.Marking.{owed, AreMarkedAs}
+use Rattle.coarsener.proofs.MergingTurns.{IsCoarsening, IsCounted}
 use Rattle.coarsener.proofs.merging.coarsen.Given as goal
 
 abbrev pub invariant-loop-pair : goal.invariant-loop-pair
@@ -13,10 +12,13 @@ invariant-loop-pair g l =
       order : l.at.p ≤ l.at.q;
       limit : l.at.q < MAX_PARTITIONS;
       list : l.planes.invs ≡ l.fn.planes.invs;
-      listed : l.planes.clashes.invs ≡ l.planes.invs;
-      marks : AreMarksOf l.planes.clashes (G l.graph.traces);
+      marked : AreMarkedAs l.marked l.planes l.graph;
       others : l.log ≡ record l.fn.log { merges = l.log.merges };
       run : IsCoarsening l.fn.planes.invs l.fn.graph l.graph l.at.p l.at.q (merges_of l.log);
+      more : l.fn.steps ≤ l.steps;
+      counted : IsCounted l.fn.graph l.graph l.at.p l.at.q (length l.log.merges) l.apart;
+      last : l.apart ≡ false → owed l.marked ≡ 1;
+      once : l.steps + owed l.marked ≤ l.fn.steps + 1 + length l.log.merges;
     }
 
 abbrev pub decreases-loop-pair : goal.decreases-loop-pair

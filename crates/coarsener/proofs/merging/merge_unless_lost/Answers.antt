@@ -1,9 +1,13 @@
-use Rattle.std.proofs.Common.{◌∙◌, ℕ, List, sym, subst, refl, inl, inr}
+use Rattle.std.proofs.Common.{◌∙◌, ℕ, List, length, length-append, ap, sym, subst, refl, inl, inr, arith}
 use Rattle.invariants.specs.declared.Invariant.{Invariant}
 use Rattle.partition_model.specs.Assignments.{G}
 use Rattle.partition_model.specs.Refinement.{SatisfiesAll}
 use Rattle.partition_model.specs.Coarsening.{merge}
-use Rattle.clashes.specs.Marks.{NoClash, IsFirstClash}
+use Rattle.cell_pool.specs.RunLists.{RunLists}
+use Rattle.partition_graph.specs.Parts.{Parts}
+use Rattle.clashes.specs.Marks.{AreMarksOf, NoClash, IsFirstClash}
+use Rattle.labelling.specs.Labelled.{Labelling}
+use Rattle.coarsener.specs.Marking.{AreMarksNow}
 use Rattle.coarsener.specs.Deciding.{IsLost}
 use Rattle.coarsener.proofs.Deciding.{IsTold, some-clash, no-clash, merge-keeps, merge-loses}
 use Rattle.coarsener.proofs.merging.merge_unless_lost.Goals as goal
@@ -37,3 +41,24 @@ returns-clause-decided c =
       graph = c.merge.ensures;
       told = c.add_merge.ensures;
     })
+
+pub returns-then-is_some-clause-marked : goal.returns-then-is_some-clause-marked
+returns-then-is_some-clause-marked c =
+    subst (λ (planes : Labelling). AreMarksNow planes c.args.graph.now) (sym c.first_clash.ensures.same) (record { marks = c.requires.marks; listed = c.requires.listed })
+
+pub returns-clause-marked : goal.returns-clause-marked
+returns-clause-marked c =
+    record {
+      old = c.args.graph.now.traces;
+      typed = c.requires.typed;
+      is_pair = c.requires.pair;
+      limit = c.requires.limit;
+      merged = ap (λ (parts : Parts). parts.traces) c.merge.ensures;
+      marks = subst (λ (planes : Labelling). AreMarksOf planes.clashes (G c.args.graph.now.traces)) (sym c.first_clash.ensures.same) c.requires.marks;
+    }
+
+pub returns-then-is_some-clause-owes : goal.returns-then-is_some-clause-owes
+returns-then-is_some-clause-owes c = omega arith
+
+pub returns-clause-owes : goal.returns-clause-owes
+returns-clause-owes c = ap (λ (log : RunLists). length log.merges) c.add_merge.ensures ∙ length-append c.args.log.now.merges _

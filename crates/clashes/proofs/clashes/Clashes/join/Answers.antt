@@ -9,7 +9,7 @@ use Rattle.clashes.proofs.Joining.{merged_typed, joined_sound, joined_begun, joi
 use Rattle.clashes.proofs.clashes.Clashes.join.Goals as goal
 
 pub returns-clause-marks : goal.returns-clause-marks
-returns-clause-marks c h typed pair is had =
+returns-clause-marks g c h typed pair is had =
     let a : Assignment = c.args.graph.now.traces in
     let before : AreMarksOf c.self.inside.board (G h) = subst (λ (m : Marks). AreMarksOf m (G h)) (sym c.self.view_is) had in
     let below : (u v : ℕ) → (G (merge c.args.p c.args.q h)).edge u v ≡ true → (u < MAX_PARTITIONS) × (v < MAX_PARTITIONS) =
