@@ -3,6 +3,7 @@ use Rattle.std.proofs.Common.{◌≡◌, ℕ, ◌+◌, ◌<◌, ◌≤◌, List,
 use Rattle.std.specs.List.{AllByRecursion}
 use Rattle.limits.specs.declared.TheConstants.{FIRST_TYPE, MAX_EVENTS}
 use Rattle.invariants.specs.declared.Invariant.{Invariant}
+use Rattle.invariants.specs.declared.Kinds.{Kinds}
 use Rattle.invariants.specs.declared.records.Split.{Split}
 use Rattle.cell_pool.specs.Numbers.{Numbers}
 use Rattle.cell_pool.specs.RunLists.{RunLists}
@@ -30,11 +31,11 @@ use Rattle.infer_core.specs.Ends.{BeginsWith, HasEnded, RunGives}
 use Rattle.infer_core.specs.Benches.{whole_of, IsAtStart, IsAtEnd}
 use Rattle.infer_core.proofs.Sharing.{Alike, all-alike, event-over, word-over, words-as, events-count, mined-as, hold-over, graph-over, refines-over, splits-over, next-over, coarsens-over}
 
--- the words of the graph, with the types of the log
-abbrev pub distinct : Log → Parts → TypedWords
-distinct log graph = record { types = log.types; words = inner_words graph.traces }
+-- the words of the graph, with the kinds that are asked for and the types of the log
+abbrev pub distinct : Kinds → Log → Parts → TypedWords
+distinct kinds log graph = record { kinds = kinds; types = log.types; words = inner_words graph.traces }
 
-module _ (log : Log) (graph : Parts) (numbers : List ℕ) (s : SharesWords log graph numbers) where
+module _ (kinds : Kinds) (log : Log) (graph : Parts) (numbers : List ℕ) (s : SharesWords log graph numbers) where
   -- each word of the graph is one of the log, and the other way round
   alike : Alike graph.traces (spread numbers graph.traces)
   alike = all-alike numbers graph.traces s.all
@@ -49,8 +50,8 @@ module _ (log : Log) (graph : Parts) (numbers : List ℕ) (s : SharesWords log g
   word-from w i = word-over (spread numbers graph.traces) graph.traces alike.from w (subst (λ (ws : List (List ℕ)). In w ws) (sym words-are) i)
 
   -- so the same is mined of both
-  pub mined-same : mined_of (distinct log graph) ≡ mined_of (typed_words log)
-  mined-same = mined-as (length log.types) (inner_words graph.traces) (inner_words_of log) word-to word-from
+  pub mined-same : mined_of (distinct kinds log graph) ≡ mined_of (typed_words kinds log)
+  mined-same = mined-as kinds (length log.types) (inner_words graph.traces) (inner_words_of log) word-to word-from
 
   -- what holds of each trace holds of each distinct word
   pub hold-few : (invs : List Invariant) → HoldAll (inner_words_of log) invs → HoldAll (inner_words graph.traces) invs
@@ -86,24 +87,24 @@ module _ (log : Log) (graph : Parts) (numbers : List ℕ) (s : SharesWords log g
   all-start : AreAllOf numbers (by_type (inner_words graph.traces))
   all-start = subst (λ (x : Assignment). AreAllOf numbers x) s.start s.all
 
-  module _ (typed : AreTyped (inner_words graph.traces) (length log.types + FIRST_TYPE)) (hold : HoldAll (inner_words graph.traces) (mined_of (distinct log graph))) where
+  module _ (typed : AreTyped (inner_words graph.traces) (length log.types + FIRST_TYPE)) (hold : HoldAll (inner_words graph.traces) (mined_of (distinct kinds log graph))) where
     -- refinement
-    refined-whole : (splits : List Split) (end : Assignment) → IsRefined (mined_of (distinct log graph)) (length log.types) (inner_words graph.traces) splits end
-        → IsRefined (mined_of (typed_words log)) (length log.types) (inner_words_of log) splits (spread numbers end) × AreAllOf numbers end × IsTyped end
+    refined-whole : (splits : List Split) (end : Assignment) → IsRefined (mined_of (distinct kinds log graph)) (length log.types) (inner_words graph.traces) splits end
+        → IsRefined (mined_of (typed_words kinds log)) (length log.types) (inner_words_of log) splits (spread numbers end) × AreAllOf numbers end × IsTyped end
     refined-whole splits end w =
         let n : ℕ = length log.types + FIRST_TYPE in
-        let o : Refines (mined_of (distinct log graph)) (spread numbers (by_type (inner_words graph.traces))) n splits (spread numbers end) × AreAllOf numbers end =
-        refines-over (inner_words graph.traces) (mined_of (distinct log graph)) numbers splits (by_type (inner_words graph.traces)) n end all-start (start-run (inner_words graph.traces) n typed) typed.two hold w in
-        let k : Keeps (mined_of (distinct log graph)) (inner_words graph.traces) end = refinement_keeps (mined_of (distinct log graph)) (inner_words graph.traces) n splits end typed hold w in
+        let o : Refines (mined_of (distinct kinds log graph)) (spread numbers (by_type (inner_words graph.traces))) n splits (spread numbers end) × AreAllOf numbers end =
+        refines-over (inner_words graph.traces) (mined_of (distinct kinds log graph)) numbers splits (by_type (inner_words graph.traces)) n end all-start (start-run (inner_words graph.traces) n typed) typed.two hold w in
+        let k : Keeps (mined_of (distinct kinds log graph)) (inner_words graph.traces) end = refinement_keeps (mined_of (distinct kinds log graph)) (inner_words graph.traces) n splits end typed hold w in
         (subst₂ (λ (xs : List Invariant) (x : Assignment). Refines xs x n splits (spread numbers end)) mined-same start-whole o.0, o.1, k.typed)
 
     -- a refinement that stopped
-    partitions-whole : PassesPartitions (distinct log graph) → PassesPartitions (typed_words log)
+    partitions-whole : PassesPartitions (distinct kinds log graph) → PassesPartitions (typed_words kinds log)
     partitions-whole p =
         let n : ℕ = length log.types + FIRST_TYPE in
-        let o : Splits (mined_of (distinct log graph)) (spread numbers (by_type (inner_words graph.traces))) n p.splits (spread numbers p.now) × AreAllOf numbers p.now =
-        splits-over (inner_words graph.traces) (mined_of (distinct log graph)) numbers p.splits (by_type (inner_words graph.traces)) n p.now all-start (start-run (inner_words graph.traces) n typed) typed.two hold p.run in
-        let r : IsRun (inner_words graph.traces) p.now (n + length p.splits) = runs_keep (mined_of (distinct log graph)) (inner_words graph.traces) n p.splits p.now typed hold p.run in
+        let o : Splits (mined_of (distinct kinds log graph)) (spread numbers (by_type (inner_words graph.traces))) n p.splits (spread numbers p.now) × AreAllOf numbers p.now =
+        splits-over (inner_words graph.traces) (mined_of (distinct kinds log graph)) numbers p.splits (by_type (inner_words graph.traces)) n p.now all-start (start-run (inner_words graph.traces) n typed) typed.two hold p.run in
+        let r : IsRun (inner_words graph.traces) p.now (n + length p.splits) = runs_keep (mined_of (distinct kinds log graph)) (inner_words graph.traces) n p.splits p.now typed hold p.run in
         record {
           splits = p.splits;
           now = spread numbers p.now;
@@ -111,19 +112,19 @@ module _ (log : Log) (graph : Parts) (numbers : List ℕ) (s : SharesWords log g
           full = p.full;
           next = p.next;
           is_next = subst (λ (xs : List Invariant). IsNextSplit xs (spread numbers p.now) p.next) mined-same
-              (next-over (mined_of (distinct log graph)) numbers p.now p.next o.1 r.typed p.is_next);
+              (next-over (mined_of (distinct kinds log graph)) numbers p.now p.next o.1 r.typed p.is_next);
         }
 
     -- a run that stopped at a block
-    numbers-whole : PassesNumbers (distinct log graph) → PassesNumbers (typed_words log)
+    numbers-whole : PassesNumbers (distinct kinds log graph) → PassesNumbers (typed_words kinds log)
     numbers-whole p =
         let n : ℕ = length log.types + FIRST_TYPE in
-        let o : IsRefined (mined_of (typed_words log)) (length log.types) (inner_words_of log) p.splits (spread numbers p.refined) × AreAllOf numbers p.refined × IsTyped p.refined =
+        let o : IsRefined (mined_of (typed_words kinds log)) (length log.types) (inner_words_of log) p.splits (spread numbers p.refined) × AreAllOf numbers p.refined × IsTyped p.refined =
         refined-whole p.splits p.refined p.refines in
-        let c : Coarsens (mined_of (distinct log graph)) (spread numbers p.refined) p.merges (spread numbers p.end) × AreAllOf numbers p.end × IsTyped p.end =
-        coarsens-over (mined_of (distinct log graph)) numbers p.merges p.refined p.end o.1 o.2 p.coarsens in
+        let c : Coarsens (mined_of (distinct kinds log graph)) (spread numbers p.refined) p.merges (spread numbers p.end) × AreAllOf numbers p.end × IsTyped p.end =
+        coarsens-over (mined_of (distinct kinds log graph)) numbers p.merges p.refined p.end o.1 o.2 p.coarsens in
         let g : G p.end ≡ G (spread numbers p.end) = graph-over p.end (spread numbers p.end) (all-alike numbers p.end c.1) c.2 in
-        let w : EndsWithoutRoom (mined_of (distinct log graph)) (record { traces = p.end; used = n + length p.splits }) p.blocks _ = p.ends in
+        let w : EndsWithoutRoom (mined_of (distinct kinds log graph)) (record { traces = p.end; used = n + length p.splits }) p.blocks _ = p.ends in
         record {
           splits = p.splits;
           refined = spread numbers p.refined;
@@ -143,19 +144,19 @@ module _ (log : Log) (graph : Parts) (numbers : List ℕ) (s : SharesWords log g
           };
         }
 
-    module _ (end : Parts) (planes : Labelling) (spans : Numbers) (run : RunLists) (e : HasEnded (distinct log graph) end planes spans run) where
+    module _ (end : Parts) (planes : Labelling) (spans : Numbers) (run : RunLists) (e : HasEnded (distinct kinds log graph) end planes spans run) where
       -- a run that ended
-      refined-end : IsRefined (mined_of (typed_words log)) (length log.types) (inner_words_of log) (splits_of run spans) (spread numbers e.refined) × AreAllOf numbers e.refined × IsTyped e.refined
+      refined-end : IsRefined (mined_of (typed_words kinds log)) (length log.types) (inner_words_of log) (splits_of run spans) (spread numbers e.refined) × AreAllOf numbers e.refined × IsTyped e.refined
       refined-end = refined-whole (splits_of run spans) e.refined e.refines
 
-      coarsened-end : Coarsens (mined_of (distinct log graph)) (spread numbers e.refined) (merges_of run) (spread numbers end.traces) × AreAllOf numbers end.traces × IsTyped end.traces
-      coarsened-end = coarsens-over (mined_of (distinct log graph)) numbers (merges_of run) e.refined end.traces refined-end.1 refined-end.2 e.coarsens
+      coarsened-end : Coarsens (mined_of (distinct kinds log graph)) (spread numbers e.refined) (merges_of run) (spread numbers end.traces) × AreAllOf numbers end.traces × IsTyped end.traces
+      coarsened-end = coarsens-over (mined_of (distinct kinds log graph)) numbers (merges_of run) e.refined end.traces refined-end.1 refined-end.2 e.coarsens
 
       graph-end : G end.traces ≡ G (spread numbers end.traces)
       graph-end = graph-over end.traces (spread numbers end.traces) (all-alike numbers end.traces coarsened-end.1) coarsened-end.2
 
       -- the end of the run of the distinct words is that of the log
-      pub ended-whole : HasEnded (typed_words log) (whole_of numbers end) planes spans run
+      pub ended-whole : HasEnded (typed_words kinds log) (whole_of numbers end) planes spans run
       ended-whole = record {
         refined = spread numbers e.refined;
         refines = refined-end.0;
@@ -176,10 +177,10 @@ module _ (log : Log) (graph : Parts) (numbers : List ℕ) (s : SharesWords log g
       words-end : inner_words (spread numbers end.traces) ≡ inner_words_of log
       words-end =
           let n : ℕ = length log.types + FIRST_TYPE in
-          let k : Keeps (mined_of (distinct log graph)) (inner_words graph.traces) e.refined =
-          refinement_keeps (mined_of (distinct log graph)) (inner_words graph.traces) n (splits_of run spans) e.refined typed hold e.refines in
-          let l : Keeps (mined_of (distinct log graph)) (inner_words graph.traces) end.traces =
-          (coarsening_keeps (mined_of (distinct log graph)) (inner_words graph.traces) e.refined (merges_of run) end.traces k e.coarsens).0 in
+          let k : Keeps (mined_of (distinct kinds log graph)) (inner_words graph.traces) e.refined =
+          refinement_keeps (mined_of (distinct kinds log graph)) (inner_words graph.traces) n (splits_of run spans) e.refined typed hold e.refines in
+          let l : Keeps (mined_of (distinct kinds log graph)) (inner_words graph.traces) end.traces =
+          (coarsening_keeps (mined_of (distinct kinds log graph)) (inner_words graph.traces) e.refined (merges_of run) end.traces k e.coarsens).0 in
           words-as numbers end.traces graph.traces l.words_are ∙ words-are
 
       -- the spread graph has no more events than a log may have
@@ -191,21 +192,21 @@ module _ (log : Log) (graph : Parts) (numbers : List ℕ) (s : SharesWords log g
 
     -- each answer of a run
     pub gives-whole : (r : Result (Unit {0}) InferLimit) (end : Parts) (planes : Labelling) (spans : Numbers) (run : RunLists)
-        → RunGives r (distinct log graph) end planes spans run → RunGives r (typed_words log) (whole_of numbers end) planes spans run
+        → RunGives r (distinct kinds log graph) end planes spans run → RunGives r (typed_words kinds log) (whole_of numbers end) planes spans run
     gives-whole (Ok done) end planes spans run e = ended-whole end planes spans run e
     gives-whole (Err Partitions) end planes spans run e = partitions-whole e
     gives-whole (Err Evidence) end planes spans run e = numbers-whole e
 
     -- and its count of steps
-    pub counts-whole : (before after : ℕ) → CountsAtMost (distinct log graph) before after → CountsAtMost (typed_words log) before after
+    pub counts-whole : (before after : ℕ) → CountsAtMost (distinct kinds log graph) before after → CountsAtMost (typed_words kinds log) before after
     counts-whole before after c =
         let n : ℕ = length log.types + FIRST_TYPE in
-        let o : IsRefined (mined_of (typed_words log)) (length log.types) (inner_words_of log) c.splits (spread numbers c.refined) × AreAllOf numbers c.refined × IsTyped c.refined =
+        let o : IsRefined (mined_of (typed_words kinds log)) (length log.types) (inner_words_of log) c.splits (spread numbers c.refined) × AreAllOf numbers c.refined × IsTyped c.refined =
         refined-whole c.splits c.refined c.refines in
         let g : G c.refined ≡ G (spread numbers c.refined) = graph-over c.refined (spread numbers c.refined) (all-alike numbers c.refined o.1) o.2 in
         let p : length (pairs_below (n + length c.splits) (G c.refined)) ≡ length (pairs_below (n + length c.splits) (G (spread numbers c.refined))) =
         ap (λ (x : Graph). length (pairs_below (n + length c.splits) x)) g in
-        let m : length (mined_of (distinct log graph)) ≡ length (mined_of (typed_words log)) = ap (λ (xs : List Invariant). length xs) mined-same in
+        let m : length (mined_of (distinct kinds log graph)) ≡ length (mined_of (typed_words kinds log)) = ap (λ (xs : List Invariant). length xs) mined-same in
         record {
           splits = c.splits;
           refined = spread numbers c.refined;
@@ -215,36 +216,36 @@ module _ (log : Log) (graph : Parts) (numbers : List ℕ) (s : SharesWords log g
         }
 
 -- what an opened workbench says of its distinct words
-module _ (log : Log) (invs : List Invariant) (graph : Parts) (numbers : List ℕ) (stitcher : ℕ) (planes : Labelling) (spans : Numbers) (run : RunLists)
-    (s : IsAtStart log invs graph numbers stitcher planes spans run) where
-  invs-are : invs ≡ mined_of (distinct log graph)
-  invs-are = s.mined ∙ sym (mined-same log graph numbers s.shares)
+module _ (kinds : Kinds) (log : Log) (invs : List Invariant) (graph : Parts) (numbers : List ℕ) (stitcher : ℕ) (planes : Labelling) (spans : Numbers) (run : RunLists)
+    (s : IsAtStart kinds log invs graph numbers stitcher planes spans run) where
+  invs-are : invs ≡ mined_of (distinct kinds log graph)
+  invs-are = s.mined ∙ sym (mined-same kinds log graph numbers s.shares)
 
   typed-start : AreTyped (inner_words graph.traces) (length log.types + FIRST_TYPE)
   typed-start = subst (λ (n : ℕ). AreTyped (inner_words graph.traces) n) s.shares.used s.ready.opened.typed
 
-  hold-start : HoldAll (inner_words graph.traces) (mined_of (distinct log graph))
+  hold-start : HoldAll (inner_words graph.traces) (mined_of (distinct kinds log graph))
   hold-start = subst (λ (xs : List Invariant). HoldAll (inner_words graph.traces) xs) invs-are s.ready.hold
 
   -- the run begins with them
-  pub start-begins : BeginsWith (distinct log graph) invs graph
+  pub start-begins : BeginsWith (distinct kinds log graph) invs graph
   start-begins = record { mined = invs-are; first = λ d. record { traces = s.shares.start d; used = s.shares.used d } }
 
   -- and what it gives, it gives of the log
   pub start-gives : (r : Result (Unit {0}) InferLimit) (end : Parts) (planes' : Labelling) (spans' : Numbers) (run' : RunLists)
-      → RunGives r (distinct log graph) end planes' spans' run' → RunGives r (typed_words log) (whole_of numbers end) planes' spans' run'
-  start-gives r end planes' spans' run' e = gives-whole log graph numbers s.shares typed-start hold-start r end planes' spans' run' e
+      → RunGives r (distinct kinds log graph) end planes' spans' run' → RunGives r (typed_words kinds log) (whole_of numbers end) planes' spans' run'
+  start-gives r end planes' spans' run' e = gives-whole kinds log graph numbers s.shares typed-start hold-start r end planes' spans' run' e
 
   -- the steps that are counted are as few as the log allows
-  pub start-counts : (before after : ℕ) → CountsAtMost (distinct log graph) before after → CountsAtMost (typed_words log) before after
-  start-counts before after c = counts-whole log graph numbers s.shares typed-start hold-start before after c
+  pub start-counts : (before after : ℕ) → CountsAtMost (distinct kinds log graph) before after → CountsAtMost (typed_words kinds log) before after
+  start-counts before after c = counts-whole kinds log graph numbers s.shares typed-start hold-start before after c
 
   -- where the run ends, what stands is the end of the run of the log
   pub start-ends : (end : Parts) (planes' : Labelling) (spans' : Numbers) (run' : RunLists)
-      → HasEnded (distinct log graph) end planes' spans' run' → IsAtEnd log invs end numbers planes' spans' run'
+      → HasEnded (distinct kinds log graph) end planes' spans' run' → IsAtEnd kinds log invs end numbers planes' spans' run'
   start-ends end planes' spans' run' e = record {
     mined = s.mined;
-    all = all-end log graph numbers s.shares typed-start hold-start end planes' spans' run' e;
-    few = few-end log graph numbers s.shares typed-start hold-start end planes' spans' run' e s.within.few_events;
-    ended = ended-whole log graph numbers s.shares typed-start hold-start end planes' spans' run' e;
+    all = all-end kinds log graph numbers s.shares typed-start hold-start end planes' spans' run' e;
+    few = few-end kinds log graph numbers s.shares typed-start hold-start end planes' spans' run' e s.within.few_events;
+    ended = ended-whole kinds log graph numbers s.shares typed-start hold-start end planes' spans' run' e;
   }

@@ -1,5 +1,5 @@
 -- What a run leaves.
-use Rattle.std.proofs.Common.{◌≡◌, ℕ, ◌+◌, ◌*◌, ◌≤◌, List, [], ◌++◌, map, length, sym, ◌∙◌, ap, subst, subst₂, arith, length-append}
+use Rattle.std.proofs.Common.{◌≡◌, ℕ, ◌+◌, ◌≤◌, List, [], ◌++◌, map, length, min, sym, ◌∙◌, ap, subst, subst₂, arith, length-append}
 use Rattle.std.proofs.lemmas.List.Concat.{length-flat_map}
 use Rattle.limits.specs.declared.TheConstants.{MAX_PAIRS, MAX_PARTITIONS, MAX_PATH_NUMBERS}
 use Rattle.invariants.specs.declared.Invariant.{Invariant}
@@ -165,9 +165,10 @@ module _ (words : TypedWords) (invs : List Invariant) (old parts1 parts2 : Parts
   }
 
   -- and how many steps it counted
-  pub counted : (s0 s1 s2 s3 s4 : ℕ) → IsTyped parts1.traces → s0 ≤ s1 → s1 ≤ s0 + length invs + length (splits_of run1 spans1) → s1 ≤ s2 → s2 ≤ s1 + pair_count parts1
-      → s2 ≤ s3 → s3 ≤ s2 + 2 * pair_count parts2 → s4 ≡ s3 + 1 → CountsAtMost words s0 s4
-  counted s0 s1 s2 s3 s4 typed start a more k later l n =
+  pub counted : (s0 s1 s2 s3 s4 : ℕ) → IsTyped parts1.traces → min 1 (length (splits_of run1 spans1)) ≤ pair_count parts1 → s0 ≤ s1
+      → s1 ≤ s0 + length invs + length (splits_of run1 spans1) + min 1 (length (splits_of run1 spans1)) → s1 ≤ s2 → s2 ≤ s1 + pair_count parts1
+      → s2 ≤ s3 → s3 ≤ s2 + pair_count parts2 → s4 ≡ s3 + 1 → CountsAtMost words s0 s4
+  counted s0 s1 s2 s3 s4 typed first start a more k later l n =
       let few : length (pairs_below parts1.used (G parts2.traces)) ≤ length (pairs_below parts1.used (G parts1.traces)) =
       pairs-fewer invs (merges_of run2) parts1.traces parts2.traces parts1.used typed r.coarsens in
       let at : pair_count parts2 ≡ length (pairs_below parts1.used (G parts2.traces)) = ap (λ (u : ℕ). length (pairs_below u (G parts2.traces))) r.used in
@@ -180,5 +181,5 @@ module _ (words : TypedWords) (invs : List Invariant) (old parts1 parts2 : Parts
         refined = parts1.traces;
         refines = refined;
         more = omega (arith, start, more, later, n);
-        steps = omega (arith, few, at, all, m, s, a, k, l, n);
+        steps = omega (arith, first, few, at, all, m, s, a, k, l, n);
       }

@@ -8,3 +8,4 @@ pub mod Stages
 pub mod Sharing
 pub mod Distinct
 pub mod Spreading
+pub mod FirstPair

@@ -8,11 +8,12 @@ use Rattle.std.proofs.lemmas.List.Sums.{sum_by-cons}
 use Rattle.std.specs.List.{list_all}
 use Rattle.limits.specs.declared.TheConstants.{FIRST_TYPE}
 use Rattle.invariants.specs.declared.Invariant.{Invariant}
+use Rattle.invariants.specs.declared.Kinds.{Kinds}
 use Rattle.invariants.specs.declared.records.Split.{Split}
 use Rattle.invariants.specs.declared.records.Merge.{Merge}
-use Rattle.invariants.specs.Candidates.{candidates}
+use Rattle.invariants.specs.Candidates.{candidates_for}
 use Rattle.invariants.specs.Holds.{Holds, holds}
-use Rattle.invariants.specs.Mined.{mined, holds_of_all}
+use Rattle.invariants.specs.Mined.{mined_for, holds_of_all}
 use Rattle.invariants.proofs.Members.{place-from_Contains}
 use Rattle.partition_model.specs.Graphs.{Graph, Satisfies, IsLeastViolation}
 use Rattle.partition_model.specs.Assignments.{Event, Assignment, G, IsTyped, events, members, first_type, type_of, types_of, id_list, pairs, inner_words, with_ends, renamed_event}
@@ -219,9 +220,9 @@ hold-of inv vs ws f e =
     (passes-each (holds inv) (map with_ends vs) e (with_ends o.0) (map-In with_ends o.0 vs (f o.0 o.1))))
 
 -- words that are the same, however often each stands there, give the same invariants
-pub mined-as : (types : ℕ) (vs ws : List (List ℕ)) → ((w : List ℕ) → In w vs → In w ws) → ((w : List ℕ) → In w ws → In w vs) → mined types (map with_ends vs) ≡ mined types (map with_ends ws)
-mined-as types vs ws to from =
-    ap (λ (f : Invariant → Bool). filter f (candidates types))
+pub mined-as : (kinds : Kinds) (types : ℕ) (vs ws : List (List ℕ)) → ((w : List ℕ) → In w vs → In w ws) → ((w : List ℕ) → In w ws → In w vs) → mined_for kinds types (map with_ends vs) ≡ mined_for kinds types (map with_ends ws)
+mined-as kinds types vs ws to from =
+    ap (λ (f : Invariant → Bool). filter f (candidates_for kinds types))
     (fun_ext (λ inv. same-truth (holds_of_all (map with_ends vs) inv) (holds_of_all (map with_ends ws) inv) (hold-of inv vs ws from) (hold-of inv ws vs to)))
 
 -- what holds of each word of a list holds of each word that stands in it

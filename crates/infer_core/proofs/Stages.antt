@@ -1,6 +1,7 @@
 -- What stands at a stage, and how the answer of a run tells of its log.
 use Rattle.std.proofs.Common.{◌≡◌, ◌↔◌, ℕ, List, Result, Ok, Err, ◌∙◌, refl, ap, subst}
 use Rattle.invariants.specs.declared.Invariant.{Invariant}
+use Rattle.invariants.specs.declared.Kinds.{Kinds}
 use Rattle.cell_pool.specs.Numbers.{Numbers}
 use Rattle.cell_pool.specs.RunLists.{RunLists}
 use Rattle.run_history.specs.Records.{splits_of, merges_of, blocks_of}
@@ -18,16 +19,16 @@ use Rattle.infer_core.specs.Benches.{Bench, IsAtStart, IsAtEnd, Stands}
 use Rattle.infer_core.proofs.Excluding.{both-exclude, numbers-exclude, partitions-exclude}
 
 -- what stands in an opened workbench
-pub stands-opened : (b : Bench) (stage : Stage) (log : Log) (invs : List Invariant) (graph : Parts) (numbers : List ℕ) (stitcher : ℕ) (planes : Labelling) (spans : Numbers) (run : RunLists)
-    → record { log = log; stage = stage } ≡ b → b.stage ≡ Opened → Stands stage log invs graph numbers stitcher planes spans run → IsAtStart log invs graph numbers stitcher planes spans run
-stands-opened b stage log invs graph numbers stitcher planes spans run e o s =
-    subst (λ (x : Stage). Stands x log invs graph numbers stitcher planes spans run) (ap (λ (x : Bench). x.stage) e ∙ o) s
+pub stands-opened : (b : Bench) (stage : Stage) (kinds : Kinds) (log : Log) (invs : List Invariant) (graph : Parts) (numbers : List ℕ) (stitcher : ℕ) (planes : Labelling) (spans : Numbers) (run : RunLists)
+    → record { kinds = kinds; log = log; stage = stage } ≡ b → b.stage ≡ Opened → Stands stage kinds log invs graph numbers stitcher planes spans run → IsAtStart kinds log invs graph numbers stitcher planes spans run
+stands-opened b stage kinds log invs graph numbers stitcher planes spans run e o s =
+    subst (λ (x : Stage). Stands x kinds log invs graph numbers stitcher planes spans run) (ap (λ (x : Bench). x.stage) e ∙ o) s
 
 -- and in one whose inference is done
-pub stands-inferred : (b : Bench) (stage : Stage) (log : Log) (invs : List Invariant) (graph : Parts) (numbers : List ℕ) (stitcher : ℕ) (planes : Labelling) (spans : Numbers) (run : RunLists)
-    → record { log = log; stage = stage } ≡ b → b.stage ≡ Inferred → Stands stage log invs graph numbers stitcher planes spans run → IsAtEnd log invs graph numbers planes spans run
-stands-inferred b stage log invs graph numbers stitcher planes spans run e o s =
-    subst (λ (x : Stage). Stands x log invs graph numbers stitcher planes spans run) (ap (λ (x : Bench). x.stage) e ∙ o) s
+pub stands-inferred : (b : Bench) (stage : Stage) (kinds : Kinds) (log : Log) (invs : List Invariant) (graph : Parts) (numbers : List ℕ) (stitcher : ℕ) (planes : Labelling) (spans : Numbers) (run : RunLists)
+    → record { kinds = kinds; log = log; stage = stage } ≡ b → b.stage ≡ Inferred → Stands stage kinds log invs graph numbers stitcher planes spans run → IsAtEnd kinds log invs graph numbers planes spans run
+stands-inferred b stage kinds log invs graph numbers stitcher planes spans run e o s =
+    subst (λ (x : Stage). Stands x kinds log invs graph numbers stitcher planes spans run) (ap (λ (x : Bench). x.stage) e ∙ o) s
 
 -- each limit comes exactly where it is passed
 pub partitions-told : (r : Result (Unit {0}) InferLimit) (words : TypedWords) (graph : Parts) (planes : Labelling) (spans : Numbers) (run : RunLists)

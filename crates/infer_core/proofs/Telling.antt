@@ -5,6 +5,7 @@ use Rattle.std.proofs.lemmas.List.{length-map, map-append}
 use Rattle.std.specs.List.{AllByRecursion}
 use Rattle.limits.specs.declared.TheConstants.{MAX_PARTITIONS, MAX_PATH_NUMBERS}
 use Rattle.invariants.specs.declared.Invariant.{Invariant}
+use Rattle.invariants.specs.declared.Kinds.{Kinds}
 use Rattle.invariants.specs.declared.records.Partition.{Partition}
 use Rattle.invariants.specs.declared.records.Listed.{Listed}
 use Rattle.invariants.specs.declared.records.Split.{Split}
@@ -80,37 +81,38 @@ listing-more list invs number d labels l e =
     map-append (λ (y : Listed). y.inv) list (x ∷ []) ∙ ap (λ (xs : List Invariant). xs ++ get_or invs number d ∷ []) e ∙ sym t
 
 -- it is the model of the log
-pub told-model : (m : Model) (log : Log) (invs : List Invariant) (graph : Parts) (planes : Labelling) (spans : Numbers) (run : RunLists)
-    → invs ≡ mined_of (typed_words log) → HasEnded (typed_words log) graph planes spans run → Tells m log invs graph spans run → IsModelOf m (typed_words log)
-told-model m log invs graph planes spans run i e t = record {
+pub told-model : (m : Model) (kinds : Kinds) (log : Log) (invs : List Invariant) (graph : Parts) (planes : Labelling) (spans : Numbers) (run : RunLists)
+    → invs ≡ mined_of (typed_words kinds log) → HasEnded (typed_words kinds log) graph planes spans run → Tells m kinds log invs graph spans run → IsModelOf m (typed_words kinds log)
+told-model m kinds log invs graph planes spans run i e t = record {
   types = t.types;
+  kinds = t.kinds;
   refined = e.refined;
   end = graph.traces;
-  splits = subst (λ (ss : List Split). IsRefined (mined_of (typed_words log)) (length log.types) (typed_words log).words ss e.refined) (sym t.splits) e.refines;
-  merges = subst (λ (ms : List Merge). Coarsens (mined_of (typed_words log)) e.refined ms graph.traces) (sym t.merges) e.coarsens;
+  splits = subst (λ (ss : List Split). IsRefined (mined_of (typed_words kinds log)) (length log.types) (typed_words kinds log).words ss e.refined) (sym t.splits) e.refines;
+  merges = subst (λ (ms : List Merge). Coarsens (mined_of (typed_words kinds log)) e.refined ms graph.traces) (sym t.merges) e.coarsens;
   partitions = t.partitions;
   edges = t.edges;
   listing = t.listing ∙ i;
   labels = t.labels;
-  blocks = subst (λ (bs : List Block). AreBlocks (mined_of (typed_words log)) (G graph.traces) bs) (sym t.blocks) e.blocks;
+  blocks = subst (λ (bs : List Block). AreBlocks (mined_of (typed_words kinds log)) (G graph.traces) bs) (sym t.blocks) e.blocks;
 }
 
 -- within the limits
-pub told-keeps : (m : Model) (log : Log) (invs : List Invariant) (graph : Parts) (planes : Labelling) (spans : Numbers) (run : RunLists)
-    → HasEnded (typed_words log) graph planes spans run → Tells m log invs graph spans run → KeepsLimits m
-told-keeps m log invs graph planes spans run e t =
+pub told-keeps : (m : Model) (kinds : Kinds) (log : Log) (invs : List Invariant) (graph : Parts) (planes : Labelling) (spans : Numbers) (run : RunLists)
+    → HasEnded (typed_words kinds log) graph planes spans run → Tells m kinds log invs graph spans run → KeepsLimits m
+told-keeps m kinds log invs graph planes spans run e t =
     let n : length m.types ≡ length log.types = ap (λ (ts : List (List ℕ)). length ts) t.types in
     let s : length m.splits ≡ length (splits_of run spans) = ap (λ (ss : List Split). length ss) t.splits in
-    let l : first_new (typed_words log) + length (splits_of run spans) ≤ MAX_PARTITIONS = e.ids in
+    let l : first_new (typed_words kinds log) + length (splits_of run spans) ≤ MAX_PARTITIONS = e.ids in
     record {
       ids = omega arith;
       numbers = subst₂ (λ (ss : List Split) (bs : List Block). split_numbers ss + block_numbers bs ≤ MAX_PATH_NUMBERS) (sym t.splits) (sym t.blocks) e.numbers;
     }
 
 -- and these are the final ids
-pub told-final : (log : Log) (ids : List ℕ) (graph : Parts) (planes : Labelling) (spans : Numbers) (run : RunLists)
-    → HasEnded (typed_words log) graph planes spans run → ids ≡ parts_of graph.traces → AreFinal (typed_words log) ids
-told-final log ids graph planes spans run e is = record {
+pub told-final : (kinds : Kinds) (log : Log) (ids : List ℕ) (graph : Parts) (planes : Labelling) (spans : Numbers) (run : RunLists)
+    → HasEnded (typed_words kinds log) graph planes spans run → ids ≡ parts_of graph.traces → AreFinal (typed_words kinds log) ids
+told-final kinds log ids graph planes spans run e is = record {
   splits = splits_of run spans;
   refined = e.refined;
   refines = e.refines;

@@ -8,6 +8,7 @@ use Rattle.std.proofs.lemmas.Slice.Eq.{bytes_eq-Decides}
 use Rattle.std.specs.List.{AllByRecursion, list_any}
 use Rattle.std.specs.Str.{bytes_eq}
 use Rattle.limits.specs.declared.TheConstants.{FIRST_TYPE, MAX_EVENTS, MAX_TYPES, MAX_TYPE_BYTES}
+use Rattle.invariants.specs.declared.Kinds.{Kinds}
 use Rattle.traces.specs.Words.{Log, Trace, AreApart, event_count_of}
 use Rattle.partition_model.specs.Laws.{AreTyped}
 use Rattle.partition_model.proofs.Runs.{words-typed}
@@ -19,8 +20,8 @@ use Rattle.partition_graph.specs.Starts.{AreTypedParts}
 use Rattle.models.specs.Models.{typed_words}
 
 -- each event has the number of a type, and each type's number is that of some event
-pub log-typed : (log : Log) → AreTypedParts (start_of log) → IsTypedLog (typed_words log)
-log-typed log t = subst (λ (ws : List (List ℕ)). AreTyped ws (length log.types + FIRST_TYPE)) (words-typed (inner_words_of log)) t
+pub log-typed : (kinds : Kinds) (log : Log) → AreTypedParts (start_of log) → IsTypedLog (typed_words kinds log)
+log-typed kinds log t = subst (λ (ws : List (List ℕ)). AreTyped ws (length log.types + FIRST_TYPE)) (words-typed (inner_words_of log)) t
 
 -- a text that stands in a list is one of it
 stands-at : (t : List ℕ) (ts : List (List ℕ)) (k : ℕ) (text : List ℕ) → slice_get ts k ≡ Some text → t ≡ text → list_any (bytes_eq t) ts ≡ true
@@ -57,9 +58,9 @@ events-of (t ∷ traces) =
     omega arith
 
 -- what a set of traces says of its types, its traces and its events
-pub log-within : (log : Log) → length log.types ≤ MAX_TYPES → All (λ text. 0 < length text) log.types → All (λ text. length text ≤ MAX_TYPE_BYTES) log.types → AreApart bytes_eq log.types
-    → length log.traces ≤ MAX_EVENTS → event_count_of log.traces ≤ MAX_EVENTS → IsWithinLimits (typed_words log)
-log-within log few some short apart traces events = record {
+pub log-within : (kinds : Kinds) (log : Log) → length log.types ≤ MAX_TYPES → All (λ text. 0 < length text) log.types → All (λ text. length text ≤ MAX_TYPE_BYTES) log.types → AreApart bytes_eq log.types
+    → length log.traces ≤ MAX_EVENTS → event_count_of log.traces ≤ MAX_EVENTS → IsWithinLimits (typed_words kinds log)
+log-within kinds log few some short apart traces events = record {
   types = record { few = few; each = each-text log.types some short; apart = one-place log.types apart };
   few_traces = omega (arith, length-map log.traces (λ (trace : Trace). trace.events));
   few_events = omega (arith, events-of log.traces);

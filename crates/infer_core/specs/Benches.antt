@@ -3,6 +3,7 @@ use Rattle.std.specs.Prelude.{◌≡◌, ◌≤◌, ℕ, List, length}
 use Rattle.std.specs.List.{AllByRecursion}
 use Rattle.limits.specs.declared.TheConstants.{MAX_EVENTS}
 use Rattle.invariants.specs.declared.Invariant.{Invariant}
+use Rattle.invariants.specs.declared.Kinds.{Kinds}
 use Rattle.invariants.specs.declared.records.Model.{Model}
 use Rattle.traces.specs.Words.{Log}
 use Rattle.cell_pool.specs.Numbers.{Numbers}
@@ -20,8 +21,9 @@ use Rattle.infer_core.specs.declared.workbench.Stage.{Stage}
 use Rattle.infer_core.specs.declared.workbench.Stage.TheVariants.{Opened, Inferred, Refused}
 use Rattle.infer_core.specs.Ends.{IsReady, HasEnded}
 
--- the log, and how far its inference is
+-- the kinds of invariants that are asked for, the log, and how far its inference is
 pub record Bench : Type 0 where
+  pub kinds : Kinds
   pub log : Log
   pub stage : Stage
 
@@ -29,35 +31,36 @@ pub record Bench : Type 0 where
 abbrev pub whole_of : List ℕ → Parts → Parts
 whole_of numbers graph = record { traces = spread numbers graph.traces; used = graph.used }
 
--- what is mined of the log and the first graph of its distinct words stand ready for a run
-pub record IsAtStart (log : Log) (invs : List Invariant) (graph : Parts) (numbers : List ℕ) (stitcher : ℕ)
+-- the invariants of these kinds that are mined of the log and the first graph of its distinct words stand ready for a run
+pub record IsAtStart (kinds : Kinds) (log : Log) (invs : List Invariant) (graph : Parts) (numbers : List ℕ) (stitcher : ℕ)
     (planes : Labelling) (spans : Numbers) (run : RunLists) : Type 0 where
-  pub mined : invs ≡ mined_of (typed_words log)
-  pub within : IsWithinLimits (typed_words log)
+  pub mined : invs ≡ mined_of (typed_words kinds log)
+  pub within : IsWithinLimits (typed_words kinds log)
   pub shares : SharesWords log graph numbers
   pub ready : IsReady invs graph stitcher planes spans run
 
--- what is mined of the log stands beside its run, whose graph becomes that of the log where it is spread over all traces
-pub record IsAtEnd (log : Log) (invs : List Invariant) (graph : Parts) (numbers : List ℕ)
+-- the invariants of these kinds that are mined of the log stand beside its run, whose graph becomes that of the log where it is spread over all traces
+pub record IsAtEnd (kinds : Kinds) (log : Log) (invs : List Invariant) (graph : Parts) (numbers : List ℕ)
     (planes : Labelling) (spans : Numbers) (run : RunLists) : Type 0 where
-  pub mined : invs ≡ mined_of (typed_words log)
+  pub mined : invs ≡ mined_of (typed_words kinds log)
   pub all : AreAllOf numbers graph.traces
   pub few : length (events (spread numbers graph.traces)) ≤ MAX_EVENTS
-  pub ended : HasEnded (typed_words log) (whole_of numbers graph) planes spans run
+  pub ended : HasEnded (typed_words kinds log) (whole_of numbers graph) planes spans run
 
 -- what stands at each stage; after a refusal it is good for nothing
-abbrev pub Stands : Stage → Log → List Invariant → Parts → List ℕ → ℕ
+abbrev pub Stands : Stage → Kinds → Log → List Invariant → Parts → List ℕ → ℕ
     → Labelling → Numbers → RunLists → Type 0
-Stands Opened log invs graph numbers stitcher planes spans run =
-    IsAtStart log invs graph numbers stitcher planes spans run
-Stands Inferred log invs graph numbers stitcher planes spans run =
-    IsAtEnd log invs graph numbers planes spans run
-Stands Refused log invs graph numbers stitcher planes spans run = Unit {0}
+Stands Opened kinds log invs graph numbers stitcher planes spans run =
+    IsAtStart kinds log invs graph numbers stitcher planes spans run
+Stands Inferred kinds log invs graph numbers stitcher planes spans run =
+    IsAtEnd kinds log invs graph numbers planes spans run
+Stands Refused kinds log invs graph numbers stitcher planes spans run = Unit {0}
 
--- the model says the types of the log, what the graph is and what is reached there, and what the run tells
-pub record Tells (m : Model) (log : Log) (invs : List Invariant) (graph : Parts)
+-- the model says the types of the log, the kinds that are asked for, what the graph is and what is reached there, and what the run tells
+pub record Tells (m : Model) (asked : Kinds) (log : Log) (invs : List Invariant) (graph : Parts)
     (spans : Numbers) (run : RunLists) : Type 0 where
   pub types : m.types ≡ log.types
+  pub kinds : m.kinds ≡ asked
   pub partitions : ArePartitions m.partitions graph.traces
   pub edges : AreEdges m.edges graph.traces
   pub listing : listing_of m ≡ invs

@@ -1,4 +1,5 @@
 //! Laws of how inference ends, and of what it begins with.
+ghost use Rattle.invariants.specs.declared.Kinds.{Kinds};
 ghost use Rattle.models.specs.Laws.{IsTypedLog};
 ghost use Rattle.models.specs.Limits.{IsWithinLimits};
 ghost use Rattle.infer_core.specs.Laws.{EndsExclude, OneFinal};
@@ -17,10 +18,10 @@ pub fn one_final()
     ensures { OneFinal }
 {}
 
-/// The words of each set of traces use exactly its types, and are within the limits of a log.
+/// The words of each set of traces use exactly its types, and are within the limits of a log, whichever kinds of invariants are asked for.
 pub fn log_is_typed(traces: &TraceSet)
-    ensures typed { IsTypedLog (typed_words traces.now) }
-    ensures within { IsWithinLimits (typed_words traces.now) }
+    ensures typed { (kinds : Kinds) → IsTypedLog (typed_words kinds traces.now) }
+    ensures within { (kinds : Kinds) → IsWithinLimits (typed_words kinds traces.now) }
 {
     set_is_typed(traces);
     traces.types();

@@ -11,7 +11,7 @@ ghost use Rattle.labelling.specs.Labelled.{digit, AreLabelsOf};
 ghost use Rattle.infer_core.specs.Benches.{Tells};
 
 use crate::tools::{Tools, both};
-use invariants::{Invariant, Listed, Model, Partition, Seq, Text};
+use invariants::{Invariant, Kinds, Listed, Model, Partition, Seq, Text};
 use labelling::Planes;
 use limits::MAX_PARTITIONS;
 use partition_graph::PartGraph;
@@ -78,10 +78,11 @@ fn listed(
     Ok(Seq::from_vec(list))
 }
 
-/// The model: the types of the log, the graph where coarsening ended with the labels of the invariants, and the log of
+/// The model: the types of the log, the kinds that are asked for, the graph where coarsening ended with the labels of the invariants, and the log of
 /// the run.
 pub fn model_of(
     alloc: Global,
+    kinds: Kinds,
     traces: &TraceSet,
     invs: &[Invariant],
     graph: &PartGraph,
@@ -91,7 +92,7 @@ pub fn model_of(
     requires labels { AreLabelsOf tools.now.planes (G (graph.now).traces) }
     requires paths { HoldsPaths tools.now.log tools.now.spans }
     ensures { IfOk result
-        (λ m. Tells m traces.now invs.now graph.now tools.now.spans tools.now.log) }
+        (λ m. Tells m kinds traces.now invs.now graph.now tools.now.spans tools.now.log) }
 {
     prove!(graph.ids_used() <= MAX_PARTITIONS);
     let partitions = graph.partitions(alloc)?;
@@ -106,6 +107,7 @@ pub fn model_of(
     let ((edges, (types, invariants)), (splits, (merges, blocks))) = both(shown, told)?;
     Ok(Model {
         types,
+        kinds,
         edges,
         partitions,
         invariants,

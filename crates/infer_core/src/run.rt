@@ -1,6 +1,8 @@
 //! The run: refinement, coarsening, blocks and labels, on memory that is there.
-ghost use Rattle.std.specs.Prelude.{◌≡◌, ◌≤◌, ◌+◌, ◌-◌, OnErr, OnOk, length};
+ghost use Rattle.std.specs.Prelude.{◌≡◌, ◌≤◌, ◌+◌, ℕ, OnErr, OnOk, length, min};
 ghost use Rattle.models.specs.Models.{TypedWords};
+ghost use Rattle.partition_model.specs.Assignments.{G};
+ghost use Rattle.labelling.specs.Labelled.{SaysSatisfied};
 ghost use Rattle.run_history.specs.Records.{splits_of};
 ghost use Rattle.splitter.specs.Refining.{EndsRefined, IsFull, IsStopped};
 ghost use Rattle.splitter.specs.Writing.{WritesSplits};
@@ -9,13 +11,34 @@ ghost use Rattle.infer_core.specs.Ends.{BeginsWith, IsReady, RunGives};
 
 use crate::tools::Tools;
 use crate::workbench::InferLimit;
-use coarsener::{blocks, coarsen};
+use coarsener::{blocks_marked, coarsen};
 use invariants::Invariant;
+use labelling::Planes;
 use limits::MAX_PARTITIONS;
 use partition_graph::{PartGraph, View};
 use splitter::{PartitionLimit, refine_skipping};
 use std::sync::ledger::Ledger;
 use steps::Steps;
+
+/// Says of each invariant, in the flags, whether the graph satisfies it. It counts one step, and none where there is no
+/// invariant.
+fn tell_known<L: Ledger>(
+    graph: &PartGraph,
+    planes: &mut Planes,
+    flags: &mut [bool],
+    steps: &mut Steps<L>,
+)
+    requires room { length flags.old ≡ length (planes.old).invs }
+    ensures told { SaysSatisfied (G (graph.now).traces) (planes.new).invs flags.new }
+    ensures same { (planes.new).invs ≡ (planes.old).invs }
+    ensures more { steps.old ≤ steps.new }
+    ensures few { steps.new ≤ steps.old + min 1 (length (planes.old).invs) }
+{
+    if flags.is_empty() {
+        return;
+    }
+    planes.tell_satisfied(&View::Plain(graph), flags, steps);
+}
 
 /// Refines the graph, as `refine` does. Labels tell at once, in the flags, which invariants it satisfies; no path is asked
 /// for these.
@@ -32,19 +55,21 @@ fn refine_broken<L: Ledger>(
     ensures list { tools.new.planes.invs ≡ tools.old.planes.invs }
     ensures writes { WritesSplits tools.old.log tools.new.log tools.old.spans tools.new.spans }
 
-    // The whole run, and how many steps it counts.
+    // The whole run, and how many steps it counts: at most one for each invariant and each split, and one more where it
+    // makes a split.
     ensures ok { OnOk result (EndsRefined invs.now graph.old
         (splits_of tools.new.log tools.new.spans) graph.new) }
     ensures more { OnOk result (steps.old ≤ steps.new) }
     ensures few { OnOk result (steps.new ≤ steps.old + length invs.now
-        + length (splits_of tools.new.log tools.new.spans)) }
+        + length (splits_of tools.new.log tools.new.spans)
+        + min 1 (length (splits_of tools.new.log tools.new.spans))) }
 
     // When the limit comes, and what it leaves.
     ensures full { OnErr result (IsFull invs.now graph.new) }
-    ensures stands { OnErr result (IsStopped invs.now graph.old graph.new
-        (splits_of tools.new.log tools.new.spans) (steps.new - steps.old)) }
+    ensures stands { OnErr result ((n : ℕ) × IsStopped invs.now graph.old graph.new
+        (splits_of tools.new.log tools.new.spans) n) }
 {
-    tools.planes.tell_satisfied(&View::Plain(graph), flags);
+    tell_known(graph, &mut tools.planes, flags, steps);
     refine_skipping(
         graph,
         &mut tools.finder,
@@ -86,7 +111,7 @@ pub fn run<L: Ledger>(
     };
     prove!(graph.ids_used() <= MAX_PARTITIONS);
     coarsen(graph, &mut tools.planes, &mut tools.log, steps);
-    let Ok(()) = blocks(
+    let Ok(()) = blocks_marked(
         graph,
         &mut tools.finder,
         &mut tools.planes,

@@ -1,4 +1,4 @@
-//! The workbench: a log, and all that its inference needs.
+//! The workbench: a log, the kinds of invariants that are asked for, and all that its inference needs.
 ghost use Rattle.std.specs.Prelude.{◌≡◌, ◌↔◌, IfOk, OnErr, OnOk, Err, length};
 ghost use Rattle.models.specs.Limits.{KeepsLimits};
 ghost use Rattle.models.specs.Models.{typed_words, IsModelOf};
@@ -38,9 +38,10 @@ pub enum Stage {
     Refused,
 }
 
-/// A log with all that its inference needs. Contracts see the log and how far its inference is.
+/// A log with all that its inference needs. Contracts see the kinds of invariants that are asked for, the log, and how far its inference is.
 #[derive(Drop)]
 pub struct Workbench {
+    kinds: Kinds,
     traces: TraceSet,
     invs: Seq<Invariant>,
     /// The graph of the distinct words.
@@ -59,10 +60,10 @@ impl std::marker::Model for Workbench {
 
     ghost Value = { Bench };
 
-    ghost view = { λ b. record { log = b.traces; stage = b.stage } };
+    ghost view = { λ b. record { kinds = b.kinds; log = b.traces; stage = b.stage } };
 
     ghost invariant = { λ b.
-        Stands b.stage b.traces b.invs b.graph b.numbers.items
+        Stands b.stage b.kinds b.traces b.invs b.graph b.numbers.items
         b.tools.stitcher b.tools.planes b.tools.spans b.tools.log
         × (length b.flags.items ≡ length b.invs) };
 }
@@ -75,21 +76,26 @@ fn no_flags(alloc: Global, invs: &[Invariant]) -> Result<Vec<bool>, AllocError>
 }
 
 impl Workbench {
-    /// A workbench for these traces, with their mined invariants and all memory that inference needs: the first graph
-    /// of the log, and room for `MAX_STEPS` splits, as many merges, `MAX_PAIRS` blocks and `MAX_PATH_NUMBERS` numbers
+    /// A workbench for these traces, with their mined invariants of these kinds and all memory that inference needs: the
+    /// first graph of the log, and room for `MAX_STEPS` splits, as many merges, `MAX_PAIRS` blocks and `MAX_PATH_NUMBERS` numbers
     /// of paths. `AllocError` comes where there is not as much; then the traces are dropped.
-    pub fn open(alloc: Global, traces: TraceSet) -> Result<Workbench, AllocError>
-        ensures { IfOk result (λ made. made ≡ record { log = traces; stage = Stage.Opened }) }
+    pub fn open(alloc: Global, kinds: Kinds, traces: TraceSet) -> Result<Workbench, AllocError>
+        ensures { IfOk result (λ made. made ≡ record {
+          kinds = kinds;
+          log = traces;
+          stage = Stage.Opened;
+        }) }
     {
         start_is_opened(&traces);
         log_is_typed(&traces);
         let shared = PartGraph::open_shared(alloc, &traces);
-        let mined = mine(alloc, Kinds::Three, &traces);
+        let mined = mine(alloc, kinds, &traces);
         let ((graph, numbers), invs) = both(shared, mined)?;
         let tools = Tools::make(alloc, &graph, invs.as_slice());
         let flags = no_flags(alloc, invs.as_slice());
         let (tools, flags) = both(tools, flags)?;
         Ok(Workbench {
+            kinds,
             traces,
             invs,
             graph,
@@ -109,19 +115,20 @@ impl Workbench {
     /// but to be dropped.
     pub fn infer<L: Ledger>(&mut self, steps: &mut Steps<L>) -> Result<(), InferLimit>
         requires { (self.old).stage ≡ Stage.Opened }
+        ensures kinds { (self.new).kinds ≡ (self.old).kinds }
         ensures log { (self.new).log ≡ (self.old).log }
         ensures stage { OnOk result ((self.new).stage ≡ Stage.Inferred) }
         ensures refused { OnErr result ((self.new).stage ≡ Stage.Refused) }
 
         // Each limit comes exactly where it is passed.
         ensures partitions { (result ≡ Err InferLimit.Partitions)
-            ↔ PassesPartitions (typed_words (self.old).log) }
+            ↔ PassesPartitions (typed_words (self.old).kinds (self.old).log) }
         ensures evidence { (result ≡ Err InferLimit.Evidence)
-            ↔ PassesNumbers (typed_words (self.old).log) }
+            ↔ PassesNumbers (typed_words (self.old).kinds (self.old).log) }
 
         // How many steps are counted.
         ensures counted { OnOk result
-            (CountsAtMost (typed_words (self.old).log) steps.old steps.new) }
+            (CountsAtMost (typed_words (self.old).kinds (self.old).log) steps.old steps.new) }
     {
         let end = run(
             &mut self.graph,
@@ -145,13 +152,14 @@ impl Workbench {
     /// The model of the log, in memory of its own. `AllocError` comes where there is not enough.
     pub fn model(&self, alloc: Global) -> Result<invariants::Model, AllocError>
         requires { (self.now).stage ≡ Stage.Inferred }
-        ensures value { IfOk result (λ m. IsModelOf m (typed_words (self.now).log)) }
+        ensures value { IfOk result (λ m. IsModelOf m (typed_words (self.now).kinds (self.now).log)) }
         ensures within { IfOk result (λ m. KeepsLimits m) }
     {
         let made = spread_shared(alloc, &self.graph, self.numbers.as_slice())?;
         let whole = made_or(&made, &self.graph);
         model_of(
             alloc,
+            self.kinds,
             &self.traces,
             self.invs.as_slice(),
             whole,
@@ -163,7 +171,7 @@ impl Workbench {
     /// enough memory for the list.
     pub fn parts(&self, alloc: Global) -> Result<Seq<u32>, AllocError>
         requires { (self.now).stage ≡ Stage.Inferred }
-        ensures { IfOk result (λ ids. AreFinal (typed_words (self.now).log) ids) }
+        ensures { IfOk result (λ ids. AreFinal (typed_words (self.now).kinds (self.now).log) ids) }
     {
         self.graph.spread_parts(alloc, self.numbers.as_slice())
     }

@@ -1,4 +1,4 @@
-use Rattle.std.proofs.Common.{◌≡◌, ◌<◌, ◌≤◌, ℕ, List, Some, IfOk, Ok, slice_get, map, sym, ◌∙◌, subst, arith}
+use Rattle.std.proofs.Common.{◌≡◌, ◌<◌, ◌≤◌, ℕ, List, Some, IfOk, Ok, slice_get, map, refl, sym, ◌∙◌, subst, arith}
 use Rattle.std.specs.List.{AllByRecursion}
 use Rattle.limits.specs.declared.TheConstants.{FIRST_TYPE}
 use Rattle.invariants.specs.declared.records.Partition.{Partition}
@@ -51,6 +51,7 @@ returns c =
     subst (λ r. IfOk r (λ (list : List Edge). list ≡ edges_below n h)) (subst (λ r. IfOk r (λ pair. c.edges.result ≡ Ok pair.0)) shown c.both-shown.ensures.first) c.edges.ensures in
     record {
       types = types ∙ c.types.ensures.value;
+      kinds = refl;
       partitions = subst (λ (xs : List Partition). ArePartitions xs h) (sym c.in_ok-partitions.ensures) partitions;
       edges = subst (λ (xs : List Edge). AreEdges xs h) (sym edges) (are_edges h n two below);
       listing = listing;
