@@ -5,14 +5,16 @@ use Rattle.serde_json.specs.Data.{Data, string}
 use Rattle.serde_json.specs.View.{items_of}
 use Rattle.invariants.specs.declared.Kind.{Kind}
 use Rattle.invariants.specs.declared.Kind.TheVariants.{AF, NF, AP, IB}
+use Rattle.invariants.specs.declared.Kinds.{Kinds}
+use Rattle.invariants.specs.declared.Kinds.TheVariants.{Three, Four}
 use Rattle.invariants.specs.declared.records.Partition.{Partition}
 use Rattle.invariants.specs.declared.records.Edge.{Edge}
 use Rattle.invariants.specs.declared.records.Listed.{Listed}
 use Rattle.invariants.specs.declared.records.Merge.{Merge}
 use Rattle.invariants.specs.declared.records.Split.{Split}
 use Rattle.invariants.specs.declared.records.Block.{Block}
-use Rattle.model_file.specs.Tree.{number_data, array_of, path_data, partition_data, edge_data, kind_text, digit_of, listed_data, merge_data, split_data, block_data}
-use Rattle.model_file.specs.Entries.{number_below, number_in, each, list_in, two_in, three_in, four_in, kind_in, labels_of, labels_in, path_in, partition_in, edge_in, invariant_in, listed_in, merge_in, split_in, block_in}
+use Rattle.model_file.specs.Tree.{number_data, array_of, path_data, partition_data, edge_data, kind_text, kinds_data, digit_of, listed_data, merge_data, split_data, block_data}
+use Rattle.model_file.specs.Entries.{number_below, number_in, each, list_in, two_in, three_in, four_in, kind_in, kinds_named, labels_of, labels_in, path_in, partition_in, edge_in, invariant_in, listed_in, merge_in, split_in, block_in}
 
 -- where each entry is read back from its value, so is a row of them
 pub each-back : {A : Type 0} (f : Data → Option A) (g : A → Data) (P : A → Type 0) → ((x : A) → P x → f (g x) ≡ Some x) → (xs : List A) → AllByRecursion P xs → each f (items_of (map g xs)) ≡ Some xs
@@ -44,6 +46,12 @@ kind-back AF = refl
 kind-back NF = refl
 kind-back AP = refl
 kind-back IB = refl
+
+-- kinds are read back from the array of their names
+pub kinds-named : (kinds : Kinds) → kinds_named (kinds_data kinds) ≡ Some kinds
+unfolding kinds_named list_in kind_in
+kinds-named Three = refl
+kinds-named Four = refl
 
 -- the number fits 32 bits
 abbrev pub IsSmall : ℕ → Type 0

@@ -1,12 +1,13 @@
 -- The numbers of a well-shaped model fit the fields of its records.
-use Rattle.std.proofs.Common.{◌≡◌, ℕ, zero, suc, ◌+◌, ◌*◌, ◌<◌, ◌≤◌, Bool, true, false, cond, not, ◌&&◌, eqb, leb, ltb, ◌⊎◌, List, [], ◌∷◌, map, length, Option, Some, None, is_some, nat_lt, refl, sym, subst, arith, inl, inr}
+use Rattle.std.proofs.Common.{◌≡◌, ℕ, zero, suc, ◌+◌, ◌<◌, ◌≤◌, Bool, true, false, cond, not, ◌&&◌, eqb, leb, ltb, ◌⊎◌, List, [], ◌∷◌, map, length, Option, Some, None, is_some, nat_lt, le-leb, refl, sym, subst, arith, inl, inr}
 use Rattle.std.specs.Prelude.{unwrap_or, option_map, find}
 use Rattle.std.specs.List.{AllByRecursion, list_all, slice_get}
-use Rattle.std.proofs.lemmas.Bool.{and_parts, ltb-true, leb-true, eqb-true, cases_Bool, false≢true}
+use Rattle.std.proofs.lemmas.Bool.{and_parts, and_from, ltb-true, leb-true, eqb-true, cases_Bool, false≢true}
 use Rattle.std.proofs.lemmas.List.{length-map}
 use Rattle.std.proofs.lemmas.List.Sums.{sum_by-cons}
 use Rattle.std.proofs.Math.Nat.{mul-le-mul}
-use Rattle.invariants.specs.Candidates.{candidates, IsFirst, IsPair}
+use Rattle.limits.specs.declared.TheConstants.{MAX_TYPES, MAX_INVARIANTS, MAX_PARTITIONS, MAX_EVENTS, MAX_EDGE_COUNT, MAX_PATH_NUMBERS}
+use Rattle.invariants.specs.Candidates.{candidates_for, candidate_total, IsFirst, IsPair}
 use Rattle.invariants.specs.declared.Invariant.{Invariant}
 use Rattle.invariants.specs.declared.records.Partition.{Partition}
 use Rattle.invariants.specs.declared.records.Edge.{Edge}
@@ -14,10 +15,13 @@ use Rattle.invariants.specs.declared.records.Listed.{Listed}
 use Rattle.invariants.specs.declared.records.Merge.{Merge}
 use Rattle.invariants.specs.declared.records.Split.{Split}
 use Rattle.invariants.specs.declared.records.Block.{Block}
-use Rattle.invariants.specs.declared.Kinds.TheVariants.{Three}
-use Rattle.invariants.proofs.CandidatePlaces.{length-candidates}
-use Rattle.invariants.proofs.EachKinds.{candidate-shape}
-use Rattle.model_file.specs.Rules.{types_hold, partition_holds, partitions_hold, type_of, edge_holds, edges_hold, place_of, listed_holds, invariants_hold, merge_holds, merges_hold, path_holds, split_holds, splits_hold, are_one, block_holds, blocks_hold, comes_after, ascends_from}
+use Rattle.invariants.specs.declared.Kinds.{Kinds}
+use Rattle.invariants.specs.declared.Kinds.TheVariants.{Three, Four}
+use Rattle.invariants.proofs.EachKinds.{length-total, candidate-shape}
+use Rattle.model_file.specs.declared.version.Version.{Version}
+use Rattle.model_file.specs.declared.version.Version.TheVariants.{One, Two}
+use Rattle.model_file.specs.Versions.{max_types}
+use Rattle.model_file.specs.Rules.{type_holds, are_distinct, types_hold, partition_holds, partitions_hold, type_of, edge_holds, edges_hold, place_of, listed_holds, invariants_hold, merge_holds, merges_hold, path_holds, split_holds, splits_hold, are_one, block_holds, blocks_hold, comes_after, ascends_from}
 use Rattle.model_shape.specs.Numbers.{split_numbers}
 use Rattle.model_file.proofs.Places.{place-is}
 use Rattle.model_file.proofs.Back.{IsSmall, FitsPartition, FitsEdge, FitsListed, FitsMerge, FitsSplit, FitsBlock}
@@ -32,16 +36,29 @@ pub all-weaker : {X : Type 0} (P Q : X → Type 0) → ((x : X) → P x → Q x)
 all-weaker P Q give [] h = tt
 all-weaker P Q give (x ∷ xs) h = (give x h.0, all-weaker P Q give xs h.1)
 
--- types that pass are at most 128
-pub few-types : (ts : List (List ℕ)) → types_hold ts ≡ true → length ts ≤ 128
+-- types that pass are no more than the limit
+pub few-types : (limit : ℕ) (ts : List (List ℕ)) → types_hold limit ts ≡ true → length ts ≤ limit
 unfolding types_hold
-few-types ts h = leb-true _ _ (and_parts _ _ h).0
+few-types limit ts h = leb-true _ _ (and_parts _ _ h).0
 
--- an id of at most 1,023, the number of a type, and a count that fits
+-- types that pass a limit pass each higher one
+pub types-within : (few many : ℕ) (ts : List (List ℕ)) → few ≤ many → types_hold few ts ≡ true → types_hold many ts ≡ true
+unfolding types_hold
+types-within few many ts higher h =
+    let a = and_parts (leb (length ts) few) (list_all type_holds ts && are_distinct ts) h in
+    let short : length ts ≤ few = leb-true (length ts) few a.0 in
+    and_from (leb (length ts) many) (list_all type_holds ts && are_distinct ts) (le-leb (length ts) many (omega (arith, short, higher))) a.1
+
+-- no version has more types than a log may have
+pub max_types-within : (version : Version) → max_types version ≤ MAX_TYPES
+max_types-within One = omega arith
+max_types-within Two = omega arith
+
+-- an id that a partition may have, the number of a type, and a count that fits
 pub record IsNumbered (types : ℕ) (p : Partition) : Type 0 where
-  pub id : p.id ≤ 1023
+  pub id : p.id < MAX_PARTITIONS
   pub typ : p.typ ≤ types + 1
-  pub count : p.count ≤ 1000000
+  pub count : p.count ≤ MAX_EVENTS
 
 numbered-other : (types : ℕ) (p : Partition) → partition_holds types p ≡ true → IsNumbered types p
 numbered-other types p h =
@@ -49,7 +66,7 @@ numbered-other types p h =
     let b = and_parts _ _ a.1 in
     let c = and_parts _ _ b.1 in
     let d = and_parts _ _ c.1 in
-    let id : p.id < 1024 = ltb-true _ _ a.0 in
+    let id : p.id < MAX_PARTITIONS = ltb-true _ _ a.0 in
     let typ : p.typ < types + 2 = ltb-true _ _ c.0 in
     record { id = omega (arith, id); typ = omega (arith, typ); count = leb-true _ _ d.1 }
 
@@ -70,7 +87,7 @@ numbered types (p ∷ q ∷ ps) h =
     let q_id : q.id ≡ 1 = eqb-true _ _ d.0 in
     let q_typ : q.typ ≡ 1 = eqb-true _ _ e.0 in
     let counts : p.count ≡ q.count = eqb-true _ _ f.0 in
-    let few : p.count ≤ 1000000 = leb-true _ _ f.1 in (
+    let few : p.count ≤ MAX_EVENTS = leb-true _ _ f.1 in (
       record { id = omega (arith, p_id); typ = omega (arith, p_typ); count = few },
       (
         record { id = omega (arith, q_id); typ = omega (arith, q_typ); count = omega (arith, counts, few) },
@@ -79,7 +96,7 @@ numbered types (p ∷ q ∷ ps) h =
     )
 
 -- partitions that pass fit their fields
-pub fits-partitions : (types : ℕ) (ps : List Partition) → types ≤ 128 → partitions_hold types ps ≡ true → AllByRecursion FitsPartition ps
+pub fits-partitions : (types : ℕ) (ps : List Partition) → types ≤ MAX_TYPES → partitions_hold types ps ≡ true → AllByRecursion FitsPartition ps
 fits-partitions types ps few h =
     all-weaker (IsNumbered types) FitsPartition (λ p n. record { id = omega (arith, n.id); typ = omega (arith, n.typ, few); count = omega (arith, n.count) }) ps (numbered types ps h)
 
@@ -87,8 +104,8 @@ found-small : (b : Bool) (p : Partition) (o : Option Partition) → b ≡ false 
 found-small true p o e h = absurd (false≢true (sym e))
 found-small false p o e h = h
 
--- the id of a listed partition is at most 1,023
-pub listed-small : (types : ℕ) (ps : List Partition) (id : ℕ) → AllByRecursion (IsNumbered types) ps → is_some (type_of ps id) ≡ true → id ≤ 1023
+-- the id of a listed partition is one that a partition may have
+pub listed-small : (types : ℕ) (ps : List Partition) (id : ℕ) → AllByRecursion (IsNumbered types) ps → is_some (type_of ps id) ≡ true → id < MAX_PARTITIONS
 listed-small types [] id h some = absurd (false≢true some)
 listed-small types (p ∷ ps) id h some =
     elim (cases_Bool (eqb p.id id)) [
@@ -108,10 +125,10 @@ six false b c d e f h = absurd (false≢true h)
 
 fits-edge : (types : ℕ) (ps : List Partition) → AllByRecursion (IsNumbered types) ps → (e : Edge) → edge_holds (type_of ps) e ≡ true → FitsEdge e
 fits-edge types ps small e x =
-    let parts = six (is_some (type_of ps e.from)) (is_some (type_of ps e.to)) (not (eqb e.from 1)) (not (eqb e.to 0)) (leb 1 e.count) (leb e.count 2000000) x in
-    let count : e.count ≤ 2000000 = leb-true e.count 2000000 parts.2 in
-    let from : e.from ≤ 1023 = listed-small types ps e.from small parts.0 in
-    let to : e.to ≤ 1023 = listed-small types ps e.to small parts.1 in
+    let parts = six (is_some (type_of ps e.from)) (is_some (type_of ps e.to)) (not (eqb e.from 1)) (not (eqb e.to 0)) (leb 1 e.count) (leb e.count MAX_EDGE_COUNT) x in
+    let count : e.count ≤ MAX_EDGE_COUNT = leb-true e.count MAX_EDGE_COUNT parts.2 in
+    let from : e.from < MAX_PARTITIONS = listed-small types ps e.from small parts.0 in
+    let to : e.to < MAX_PARTITIONS = listed-small types ps e.to small parts.1 in
     record { from = omega (arith, from); to = omega (arith, to); count = omega (arith, count) }
 
 -- edges that pass fit their fields
@@ -126,12 +143,12 @@ fits-merges ms h =
     all-by merge_holds FitsMerge (λ m x.
     let a = and_parts _ _ x in
     let less : m.p < m.q = ltb-true _ _ a.0 in
-    let high : m.q < 1024 = ltb-true _ _ a.1 in
+    let high : m.q < MAX_PARTITIONS = ltb-true _ _ a.1 in
     record { p = omega (arith, less, high); q = omega (arith, high) }) ms (and_parts _ _ h).1
 
 -- the ids of a path that passes fit 32 bits
 pub small-path : (path : List ℕ) → path_holds path ≡ true → AllByRecursion IsSmall path
-small-path path h = all-by (λ id. ltb id 1024) IsSmall (λ id x. let high : id < 1024 = ltb-true _ _ x in omega (arith, high)) path h
+small-path path h = all-by (λ id. ltb id MAX_PARTITIONS) IsSmall (λ id x. let high : id < MAX_PARTITIONS = ltb-true _ _ x in omega (arith, high)) path h
 
 -- an option that is not empty has a value
 pub some-place : (o : Option ℕ) → is_some o ≡ true → (k : ℕ) × (o ≡ Some k)
@@ -148,27 +165,27 @@ record IsBetween (types : ℕ) (i : Invariant) : Type 0 where
   a : i.a < types + 2
   b : i.b < types + 2
 
-between : (types : ℕ) (i : Invariant) (s : IsFirst types i ⊎ IsPair Three types i) → IsBetween types i
-between types i (inl f) = record { a = omega (arith, f.a); b = f.b_high }
-between types i (inr p) = record { a = p.a_high; b = p.b_high }
+between : (kinds : Kinds) (types : ℕ) (i : Invariant) (s : IsFirst types i ⊎ IsPair kinds types i) → IsBetween types i
+between kinds types i (inl f) = record { a = omega (arith, f.a); b = f.b_high }
+between kinds types i (inr p) = record { a = p.a_high; b = p.b_high }
 
 -- where an invariant stands among the candidates
-pub record IsPlaced (types : ℕ) (i : Invariant) (k : ℕ) : Type 0 where
-  pub inside : k < types + 3 * (types * types)
+pub record IsPlaced (kinds : Kinds) (types : ℕ) (i : Invariant) (k : ℕ) : Type 0 where
+  pub inside : k < candidate_total kinds types
   pub a : i.a < types + 2
   pub b : i.b < types + 2
 
-placed : (types : ℕ) (i : Invariant) (k : ℕ) → place_of types i ≡ Some k → IsPlaced types i k
+placed : (kinds : Kinds) (types : ℕ) (i : Invariant) (k : ℕ) → place_of kinds types i ≡ Some k → IsPlaced kinds types i k
 unfolding place_of
-placed types i k h =
-    let found = place-is i (candidates types) k h in
-    let inside = length-at (candidates types) k i found in
-    let shape = between types i (candidate-shape Three types k i found) in
-    record { inside = omega (arith, inside, length-candidates types); a = shape.a; b = shape.b }
+placed kinds types i k h =
+    let found = place-is i (candidates_for kinds types) k h in
+    let inside = length-at (candidates_for kinds types) k i found in
+    let shape = between kinds types i (candidate-shape kinds types k i found) in
+    record { inside = omega (arith, inside, length-total kinds types); a = shape.a; b = shape.b }
 
 -- an invariant that is found stands at its place among the candidates
-pub place-known : (types : ℕ) (i : Invariant) → is_some (place_of types i) ≡ true → IsPlaced types i (unwrap_or (place_of types i) 0)
-place-known types i h = let k = some-place (place_of types i) h in subst (λ o. IsPlaced types i (unwrap_or o 0)) (sym k.1) (placed types i k.0 k.1)
+pub place-known : (kinds : Kinds) (types : ℕ) (i : Invariant) → is_some (place_of kinds types i) ≡ true → IsPlaced kinds types i (unwrap_or (place_of kinds types i) 0)
+place-known kinds types i h = let k = some-place (place_of kinds types i) h in subst (λ o. IsPlaced kinds types i (unwrap_or o 0)) (sym k.1) (placed kinds types i k.0 k.1)
 
 abbrev after : Option ℕ → ℕ
 after None = 0
@@ -192,31 +209,32 @@ pub all-map : {X Y : Type 0} (f : X → Y) (P : Y → Type 0) (xs : List X) → 
 all-map f P [] h = tt
 all-map f P (x ∷ xs) h = (h.0, all-map f P xs h.1)
 
-few-candidates : (types : ℕ) → types ≤ 128 → types + 3 * (types * types) ≤ 49280
-few-candidates types few = omega (arith, mul-le-mul few few)
+few-candidates : (kinds : Kinds) (types : ℕ) → types ≤ MAX_TYPES → candidate_total kinds types ≤ MAX_INVARIANTS
+few-candidates Three types few = omega (arith, few, mul-le-mul few few)
+few-candidates Four types few = omega (arith, mul-le-mul few few)
 
--- listed invariants that pass are at most 49,280
-pub few-invariants : (types partitions : ℕ) (ls : List Listed) → types ≤ 128 → invariants_hold types partitions ls ≡ true → length ls ≤ 49280
+-- listed invariants that pass are no more than a log may have
+pub few-invariants : (kinds : Kinds) (types partitions : ℕ) (ls : List Listed) → types ≤ MAX_TYPES → invariants_hold kinds types partitions ls ≡ true → length ls ≤ MAX_INVARIANTS
 unfolding invariants_hold
-few-invariants types partitions ls few h =
+few-invariants kinds types partitions ls few h =
     let e = and_parts _ _ h in
-    let n = types + 3 * (types * types) in
-    let place : Listed → ℕ = λ l. unwrap_or (place_of types l.inv) 0 in
-    let small = all-by (listed_holds types partitions) (λ l. place l < n) (λ l x. (place-known types l.inv (and_parts _ _ x).0).inside) ls e.0 in
+    let n = candidate_total kinds types in
+    let place : Listed → ℕ = λ l. unwrap_or (place_of kinds types l.inv) 0 in
+    let small = all-by (listed_holds kinds types partitions) (λ l. place l < n) (λ l x. (place-known kinds types l.inv (and_parts _ _ x).0).inside) ls e.0 in
     let count = few-ascend n (map place ls) None (all-map place (λ k. k < n) ls small) (omega arith) e.1 in
-    omega (arith, count, length-map ls place, few-candidates types few)
+    omega (arith, count, length-map ls place, few-candidates kinds types few)
 
 -- listed invariants that pass fit their fields
-pub fits-invariants : (types partitions : ℕ) (ls : List Listed) → types ≤ 128 → invariants_hold types partitions ls ≡ true → AllByRecursion FitsListed ls
+pub fits-invariants : (kinds : Kinds) (types partitions : ℕ) (ls : List Listed) → types ≤ MAX_TYPES → invariants_hold kinds types partitions ls ≡ true → AllByRecursion FitsListed ls
 unfolding invariants_hold
-fits-invariants types partitions ls few h =
-    all-by (listed_holds types partitions) FitsListed (λ l x.
+fits-invariants kinds types partitions ls few h =
+    all-by (listed_holds kinds types partitions) FitsListed (λ l x.
     let a = and_parts _ _ x in
     let b = and_parts _ _ a.1 in
-    let at = place-known types l.inv a.0 in
+    let at = place-known kinds types l.inv a.0 in
     record { a = omega (arith, at.a, few); b = omega (arith, at.b, few); labels = all-by (λ label. leb label 7) (λ label. label ≤ 7) (λ label y. leb-true _ _ y) l.labels b.1 }) ls (and_parts _ _ h).0
 
-split-list : (invariants n : ℕ) (ss : List Split) → invariants ≤ 49280 → n ≤ 4000000 → list_all (split_holds invariants) ss ≡ true → split_numbers ss ≤ n → AllByRecursion FitsSplit ss
+split-list : (invariants n : ℕ) (ss : List Split) → invariants ≤ MAX_INVARIANTS → n ≤ MAX_PATH_NUMBERS → list_all (split_holds invariants) ss ≡ true → split_numbers ss ≤ n → AllByRecursion FitsSplit ss
 split-list invariants n [] few long h room = tt
 split-list invariants n (s ∷ ss) few long h room =
     let e = and_parts (split_holds invariants s) (list_all (split_holds invariants) ss) h in
@@ -228,7 +246,7 @@ split-list invariants n (s ∷ ss) few long h room =
     (record { inv = omega (arith, inv, few); place = omega (arith, place, room, long, sum); path = small-path s.path b.1 }, split-list invariants n ss few long e.1 (omega (arith, room, sum)))
 
 -- splits that pass fit their fields
-pub fits-splits : (invariants : ℕ) (ss : List Split) → invariants ≤ 49280 → splits_hold invariants ss ≡ true → AllByRecursion FitsSplit ss
+pub fits-splits : (invariants : ℕ) (ss : List Split) → invariants ≤ MAX_INVARIANTS → splits_hold invariants ss ≡ true → AllByRecursion FitsSplit ss
 unfolding splits_hold
 fits-splits invariants ss few h = let e = and_parts _ _ (and_parts _ _ h).1 in split-list invariants (split_numbers ss) ss few (leb-true _ _ e.1) e.0 (omega arith)
 
@@ -239,7 +257,7 @@ both-some (Some x) None h = absurd (false≢true h)
 both-some (Some x) (Some y) h = (refl, refl)
 
 -- blocks that pass fit their fields
-pub fits-blocks : (types invariants : ℕ) (ps : List Partition) (ss : List Split) (bs : List Block) → partitions_hold types ps ≡ true → invariants ≤ 49280 → blocks_hold (type_of ps) invariants ss bs ≡ true → AllByRecursion FitsBlock bs
+pub fits-blocks : (types invariants : ℕ) (ps : List Partition) (ss : List Split) (bs : List Block) → partitions_hold types ps ≡ true → invariants ≤ MAX_INVARIANTS → blocks_hold (type_of ps) invariants ss bs ≡ true → AllByRecursion FitsBlock bs
 unfolding blocks_hold
 fits-blocks types invariants ps ss bs parts few h =
     let small = numbered types ps parts in
@@ -248,7 +266,7 @@ fits-blocks types invariants ps ss bs parts few h =
     let c = and_parts _ _ a.1 in
     let d = and_parts _ _ c.1 in
     let both = both-some (type_of ps b.p) (type_of ps b.q) c.0 in
-    let p : b.p ≤ 1023 = listed-small types ps b.p small both.0 in
-    let q : b.q ≤ 1023 = listed-small types ps b.q small both.1 in
+    let p : b.p < MAX_PARTITIONS = listed-small types ps b.p small both.0 in
+    let q : b.q < MAX_PARTITIONS = listed-small types ps b.q small both.1 in
     let inv : b.inv < invariants = ltb-true _ _ d.0 in
     record { p = omega (arith, p); q = omega (arith, q); inv = omega (arith, inv, few); path = small-path b.path d.1 }) bs (and_parts _ _ h).0

@@ -2,10 +2,11 @@
 use Rattle.std.proofs.Common.{◌≡◌, ℕ, ◌≤◌, List, length, Some, Result, Ok, Err, refl, sym, ap, subst, ◌∙◌, le-ltb, lt-ltb, ◌<◌}
 use Rattle.std.specs.Prelude.{IfOk, IfErr}
 use Rattle.serde_json.specs.Data.{Data}
+use Rattle.model_file.specs.declared.version.Version.{Version}
+use Rattle.model_file.specs.Versions.{max_bytes}
 use Rattle.model_file.specs.declared.refusal.FileError.{FileError}
 use Rattle.model_file.specs.declared.refusal.FileError.TheVariants.{TooLong, NotJson, Memory}
-use Rattle.model_file.specs.Reading.{◌>>=◌, or_not_json, Fails, Gives, IsNoValue, model_in, value_of, reads}
-use Rattle.limits.specs.declared.TheConstants.{MAX_MODEL_BYTES}
+use Rattle.model_file.specs.Reading.{◌>>=◌, or_not_json, Fails, Gives, IsNoValue, model_in, value_of, reads_as}
 
 -- where a step fails, so does what goes on from it
 pub Fails-then : {A B : Type 0} (e : FileError) (r : Result A FileError) (f : A → Result B FileError) → Fails e r → Fails e (r >>= f)
@@ -26,32 +27,36 @@ pub Gives-by : {A B : Type 0} (e refusal : FileError) (answer whole : Result B F
     → answer ≡ Err refusal → refusal ≡ e → whole ≡ (r >>= f) → s ≡ r → Fails e s → Gives answer whole
 Gives-by e refusal answer whole r s f failed same is moved h = Gives-at e refusal answer whole r f failed same is (subst (Fails e) moved h)
 
--- what a part of the reading gives, the whole gives
-pub Gives-ok : {A : Type 0} (r read whole : Result A FileError) → whole ≡ read → Gives r read → IfOk r (λ x. whole ≡ Ok x)
-Gives-ok (Ok x) read whole is h = is ∙ h
-Gives-ok (Err e) read whole is h = tt
+-- an answer that is a model is what was to be read
+pub Gives-ok : {A : Type 0} (r read : Result A FileError) → Gives r read → IfOk r (λ x. read ≡ Ok x)
+Gives-ok (Ok x) read h = h
+Gives-ok (Err e) read h = tt
 
--- where a part of the reading fails, so does the whole
-pub Gives-err : {A : Type 0} (r read whole : Result A FileError) → whole ≡ read → Gives r read → IfErr r (λ e. Fails e whole)
-Gives-err (Ok x) read whole is h = tt
-Gives-err (Err e) read whole is h = subst (Fails e) (sym is) h
+-- an answer that is a refusal is that of what was to be read
+pub Gives-err : {A : Type 0} (r read : Result A FileError) → Gives r read → IfErr r (λ e. Fails e read)
+Gives-err (Ok x) read h = tt
+Gives-err (Err e) read h = h
+
+-- what a part of the reading gives of the whole
+pub Gives-whole : {A : Type 0} (r read whole : Result A FileError) → whole ≡ read → Gives r read → Gives r whole
+Gives-whole r read whole is h = subst (λ x. Gives r x) (sym is) h
 
 -- bytes that are not too long are read as a value, and this as a model
-pub reads-short : (bytes : List ℕ) → length bytes ≤ MAX_MODEL_BYTES → reads bytes ≡ (or_not_json (value_of bytes) >>= model_in)
-unfolding reads
-reads-short bytes short = rw (le-ltb MAX_MODEL_BYTES (length bytes) short) refl
+pub reads-short : (version : Version) (bytes : List ℕ) → length bytes ≤ max_bytes version → reads_as version bytes ≡ (or_not_json (value_of bytes) >>= model_in version)
+unfolding reads_as
+reads-short version bytes short = rw (le-ltb (max_bytes version) (length bytes) short) refl
 
 -- bytes that are too long are refused as such
-pub reads-long : (bytes : List ℕ) → MAX_MODEL_BYTES < length bytes → reads bytes ≡ Err TooLong
-unfolding reads
-reads-long bytes long = rw (lt-ltb MAX_MODEL_BYTES (length bytes) long) refl
+pub reads-long : (version : Version) (bytes : List ℕ) → max_bytes version < length bytes → reads_as version bytes ≡ Err TooLong
+unfolding reads_as
+reads-long version bytes long = rw (lt-ltb (max_bytes version) (length bytes) long) refl
 
 -- bytes of a value are read as the model that the value is
-pub reads-value : (bytes : List ℕ) (d : Data) → length bytes ≤ MAX_MODEL_BYTES → value_of bytes ≡ Some d → reads bytes ≡ model_in d
-reads-value bytes d short is = reads-short bytes short ∙ ap (λ o. or_not_json o >>= model_in) is
+pub reads-value : (version : Version) (bytes : List ℕ) (d : Data) → length bytes ≤ max_bytes version → value_of bytes ≡ Some d → reads_as version bytes ≡ model_in version d
+reads-value version bytes d short is = reads-short version bytes short ∙ ap (λ o. or_not_json o >>= model_in version) is
 
 -- where the bytes give no value, the reading fails for the same cause
-pub no-value : (e : FileError) (bytes : List ℕ) → length bytes ≤ MAX_MODEL_BYTES → IsNoValue e (value_of bytes) → Fails e (reads bytes)
-no-value NotJson bytes short h = reads-short bytes short ∙ ap (λ o. or_not_json o >>= model_in) h
-no-value Memory bytes short h = tt
-no-value _ bytes short h = absurd h
+pub no-value : (version : Version) (e : FileError) (bytes : List ℕ) → length bytes ≤ max_bytes version → IsNoValue e (value_of bytes) → Fails e (reads_as version bytes)
+no-value version NotJson bytes short h = reads-short version bytes short ∙ ap (λ o. or_not_json o >>= model_in version) h
+no-value version Memory bytes short h = tt
+no-value version _ bytes short h = absurd h

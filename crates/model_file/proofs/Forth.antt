@@ -8,6 +8,8 @@ use Rattle.serde_json.specs.Find.{as_str}
 use Rattle.serde_json.specs.View.{items_of}
 use Rattle.invariants.specs.declared.Kind.{Kind}
 use Rattle.invariants.specs.declared.Kind.TheVariants.{AF, NF, AP, IB}
+use Rattle.invariants.specs.declared.Kinds.{Kinds}
+use Rattle.invariants.specs.declared.Kinds.TheVariants.{Three, Four}
 use Rattle.invariants.specs.declared.Invariant.{Invariant}
 use Rattle.invariants.specs.declared.records.Partition.{Partition}
 use Rattle.invariants.specs.declared.records.Edge.{Edge}
@@ -15,8 +17,8 @@ use Rattle.invariants.specs.declared.records.Listed.{Listed}
 use Rattle.invariants.specs.declared.records.Merge.{Merge}
 use Rattle.invariants.specs.declared.records.Split.{Split}
 use Rattle.invariants.specs.declared.records.Block.{Block}
-use Rattle.model_file.specs.Tree.{number_data, array_of, path_data, partition_data, edge_data, kind_text, digit_of, listed_data, merge_data, split_data, block_data}
-use Rattle.model_file.specs.Entries.{◌>>=◌, number_below, number_in, type_in, each, list_in, two, three, four, two_in, three_in, four_in, kind_named, kind_in, label_of, labels_of, labels_in, path_in, partition_in, edge_in, invariant_in, listed_in, merge_in, split_in, block_in}
+use Rattle.model_file.specs.Tree.{number_data, array_of, path_data, partition_data, edge_data, kind_text, kind_data, kinds_in_order, kinds_data, digit_of, listed_data, merge_data, split_data, block_data}
+use Rattle.model_file.specs.Entries.{◌>>=◌, number_below, number_in, type_in, each, list_in, two, three, four, two_in, three_in, four_in, kind_named, kind_in, kinds_from, kinds_named, label_of, labels_of, labels_in, path_in, partition_in, edge_in, invariant_in, listed_in, merge_in, split_in, block_in}
 
 -- two options that are the same have the same value
 pub some-is : {A : Type 0} (x y : A) → Some x ≡ Some y → x ≡ y
@@ -119,6 +121,18 @@ unfolding kind_in
 kind-forth d kind e =
     let text = bind-some (as_str d) kind_named kind e in
     text-forth d text.0 text.1 ∙ ap string (first-kind (bytes_eq text.0 (codes "AF")) text.0 kind refl text.2)
+
+kinds-are : (ks : List Kind) (kinds : Kinds) → kinds_from ks ≡ Some kinds → ks ≡ kinds_in_order kinds
+kinds-are (AF ∷ NF ∷ AP ∷ []) kinds e = ap kinds_in_order (some-is Three kinds e)
+kinds-are (AF ∷ NF ∷ AP ∷ IB ∷ []) kinds e = ap kinds_in_order (some-is Four kinds e)
+kinds-are _ kinds e = absurd cc
+
+-- a value that is read as kinds is the array of their names
+pub kinds-forth : (d : Data) (kinds : Kinds) → kinds_named d ≡ Some kinds → d ≡ kinds_data kinds
+unfolding kinds_named
+kinds-forth d kinds e =
+    let ks = bind-some (list_in kind_in d) kinds_from kinds e in
+    list-forth kind_in kind_data kind-forth d ks.0 ks.1 ∙ ap (λ (xs : List Kind). array_of (map kind_data xs)) (kinds-are ks.0 kinds ks.2)
 
 label-is : (b : Bool) (byte label : ℕ) → (leb 48 byte && leb byte 55) ≡ b → cond b (Some (byte - 48)) None ≡ Some label → byte ≡ digit_of label
 label-is true byte label is e =

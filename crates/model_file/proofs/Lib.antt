@@ -6,6 +6,8 @@ pub mod Back
 pub mod Shapes
 pub mod Texts
 pub mod Trees
+pub mod Former
+pub mod Unnamed
 pub mod Tokens
 pub mod Places
 pub mod Fails
@@ -16,3 +18,4 @@ pub mod Objects
 pub mod Limit
 pub mod Passing
 pub mod Telling
+pub mod Digits

@@ -4,6 +4,7 @@ use Rattle.std.proofs.Common.{eq-eqb, ne_eqb, eqb-true, lt-ltb, ltb-true, le-leb
 use Rattle.std.specs.List.{AllByRecursion, list_all, list_any, slice_get}
 use Rattle.std.proofs.lemmas.Bool.{and_parts, and_from, or_cases, or_left, or_right, leb-true, cases_Bool, false≢true}
 use Rattle.std.proofs.lemmas.Slice.Eq.{bytes_eq-Decides}
+use Rattle.limits.specs.declared.TheConstants.{MAX_TYPES}
 use Rattle.invariants.specs.declared.records.Partition.{Partition}
 use Rattle.model_shape.specs.Ascending.{LeadsTo, Ascends, PartitionBefore}
 use Rattle.model_shape.specs.Shapes.{IsTypeText, AreTypes, end_of, IsEventPartition, AreShapedPartitions}
@@ -138,15 +139,15 @@ pub text-told : (s : List ℕ) → IsTypeText s → type_holds s ≡ true
 text-told s t = let low : 0 < length s = t.some in and_from (leb 1 (length s)) (leb (length s) 256) (le-leb 1 (length s) (omega (arith, low))) (le-leb (length s) 256 t.short)
 
 -- a list of texts passes exactly where they are the types of a well-shaped model
-pub types-tell : (ts : List (List ℕ)) → (types_hold ts ≡ true) ↔ AreTypes ts
+pub types-tell : (ts : List (List ℕ)) → (types_hold MAX_TYPES ts ≡ true) ↔ AreTypes ts
 unfolding types_hold
 types-tell ts = (
   λ h.
-      let a = and_parts (leb (length ts) 128) (list_all type_holds ts && are_distinct ts) h in
+      let a = and_parts (leb (length ts) MAX_TYPES) (list_all type_holds ts && are_distinct ts) h in
       let b = and_parts (list_all type_holds ts) (are_distinct ts) a.1 in
-      record { few = leb-true (length ts) 128 a.0; each = all-by type_holds IsTypeText text-tells ts b.0; apart = distinct-apart ts b.1 },
+      record { few = leb-true (length ts) MAX_TYPES a.0; each = all-by type_holds IsTypeText text-tells ts b.0; apart = distinct-apart ts b.1 },
   λ t.
-      and_from (leb (length ts) 128) (list_all type_holds ts && are_distinct ts) (le-leb (length ts) 128 t.few)
+      and_from (leb (length ts) MAX_TYPES) (list_all type_holds ts && are_distinct ts) (le-leb (length ts) MAX_TYPES t.few)
       (and_from (list_all type_holds ts) (are_distinct ts) (all-of type_holds IsTypeText text-told ts t.each) (apart-distinct ts t.apart)),
 )
 

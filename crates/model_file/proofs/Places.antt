@@ -2,7 +2,8 @@
 use Rattle.std.proofs.Common.{◌≡◌, ℕ, zero, suc, ◌+◌, Bool, true, false, cond, List, [], ◌∷◌, ◌↔◌, Option, Some, None, option_map, is_some, refl, sym, ap, subst, ◌∙◌, add-one}
 use Rattle.std.specs.List.{slice_get}
 use Rattle.std.proofs.lemmas.Bool.{and_parts, and_from, eqb-true, eq-eqb, false≢true}
-use Rattle.invariants.specs.Candidates.{candidates}
+use Rattle.invariants.specs.Candidates.{candidates_for}
+use Rattle.invariants.specs.declared.Kinds.{Kinds}
 use Rattle.invariants.specs.declared.Kind.{Kind}
 use Rattle.invariants.specs.declared.Kind.TheVariants.{AF, NF, AP, IB}
 use Rattle.invariants.specs.declared.Invariant.{Invariant}
@@ -78,13 +79,13 @@ place-some i [] k h = absurd cc
 place-some i (c ∷ cs) zero h = let is : c ≡ i = cc in some-here (same_invariant i c) _ (subst (λ j. same_invariant i j ≡ true) (sym is) (same-itself i))
 place-some i (c ∷ cs) (suc k) h = some-later (same_invariant i c) (place_in i cs) (place-some i cs k h)
 
-agrees : (types : ℕ) (i : Invariant) (r o : Option ℕ) → ((k : ℕ) → r ≡ Some k → slice_get (candidates types) k ≡ Some i) → ((k : ℕ) → slice_get (candidates types) k ≡ Some i → r ≡ Some k)
-    → place_in i (candidates types) ≡ o → r ≡ o
-agrees types i None None to from e = refl
-agrees types i (Some k) None to from e = absurd (false≢true (subst (λ o. is_some o ≡ true) e (place-some i (candidates types) k (to k refl))))
-agrees types i r (Some k) to from e = from k (place-is i (candidates types) k e)
+agrees : (kinds : Kinds) (types : ℕ) (i : Invariant) (r o : Option ℕ) → ((k : ℕ) → r ≡ Some k → slice_get (candidates_for kinds types) k ≡ Some i) → ((k : ℕ) → slice_get (candidates_for kinds types) k ≡ Some i → r ≡ Some k)
+    → place_in i (candidates_for kinds types) ≡ o → r ≡ o
+agrees kinds types i None None to from e = refl
+agrees kinds types i (Some k) None to from e = absurd (false≢true (subst (λ o. is_some o ≡ true) e (place-some i (candidates_for kinds types) k (to k refl))))
+agrees kinds types i r (Some k) to from e = from k (place-is i (candidates_for kinds types) k e)
 
 -- an answer that is a place exactly where the invariant stands there is the invariant's place
-pub place-agrees : (types : ℕ) (i : Invariant) (r : Option ℕ) → ((k : ℕ) → (r ≡ Some k) ↔ (slice_get (candidates types) k ≡ Some i)) → r ≡ place_of types i
+pub place-agrees : (kinds : Kinds) (types : ℕ) (i : Invariant) (r : Option ℕ) → ((k : ℕ) → (r ≡ Some k) ↔ (slice_get (candidates_for kinds types) k ≡ Some i)) → r ≡ place_of kinds types i
 unfolding place_of
-place-agrees types i r h = agrees types i r (place_in i (candidates types)) (λ k. (h k).0) (λ k. (h k).1) refl
+place-agrees kinds types i r h = agrees kinds types i r (place_in i (candidates_for kinds types)) (λ k. (h k).0) (λ k. (h k).1) refl

@@ -1,11 +1,11 @@
 -- Each test is passed exactly where the rule of a well-shaped model holds.
-use Rattle.std.proofs.Common.{◌≡◌, ◌↔◌, ℕ, ◌+◌, ◌<◌, ◌≤◌, Bool, true, false, cond, not, ◌&&◌, ◌||◌, eqb, ltb, leb, nat_lt, List, [], ◌∷◌, map, length, Option, Some, None, refl, sym, ap, ◌∙◌, arith}
+use Rattle.std.proofs.Common.{◌≡◌, ◌↔◌, ℕ, ◌+◌, ◌<◌, ◌≤◌, Bool, true, false, cond, not, ◌&&◌, ◌||◌, eqb, ltb, leb, nat_lt, List, [], ◌∷◌, map, length, Option, Some, None, Ok, refl, sym, ap, ◌∙◌, arith}
 use Rattle.std.proofs.Common.{eq-eqb, eqb-true, lt-ltb, ltb-true, le-leb}
 use Rattle.std.specs.Prelude.{unwrap_or, option_map, find, is_some}
 use Rattle.std.specs.List.{list_all, slice_get}
 use Rattle.std.proofs.lemmas.Bool.{and_parts, and_from, leb-true, false≢true}
-use Rattle.limits.specs.declared.TheConstants.{MAX_PATH_NUMBERS}
-use Rattle.invariants.specs.Candidates.{candidates}
+use Rattle.limits.specs.declared.TheConstants.{MAX_TYPES, MAX_PATH_NUMBERS}
+use Rattle.invariants.specs.Candidates.{candidates_for}
 use Rattle.invariants.specs.declared.Invariant.{Invariant}
 use Rattle.invariants.specs.declared.records.Partition.{Partition}
 use Rattle.invariants.specs.declared.records.Edge.{Edge}
@@ -14,14 +14,15 @@ use Rattle.invariants.specs.declared.records.Merge.{Merge}
 use Rattle.invariants.specs.declared.records.Split.{Split}
 use Rattle.invariants.specs.declared.records.Block.{Block}
 use Rattle.invariants.specs.declared.records.Model.{Model}
-use Rattle.invariants.specs.declared.Kinds.TheVariants.{Three}
+use Rattle.invariants.specs.declared.Kinds.{Kinds}
 use Rattle.invariants.proofs.EachKinds.{candidates-differ}
 use Rattle.invariants.proofs.Members.{Contains-from_place, place-from_Contains}
 use Rattle.model_shape.specs.Numbers.{split_numbers, block_numbers}
 use Rattle.model_shape.specs.Ascending.{LeadsTo, Ascends, EdgeBefore, BlockBefore, CandidateBefore}
 use Rattle.model_shape.specs.Shapes.{is_listed, listed_type, IsLabel, IsShapedEdge, AreShapedEdges, IsShapedListed, AreShapedInvariants, IsShapedMerge, AreShapedMerges, AreIds, IsShapedSplit, AreShapedSplits, IsShapedBlock, AreShapedBlocks, IsWellShaped}
 use Rattle.model_file.specs.Rules.{types_hold, partitions_hold, ascends_from, pair_less, type_of, edge_holds, edges_hold, place_of, listed_holds, invariants_hold, merge_holds, merges_hold, path_holds, split_holds, splits_hold, are_one, block_holds, blocks_hold, PassesRules, RulesTell, others_hold}
-use Rattle.model_file.specs.Laws.{ReadIsWellShaped}
+use Rattle.model_file.specs.declared.version.Version.{Version}
+use Rattle.model_file.specs.Reading.{reads_as}
 use Rattle.model_file.proofs.Places.{place-is, place-some}
 use Rattle.model_file.proofs.Bounds.{all-by, some-place, both-some}
 use Rattle.model_file.proofs.Shapes.{read-passes}
@@ -94,95 +95,95 @@ edges-tell ps es =
 
 -- ---- invariants
 
-found-place : (types : ℕ) (i : Invariant) (k : ℕ) → place_of types i ≡ Some k → slice_get (candidates types) k ≡ Some i
+found-place : (kinds : Kinds) (types : ℕ) (i : Invariant) (k : ℕ) → place_of kinds types i ≡ Some k → slice_get (candidates_for kinds types) k ≡ Some i
 unfolding place_of
-found-place types i k h = place-is i (candidates types) k h
+found-place kinds types i k h = place-is i (candidates_for kinds types) k h
 
-has-place : (types : ℕ) (i : Invariant) (k : ℕ) → slice_get (candidates types) k ≡ Some i → is_some (place_of types i) ≡ true
+has-place : (kinds : Kinds) (types : ℕ) (i : Invariant) (k : ℕ) → slice_get (candidates_for kinds types) k ≡ Some i → is_some (place_of kinds types i) ≡ true
 unfolding place_of
-has-place types i k h = place-some i (candidates types) k h
+has-place kinds types i k h = place-some i (candidates_for kinds types) k h
 
 -- a candidate has one place
-its-place : (types : ℕ) (i : Invariant) (k : ℕ) → slice_get (candidates types) k ≡ Some i → place_of types i ≡ Some k
-its-place types i k h =
-    let o = some-place (place_of types i) (has-place types i k h) in
-    o.1 ∙ ap Some (candidates-differ Three types o.0 k i (found-place types i o.0 o.1) h)
+its-place : (kinds : Kinds) (types : ℕ) (i : Invariant) (k : ℕ) → slice_get (candidates_for kinds types) k ≡ Some i → place_of kinds types i ≡ Some k
+its-place kinds types i k h =
+    let o = some-place (place_of kinds types i) (has-place kinds types i k h) in
+    o.1 ∙ ap Some (candidates-differ kinds types o.0 k i (found-place kinds types i o.0 o.1) h)
 
-abbrev place-at : ℕ → Listed → ℕ
-place-at types l = unwrap_or (place_of types l.inv) 0
+abbrev place-at : Kinds → ℕ → Listed → ℕ
+place-at kinds types l = unwrap_or (place_of kinds types l.inv) 0
 
-abbrev IsCandidate : ℕ → Listed → Type 0
-IsCandidate types l = is_some (place_of types l.inv) ≡ true
+abbrev IsCandidate : Kinds → ℕ → Listed → Type 0
+IsCandidate kinds types l = is_some (place_of kinds types l.inv) ≡ true
 
-abbrev ListedBefore : ℕ → Listed → Listed → Type 0
-ListedBefore types x y = CandidateBefore types x.inv y.inv
+abbrev ListedBefore : Kinds → ℕ → Listed → Listed → Type 0
+ListedBefore kinds types x y = CandidateBefore kinds types x.inv y.inv
 
-candidates-give : (types : ℕ) → Gives nat_lt (place-at types) (ListedBefore types) (IsCandidate types)
-candidates-give types x y p q h =
-    let a = some-place (place_of types x.inv) p in
-    let b = some-place (place_of types y.inv) q in
-    let less : place-at types x < place-at types y = ltb-true (place-at types x) (place-at types y) h in
-    let first : place-at types x ≡ a.0 = ap (λ (o : Option ℕ). unwrap_or o 0) a.1 in
-    let second : place-at types y ≡ b.0 = ap (λ (o : Option ℕ). unwrap_or o 0) b.1 in
-    record { place = a.0; later = b.0; here = found-place types x.inv a.0 a.1; there = found-place types y.inv b.0 b.1; order = omega (arith, less, first, second) }
+candidates-give : (kinds : Kinds) (types : ℕ) → Gives nat_lt (place-at kinds types) (ListedBefore kinds types) (IsCandidate kinds types)
+candidates-give kinds types x y p q h =
+    let a = some-place (place_of kinds types x.inv) p in
+    let b = some-place (place_of kinds types y.inv) q in
+    let less : place-at kinds types x < place-at kinds types y = ltb-true (place-at kinds types x) (place-at kinds types y) h in
+    let first : place-at kinds types x ≡ a.0 = ap (λ (o : Option ℕ). unwrap_or o 0) a.1 in
+    let second : place-at kinds types y ≡ b.0 = ap (λ (o : Option ℕ). unwrap_or o 0) b.1 in
+    record { place = a.0; later = b.0; here = found-place kinds types x.inv a.0 a.1; there = found-place kinds types y.inv b.0 b.1; order = omega (arith, less, first, second) }
 
-candidates-take : (types : ℕ) → Takes nat_lt (place-at types) (ListedBefore types)
-candidates-take types x y c =
-    let first : place-at types x ≡ c.place = ap (λ (o : Option ℕ). unwrap_or o 0) (its-place types x.inv c.place c.here) in
-    let second : place-at types y ≡ c.later = ap (λ (o : Option ℕ). unwrap_or o 0) (its-place types y.inv c.later c.there) in
+candidates-take : (kinds : Kinds) (types : ℕ) → Takes nat_lt (place-at kinds types) (ListedBefore kinds types)
+candidates-take kinds types x y c =
+    let first : place-at kinds types x ≡ c.place = ap (λ (o : Option ℕ). unwrap_or o 0) (its-place kinds types x.inv c.place c.here) in
+    let second : place-at kinds types y ≡ c.later = ap (λ (o : Option ℕ). unwrap_or o 0) (its-place kinds types y.inv c.later c.there) in
     let less : c.place < c.later = c.order in
-    lt-ltb (place-at types x) (place-at types y) (omega (arith, first, second, less))
+    lt-ltb (place-at kinds types x) (place-at kinds types y) (omega (arith, first, second, less))
 
 -- of listed invariants or of the invariants alone
-listing-leads : (types : ℕ) (x : Listed) (xs : List Listed) → LeadsTo (ListedBefore types) x xs → LeadsTo (CandidateBefore types) x.inv (map (λ (l : Listed). l.inv) xs)
-listing-leads types x [] l = tt
-listing-leads types x (y ∷ ys) l = l
+listing-leads : (kinds : Kinds) (types : ℕ) (x : Listed) (xs : List Listed) → LeadsTo (ListedBefore kinds types) x xs → LeadsTo (CandidateBefore kinds types) x.inv (map (λ (l : Listed). l.inv) xs)
+listing-leads kinds types x [] l = tt
+listing-leads kinds types x (y ∷ ys) l = l
 
-listing-ascends : (types : ℕ) (xs : List Listed) → Ascends (ListedBefore types) xs → Ascends (CandidateBefore types) (map (λ (l : Listed). l.inv) xs)
-listing-ascends types [] a = tt
-listing-ascends types (x ∷ xs) a = (listing-leads types x xs a.0, listing-ascends types xs a.1)
+listing-ascends : (kinds : Kinds) (types : ℕ) (xs : List Listed) → Ascends (ListedBefore kinds types) xs → Ascends (CandidateBefore kinds types) (map (λ (l : Listed). l.inv) xs)
+listing-ascends kinds types [] a = tt
+listing-ascends kinds types (x ∷ xs) a = (listing-leads kinds types x xs a.0, listing-ascends kinds types xs a.1)
 
-listed-leads : (types : ℕ) (x : Listed) (xs : List Listed) → LeadsTo (CandidateBefore types) x.inv (map (λ (l : Listed). l.inv) xs) → LeadsTo (ListedBefore types) x xs
-listed-leads types x [] l = tt
-listed-leads types x (y ∷ ys) l = l
+listed-leads : (kinds : Kinds) (types : ℕ) (x : Listed) (xs : List Listed) → LeadsTo (CandidateBefore kinds types) x.inv (map (λ (l : Listed). l.inv) xs) → LeadsTo (ListedBefore kinds types) x xs
+listed-leads kinds types x [] l = tt
+listed-leads kinds types x (y ∷ ys) l = l
 
-listed-ascends : (types : ℕ) (xs : List Listed) → Ascends (CandidateBefore types) (map (λ (l : Listed). l.inv) xs) → Ascends (ListedBefore types) xs
-listed-ascends types [] a = tt
-listed-ascends types (x ∷ xs) a = (listed-leads types x xs a.0, listed-ascends types xs a.1)
+listed-ascends : (kinds : Kinds) (types : ℕ) (xs : List Listed) → Ascends (CandidateBefore kinds types) (map (λ (l : Listed). l.inv) xs) → Ascends (ListedBefore kinds types) xs
+listed-ascends kinds types [] a = tt
+listed-ascends kinds types (x ∷ xs) a = (listed-leads kinds types x xs a.0, listed-ascends kinds types xs a.1)
 
-listed-tells : (types partitions : ℕ) (l : Listed) → listed_holds types partitions l ≡ true → IsShapedListed types partitions l
-listed-tells types partitions l h =
-    let a = and_parts (is_some (place_of types l.inv)) (eqb (length l.labels) partitions && list_all (λ label. leb label 7) l.labels) h in
+listed-tells : (kinds : Kinds) (types partitions : ℕ) (l : Listed) → listed_holds kinds types partitions l ≡ true → IsShapedListed kinds types partitions l
+listed-tells kinds types partitions l h =
+    let a = and_parts (is_some (place_of kinds types l.inv)) (eqb (length l.labels) partitions && list_all (λ label. leb label 7) l.labels) h in
     let b = and_parts (eqb (length l.labels) partitions) (list_all (λ label. leb label 7) l.labels) a.1 in
-    let k = some-place (place_of types l.inv) a.0 in
+    let k = some-place (place_of kinds types l.inv) a.0 in
     record {
-      candidate = Contains-from_place (candidates types) k.0 l.inv (found-place types l.inv k.0 k.1);
+      candidate = Contains-from_place (candidates_for kinds types) k.0 l.inv (found-place kinds types l.inv k.0 k.1);
       count = eqb-true (length l.labels) partitions b.0;
       labels = all-by (λ label. leb label 7) IsLabel (λ label low. leb-true label 7 low) l.labels b.1;
     }
 
-listed-told : (types partitions : ℕ) (l : Listed) → IsShapedListed types partitions l → listed_holds types partitions l ≡ true
-listed-told types partitions l t =
-    and_from (is_some (place_of types l.inv)) (eqb (length l.labels) partitions && list_all (λ label. leb label 7) l.labels)
-    (has-place types l.inv t.candidate.0 (place-from_Contains (candidates types) l.inv t.candidate))
+listed-told : (kinds : Kinds) (types partitions : ℕ) (l : Listed) → IsShapedListed kinds types partitions l → listed_holds kinds types partitions l ≡ true
+listed-told kinds types partitions l t =
+    and_from (is_some (place_of kinds types l.inv)) (eqb (length l.labels) partitions && list_all (λ label. leb label 7) l.labels)
+    (has-place kinds types l.inv t.candidate.0 (place-from_Contains (candidates_for kinds types) l.inv t.candidate))
     (and_from (eqb (length l.labels) partitions) (list_all (λ label. leb label 7) l.labels) (eq-eqb (length l.labels) partitions t.count)
     (all-of (λ label. leb label 7) IsLabel (λ label low. le-leb label 7 low) l.labels t.labels))
 
-invariants-tell : (types partitions : ℕ) (ls : List Listed) → (invariants_hold types partitions ls ≡ true) ↔ AreShapedInvariants types partitions ls
+invariants-tell : (kinds : Kinds) (types partitions : ℕ) (ls : List Listed) → (invariants_hold kinds types partitions ls ≡ true) ↔ AreShapedInvariants kinds types partitions ls
 unfolding invariants_hold
-invariants-tell types partitions ls = (
+invariants-tell kinds types partitions ls = (
   λ h.
-      let a = and_parts (list_all (listed_holds types partitions) ls) (ascends_from nat_lt None (map (place-at types) ls)) h in
-      let known = all-by (listed_holds types partitions) (IsCandidate types)
-      (λ l x. (and_parts (is_some (place_of types l.inv)) (eqb (length l.labels) partitions && list_all (λ label. leb label 7) l.labels) x).0) ls a.0 in
+      let a = and_parts (list_all (listed_holds kinds types partitions) ls) (ascends_from nat_lt None (map (place-at kinds types) ls)) h in
+      let known = all-by (listed_holds kinds types partitions) (IsCandidate kinds types)
+      (λ l x. (and_parts (is_some (place_of kinds types l.inv)) (eqb (length l.labels) partitions && list_all (λ label. leb label 7) l.labels) x).0) ls a.0 in
       record {
-        order = listing-ascends types ls (ascends-tell nat_lt (place-at types) (ListedBefore types) (IsCandidate types) (candidates-give types) ls None known a.1);
-        each = all-by (listed_holds types partitions) (IsShapedListed types partitions) (listed-tells types partitions) ls a.0;
+        order = listing-ascends kinds types ls (ascends-tell nat_lt (place-at kinds types) (ListedBefore kinds types) (IsCandidate kinds types) (candidates-give kinds types) ls None known a.1);
+        each = all-by (listed_holds kinds types partitions) (IsShapedListed kinds types partitions) (listed-tells kinds types partitions) ls a.0;
       },
   λ t.
-      and_from (list_all (listed_holds types partitions) ls) (ascends_from nat_lt None (map (place-at types) ls))
-      (all-of (listed_holds types partitions) (IsShapedListed types partitions) (listed-told types partitions) ls t.each)
-      (ascends-told nat_lt (place-at types) (ListedBefore types) (candidates-take types) ls (listed-ascends types ls t.order)),
+      and_from (list_all (listed_holds kinds types partitions) ls) (ascends_from nat_lt None (map (place-at kinds types) ls))
+      (all-of (listed_holds kinds types partitions) (IsShapedListed kinds types partitions) (listed-told kinds types partitions) ls t.each)
+      (ascends-told nat_lt (place-at kinds types) (ListedBefore kinds types) (candidates-take kinds types) ls (listed-ascends kinds types ls t.order)),
 )
 
 -- ---- merges
@@ -318,7 +319,7 @@ passes m w =
       types = (types-tell m.types).1 w.types;
       partitions = (partitions-tell (length m.types) m.partitions).1 w.partitions;
       edges = (edges-tell m.partitions m.edges).1 w.edges;
-      invariants = (invariants-tell (length m.types) (length m.partitions) m.invariants).1 w.invariants;
+      invariants = (invariants-tell m.kinds (length m.types) (length m.partitions) m.invariants).1 w.invariants;
       merges = (merges-tell m.merges).1 w.merges;
       splits = (splits-tell (length m.invariants) m.splits).1 w.splits;
       blocks = (blocks-tell (length m.invariants) m.partitions m.splits m.blocks).1 w.blocks;
@@ -331,15 +332,15 @@ shaped m h =
       types = (types-tell m.types).0 h.types;
       partitions = (partitions-tell (length m.types) m.partitions).0 h.partitions;
       edges = (edges-tell m.partitions m.edges).0 h.edges;
-      invariants = (invariants-tell (length m.types) (length m.partitions) m.invariants).0 h.invariants;
+      invariants = (invariants-tell m.kinds (length m.types) (length m.partitions) m.invariants).0 h.invariants;
       merges = (merges-tell m.merges).0 h.merges;
       splits = (splits-tell (length m.invariants) m.splits).0 h.splits;
       blocks = (blocks-tell (length m.invariants) m.partitions m.splits m.blocks).0 h.blocks;
     }
 
 -- a model that is read is well shaped
-pub read-is-well-shaped : ReadIsWellShaped
-read-is-well-shaped bytes m e = shaped m (read-passes bytes m e)
+pub read-is-well-shaped : (version : Version) (bytes : List ℕ) (m : Model) → reads_as version bytes ≡ Ok m → IsWellShaped m
+read-is-well-shaped version bytes m e = shaped m (read-passes version bytes m e)
 
 -- ---- the test of a whole model
 
@@ -347,7 +348,7 @@ no-rule : (P : Type 0) → (P → ⊥) → (false ≡ true) ↔ P
 no-rule P not_so = (λ t. absurd (false≢true t), λ p. absurd (not_so p))
 
 -- where the types fail, the model is not well shaped
-pub no-types : (m : Model) → types_hold m.types ≡ false → (false ≡ true) ↔ IsWellShaped m
+pub no-types : (m : Model) → types_hold MAX_TYPES m.types ≡ false → (false ≡ true) ↔ IsWellShaped m
 no-types m fails = no-rule (IsWellShaped m) (λ w. false≢true (sym fails ∙ (passes m w).types))
 
 -- where the partitions fail, the model is not well shaped
@@ -358,7 +359,7 @@ others-same : (type : ℕ → Option ℕ) (m : Model) → ((id : ℕ) → type i
 others-same type m h =
     rw (edges-rule-same type (type_of m.partitions) h m.edges, blocks-rule-same type (type_of m.partitions) h (length m.invariants) m.splits m.blocks) refl
 
-others-pass : (m : Model) → types_hold m.types ≡ true → partitions_hold (length m.types) m.partitions ≡ true → others_hold (type_of m.partitions) m ≡ true → PassesRules m
+others-pass : (m : Model) → types_hold MAX_TYPES m.types ≡ true → partitions_hold (length m.types) m.partitions ≡ true → others_hold (type_of m.partitions) m ≡ true → PassesRules m
 others-pass m types partitions h =
     let a = and_parts _ _ h in
     let b = and_parts _ _ a.1 in
@@ -370,7 +371,7 @@ pass-others : (m : Model) → PassesRules m → others_hold (type_of m.partition
 pass-others m p = and_from _ _ p.edges (and_from _ _ p.invariants (and_from _ _ p.merges (and_from _ _ p.splits p.blocks)))
 
 -- where types and partitions pass, the other parts pass exactly where the model is well shaped
-pub others-tell : (m : Model) (type : ℕ → Option ℕ) (b : Bool) → types_hold m.types ≡ true → partitions_hold (length m.types) m.partitions ≡ true
+pub others-tell : (m : Model) (type : ℕ → Option ℕ) (b : Bool) → types_hold MAX_TYPES m.types ≡ true → partitions_hold (length m.types) m.partitions ≡ true
     → ((id : ℕ) → type id ≡ type_of m.partitions id) → b ≡ others_hold type m → (b ≡ true) ↔ IsWellShaped m
 others-tell m type b types partitions agree is =
     let same = is ∙ others-same type m agree in

@@ -17,33 +17,35 @@ use Rattle.serde_json.specs.Written.{outline, items_outline, comma_if, compact_t
 use Rattle.invariants.specs.declared.Kind.{Kind}
 use Rattle.invariants.specs.declared.Kind.TheVariants.{AF, NF, AP, IB}
 use Rattle.invariants.specs.declared.records.Model.{Model}
-use Rattle.model_file.specs.Tree.{number_data, array_of, path_data, partition_data, edge_data, kind_text, digit_of, listed_data, merge_data, split_data, block_data, tree_of, file_text}
+use Rattle.limits.specs.declared.TheConstants.{MAX_TYPES, MAX_MODEL_BYTES}
+use Rattle.model_file.specs.declared.version.Version.TheVariants.{Two}
+use Rattle.model_file.specs.Tree.{number_data, array_of, path_data, partition_data, edge_data, kind_text, kind_data, kinds_in_order, kinds_data, digit_of, listed_data, merge_data, split_data, block_data, tree_of, file_text}
 use Rattle.model_file.specs.Rules.{types_hold, partitions_hold, type_of, edges_hold, invariants_hold, merges_hold, splits_hold, blocks_hold, PassesRules}
 use Rattle.model_file.specs.Entries.{partition_in, edge_in, listed_in, merge_in, split_in, block_in}
-use Rattle.model_file.specs.Reading.{root_in, version_in, is_key, keys_in, head_in, part_in, types_in, partitions_in, edges_in, invariants_in, merges_in, splits_in, blocks_in, parts_in, model_in, value_of, reads}
-use Rattle.limits.specs.declared.TheConstants.{MAX_MODEL_BYTES}
+use Rattle.model_file.specs.Reading.{root_in, version_in, is_key, keys_in, head_in, part_in, types_in, kinds_in, partitions_in, edges_in, invariants_in, merges_in, splits_in, blocks_in, parts_in, model_in, value_of, reads_as, reads}
 use Rattle.model_file.specs.Writing.{tokens_of}
-use Rattle.model_file.proofs.Back.{list-back, FitsPartition, FitsEdge, FitsListed, FitsMerge, FitsSplit, FitsBlock, partition-back, edge-back, listed-back, merge-back, split-back, block-back}
+use Rattle.model_file.proofs.Back.{list-back, FitsPartition, FitsEdge, FitsListed, FitsMerge, FitsSplit, FitsBlock, partition-back, edge-back, listed-back, merge-back, split-back, block-back, kinds-named}
 use Rattle.model_file.proofs.Bounds.{few-types, fits-partitions, fits-edges, fits-merges, few-invariants, fits-invariants, fits-splits, fits-blocks}
 use Rattle.model_file.proofs.Texts.{IsPlain, ArePlain, plain-back, plain-numbers, IsSpelled, AreSpelled, spelled-text, IsUtf8-comma, read-text}
 
 -- the entries of a model fit their fields
-record Fits (m : Model) : Type 0 where
-  partitions : AllByRecursion FitsPartition m.partitions
-  edges : AllByRecursion FitsEdge m.edges
-  invariants : AllByRecursion FitsListed m.invariants
-  merges : AllByRecursion FitsMerge m.merges
-  splits : AllByRecursion FitsSplit m.splits
-  blocks : AllByRecursion FitsBlock m.blocks
+pub record Fits (m : Model) : Type 0 where
+  pub partitions : AllByRecursion FitsPartition m.partitions
+  pub edges : AllByRecursion FitsEdge m.edges
+  pub invariants : AllByRecursion FitsListed m.invariants
+  pub merges : AllByRecursion FitsMerge m.merges
+  pub splits : AllByRecursion FitsSplit m.splits
+  pub blocks : AllByRecursion FitsBlock m.blocks
 
-fits : (m : Model) → PassesRules m → Fits m
+-- they do in a model that passes the rules
+pub fits : (m : Model) → PassesRules m → Fits m
 fits m h =
-    let few = few-types m.types h.types in
-    let listed = few-invariants (length m.types) (length m.partitions) m.invariants few h.invariants in
+    let few = few-types MAX_TYPES m.types h.types in
+    let listed = few-invariants m.kinds (length m.types) (length m.partitions) m.invariants few h.invariants in
     record {
       partitions = fits-partitions (length m.types) m.partitions few h.partitions;
       edges = fits-edges (length m.types) m.partitions m.edges h.partitions h.edges;
-      invariants = fits-invariants (length m.types) (length m.partitions) m.invariants few h.invariants;
+      invariants = fits-invariants m.kinds (length m.types) (length m.partitions) m.invariants few h.invariants;
       merges = fits-merges m.merges h.merges;
       splits = fits-splits (length m.invariants) m.splits listed h.splits;
       blocks = fits-blocks (length m.types) (length m.invariants) m.partitions m.splits m.blocks h.partitions listed h.blocks;
@@ -51,17 +53,22 @@ fits m h =
 
 -- ---- from the value
 
-head-back : (m : Model) → head_in (tree_of m) ≡ Ok tt
+head-back : (m : Model) → head_in Two (tree_of m) ≡ Ok tt
 unfolding head_in root_in version_in keys_in is_key tree_of
 head-back m = refl
 
-anything : {A : Type 0} (xs : List A) → AllByRecursion (λ _. ⊤) xs
+-- of each entry the same can be said, which is nothing
+pub anything : {A : Type 0} (xs : List A) → AllByRecursion (λ _. ⊤) xs
 anything [] = tt
 anything (x ∷ xs) = (tt, anything xs)
 
-types-back : (m : Model) → types_hold m.types ≡ true → types_in (tree_of m) ≡ Ok m.types
+types-back : (m : Model) → types_hold MAX_TYPES m.types ≡ true → types_in Two (tree_of m) ≡ Ok m.types
 unfolding types_in part_in tree_of
 types-back m h = rw (list-back as_str string (λ _. ⊤) (λ s _. refl) m.types (anything m.types), h) refl
+
+kinds-back : (m : Model) → kinds_in Two (tree_of m) ≡ Ok m.kinds
+unfolding kinds_in tree_of
+kinds-back m = rw (kinds-named m.kinds) refl
 
 partitions-back : (m : Model) (types : ℕ) → AllByRecursion FitsPartition m.partitions → partitions_hold types m.partitions ≡ true → partitions_in types (tree_of m) ≡ Ok m.partitions
 unfolding partitions_in part_in tree_of
@@ -71,7 +78,7 @@ edges-back : (m : Model) (type : ℕ → Option ℕ) → AllByRecursion FitsEdge
 unfolding edges_in part_in tree_of
 edges-back m type fit h = rw (list-back edge_in edge_data FitsEdge edge-back m.edges fit, h) refl
 
-invariants-back : (m : Model) (types partitions : ℕ) → AllByRecursion FitsListed m.invariants → invariants_hold types partitions m.invariants ≡ true → invariants_in types partitions (tree_of m) ≡ Ok m.invariants
+invariants-back : (m : Model) (types partitions : ℕ) → AllByRecursion FitsListed m.invariants → invariants_hold m.kinds types partitions m.invariants ≡ true → invariants_in m.kinds types partitions (tree_of m) ≡ Ok m.invariants
 unfolding invariants_in part_in tree_of
 invariants-back m types partitions fit h = rw (list-back listed_in listed_data FitsListed listed-back m.invariants fit, h) refl
 
@@ -88,13 +95,14 @@ unfolding blocks_in part_in tree_of
 blocks-back m type invariants fit h = rw (list-back block_in block_data FitsBlock block-back m.blocks fit, h) refl
 
 -- the value of a model that passes the rules is read as this model
-pub tree-is-read : (m : Model) → PassesRules m → model_in (tree_of m) ≡ Ok m
+pub tree-is-read : (m : Model) → PassesRules m → model_in Two (tree_of m) ≡ Ok m
 unfolding model_in parts_in
 tree-is-read m h =
     let fit = fits m h in
     rw (
       head-back m,
       types-back m h.types,
+      kinds-back m,
       partitions-back m (length m.types) fit.partitions h.partitions,
       edges-back m (type_of m.partitions) fit.edges h.edges,
       invariants-back m (length m.types) (length m.partitions) fit.invariants h.invariants,
@@ -105,7 +113,7 @@ tree-is-read m h =
 
 -- bytes of the value of a model that passes the rules are read as this model
 pub trees-are-read : (bytes : List ℕ) (m : Model) → length bytes ≤ MAX_MODEL_BYTES → value_of bytes ≡ Some (tree_of m) → PassesRules m → reads bytes ≡ Ok m
-unfolding reads
+unfolding reads_as
 trees-are-read bytes m short value h = rw (le-ltb MAX_MODEL_BYTES (length bytes) short, value) (tree-is-read m h)
 
 -- ---- from the text
@@ -149,6 +157,7 @@ record AreValues (m : Model) : Type 0 where
   blocks : IsPlain (array_of (map block_data m.blocks))
   edges : IsPlain (array_of (map edge_data m.edges))
   invariants : IsPlain (array_of (map listed_data m.invariants))
+  kinds : IsPlain (kinds_data m.kinds)
   merges : IsPlain (array_of (map merge_data m.merges))
   partitions : IsPlain (array_of (map partition_data m.partitions))
   splits : IsPlain (array_of (map split_data m.splits))
@@ -159,6 +168,7 @@ values m fit = record {
   blocks = plain-map block_data FitsBlock (λ b h. (omega (arith, h.p), (omega (arith, h.q), (omega (arith, h.inv), (path-plain b.path h.path, tt))))) m.blocks fit.blocks;
   edges = plain-map edge_data FitsEdge (λ e h. (omega (arith, h.from), (omega (arith, h.to), (omega (arith, h.count), tt)))) m.edges fit.edges;
   invariants = plain-map listed_data FitsListed (λ l h. (tt, (omega (arith, h.a), (omega (arith, h.b), (tt, tt))))) m.invariants fit.invariants;
+  kinds = plain-map kind_data (λ _. ⊤) (λ k u. tt) (kinds_in_order m.kinds) (anything (kinds_in_order m.kinds));
   merges = plain-map merge_data FitsMerge (λ x h. (omega (arith, h.p), (omega (arith, h.q), tt))) m.merges fit.merges;
   partitions = plain-map partition_data FitsPartition (λ p h. (omega (arith, h.id), (omega (arith, h.typ), (omega (arith, h.count), tt)))) m.partitions fit.partitions;
   splits = plain-map split_data FitsSplit (λ s h. (omega (arith, h.inv), (omega (arith, h.place), (path-plain s.path h.path, tt)))) m.splits fit.splits;
@@ -170,6 +180,7 @@ record AreTexts (m : Model) : Type 0 where
   blocks : IsSpelled (array_of (map block_data m.blocks))
   edges : IsSpelled (array_of (map edge_data m.edges))
   invariants : IsSpelled (array_of (map listed_data m.invariants))
+  kinds : IsSpelled (kinds_data m.kinds)
   merges : IsSpelled (array_of (map merge_data m.merges))
   partitions : IsSpelled (array_of (map partition_data m.partitions))
   splits : IsSpelled (array_of (map split_data m.splits))
@@ -180,6 +191,7 @@ texts-of m fit texts = record {
   blocks = spelled-map block_data FitsBlock (λ b h. (omega (arith, h.p), (omega (arith, h.q), (omega (arith, h.inv), (path-spelled b.path h.path, tt))))) m.blocks fit.blocks;
   edges = spelled-map edge_data FitsEdge (λ e h. (omega (arith, h.from), (omega (arith, h.to), (omega (arith, h.count), tt)))) m.edges fit.edges;
   invariants = spelled-map listed_data FitsListed (λ l h. (kind-utf8 l.inv.kind, (omega (arith, h.a), (omega (arith, h.b), (digits-ascii l.labels h.labels, tt))))) m.invariants fit.invariants;
+  kinds = spelled-map kind_data (λ _. ⊤) (λ k u. kind-utf8 k) (kinds_in_order m.kinds) (anything (kinds_in_order m.kinds));
   merges = spelled-map merge_data FitsMerge (λ x h. (omega (arith, h.p), (omega (arith, h.q), tt))) m.merges fit.merges;
   partitions = spelled-map partition_data FitsPartition (λ p h. (omega (arith, h.id), (omega (arith, h.typ), (omega (arith, h.count), tt)))) m.partitions fit.partitions;
   splits = spelled-map split_data FitsSplit (λ s h. (omega (arith, h.inv), (omega (arith, h.place), (path-spelled s.path h.path, tt)))) m.splits fit.splits;
@@ -191,6 +203,7 @@ record AreShallow (m : Model) : Type 0 where
   blocks : tree.items_depth (items_outline (items_of (map block_data m.blocks))) ≤ 2
   edges : tree.items_depth (items_outline (items_of (map edge_data m.edges))) ≤ 2
   invariants : tree.items_depth (items_outline (items_of (map listed_data m.invariants))) ≤ 2
+  kinds : tree.items_depth (items_outline (items_of (map kind_data (kinds_in_order m.kinds)))) ≤ 2
   merges : tree.items_depth (items_outline (items_of (map merge_data m.merges))) ≤ 2
   partitions : tree.items_depth (items_outline (items_of (map partition_data m.partitions))) ≤ 2
   splits : tree.items_depth (items_outline (items_of (map split_data m.splits))) ≤ 2
@@ -201,6 +214,7 @@ shallow m = record {
   blocks = depth-map block_data 2 (λ b. omega (arith, path-depth b.path)) m.blocks;
   edges = depth-map edge_data 2 (λ e. omega arith) m.edges;
   invariants = depth-map listed_data 2 (λ l. omega arith) m.invariants;
+  kinds = depth-map kind_data 2 (λ k. omega arith) (kinds_in_order m.kinds);
   merges = depth-map merge_data 2 (λ x. omega arith) m.merges;
   partitions = depth-map partition_data 2 (λ p. omega arith) m.partitions;
   splits = depth-map split_data 2 (λ s. omega (arith, path-depth s.path)) m.splits;
@@ -209,12 +223,12 @@ shallow m = record {
 
 tree-depth : (m : Model) → tree.depth (outline (tree_of m)) ≤ 127
 unfolding tree_of
-tree-depth m = let low = shallow m in omega (arith, low.blocks, low.edges, low.invariants, low.merges, low.partitions, low.splits, low.types)
+tree-depth m = let low = shallow m in omega (arith, low.blocks, low.edges, low.invariants, low.kinds, low.merges, low.partitions, low.splits, low.types)
 
-version-plain : IsPlain (number_data 1)
+version-plain : IsPlain (number_data 2)
 version-plain = omega arith
 
-version-spelled : IsSpelled (number_data 1)
+version-spelled : IsSpelled (number_data 2)
 version-spelled = omega arith
 
 tree-numbers : (m : Model) → AreValues m → tree.HasNumbers (outline (tree_of m))
@@ -226,12 +240,15 @@ tree-numbers m v = (
     (
       plain-numbers (array_of (map listed_data m.invariants)) v.invariants,
       (
-        plain-numbers (array_of (map merge_data m.merges)) v.merges,
+        plain-numbers (kinds_data m.kinds) v.kinds,
         (
-          plain-numbers (array_of (map partition_data m.partitions)) v.partitions,
+          plain-numbers (array_of (map merge_data m.merges)) v.merges,
           (
-            plain-numbers (array_of (map split_data m.splits)) v.splits,
-            (plain-numbers (array_of (map string m.types)) v.types, (plain-numbers (number_data 1) version-plain, tt)),
+            plain-numbers (array_of (map partition_data m.partitions)) v.partitions,
+            (
+              plain-numbers (array_of (map split_data m.splits)) v.splits,
+              (plain-numbers (array_of (map string m.types)) v.types, (plain-numbers (number_data 2) version-plain, tt)),
+            ),
           ),
         ),
       ),
@@ -246,11 +263,12 @@ tree-back m v =
       plain-back (array_of (map block_data m.blocks)) v.blocks,
       plain-back (array_of (map edge_data m.edges)) v.edges,
       plain-back (array_of (map listed_data m.invariants)) v.invariants,
+      plain-back (kinds_data m.kinds) v.kinds,
       plain-back (array_of (map merge_data m.merges)) v.merges,
       plain-back (array_of (map partition_data m.partitions)) v.partitions,
       plain-back (array_of (map split_data m.splits)) v.splits,
       plain-back (array_of (map string m.types)) v.types,
-      plain-back (number_data 1) version-plain,
+      plain-back (number_data 2) version-plain,
     ) refl
 
 -- a key with its value, and what comes after
@@ -263,7 +281,7 @@ member-text later k d ms key value rest =
 
 -- the members from `version` on
 abbrev pub from_version : Model → Members
-from_version m = member (codes "version") (number_data 1) no_members
+from_version m = member (codes "version") (number_data 2) no_members
 
 -- the members from `types` on
 abbrev pub from_types : Model → Members
@@ -281,9 +299,13 @@ from_partitions m = member (codes "partitions") (array_of (map partition_data m.
 abbrev pub from_merges : Model → Members
 from_merges m = member (codes "merges") (array_of (map merge_data m.merges)) (from_partitions m)
 
+-- the members from `kinds` on
+abbrev pub from_kinds : Model → Members
+from_kinds m = member (codes "kinds") (kinds_data m.kinds) (from_merges m)
+
 -- the members from `invariants` on
 abbrev pub from_invariants : Model → Members
-from_invariants m = member (codes "invariants") (array_of (map listed_data m.invariants)) (from_merges m)
+from_invariants m = member (codes "invariants") (array_of (map listed_data m.invariants)) (from_kinds m)
 
 -- the members from `edges` on
 abbrev pub from_edges : Model → Members
@@ -298,12 +320,13 @@ pub IsUtf8-file_text : (m : Model) → PassesRules m → All IsUtf8 m.types → 
 unfolding tree_of
 IsUtf8-file_text m h texts =
     let v = texts-of m (fits m h) (recursion_from_All IsUtf8 m.types texts) in
-    let version = member-text true (codes "version") (number_data 1) no_members (IsUtf8-are_ascii (codes "version") refl) version-spelled (IsUtf8-are_ascii (125 ∷ []) refl) in
+    let version = member-text true (codes "version") (number_data 2) no_members (IsUtf8-are_ascii (codes "version") refl) version-spelled (IsUtf8-are_ascii (125 ∷ []) refl) in
     let types = member-text true (codes "types") (array_of (map string m.types)) (from_version m) (IsUtf8-are_ascii (codes "types") refl) v.types version in
     let splits = member-text true (codes "splits") (array_of (map split_data m.splits)) (from_types m) (IsUtf8-are_ascii (codes "splits") refl) v.splits types in
     let partitions = member-text true (codes "partitions") (array_of (map partition_data m.partitions)) (from_splits m) (IsUtf8-are_ascii (codes "partitions") refl) v.partitions splits in
     let merges = member-text true (codes "merges") (array_of (map merge_data m.merges)) (from_partitions m) (IsUtf8-are_ascii (codes "merges") refl) v.merges partitions in
-    let invariants = member-text true (codes "invariants") (array_of (map listed_data m.invariants)) (from_merges m) (IsUtf8-are_ascii (codes "invariants") refl) v.invariants merges in
+    let kinds = member-text true (codes "kinds") (kinds_data m.kinds) (from_merges m) (IsUtf8-are_ascii (codes "kinds") refl) v.kinds merges in
+    let invariants = member-text true (codes "invariants") (array_of (map listed_data m.invariants)) (from_kinds m) (IsUtf8-are_ascii (codes "invariants") refl) v.invariants kinds in
     let edges = member-text true (codes "edges") (array_of (map edge_data m.edges)) (from_invariants m) (IsUtf8-are_ascii (codes "edges") refl) v.edges invariants in
     let blocks = member-text false (codes "blocks") (array_of (map block_data m.blocks)) (from_edges m) (IsUtf8-are_ascii (codes "blocks") refl) v.blocks edges in
     IsUtf8-append (123 ∷ []) (members_text false (from_blocks m)) (IsUtf8-are_ascii (123 ∷ []) refl) blocks

@@ -5,6 +5,8 @@ use Rattle.serde_json.specs.Data.{Data, Items, no_items, item}
 use Rattle.serde_json.specs.Find.{as_number, as_u64, as_str, as_array}
 use Rattle.invariants.specs.declared.Kind.{Kind}
 use Rattle.invariants.specs.declared.Kind.TheVariants.{AF, NF, AP, IB}
+use Rattle.invariants.specs.declared.Kinds.{Kinds}
+use Rattle.invariants.specs.declared.Kinds.TheVariants.{Three, Four}
 use Rattle.invariants.specs.declared.Invariant.{Invariant}
 use Rattle.invariants.specs.declared.records.Partition.{Partition}
 use Rattle.invariants.specs.declared.records.Edge.{Edge}
@@ -79,7 +81,7 @@ four_in d = as_array d >>= four
 
 -- ---- strings
 
--- the kind with this name; no invariant of kind IB keeps the rule of invariants
+-- the kind with this name
 abbrev pub kind_named : List ℕ → Option Kind
 kind_named text =
     if bytes_eq text (codes "AF") then Some AF
@@ -92,6 +94,16 @@ unfoldable pub kind_in : Data → Option Kind
 kind_in d = do
   text ← as_str d
   kind_named text
+
+-- these kinds, where they are the three or all four in their order
+abbrev pub kinds_from : List Kind → Option Kinds
+kinds_from (AF ∷ NF ∷ AP ∷ []) = Some Three
+kinds_from (AF ∷ NF ∷ AP ∷ IB ∷ []) = Some Four
+kinds_from _ = None
+
+-- the kinds with the names that the value is an array of
+unfoldable pub kinds_named : Data → Option Kinds
+kinds_named d = list_in kind_in d >>= kinds_from
 
 -- the label of a digit from `0` to `7`
 abbrev pub label_of : ℕ → Option ℕ

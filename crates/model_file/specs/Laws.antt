@@ -1,12 +1,14 @@
 -- The laws of writing and reading.
-use Rattle.std.specs.Prelude.{◌≡◌, ◌≤◌, ℕ, List, length, All, IsUtf8, Some, Ok}
+use Rattle.std.specs.Prelude.{◌≡◌, ◌≤◌, ℕ, List, length, All, IsUtf8, Some, Ok, Err}
 use Rattle.invariants.specs.declared.records.Model.{Model}
 use Rattle.serde_json.specs.Data.{object, Members}
 use Rattle.serde_json.specs.Find.{get_member}
-use Rattle.model_file.specs.Tree.{members_in, tree_of, file_text}
-use Rattle.model_shape.specs.Shapes.{IsWellShaped}
-use Rattle.model_file.specs.Reading.{value_of, reads}
-use Rattle.limits.specs.declared.TheConstants.{MAX_MODEL_BYTES}
+use Rattle.model_file.specs.Tree.{members_in, members_of_version_1, tree_of, tree_of_version_1, file_text}
+use Rattle.model_shape.specs.Shapes.{IsWellShaped, IsOfVersion1}
+use Rattle.model_file.specs.Reading.{value_of, reads, reads_version_1}
+use Rattle.model_file.specs.declared.refusal.FileError.TheVariants as refused
+use Rattle.model_file.specs.declared.refusal.Field.TheVariants.{Kinds as KindsField}
+use Rattle.limits.specs.declared.TheConstants.{MAX_MODEL_BYTES, MAX_WRITTEN_BYTES, VERSION_1_BYTES}
 
 -- bytes from which the value of a well-shaped model is read are read as that model
 abbrev pub TreesAreRead : Type 0
@@ -22,13 +24,43 @@ WrittenReadsBack = (m : Model) → IsWellShaped m → All IsUtf8 m.types → rea
 abbrev pub ReadIsWellShaped : Type 0
 ReadIsWellShaped = (bytes : List ℕ) (m : Model) → reads bytes ≡ Ok m → IsWellShaped m
 
--- A model that is read is that of an object which has just the keys of the model's value, each with the same value.
+-- A model that is read from a file of version 2 is that of an object which has just the keys of the model's value, each with the same value.
 abbrev pub ReadIsTree : Type 0
 ReadIsTree =
     (bytes : List ℕ) (m : Model) → reads bytes ≡ Ok m → (ms : Members)
     × (value_of bytes ≡ Some (object ms))
     × ((key : List ℕ) → get_member key ms ≡ get_member key (members_in m))
 
--- the text of a well-shaped model is within the limit of a model file
+-- the text of a well-shaped model is within the limit of what is written
 abbrev pub TextsAreShort : Type 0
-TextsAreShort = (m : Model) → IsWellShaped m → length (file_text m) ≤ MAX_MODEL_BYTES
+TextsAreShort = (m : Model) → IsWellShaped m → length (file_text m) ≤ MAX_WRITTEN_BYTES
+
+-- what is said of a model that is read from a file of version 1
+pub record IsReadAgain (m : Model) : Type 0 where
+  -- it is well shaped
+  pub shaped : IsWellShaped m
+  -- it asks for three kinds, and has no more types than version 1 has
+  pub first : IsOfVersion1 m
+  -- its text of version 2, where its types are texts, is read as the same model
+  pub again : All IsUtf8 m.types → reads (file_text m) ≡ Ok m
+
+-- a model that is read from a file of version 1 is one of these
+abbrev pub Version1IsReadAgain : Type 0
+Version1IsReadAgain = (bytes : List ℕ) (m : Model) → reads_version_1 bytes ≡ Ok m → IsReadAgain m
+
+-- bytes from which the value in version 1 of a well-shaped model of that version is read are read by it as that model
+abbrev pub Version1TreesAreRead : Type 0
+Version1TreesAreRead =
+    (bytes : List ℕ) (m : Model) → length bytes ≤ VERSION_1_BYTES
+    → value_of bytes ≡ Some (tree_of_version_1 m) → IsWellShaped m → IsOfVersion1 m → reads_version_1 bytes ≡ Ok m
+
+-- A model that is read from a file of version 1 is that of an object which has just the eight keys of its value in that version, each with the same value.
+abbrev pub Version1IsTree : Type 0
+Version1IsTree =
+    (bytes : List ℕ) (m : Model) → reads_version_1 bytes ≡ Ok m → (ms : Members)
+    × (value_of bytes ≡ Some (object ms))
+    × ((key : List ℕ) → get_member key ms ≡ get_member key (members_of_version_1 m))
+
+-- no file is refused by version 1 for its kinds
+abbrev pub Version1NamesNoKinds : Type 0
+Version1NamesNoKinds = (bytes : List ℕ) → reads_version_1 bytes ≡ Err (refused.Shape KindsField) → ⊥

@@ -1,3 +1,4 @@
+pub mod Versions
 pub mod Tree
 pub mod Rules
 pub mod Table
@@ -5,3 +6,4 @@ pub mod Entries
 pub mod Reading
 pub mod Writing
 pub mod Laws
+pub mod Labels

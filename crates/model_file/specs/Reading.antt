@@ -1,12 +1,13 @@
--- What a model file is read as: the model, or the first refusal.
-use Rattle.std.specs.Prelude.{◌≡◌, ℕ, ◌==◌, ◌&&◌, Bool, true, false, List, [], ◌∷◌, length, codes, nat_lt, if◌then◌else◌, Option, Some, None, Result, Ok, Err}
+-- What a model file of a version is read as: the model, or the first refusal.
+use Rattle.std.specs.Prelude.{◌≡◌, ℕ, ◌==◌, ◌&&◌, Bool, true, false, List, length, codes, nat_lt, if◌then◌else◌, Option, Some, None, Result, Ok, Err}
 use Rattle.std.specs.List.{list_any}
 use Rattle.std.specs.Option.{option_and_then}
 use Rattle.std.specs.Str.{bytes_eq, is_utf8}
 use Rattle.serde_json.specs.Data.{Data, Members, no_members, member}
 use Rattle.serde_json.specs.Find.{get, as_number, as_u64, as_str, as_object}
 use Rattle.serde_json.specs.Read.{read}
-use Rattle.limits.specs.declared.TheConstants.{MAX_MODEL_BYTES}
+use Rattle.invariants.specs.declared.Kinds.{Kinds}
+use Rattle.invariants.specs.declared.Kinds.TheVariants.{Three}
 use Rattle.invariants.specs.declared.records.Partition.{Partition}
 use Rattle.invariants.specs.declared.records.Edge.{Edge}
 use Rattle.invariants.specs.declared.records.Listed.{Listed}
@@ -15,9 +16,12 @@ use Rattle.invariants.specs.declared.records.Split.{Split}
 use Rattle.invariants.specs.declared.records.Block.{Block}
 use Rattle.invariants.specs.declared.records.Model.{Model}
 use Rattle.model_file.specs.Rules.{types_hold, partitions_hold, type_of, edges_hold, invariants_hold, merges_hold, splits_hold, blocks_hold}
-use Rattle.model_file.specs.Entries.{list_in, partition_in, edge_in, listed_in, merge_in, split_in, block_in}
+use Rattle.model_file.specs.declared.version.Version.{Version}
+use Rattle.model_file.specs.declared.version.Version.TheVariants.{One, Two}
+use Rattle.model_file.specs.Versions.{number_of, max_bytes, max_types, keys}
+use Rattle.model_file.specs.Entries.{list_in, kinds_named, partition_in, edge_in, listed_in, merge_in, split_in, block_in}
 use Rattle.model_file.specs.declared.refusal.Field.{Field}
-use Rattle.model_file.specs.declared.refusal.Field.TheVariants.{Root, Version, Extra, Types, Partitions, Edges, Invariants, Merges, Splits, Blocks}
+use Rattle.model_file.specs.declared.refusal.Field.TheVariants.{Root, Version as VersionField, Extra, Types, Kinds as KindsField, Partitions, Edges, Invariants, Merges, Splits, Blocks}
 use Rattle.model_file.specs.declared.refusal.FileError.{FileError}
 use Rattle.model_file.specs.declared.refusal.FileError.TheVariants as refused
 
@@ -44,38 +48,32 @@ tested field false x = Err (refused.Shape field)
 unfoldable pub root_in : Data → Result Members FileError
 root_in d = or_shape Root (as_object d)
 
--- version 1, and no other
-abbrev pub if_first : Option ℕ → Result (Unit {0}) FileError
-if_first None = Err (refused.Shape Version)
-if_first (Some n) = if n == 1 then Ok tt else Err (refused.Version n)
+-- the number of the version, and no other
+abbrev pub if_of : Version → Option ℕ → Result (Unit {0}) FileError
+if_of version None = Err (refused.Shape VersionField)
+if_of version (Some n) = if n == number_of version then Ok tt else Err (refused.Version n)
 
 -- the number under the key `version`
-unfoldable pub version_in : Data → Result (Unit {0}) FileError
-version_in d =
-    if_first (option_and_then as_u64 (option_and_then as_number (get (codes "version") d)))
+unfoldable pub version_in : Version → Data → Result (Unit {0}) FileError
+version_in version d =
+    if_of version (option_and_then as_u64 (option_and_then as_number (get (codes "version") d)))
 
--- the eight keys of a model file
-abbrev pub keys : List (List ℕ)
-keys =
-    codes "blocks" ∷ codes "edges" ∷ codes "invariants" ∷ codes "merges"
-    ∷ codes "partitions" ∷ codes "splits" ∷ codes "types" ∷ codes "version" ∷ []
-
--- one of the eight keys
-unfoldable pub is_key : List ℕ → Bool
-is_key key = list_any (bytes_eq key) keys
+-- one of the keys of the version
+unfoldable pub is_key : Version → List ℕ → Bool
+is_key version key = list_any (bytes_eq key) (keys version)
 
 -- whether there is no key but these
-abbrev pub has_no_extra : Members → Bool
-has_no_extra no_members = true
-has_no_extra (member key d ms) = is_key key && has_no_extra ms
+abbrev pub has_no_extra : Version → Members → Bool
+has_no_extra version no_members = true
+has_no_extra version (member key d ms) = is_key version key && has_no_extra version ms
 
 -- no key but these, or the refusal of a further one
-unfoldable pub keys_in : Members → Result (Unit {0}) FileError
-keys_in ms = tested Extra (has_no_extra ms) tt
+unfoldable pub keys_in : Version → Members → Result (Unit {0}) FileError
+keys_in version ms = tested Extra (has_no_extra version ms) tt
 
--- an object of version 1 with none but the eight keys
-unfoldable pub head_in : Data → Result (Unit {0}) FileError
-head_in d = root_in d >>= λ ms. version_in d >>= λ v. keys_in ms
+-- an object of the version with none but its keys
+unfoldable pub head_in : Version → Data → Result (Unit {0}) FileError
+head_in version d = root_in d >>= λ ms. version_in version d >>= λ v. keys_in version ms
 
 -- ---- the parts
 
@@ -84,11 +82,16 @@ unfoldable pub part_in : {A : Type 0} → (Data → Option A) → List ℕ → F
     → Result (List A) FileError
 part_in f key field d = or_shape field (option_and_then (list_in f) (get key d))
 
--- the types, which keep their rule
-unfoldable pub types_in : Data → Result (List (List ℕ)) FileError
-types_in d =
+-- the types, which keep their rule; the version says how many there may be
+unfoldable pub types_in : Version → Data → Result (List (List ℕ)) FileError
+types_in version d =
     part_in as_str (codes "types") Types d
-    >>= λ ts. tested Types (types_hold ts) ts
+    >>= λ ts. tested Types (types_hold (max_types version) ts) ts
+
+-- the kinds that are asked for: a file of version 1 asks for three, and one of version 2 names them
+unfoldable pub kinds_in : Version → Data → Result Kinds FileError
+kinds_in One d = Ok Three
+kinds_in Two d = or_shape KindsField (option_and_then kinds_named (get (codes "kinds") d))
 
 -- the partitions, of so many types
 unfoldable pub partitions_in : ℕ → Data → Result (List Partition) FileError
@@ -102,11 +105,11 @@ edges_in type d =
     part_in edge_in (codes "edges") Edges d
     >>= λ es. tested Edges (edges_hold type es) es
 
--- the invariants, between so many types, with labels for so many partitions
-unfoldable pub invariants_in : ℕ → ℕ → Data → Result (List Listed) FileError
-invariants_in types partitions d =
+-- the invariants of these kinds, between so many types, with labels for so many partitions
+unfoldable pub invariants_in : Kinds → ℕ → ℕ → Data → Result (List Listed) FileError
+invariants_in kinds types partitions d =
     part_in listed_in (codes "invariants") Invariants d
-    >>= λ ls. tested Invariants (invariants_hold types partitions ls) ls
+    >>= λ ls. tested Invariants (invariants_hold kinds types partitions ls) ls
 
 -- the merges, which keep their rule
 unfoldable pub merges_in : Data → Result (List Merge) FileError
@@ -129,13 +132,15 @@ blocks_in type invariants ss d =
 -- ---- the whole
 
 -- the model of the parts
-unfoldable pub parts_in : Data → Result Model FileError
-parts_in d =
-    types_in d >>= λ ts. partitions_in (length ts) d >>= λ ps. edges_in (type_of ps) d >>= λ es.
-    invariants_in (length ts) (length ps) d >>= λ ls. merges_in d >>= λ ms.
+unfoldable pub parts_in : Version → Data → Result Model FileError
+parts_in version d =
+    types_in version d >>= λ ts. kinds_in version d >>= λ kinds.
+    partitions_in (length ts) d >>= λ ps. edges_in (type_of ps) d >>= λ es.
+    invariants_in kinds (length ts) (length ps) d >>= λ ls. merges_in d >>= λ ms.
     splits_in (length ls) d >>= λ ss. blocks_in (type_of ps) (length ls) ss d >>= λ bs.
     Ok (record {
       types = ts;
+      kinds = kinds;
       partitions = ps;
       edges = es;
       invariants = ls;
@@ -145,8 +150,8 @@ parts_in d =
     })
 
 -- the model of a JSON value, or its first refusal
-unfoldable pub model_in : Data → Result Model FileError
-model_in d = head_in d >>= λ h. parts_in d
+unfoldable pub model_in : Version → Data → Result Model FileError
+model_in version d = head_in version d >>= λ h. parts_in version d
 
 -- the JSON value that the bytes are, where they are UTF-8 and `serde_json` reads one
 unfoldable pub value_of : List ℕ → Option Data
@@ -157,11 +162,19 @@ abbrev pub or_not_json : Option Data → Result Data FileError
 or_not_json None = Err refused.NotJson
 or_not_json (Some d) = Ok d
 
--- the model of a file's bytes, or the first refusal
-unfoldable pub reads : List ℕ → Result Model FileError
-reads bytes =
-    if nat_lt MAX_MODEL_BYTES (length bytes) then Err refused.TooLong
-    else (or_not_json (value_of bytes) >>= model_in)
+-- the model of the bytes of a file of this version, or the first refusal
+unfoldable pub reads_as : Version → List ℕ → Result Model FileError
+reads_as version bytes =
+    if nat_lt (max_bytes version) (length bytes) then Err refused.TooLong
+    else (or_not_json (value_of bytes) >>= model_in version)
+
+-- the model of a file of version 2, or the first refusal
+abbrev pub reads : List ℕ → Result Model FileError
+reads = reads_as Two
+
+-- the model of a file of version 1, or the first refusal
+abbrev pub reads_version_1 : List ℕ → Result Model FileError
+reads_version_1 = reads_as One
 
 -- ---- for contracts: what a call answered is what was to be read, unless memory was wanted
 

@@ -3,9 +3,10 @@ use Rattle.std.specs.Prelude.{◌↔◌, ℕ, ◌+◌, ◌-◌, ◌==◌, ◌&&�
 use Rattle.std.specs.List.{list_all, list_any}
 use Rattle.std.specs.Str.{bytes_eq}
 use Rattle.limits.specs.declared.TheConstants.{INITIAL, TERMINAL, FIRST_TYPE, MAX_TYPES, MAX_EVENTS, MAX_EDGE_COUNT, MAX_TYPE_BYTES, MAX_PARTITIONS, MAX_PATH_NUMBERS}
-use Rattle.invariants.specs.Candidates.{candidates}
+use Rattle.invariants.specs.Candidates.{candidates_for}
 use Rattle.invariants.specs.declared.Kind.{Kind}
 use Rattle.invariants.specs.declared.Kind.TheVariants.{AF, NF, AP, IB}
+use Rattle.invariants.specs.declared.Kinds.{Kinds}
 use Rattle.invariants.specs.declared.Invariant.{Invariant}
 use Rattle.invariants.specs.declared.records.Partition.{Partition}
 use Rattle.invariants.specs.declared.records.Edge.{Edge}
@@ -49,10 +50,10 @@ are_distinct (text ∷ texts) = not (list_any (bytes_eq text) texts) && are_dist
 abbrev pub type_holds : List ℕ → Bool
 type_holds text = nat_le 1 (length text) && nat_le (length text) MAX_TYPE_BYTES
 
--- no more such types than a log may have, no two equal
-unfoldable pub types_hold : List (List ℕ) → Bool
-types_hold types =
-    nat_le (length types) MAX_TYPES && (list_all type_holds types && are_distinct types)
+-- no more such types than a limit, no two equal
+unfoldable pub types_hold : ℕ → List (List ℕ) → Bool
+types_hold limit types =
+    nat_le (length types) limit && (list_all type_holds types && are_distinct types)
 
 -- ---- partitions
 
@@ -124,21 +125,21 @@ abbrev pub place_in : Invariant → List Invariant → Option ℕ
 place_in i [] = None
 place_in i (c ∷ cs) = if same_invariant i c then Some 0 else option_map (λ k. k + 1) (place_in i cs)
 
--- its place among the candidates for so many types
-unfoldable pub place_of : ℕ → Invariant → Option ℕ
-place_of types i = place_in i (candidates types)
+-- its place among the candidates of these kinds for so many types
+unfoldable pub place_of : Kinds → ℕ → Invariant → Option ℕ
+place_of kinds types i = place_in i (candidates_for kinds types)
 
 -- a candidate, with a label of 0 to 7 for each partition
-abbrev pub listed_holds : ℕ → ℕ → Listed → Bool
-listed_holds types partitions l =
-    is_some (place_of types l.inv)
+abbrev pub listed_holds : Kinds → ℕ → ℕ → Listed → Bool
+listed_holds kinds types partitions l =
+    is_some (place_of kinds types l.inv)
     && ((length l.labels == partitions) && list_all (λ label. nat_le label 7) l.labels)
 
 -- such invariants, in the order of the candidates
-unfoldable pub invariants_hold : ℕ → ℕ → List Listed → Bool
-invariants_hold types partitions ls =
-    list_all (listed_holds types partitions) ls
-    && ascends nat_lt (map (λ l. unwrap_or (place_of types l.inv) 0) ls)
+unfoldable pub invariants_hold : Kinds → ℕ → ℕ → List Listed → Bool
+invariants_hold kinds types partitions ls =
+    list_all (listed_holds kinds types partitions) ls
+    && ascends nat_lt (map (λ l. unwrap_or (place_of kinds types l.inv) 0) ls)
 
 -- ---- merges
 
@@ -200,30 +201,31 @@ blocks_hold type invariants ss bs =
 abbrev pub others_hold : (ℕ → Option ℕ) → Model → Bool
 others_hold type m =
     edges_hold type m.edges
-    && (invariants_hold (length m.types) (length m.partitions) m.invariants
+    && (invariants_hold m.kinds (length m.types) (length m.partitions) m.invariants
     && (merges_hold m.merges
     && (splits_hold (length m.invariants) m.splits
     && blocks_hold type (length m.invariants) m.splits m.blocks)))
 
 -- all seven tests are passed
 pub record PassesRules (m : Model) : Type 0 where
-  pub types : IsTrue (types_hold m.types)
+  pub types : IsTrue (types_hold MAX_TYPES m.types)
   pub partitions : IsTrue (partitions_hold (length m.types) m.partitions)
   pub edges : IsTrue (edges_hold (type_of m.partitions) m.edges)
-  pub invariants : IsTrue (invariants_hold (length m.types) (length m.partitions) m.invariants)
+  pub invariants : IsTrue (invariants_hold m.kinds (length m.types) (length m.partitions) m.invariants)
   pub merges : IsTrue (merges_hold m.merges)
   pub splits : IsTrue (splits_hold (length m.invariants) m.splits)
   pub blocks : IsTrue (blocks_hold (type_of m.partitions) (length m.invariants) m.splits m.blocks)
 
 -- each test is passed exactly where the rule of a well-shaped model holds
 pub record RulesTell : Type 0 where
-  pub types : (ts : List (List ℕ)) → IsTrue (types_hold ts) ↔ AreTypes ts
+  pub types : (ts : List (List ℕ)) → IsTrue (types_hold MAX_TYPES ts) ↔ AreTypes ts
   pub partitions : (types : ℕ) (ps : List Partition)
       → IsTrue (partitions_hold types ps) ↔ AreShapedPartitions types ps
   pub edges : (ps : List Partition) (es : List Edge)
       → IsTrue (edges_hold (type_of ps) es) ↔ AreShapedEdges ps es
-  pub invariants : (types partitions : ℕ) (ls : List Listed)
-      → IsTrue (invariants_hold types partitions ls) ↔ AreShapedInvariants types partitions ls
+  pub invariants : (kinds : Kinds) (types partitions : ℕ) (ls : List Listed)
+      → IsTrue (invariants_hold kinds types partitions ls)
+      ↔ AreShapedInvariants kinds types partitions ls
   pub merges : (ms : List Merge) → IsTrue (merges_hold ms) ↔ AreShapedMerges ms
   pub splits : (invariants : ℕ) (ss : List Split)
       → IsTrue (splits_hold invariants ss) ↔ AreShapedSplits invariants ss

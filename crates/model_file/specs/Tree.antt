@@ -5,6 +5,8 @@ use Rattle.serde_json.specs.View.{items_of}
 use Rattle.serde_json.specs.Written.{compact_text}
 use Rattle.invariants.specs.declared.Kind.{Kind}
 use Rattle.invariants.specs.declared.Kind.TheVariants.{AF, NF, AP, IB}
+use Rattle.invariants.specs.declared.Kinds.{Kinds}
+use Rattle.invariants.specs.declared.Kinds.TheVariants.{Three, Four}
 use Rattle.invariants.specs.declared.records.Partition.{Partition}
 use Rattle.invariants.specs.declared.records.Edge.{Edge}
 use Rattle.invariants.specs.declared.records.Listed.{Listed}
@@ -12,6 +14,8 @@ use Rattle.invariants.specs.declared.records.Merge.{Merge}
 use Rattle.invariants.specs.declared.records.Split.{Split}
 use Rattle.invariants.specs.declared.records.Block.{Block}
 use Rattle.invariants.specs.declared.records.Model.{Model}
+use Rattle.model_file.specs.declared.version.Version.{Version}
+use Rattle.model_file.specs.declared.version.Version.TheVariants.{One, Two}
 
 -- a whole number
 abbrev pub number_data : ℕ → Data
@@ -40,6 +44,19 @@ kind_text NF = codes "NF"
 kind_text AP = codes "AP"
 kind_text IB = codes "IB"
 
+-- a kind, as its name
+abbrev pub kind_data : Kind → Data
+kind_data kind = string (kind_text kind)
+
+-- the kinds in their order
+abbrev pub kinds_in_order : Kinds → List Kind
+kinds_in_order Three = AF ∷ NF ∷ AP ∷ []
+kinds_in_order Four = AF ∷ NF ∷ AP ∷ IB ∷ []
+
+-- kinds, as the array of their names
+abbrev pub kinds_data : Kinds → Data
+kinds_data kinds = array_of (map kind_data (kinds_in_order kinds))
+
 -- the byte of a label's digit
 abbrev pub digit_of : ℕ → ℕ
 digit_of label = 48 + label
@@ -47,7 +64,7 @@ digit_of label = 48 + label
 -- `[kind,a,b,labels]`, the labels with a digit each
 abbrev pub listed_data : Listed → Data
 listed_data l =
-    array_of (string (kind_text l.inv.kind) ∷ number_data l.inv.a ∷ number_data l.inv.b
+    array_of (kind_data l.inv.kind ∷ number_data l.inv.a ∷ number_data l.inv.b
     ∷ string (map digit_of l.labels) ∷ [])
 
 -- `[p,q]`
@@ -63,9 +80,22 @@ abbrev pub block_data : Block → Data
 block_data b =
     array_of (number_data b.p ∷ number_data b.q ∷ number_data b.inv ∷ path_data b.path ∷ [])
 
--- the eight keys of a model, in the order of their bytes
+-- the nine keys of a file of version 2, in the order of their bytes
 abbrev pub members_in : Model → Members
 members_in m =
+    member (codes "blocks") (array_of (map block_data m.blocks))
+    (member (codes "edges") (array_of (map edge_data m.edges))
+    (member (codes "invariants") (array_of (map listed_data m.invariants))
+    (member (codes "kinds") (kinds_data m.kinds)
+    (member (codes "merges") (array_of (map merge_data m.merges))
+    (member (codes "partitions") (array_of (map partition_data m.partitions))
+    (member (codes "splits") (array_of (map split_data m.splits))
+    (member (codes "types") (array_of (map string m.types))
+    (member (codes "version") (number_data 2) no_members))))))))
+
+-- the eight keys of a file of version 1, in the same order: it names no kinds
+abbrev pub members_of_version_1 : Model → Members
+members_of_version_1 m =
     member (codes "blocks") (array_of (map block_data m.blocks))
     (member (codes "edges") (array_of (map edge_data m.edges))
     (member (codes "invariants") (array_of (map listed_data m.invariants))
@@ -75,7 +105,16 @@ members_in m =
     (member (codes "types") (array_of (map string m.types))
     (member (codes "version") (number_data 1) no_members)))))))
 
--- the JSON value of a model
+-- the keys of a file of a version with their values
+abbrev pub members_as : Version → Model → Members
+members_as One m = members_of_version_1 m
+members_as Two m = members_in m
+
+-- the JSON value of a model of three kinds, in version 1
+unfoldable pub tree_of_version_1 : Model → Data
+tree_of_version_1 m = object (members_of_version_1 m)
+
+-- the JSON value of a model, in version 2
 unfoldable pub tree_of : Model → Data
 tree_of m = object (members_in m)
 

@@ -1,10 +1,11 @@
 //! The entries of a model's lists, as JSON values.
-ghost use Rattle.std.specs.Prelude.{◌≡◌, IfOk};
+ghost use Rattle.std.specs.Prelude.{◌≡◌, ◌↔◌, ◌-◌, map, IfOk, IsTrue, All};
 ghost use Rattle.serde_json.specs.View.{view};
-ghost use Rattle.model_file.specs.Entries.{partition_in, edge_in, merge_in, kind_in, invariant_in, labels_in, path_in};
+ghost use Rattle.model_file.specs.Entries.{partition_in, edge_in, merge_in, kind_in, kinds_from, kinds_named, invariant_in, labels_in, path_in};
+ghost use Rattle.model_file.specs.Labels.{IsLabelDigit};
 
 use crate::arrays::{Entry, four, list, number, three, two, type_number};
-use invariants::{Block, Edge, Invariant, Kind, Listed, Merge, Partition, Seq, Split, Text};
+use invariants::{Block, Edge, Invariant, Kind, Kinds, Listed, Merge, Partition, Seq, Split, Text};
 use serde_json::Value;
 use std::alloc::{AllocError, Global};
 
@@ -96,7 +97,7 @@ impl Entry for Merge {
     }
 }
 
-/// The kind with the name that the value is. `IB` is read too, and then refused by the rule of invariants, since a model lists three kinds.
+/// The kind with the name that the value is.
 #[tactic(auto, unfolding(crate::specs::Entries::kind_in))]
 fn kind_of(value: &Value) -> Option<Kind>
     ensures { result ≡ kind_in (view value.now) }
@@ -117,6 +118,60 @@ fn kind_of(value: &Value) -> Option<Kind>
     None
 }
 
+impl Entry for Kind {
+    ghost use Rattle.model_file.specs.Entries.{kind_in};
+
+    ghost read_as = { kind_in };
+
+    fn read(_alloc: Global, value: &Value) -> Result<Option<Kind>, AllocError> {
+        Ok(kind_of(value))
+    }
+}
+
+/// These kinds, where they are the three or all four in their order.
+fn kinds_from(kinds: &[Kind]) -> Option<Kinds>
+    ensures { result ≡ kinds_from kinds.now }
+{
+    match kinds {
+        [Kind::AF, Kind::NF, Kind::AP] => Some(Kinds::Three),
+        [Kind::AF, Kind::NF, Kind::AP, Kind::IB] => Some(Kinds::Four),
+        _ => None,
+    }
+}
+
+/// The kinds with the names that the value is an array of.
+#[tactic(auto, unfolding(crate::specs::Entries::kinds_named))]
+pub(crate) fn kinds_named(alloc: Global, value: &Value) -> Result<Option<Kinds>, AllocError>
+    ensures { IfOk result (λ found. found ≡ kinds_named (view value.now)) }
+{
+    match list::<Kind>(alloc, value)? {
+        Some(kinds) => Ok(kinds_from(&kinds)),
+        None => Ok(None),
+    }
+}
+
+/// Whether all bytes are digits from `0` to `7`.
+fn are_labels(bytes: &[u8]) -> bool
+    ensures { IsTrue result ↔ All IsLabelDigit bytes.now }
+{
+    // No way out before the last byte, so that many are tested at once.
+    let mut all = true;
+    for byte in bytes {
+        all = all & (*byte >= b'0') & (*byte <= b'7');
+    }
+    all
+}
+
+/// Puts the number of each digit in its place.
+fn digits_to_numbers(bytes: &mut [u8])
+    requires { All IsLabelDigit bytes.old }
+    ensures { bytes.new ≡ map (λ byte. byte - 48) bytes.old }
+{
+    for k in 0..bytes.len() {
+        bytes[k] = bytes[k] - b'0';
+    }
+}
+
 /// The labels of a string of digits from `0` to `7`.
 #[tactic(auto, unfolding(crate::specs::Entries::labels_in))]
 fn labels_of(alloc: Global, value: &Value) -> Result<Option<Seq<u8>>, AllocError>
@@ -126,13 +181,12 @@ fn labels_of(alloc: Global, value: &Value) -> Result<Option<Seq<u8>>, AllocError
         return Ok(None);
     };
     let digits = text.as_bytes();
-    let mut labels = Vec::with_capacity(alloc, digits.len())?;
-    'digits: for digit in digits {
-        if *digit < b'0' || *digit > b'7' {
-            return Ok(None);
-        }
-        labels.push(*digit - b'0')?;
+    if !are_labels(digits) {
+        return Ok(None);
     }
+    let mut labels = Vec::with_capacity(alloc, digits.len())?;
+    labels.extend_from_slice(digits)?;
+    digits_to_numbers(labels.as_mut_slice());
     Ok(Some(Seq::from_vec(labels)))
 }
 

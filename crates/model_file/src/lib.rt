@@ -1,8 +1,11 @@
 //! The model file: the text of a model, and the model of a text or the first refusal.
 //!
-//! A file is one JSON object without blanks, with the keys `blocks`, `edges`, `invariants`, `merges`, `partitions`,
-//! `splits`, `types` and `version` in this order. Reading takes any JSON text of such an object, whatever the order of
-//! its keys and its blanks, where the model in it is well shaped.
+//! A file that is written is of version 2: one JSON object without blanks, with the keys `blocks`, `edges`, `invariants`,
+//! `kinds`, `merges`, `partitions`, `splits`, `types` and `version` in this order. Reading takes any JSON text of such an
+//! object, whatever the order of its keys and its blanks, where the model in it is well shaped.
+//!
+//! Files of version 1 are read by a call of their own and are no longer written. They have the same keys without `kinds`,
+//! fewer types and fewer bytes, and their models ask for three kinds of invariants.
 #![tactic(auto)]
 
 mod arrays;
@@ -13,13 +16,16 @@ mod reading;
 mod refusal;
 mod shape;
 mod table;
+mod version;
 mod writing;
 
 pub use law::{
     read_is_tree, read_is_well_shaped, rules_tell, texts_are_short, trees_are_read,
+    version_1_is_read_again, version_1_is_tree, version_1_names_no_kinds, version_1_trees_are_read,
     written_reads_back,
 };
-pub use reading::read_model;
+pub use reading::{read_model, read_version_1};
 pub use refusal::{Field, FileError};
 pub use shape::is_well_shaped;
+pub use version::Version;
 pub use writing::write_model;

@@ -10,12 +10,14 @@ use thiserror::Error;
 pub enum Field {
     /// The whole, which is to be an object.
     Root,
-    /// The number of the form of the file.
+    /// The number of the version of the file.
     Version,
-    /// A key that no model file has.
+    /// A key that no model file of the version has.
     Extra,
     /// The texts of the types.
     Types,
+    /// The kinds of invariants that are asked for. A file of version 1 names none, and is never refused for them.
+    Kinds,
     /// The partitions.
     Partitions,
     /// The edges.
@@ -34,8 +36,9 @@ pub enum Field {
 /// answered; of several lists, the first in the order of `Field`.
 #[derive(Clone, Copy, Debug, PartialEq, Eq, Error)]
 pub enum FileError {
-    /// The file has more than 134,217,728 bytes.
-    #[error("the model file has more than 134217728 bytes")]
+    /// The file has more bytes than a file of the version that is read: 536,870,912 for version 2, and 134,217,728 for
+    /// version 1.
+    #[error("the model file is too long")]
     TooLong,
     /// The bytes are no JSON text.
     #[error("the model file is not JSON")]
@@ -43,7 +46,7 @@ pub enum FileError {
     /// The part is not there, is not of its form or breaks its rule.
     #[error("the model file has a bad part {0:?}")]
     Shape(Field),
-    /// The file is of this version, which is not 1.
+    /// The file is of this version, which is not the one that is read.
     #[error("the model file is of version {0}")]
     Version(u64),
     /// Memory was wanted.

@@ -49,12 +49,12 @@ fn type_holds(text: &Text) -> bool
     1 <= text.len() && text.len() <= MAX_TYPE_BYTES
 }
 
-/// No more types than a log may have, each of 1 to `MAX_TYPE_BYTES` bytes, no two equal.
+/// No more types than the limit, each of 1 to `MAX_TYPE_BYTES` bytes, no two equal.
 #[tactic(auto, unfolding(crate::specs::Rules::types_hold))]
-pub(crate) fn types_hold(types: &[Text]) -> bool
-    ensures { result ≡ types_hold types.now }
+pub(crate) fn types_hold(limit: u32, types: &[Text]) -> bool
+    ensures { result ≡ types_hold limit types.now }
 {
-    if types.len() > MAX_TYPES as usize {
+    if types.len() > limit as usize {
         return false;
     }
     'types: for text in types {
@@ -170,11 +170,11 @@ pub(crate) fn edges_hold(table: &[Option<u16>], edges: &[Edge]) -> bool
     edges_ascend(edges)
 }
 
-fn place_of(types: u32, inv: Invariant) -> Option<u32>
+fn place_of(kinds: Kinds, types: u32, inv: Invariant) -> Option<u32>
     requires { types ≤ MAX_TYPES }
-    ensures { result ≡ place_of types inv }
+    ensures { result ≡ place_of kinds types inv }
 {
-    index_of(Kinds::Three, types, inv)
+    index_of(kinds, types, inv)
 }
 
 fn labels_hold(labels: &[u8]) -> bool
@@ -183,23 +183,23 @@ fn labels_hold(labels: &[u8]) -> bool
     labels.iter().all(|label| *label <= 7)
 }
 
-fn listed_holds(types: u32, partitions: usize, listed: &Listed) -> bool
+fn listed_holds(kinds: Kinds, types: u32, partitions: usize, listed: &Listed) -> bool
     requires { types ≤ MAX_TYPES }
-    ensures { result ≡ listed_holds types partitions listed.now }
+    ensures { result ≡ listed_holds kinds types partitions listed.now }
 {
-    place_of(types, listed.inv).is_some()
+    place_of(kinds, types, listed.inv).is_some()
         && listed.labels.len() == partitions
         && labels_hold(listed.labels.as_slice())
 }
 
-fn invariants_ascend(types: u32, invariants: &[Listed]) -> bool
+fn invariants_ascend(kinds: Kinds, types: u32, invariants: &[Listed]) -> bool
     requires { types ≤ MAX_TYPES }
     ensures { result
-        ≡ ascends nat_lt (map (λ l. unwrap_or (place_of types l.inv) 0) invariants.now) }
+        ≡ ascends nat_lt (map (λ l. unwrap_or (place_of kinds types l.inv) 0) invariants.now) }
 {
     let mut before = None;
     'invariants: for listed in invariants {
-        let place = place_of(types, listed.inv).unwrap_or(0);
+        let place = place_of(kinds, types, listed.inv).unwrap_or(0);
         if let Some(earlier) = before {
             if place <= earlier {
                 return false;
@@ -210,18 +210,23 @@ fn invariants_ascend(types: u32, invariants: &[Listed]) -> bool
     true
 }
 
-/// Candidates in their order, each with a label for each partition.
+/// Candidates of these kinds in their order, each with a label for each partition.
 #[tactic(auto, unfolding(crate::specs::Rules::invariants_hold))]
-pub(crate) fn invariants_hold(types: u32, partitions: usize, invariants: &[Listed]) -> bool
+pub(crate) fn invariants_hold(
+    kinds: Kinds,
+    types: u32,
+    partitions: usize,
+    invariants: &[Listed],
+) -> bool
     requires { types ≤ MAX_TYPES }
-    ensures { result ≡ invariants_hold types partitions invariants.now }
+    ensures { result ≡ invariants_hold kinds types partitions invariants.now }
 {
     'invariants: for listed in invariants {
-        if !listed_holds(types, partitions, listed) {
+        if !listed_holds(kinds, types, partitions, listed) {
             return false;
         }
     }
-    invariants_ascend(types, invariants)
+    invariants_ascend(kinds, types, invariants)
 }
 
 fn merge_holds(merge: Merge) -> bool
@@ -374,6 +379,7 @@ fn others_hold(table: &[Option<u16>], model: &Model) -> bool
     let listed = model.invariants.len();
     edges_hold(table, model.edges.as_slice())
         && invariants_hold(
+            model.kinds,
             model.types.len() as u32,
             model.partitions.len(),
             model.invariants.as_slice(),
@@ -393,7 +399,7 @@ fn others_hold(table: &[Option<u16>], model: &Model) -> bool
 pub fn is_well_shaped(alloc: Global, model: &Model) -> Result<bool, AllocError>
     ensures { IfOk result (λ shaped. IsTrue shaped ↔ IsWellShaped model.now) }
 {
-    if !types_hold(model.types.as_slice()) {
+    if !types_hold(MAX_TYPES, model.types.as_slice()) {
         return Ok(false);
     }
     if !partitions_hold(model.types.len(), model.partitions.as_slice()) {

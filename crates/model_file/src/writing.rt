@@ -1,13 +1,13 @@
-//! Writing a model file.
+//! Writing a model file, which is of version 2.
 ghost use Rattle.std.specs.Prelude.{◌≡◌, ◌≤◌, [], ◌∷◌, ◌++◌, All, map, length, IfOk, Ok};
 ghost use Rattle.json.specs.Token.{key};
 ghost use Rattle.serde_json.specs.Data.{string};
-ghost use Rattle.model_file.specs.Tree.{digit_of, kind_text, number_data, array_of, path_data, tree_of, file_text};
+ghost use Rattle.model_file.specs.Tree.{digit_of, kind_text, kind_data, kinds_data, number_data, array_of, path_data, tree_of, file_text};
 ghost use Rattle.model_shape.specs.Shapes.{IsWellShaped};
 ghost use Rattle.model_file.specs.Reading.{reads};
 ghost use Rattle.model_file.specs.Writing.{tokens_of, Appends};
 
-use invariants::{Block, Edge, Kind, Listed, Merge, Model, Partition, Seq, Split, Text};
+use invariants::{Block, Edge, Kind, Kinds, Listed, Merge, Model, Partition, Seq, Split, Text};
 use json::Writer;
 use std::alloc::{AllocError, Global};
 use std::str;
@@ -136,6 +136,28 @@ fn kind_text(kind: Kind) -> &'static str
     }
 }
 
+impl Written for Kind {
+    ghost use Rattle.model_file.specs.Tree.{kind_data};
+
+    ghost written_as = { kind_data };
+
+    ghost can_write = { λ _. Unit {0} };
+
+    fn write(&self, _alloc: Global, out: &mut Writer) -> Result<(), AllocError> {
+        write_text(kind_text(*self), out)
+    }
+}
+
+/// Writes kinds as an array of their names.
+fn write_kinds(alloc: Global, kinds: Kinds, out: &mut Writer) -> Result<(), AllocError>
+    ensures { Appends result out.old out.new (tokens_of (kinds_data kinds)) }
+{
+    match kinds {
+        Kinds::Three => write_list(alloc, &[Kind::AF, Kind::NF, Kind::AP], out),
+        Kinds::Four => write_list(alloc, &[Kind::AF, Kind::NF, Kind::AP, Kind::IB], out),
+    }
+}
+
 /// Writes labels as a string with a digit for each.
 fn write_labels(alloc: Global, labels: &[u8], out: &mut Writer) -> Result<(), AllocError>
     requires { All (λ label. label ≤ 7) labels.now }
@@ -232,17 +254,20 @@ fn write_tree(alloc: Global, model: &Model, out: &mut Writer) -> Result<(), Allo
     write_part(alloc, "blocks", &model.blocks, out)?;
     write_part(alloc, "edges", &model.edges, out)?;
     write_part(alloc, "invariants", &model.invariants, out)?;
+    out.key("kinds")?;
+    write_kinds(alloc, model.kinds, out)?;
     write_part(alloc, "merges", &model.merges, out)?;
     write_part(alloc, "partitions", &model.partitions, out)?;
     write_part(alloc, "splits", &model.splits, out)?;
     write_part(alloc, "types", &model.types, out)?;
     out.key("version")?;
-    write_number(1, out)?;
+    write_number(2, out)?;
     out.end_object()
 }
 
-/// The text of a model, which is well shaped: one JSON object without blanks, with the eight keys in the order of
-/// their bytes. It is at most as long as a model file may be, and `read_model` reads the model back from it.
+/// The text of a model, which is well shaped, in version 2: one JSON object without blanks, with the nine keys in the
+/// order of their bytes. It has at most 330,000,000 bytes (`limits::MAX_WRITTEN_BYTES`), and `read_model` reads the model
+/// back from it.
 pub fn write_model(alloc: Global, model: &Model) -> Result<Seq<u8>, AllocError>
     requires { IsWellShaped model.now }
     ensures value { IfOk result (λ text. text ≡ file_text model.now) }

@@ -1,0 +1,5 @@
+use Rattle.std.proofs.Common.{rules}
+use Rattle.model_file.proofs.version.Version.max_bytes.Goals as goal
+
+pub returns-in-One : goal.returns-in-One
+returns-in-One c = search rules
