@@ -1,12 +1,14 @@
 -- What is read of a log, and how much is mined of it.
-use Rattle.std.proofs.Common.{◌≡◌, ℕ, zero, suc, ◌+◌, ◌*◌, ◌^◌, ◌<◌, ◌≤◌, List, [], ◌∷◌, length, map, slice_get, Some, refl, sym, ap, arith, count_by}
+use Rattle.std.proofs.Common.{◌≡◌, ℕ, zero, suc, ◌*◌, ◌^◌, ◌<◌, ◌≤◌, List, [], ◌∷◌, length, map, slice_get, Some, refl, sym, ap, arith, count_by}
 use Rattle.std.specs.Prelude.{IfSome}
 use Rattle.std.proofs.lemmas.List.Sums.{length-filter, count_by-le-length}
 use Rattle.limits.specs.declared.TheConstants.{MAX_TYPES}
-use Rattle.invariants.specs.Candidates.{candidates}
-use Rattle.invariants.proofs.CandidatePlaces.{length-candidates}
+use Rattle.invariants.specs.declared.Kinds.{Kinds}
+use Rattle.invariants.specs.declared.Kinds.TheVariants.{Three, Four}
+use Rattle.invariants.specs.Candidates.{candidates_for, candidate_total}
+use Rattle.invariants.proofs.EachKinds.{length-total}
 use Rattle.std.proofs.Math.Nat.{mul-le-mul_right}
-use Rattle.invariants.specs.Mined.{mined, holds_of_all}
+use Rattle.invariants.specs.Mined.{mined_for, holds_of_all}
 use Rattle.partition_model.specs.Assignments.{with_ends}
 use Rattle.traces.specs.Words.{Log, Trace, words_of, word_of}
 use Rattle.models.specs.Models.{mined_of, typed_words}
@@ -23,14 +25,21 @@ words-again [] = refl
 words-again (x ∷ xs) = ap (λ (ws : List (List ℕ)). word_of x ∷ ws) (words-again xs)
 
 -- what is mined of the traces of a log is what is mined of its words
-pub mined-again : (log : Log) → mined (length log.types) (words_of log) ≡ mined_of (typed_words log)
-mined-again log = ap (λ (ws : List (List ℕ)). mined (length log.types) ws) (words-again log.traces)
+pub mined-again : (kinds : Kinds) (log : Log) → mined_for kinds (length log.types) (words_of log) ≡ mined_of (typed_words kinds log)
+mined-again kinds log = ap (λ (ws : List (List ℕ)). mined_for kinds (length log.types) ws) (words-again log.traces)
 
--- no more are mined than there are candidates
-pub mined-few : (types : ℕ) (words : List (List ℕ)) → types ≤ MAX_TYPES → length (mined types words) < 2 ^ 32
-mined-few types words few =
-    let a : length (mined types words) ≡ count_by (holds_of_all words) (candidates types) = length-filter (holds_of_all words) (candidates types) in
-    let b : count_by (holds_of_all words) (candidates types) ≤ length (candidates types) = count_by-le-length (holds_of_all words) (candidates types) in
-    let c : length (candidates types) ≡ types + 3 * (types * types) = length-candidates types in
+-- for so many types there are so many candidates at most
+total-few : (kinds : Kinds) (types : ℕ) → types ≤ MAX_TYPES → candidate_total kinds types < 2 ^ 32
+total-few Three types few =
     let d : types * types ≤ MAX_TYPES * types = mul-le-mul_right types few in
     omega arith
+total-few Four types few =
+    let d : types * types ≤ MAX_TYPES * types = mul-le-mul_right types few in
+    omega arith
+
+-- no more are mined than there are candidates
+pub mined-few : (kinds : Kinds) (types : ℕ) (words : List (List ℕ)) → types ≤ MAX_TYPES → length (mined_for kinds types words) < 2 ^ 32
+mined-few kinds types words few =
+    let a : length (mined_for kinds types words) ≡ count_by (holds_of_all words) (candidates_for kinds types) = length-filter (holds_of_all words) (candidates_for kinds types) in
+    let b : count_by (holds_of_all words) (candidates_for kinds types) ≤ length (candidates_for kinds types) = count_by-le-length (holds_of_all words) (candidates_for kinds types) in
+    omega (arith, length-total kinds types, total-few kinds types few)

@@ -1,5 +1,6 @@
 -- What a check answers of a model and of a log.
-use Rattle.std.specs.Prelude.{ℕ, List}
+use Rattle.std.specs.Prelude.{ℕ, List, map}
+use Rattle.traces.specs.Words.{Log}
 use Rattle.invariants.specs.declared.Invariant.{Invariant}
 use Rattle.invariants.specs.declared.records.Listed.{Listed}
 use Rattle.invariants.specs.declared.records.Model.{Model}
@@ -13,6 +14,10 @@ use Rattle.model_check.specs.declared.verdict.Verdict.TheVariants.{Yes, No}
 -- a listed invariant without its labels
 abbrev pub inv_of : Listed → Invariant
 inv_of l = l.inv
+
+-- the words of a log without their ends
+abbrev pub inner_words_of : Log → List (List ℕ)
+inner_words_of log = map (λ trace. trace.events) log.traces
 
 -- some path of the graph has this word, once its ends are put to it
 abbrev pub HasPathFor : Graph → List ℕ → Type 0

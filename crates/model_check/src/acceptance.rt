@@ -4,8 +4,7 @@ ghost use Rattle.std.specs.List.{AllByRecursion};
 ghost use Rattle.limits.specs.declared.TheConstants.{INITIAL};
 ghost use Rattle.models.specs.Checks.{IsFirstFailure};
 ghost use Rattle.model_check.specs.Rows.{shown};
-ghost use Rattle.models.specs.Models.{typed_words};
-ghost use Rattle.model_check.specs.Verdicts.{HasPathFor};
+ghost use Rattle.model_check.specs.Verdicts.{inner_words_of, HasPathFor};
 
 use crate::graph::ModelGraph;
 use traces::TraceSet;
@@ -14,8 +13,8 @@ use traces::TraceSet;
 pub fn first_refused(graph: &mut ModelGraph, traces: &TraceSet) -> Option<u32>
     requires { (shown graph.old).typ INITIAL ≡ INITIAL }
     ensures first { MatchOption result
-        (AllByRecursion (HasPathFor (shown graph.old)) (typed_words traces.now).words)
-        (IsFirstFailure (HasPathFor (shown graph.old)) (typed_words traces.now).words) }
+        (AllByRecursion (HasPathFor (shown graph.old)) (inner_words_of traces.now))
+        (IsFirstFailure (HasPathFor (shown graph.old)) (inner_words_of traces.now)) }
     ensures stays { shown graph.new ≡ shown graph.old }
 {
     // No log has more types than there are rows for.

@@ -105,7 +105,7 @@ fn lay_column(
     requires column { k < TOGETHER }
     requires shaped { IsWellShaped model.now }
     requires graph { shown graph.now ≡ graph_of model.now }
-    requires listed { IsShapedListed (length (model.now).types) (length (model.now).partitions)
+    requires listed { IsShapedListed (model.now).kinds (length (model.now).types) (length (model.now).partitions)
         listed.now }
 
     // Where both ends are right, the column is that of the invariant, and all others stay.

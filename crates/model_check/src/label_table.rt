@@ -60,7 +60,7 @@ impl LabelTable {
     /// before does not matter.
     pub fn lay(&mut self, model: &invariants::Model, listed: &Listed)
         requires shaped { IsWellShaped model.now }
-        requires listed { IsShapedListed (length (model.now).types)
+        requires listed { IsShapedListed (model.now).kinds (length (model.now).types)
             (length (model.now).partitions) listed.now }
         ensures { (p : ℕ) → slice_index self.new p
             ≡ label_at p (model.now).partitions (listed.now).labels }

@@ -59,7 +59,7 @@ pub fn has_right_ends(inv: Invariant, graph: &ModelGraph, labels: &LabelTable) -
 fn is_labelled(model: &Model, graph: &ModelGraph, listed: &Listed, labels: &mut LabelTable) -> bool
     requires shaped { IsWellShaped model.now }
     requires graph { shown graph.now ≡ graph_of model.now }
-    requires listed { IsShapedListed (length (model.now).types) (length (model.now).partitions)
+    requires listed { IsShapedListed (model.now).kinds (length (model.now).types) (length (model.now).partitions)
         listed.now }
     ensures { IsTrue result ↔ IsLabelled model.now listed.now }
 {

@@ -29,7 +29,7 @@ use acceptance::first_refused;
 use blocks::first_open;
 use closure_miner::mine_again;
 use graph::ModelGraph;
-use invariants::{Kinds, Model, candidate_count};
+use invariants::{Model, candidate_count};
 use labels::first_unlabelled;
 use listing::{are_same, first_difference};
 pub use models::Part;
@@ -45,13 +45,13 @@ fn first_unlisted(
     traces: &TraceSet,
 ) -> Result<Option<u32>, AllocError>
     ensures { IfOk result (λ first. MatchOption first
-        (listing_of model.now ≡ mined_of (typed_words traces.now))
-        (DiffersAt (listing_of model.now) (mined_of (typed_words traces.now)))) }
+        (listing_of model.now ≡ mined_of (typed_words (model.now).kinds traces.now))
+        (DiffersAt (listing_of model.now) (mined_of (typed_words (model.now).kinds traces.now)))) }
 {
     // No more are mined than there are candidates, so that places in the list fit.
     let types = traces.types();
-    let _most = candidate_count(Kinds::Three, types.len() as u32);
-    let mined = mine_again(alloc, Kinds::Three, traces)?;
+    let _most = candidate_count(model.kinds, types.len() as u32);
+    let mined = mine_again(alloc, model.kinds, traces)?;
     Ok(first_difference(model.invariants.as_slice(), mined.as_slice()))
 }
 
@@ -65,9 +65,9 @@ fn check_graph(
     requires shaped { IsWellShaped model.now }
     requires graph { shown graph.old ≡ graph_of model.now }
     requires types { (model.now).types ≡ (traces.now).types }
-    requires listing { listing_of model.now ≡ mined_of (typed_words traces.now) }
+    requires listing { listing_of model.now ≡ mined_of (typed_words (model.now).kinds traces.now) }
     requires few { length (model.now).invariants < 2 ^ 32 }
-    ensures { IfOk result (λ verdict. IsVerdict model.now (typed_words traces.now) verdict) }
+    ensures { IfOk result (λ verdict. IsVerdict model.now (typed_words (model.now).kinds traces.now) verdict) }
 {
     if let Some(t) = first_refused(graph, traces) {
         return Ok(Verdict::No(Part::Trace(t)));
@@ -86,7 +86,7 @@ fn check_graph(
 /// there is not enough memory for the mined list or for the tables of the graph.
 pub fn check(alloc: Global, model: &Model, traces: &TraceSet) -> Result<Verdict, AllocError>
     requires { IsWellShaped model.now }
-    ensures { IfOk result (λ verdict. IsVerdict model.now (typed_words traces.now) verdict) }
+    ensures { IfOk result (λ verdict. IsVerdict model.now (typed_words (model.now).kinds traces.now) verdict) }
 {
     let types = traces.types();
     if !are_same(model.types.as_slice(), types.as_slice()) {

@@ -10,3 +10,5 @@ pub mod Marking
 pub mod Stitched
 pub mod Known
 pub mod Following
+pub mod Alike
+pub mod Noting

@@ -54,7 +54,7 @@ walk-to g k m same p (x ∷ xs) r b a w =
     let i : Walk k x xs r × (word g xs ≡ word k xs) = walk-to g k m same x xs r a.0 a.1 w.1 in
     ((s.0, i.0), ap₂ (λ (u : ℕ) (us : List ℕ). u ∷ us) s.1 i.1)
 
-breaks-to : (g k : Graph) (m : ℕ) → g.typ 0 ≡ k.typ 0 → ((p q : ℕ) → p < m → q < m → g.edge p q ≡ true → (k.edge p q ≡ true) × (g.typ q ≡ k.typ q))
+pub breaks-to : (g k : Graph) (m : ℕ) → g.typ 0 ≡ k.typ 0 → ((p q : ℕ) → p < m → q < m → g.edge p q ≡ true → (k.edge p q ≡ true) × (g.typ q ≡ k.typ q))
     → (inv : Invariant) (path : List ℕ) → AllByRecursion (λ x. x < m) path → Breaks g inv path → Breaks k inv path
 breaks-to g k m z same inv [] a b = absurd b.0
 breaks-to g k m z same inv (x ∷ xs) a b =
@@ -114,11 +114,11 @@ split-source p q n h e i =
     (v.0, In-events v.0 u.0 h u.1 v.1, v.2)
 
 -- the next id is new
-fresh : (n : ℕ) (h : Assignment) → 2 ≤ n → HaveIdsBelow n h → IsFresh n h
+pub fresh : (n : ℕ) (h : Assignment) → 2 ≤ n → HaveIdsBelow n h → IsFresh n h
 fresh n h l a = (l, all_from (λ e. e.id ≢ n) (events h) (λ e i q. absurd (let b : (2 ≤ e.id) × (e.id < n) = all_in (λ e. (2 ≤ e.id) × (e.id < n)) e (events h) a i in let c : e.id < n = b.1 in omega arith)))
 
 -- the ids after a split are below the one after the new one
-split-below : (p q n : ℕ) (h : Assignment) → 2 ≤ n → HaveIdsBelow n h → HaveIdsBelow (n + 1) (split p q n h)
+pub split-below : (p q n : ℕ) (h : Assignment) → 2 ≤ n → HaveIdsBelow n h → HaveIdsBelow (n + 1) (split p q n h)
 split-below p q n h l a =
     all_from (λ e. (2 ≤ e.id) × (e.id < n + 1)) (events (split p q n h)) (λ e i.
     let o : (d : Event) × In d (events h) × ComesFrom p n e d = split-source p q n h e i in

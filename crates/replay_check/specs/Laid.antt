@@ -1,8 +1,13 @@
 -- Traces laid one behind another, and what is asked of their ids.
-use Rattle.std.specs.Prelude.{ℕ, suc, ◌==◌, ◌&&◌, ◌<◌, ◌≤◌, max, if◌then◌else◌, List, [], ◌∷◌}
+use Rattle.std.specs.Prelude.{ℕ, suc, ◌==◌, ◌&&◌, ◌<◌, ◌≤◌, max, if◌then◌else◌, List, [], ◌∷◌, map}
 use Rattle.std.specs.List.{flat_map}
 use Rattle.limits.specs.declared.TheConstants.{INITIAL, TERMINAL, FIRST_TYPE}
+use Rattle.traces.specs.Words.{Log}
 use Rattle.partition_model.specs.Assignments.{Assignment, AllEvents, id_list, pairs, begins_with}
+
+-- the words of a log without their ends
+abbrev pub inner_words_of : Log → List (List ℕ)
+inner_words_of log = map (λ trace. trace.events) log.traces
 
 -- the ids of all traces, each trace between its two ends
 abbrev pub laid : Assignment → List ℕ

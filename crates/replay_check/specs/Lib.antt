@@ -1,3 +1,4 @@
 pub mod Laid
+pub mod Sharing
 pub mod Shown
 pub mod Answers

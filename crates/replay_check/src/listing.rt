@@ -1,4 +1,4 @@
-//! The lists of a model, beside those that are made from a log.
+//! The lists of a model, beside those that are made from a log, and the words of two traces.
 ghost use Rattle.std.specs.Prelude.{◌≡◌, ◌↔◌, IsTrue};
 
 use invariants::{Edge, Partition, Text};
@@ -12,6 +12,21 @@ pub fn are_same(these: &[Text], those: &[Text]) -> bool
     }
     for (i, text) in these.iter().enumerate() {
         if text.as_str() != those[i].as_str() {
+            return false;
+        }
+    }
+    true
+}
+
+/// Whether two lists of numbers are the same.
+pub fn same_numbers(these: &[u16], those: &[u16]) -> bool
+    ensures { IsTrue result ↔ (these.now ≡ those.now) }
+{
+    if these.len() != those.len() {
+        return false;
+    }
+    for (i, x) in these.iter().enumerate() {
+        if *x != those[i] {
             return false;
         }
     }

@@ -131,3 +131,28 @@ pub fn first_wrong_split(
     }
     None
 }
+
+/// Makes the splits of the model one after another, from the assignment that the ids show, where the first new id is `first`. Where they are right in their turn, the ids and their types are then those after all splits.
+pub fn make_splits(model: &Model, first: u32, ids: &mut [u16], types: &mut [u16])
+    requires shaped { IsWellShaped model.now }
+    requires first { first ≤ MAX_PARTITIONS }
+    requires size { length types.old ≡ MAX_PARTITIONS }
+    requires within { All (λ p. p < MAX_PARTITIONS) ids.old }
+    ensures shows { (h : Assignment) → Shows h first ids.old types.old → SplitInTurn model.now h first (model.now).splits
+        → Shows (split_by first (model.now).splits h) (first + length (model.now).splits) ids.new types.new }
+    ensures size { length types.new ≡ MAX_PARTITIONS }
+    ensures count { length ids.new ≡ length ids.old }
+    ensures within { All (λ p. p < MAX_PARTITIONS) ids.new }
+{
+    let splits = model.splits.as_slice();
+    for k in 0..splits.len() {
+        let split = &splits[k];
+        let n = first + k as u32;
+
+        // No split that is right in its turn is refused here.
+        if n >= MAX_PARTITIONS || split.place as usize + 1 >= split.path.as_slice().len() {
+            return;
+        }
+        divide(split, n, ids, types);
+    }
+}

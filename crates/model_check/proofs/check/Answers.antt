@@ -22,6 +22,6 @@ check_graph-requires-clause-listing c = rw c.in_default.is at c.in_ok-k.ensures
 
 pub check_graph-requires-clause-few : goal.check_graph-requires-clause-few
 check_graph-requires-clause-few c =
-    let same : listing_of c.args.model.now ≡ mined_of (typed_words c.args.traces.now) = rw c.in_default.is at c.in_ok-k.ensures in
-    let l = mined-few (length c.args.traces.now.types) (words_of c.args.traces.now) (subst (λ (ts : List (List ℕ)). length ts ≤ MAX_TYPES) c.types-types.ensures.value c.types-types.ensures.few) in
-    omega (arith, l, ap length same, ap length (mined-again c.args.traces.now), length-map c.args.model.now.invariants inv_of)
+    let same : listing_of c.args.model.now ≡ mined_of (typed_words c.args.model.now.kinds c.args.traces.now) = rw c.in_default.is at c.in_ok-k.ensures in
+    let l = mined-few c.args.model.now.kinds (length c.args.traces.now.types) (words_of c.args.traces.now) (subst (λ (ts : List (List ℕ)). length ts ≤ MAX_TYPES) c.types-types.ensures.value c.types-types.ensures.few) in
+    omega (arith, l, ap length same, ap length (mined-again c.args.model.now.kinds c.args.traces.now), length-map c.args.model.now.invariants inv_of)

@@ -2,16 +2,16 @@ use Rattle.std.proofs.Common.{ap, subst, ◌∙◌}
 use Rattle.std.specs.List.{AllByRecursion}
 use Rattle.limits.specs.declared.TheConstants.{INITIAL}
 use Rattle.partition_model.specs.Graphs.{Graph}
-use Rattle.models.specs.Models.{typed_words, IsLabelled}
+use Rattle.models.specs.Models.{IsLabelled}
 use Rattle.models.specs.Checks.{IsAccepted, IsFirstFailure}
 use Rattle.models.proofs.Formed.{shaped_are_formed}
-use Rattle.model_check.specs.Verdicts.{HasPathFor}
+use Rattle.model_check.specs.Verdicts.{inner_words_of, HasPathFor}
 use Rattle.model_check.proofs.check_graph.Goals as goal
 use Rattle.model_check.proofs.check_graph.Goals.{In_default, In_default-2}
 
 -- each word has a path
-same-words : (c : In_default) → AllByRecursion (IsAccepted c.args.model.now) (typed_words c.args.traces.now).words
-same-words c = subst (λ (g : Graph). AllByRecursion (HasPathFor g) (typed_words c.args.traces.now).words) c.requires.graph c.in_default.ensures.first
+same-words : (c : In_default) → AllByRecursion (IsAccepted c.args.model.now) (inner_words_of c.args.traces.now)
+same-words c = subst (λ (g : Graph). AllByRecursion (HasPathFor g) (inner_words_of c.args.traces.now)) c.requires.graph c.in_default.ensures.first
 
 -- the labels of each invariant are inductive
 same-labels : (c : In_default-2) → AllByRecursion (IsLabelled c.args.model.now) c.args.model.now.invariants
@@ -24,7 +24,7 @@ pub returns-in-Some : goal.returns-in-Some
 returns-in-Some c = (
   c.requires.types,
   c.requires.listing,
-  subst (λ (g : Graph). IsFirstFailure (HasPathFor g) (typed_words c.args.traces.now).words c.in-Some.t) c.requires.graph c.in-Some.ensures.first,
+  subst (λ (g : Graph). IsFirstFailure (HasPathFor g) (inner_words_of c.args.traces.now) c.in-Some.t) c.requires.graph c.in-Some.ensures.first,
 )
 
 pub returns-in-Some-2 : goal.returns-in-Some-2

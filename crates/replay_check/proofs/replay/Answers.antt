@@ -2,7 +2,8 @@ use Rattle.std.proofs.Common.{◌≡◌, ◌≤◌, ◌+◌, ℕ, List, length, 
 use Rattle.limits.specs.declared.TheConstants.{MAX_TYPES}
 use Rattle.partition_model.specs.Assignments.{by_type}
 use Rattle.models.specs.Models.{typed_words}
-use Rattle.replay_check.specs.Laid.{HaveIdsBelow}
+use Rattle.models.specs.Histories.{SplitInTurn}
+use Rattle.replay_check.specs.Laid.{inner_words_of, HaveIdsBelow}
 use Rattle.replay_check.specs.Shown.{Shows, AreOwnPlaces}
 use Rattle.replay_check.specs.Answers.{IsFollowed}
 use Rattle.replay_check.proofs.Following.{replay-from}
@@ -11,8 +12,8 @@ use Rattle.replay_check.proofs.replay.Goals as goal
 
 pub returns : goal.returns
 returns c =
-    let log = typed_words c.args.traces.now in
-    let ws : List (List ℕ) = (typed_words c.args.traces.now).words in
+    let log = typed_words c.args.model.now.kinds c.args.traces.now in
+    let ws : List (List ℕ) = inner_words_of c.args.traces.now in
     let n : ℕ = c.len.result + 2 in
     let few : length c.types-types.result.now ≤ MAX_TYPES = c.types-types.ensures.few in
     let count : c.len.result ≡ length c.types-types.result.now = omega (arith, c.len.ensures) in
@@ -22,4 +23,5 @@ returns c =
     let s : Shows (by_type ws) n c.as_mut_slice.result.now c.as_mut_slice-2.result.now =
     start-shows n ws c.as_mut_slice.result.now c.as_mut_slice-2.result.now (omega arith) (omega arith) (c.as_mut_slice.ensures.value ∙ c.in_ok-ids.ensures.laid) (subst (λ x. HaveIdsBelow x (by_type ws)) (sym e) c.in_ok-ids.ensures.below)
     (subst (λ (xs : List ℕ). AreOwnPlaces xs) (sym c.as_mut_slice-2.ensures.value) c.in_ok-id_types.ensures.places) in
-    replay-from c.args.model.now log c.in_ok-answer.answer t (subst (λ x. IsFollowed c.args.model.now (by_type ws) x c.in_ok-answer.answer) e (c.in_ok-answer.ensures (by_type ws) s))
+    let turns : SplitInTurn c.args.model.now (by_type ws) n c.args.model.now.splits = rw c.in_default.is at c.in_ok-k.ensures in
+    replay-from c.args.model.now log c.in_ok-answer.answer t (subst (λ x. IsFollowed c.args.model.now (by_type ws) x c.in_ok-answer.answer) e (c.in_ok-answer.ensures (by_type ws) s turns))

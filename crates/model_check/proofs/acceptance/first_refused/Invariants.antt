@@ -1,7 +1,6 @@
 use Rattle.std.proofs.Common.{◌≡◌}
 use Rattle.model_check.specs.Rows.{shown}
-use Rattle.models.specs.Models.{typed_words}
-use Rattle.model_check.specs.Verdicts.{HasPathFor}
+use Rattle.model_check.specs.Verdicts.{inner_words_of, HasPathFor}
 use Rattle.model_check.proofs.Failing.{HoldBelow}
 use Rattle.model_check.proofs.acceptance.first_refused.Given as goal
 
@@ -9,5 +8,5 @@ abbrev pub invariant-loop-t : goal.invariant-loop-t
 invariant-loop-t l =
     record {
       stays : shown l.graph ≡ shown l.fn.graph;
-      held : HoldBelow (HasPathFor (shown l.fn.graph)) (typed_words l.traces).words l.t;
+      held : HoldBelow (HasPathFor (shown l.fn.graph)) (inner_words_of l.traces) l.t;
     }

@@ -27,8 +27,8 @@ pub is_labelled-requires-clause-listed : goal.is_labelled-requires-clause-listed
 is_labelled-requires-clause-listed c =
     let a : After-index-invariants-i = (goal.at.is_labelled-requires-clause-listed c).After-index-invariants-i in
     let m = c.args.model.now in
-    let all : All (IsShapedListed (length m.types) (length m.partitions)) m.invariants = All-from_recursion (IsShapedListed (length m.types) (length m.partitions)) m.invariants c.requires.shaped.invariants.each in
-    subst (λ (l : Listed). IsShapedListed (length m.types) (length m.partitions) l) (sym (read a)) (all c.loop-i.i c.index-invariants-i.result (within a))
+    let all : All (IsShapedListed m.kinds (length m.types) (length m.partitions)) m.invariants = All-from_recursion (IsShapedListed m.kinds (length m.types) (length m.partitions)) m.invariants c.requires.shaped.invariants.each in
+    subst (λ (l : Listed). IsShapedListed m.kinds (length m.types) (length m.partitions) l) (sym (read a)) (all c.loop-i.i c.index-invariants-i.result (within a))
 
 pub returns-then-not-is_labelled : goal.returns-then-not-is_labelled
 returns-then-not-is_labelled c =

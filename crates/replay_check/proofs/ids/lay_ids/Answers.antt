@@ -3,9 +3,8 @@ use Rattle.std.proofs.lemmas.List.{length-map, take_more}
 use Rattle.std.proofs.lemmas.List.Elements.{recursion_from_All}
 use Rattle.traces.specs.Words.{Trace}
 use Rattle.traces.specs.Kept.{IsTypeNumber}
-use Rattle.models.specs.Models.{typed_words}
 use Rattle.partition_model.specs.Assignments.{by_type}
-use Rattle.replay_check.specs.Laid.{laid, HaveIdsBelow}
+use Rattle.replay_check.specs.Laid.{inner_words_of, laid, HaveIdsBelow}
 use Rattle.replay_check.proofs.Starting.{AreRanged, word-at, laid-word, laid-length, ranged-more, ranged-below}
 use Rattle.std.specs.List.{All}
 use Rattle.limits.specs.declared.TheConstants.{MAX_PARTITIONS, MAX_TYPES}
@@ -14,7 +13,7 @@ use Rattle.replay_check.proofs.ids.lay_ids.Goals as goal
 
 pub loop-t-preserved : goal.loop-t-preserved
 loop-t-preserved c =
-    let ws : List (List ℕ) = (typed_words c.args.traces.now).words in
+    let ws : List (List ℕ) = inner_words_of c.args.traces.now in
     let t : ℕ = c.loop-t.t in
     let w : List ℕ = c.events.result.now in
     let inside : t < length c.args.traces.now.traces = omega (arith, c.loop-t-test.true, c.trace_count-t-end.ensures) in
@@ -28,24 +27,24 @@ loop-t-preserved c =
 
 pub returns-clause-laid : goal.returns-clause-laid
 returns-clause-laid c =
-    let ws : List (List ℕ) = (typed_words c.args.traces.now).words in
+    let ws : List (List ℕ) = inner_words_of c.args.traces.now in
     c.loop-t.invariant.laid_are ∙ ap (λ (vs : List (List ℕ)). laid (by_type vs)) (take_all c.loop-t.t ws (omega (arith, c.loop-t-test.false, c.trace_count-t-end.ensures, length-map c.args.traces.now.traces (λ (trace : Trace). trace.events))))
 
 pub returns-clause-few : goal.returns-clause-few
 returns-clause-few c =
-    let ws : List (List ℕ) = (typed_words c.args.traces.now).words in
+    let ws : List (List ℕ) = inner_words_of c.args.traces.now in
     let e = c.loop-t.invariant.laid_are ∙ ap (λ (vs : List (List ℕ)). laid (by_type vs)) (take_all c.loop-t.t ws (omega (arith, c.loop-t-test.false, c.trace_count-t-end.ensures, length-map c.args.traces.now.traces (λ (trace : Trace). trace.events)))) in
     omega (arith, ap length e, laid-length c.args.traces.now.traces, c.event_count-events.ensures.value, c.event_count-events.ensures.few, c.trace_count-t-end.ensures.value, c.trace_count-t-end.ensures.few)
 
 pub returns-clause-below : goal.returns-clause-below
 returns-clause-below c =
-    let ws : List (List ℕ) = (typed_words c.args.traces.now).words in
+    let ws : List (List ℕ) = inner_words_of c.args.traces.now in
     let e : take c.loop-t.t ws ≡ ws = take_all c.loop-t.t ws (omega (arith, c.loop-t-test.false, c.trace_count-t-end.ensures, length-map c.args.traces.now.traces (λ (trace : Trace). trace.events))) in
     subst (λ (vs : List (List ℕ)). HaveIdsBelow (length c.args.traces.now.types + 2) (by_type vs)) e (ranged-below (length c.args.traces.now.types + 2) (take c.loop-t.t ws) c.loop-t.invariant.ranged)
 
 pub returns-clause-within : goal.returns-clause-within
 returns-clause-within c =
-    let ws : List (List ℕ) = (typed_words c.args.traces.now).words in
+    let ws : List (List ℕ) = inner_words_of c.args.traces.now in
     let n : ℕ = length c.args.traces.now.types + 2 in
     let few : length c.args.traces.now.types ≤ MAX_TYPES = subst (λ (ts : List (List ℕ)). length ts ≤ MAX_TYPES) c.types-types.ensures.value c.types-types.ensures.few in
     subst (λ (xs : List ℕ). All (λ p. p < MAX_PARTITIONS) xs) (sym c.loop-t.invariant.laid_are)

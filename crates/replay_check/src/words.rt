@@ -1,0 +1,66 @@
+//! The ids of the words of a log, most of them once, however many traces have them.
+ghost use Rattle.std.specs.Prelude.{◌≡◌, ◌+◌, ◌-◌, ◌<◌, ◌≤◌, ℕ, [], length, slice_index, slice_index_or, All, IfOk, OnOk};
+ghost use Rattle.limits.specs.declared.TheConstants.{FIRST_TYPE};
+ghost use Rattle.traces.specs.Kept.{IsTypeNumber};
+ghost use Rattle.partition_model.specs.Assignments.{by_type};
+ghost use Rattle.replay_check.specs.declared.words.TheConstants.{SLOTS};
+ghost use Rattle.replay_check.specs.Laid.{inner_words_of, HaveIdsBelow};
+ghost use Rattle.replay_check.specs.Sharing.{AreIdsOf, IsNoted};
+
+use crate::listing::same_numbers;
+use limits::{INITIAL, TERMINAL};
+use std::alloc::{AllocError, Global};
+use traces::TraceSet;
+
+/// How many slots there are, in each of which the number of a trace is kept.
+const SLOTS: usize = 65_536;
+
+/// The slot of a word.
+fn slot_of(word: &[u16]) -> usize
+    ensures { result < SLOTS }
+{
+    let mut hash: u64 = 0;
+    for number in word {
+        hash = (hash ^ u64::from(*number)).wrapping_mul(0x9e37_79b9_7f4a_7c15);
+    }
+    (hash >> 32) as usize % SLOTS
+}
+
+/// Lays the ids of the word of trace `t` behind the others and keeps its number in the slot of the word, unless the trace
+/// that is kept there has the same word. A slot where none was kept yet has the number of the first trace.
+fn note(traces: &TraceSet, t: u32, kept: &mut [u32], ids: &mut Vec<u16>) -> Result<(), AllocError>
+    requires there { t < length (traces.now).traces }
+    requires size { length kept.old ≡ SLOTS }
+    requires low { (s : ℕ) → slice_index kept.old s ≤ t - 1 }
+    ensures noted { OnOk result (IsNoted (inner_words_of traces.now) t kept.old kept.new ids.old.items ids.new.items) }
+    ensures numbers { OnOk result (All (IsTypeNumber (length (traces.now).types))
+        (slice_index_or (inner_words_of traces.now) t [])) }
+    ensures size { length kept.new ≡ length kept.old }
+{
+    let word = traces.events(t);
+    let slot = slot_of(word);
+    if t > 0 && same_numbers(word, traces.events(kept[slot])) {
+        return Ok(());
+    }
+    kept[slot] = t;
+    ids.push(INITIAL as u16)?;
+    ids.extend_from_slice(word)?;
+    ids.push(TERMINAL as u16)?;
+    Ok(())
+}
+
+/// The ids of the first assignment of some traces, which have all words of the log and no others.
+pub fn lay_words(alloc: Global, traces: &TraceSet) -> Result<Vec<u16>, AllocError>
+    ensures laid { IfOk result (λ ids. AreIdsOf (inner_words_of traces.now) ids.items) }
+
+    // What the first assignment of the log is like.
+    ensures below { IfOk result (λ ids.
+        HaveIdsBelow (length (traces.now).types + FIRST_TYPE) (by_type (inner_words_of traces.now))) }
+{
+    let mut kept = vec![in alloc; 0; SLOTS]?;
+    let mut ids = Vec::new(alloc);
+    for t in 0..traces.trace_count() {
+        note(traces, t, kept.as_mut_slice(), &mut ids)?;
+    }
+    Ok(ids)
+}
