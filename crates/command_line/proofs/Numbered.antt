@@ -29,6 +29,7 @@ rows-need = record {
   replay = λ is. cc;
   paths = λ is. cc;
   bench = λ is. refl;
+  migrate = λ is. cc;
 }
 
 -- a text that says a number says one of sessions

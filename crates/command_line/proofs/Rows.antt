@@ -4,7 +4,7 @@ use Rattle.std.specs.Str.{bytes_eq}
 use Rattle.std.proofs.lemmas.Bool.{and_parts}
 use Rattle.clap.specs.Words.{Text}
 use Rattle.command_line.specs.Given.{Use}
-use Rattle.command_line.specs.Table.{graph_row, has_model, invariants_row, is_sound, log_and_model_row, log_row, model_row, number_row, passes, row_of}
+use Rattle.command_line.specs.Table.{graph_row, has_model, is_sound, kinds_row, log_and_model_row, log_row, model_row, number_row, passes, row_of}
 use Rattle.command_line.specs.Task.{Task, allowed, asked, task_of_use}
 use Rattle.command_line.specs.declared.table.Command.TheVariants as commands
 use Rattle.command_line.specs.declared.table.Row.{Row}
@@ -14,14 +14,15 @@ some-is x y is = cc
 
 -- it holds of each row
 pub record OfRows (P : Row → Type 0) : Type 0 where
-  pub invariants : P invariants_row
+  pub invariants : P (kinds_row commands.Invariants)
   pub graph : P (log_row commands.Graph)
   pub graph_of_model : P (model_row commands.GraphOfModel)
-  pub infer : P (log_row commands.Infer)
+  pub infer : P (kinds_row commands.Infer)
   pub check : P (log_and_model_row commands.Check)
   pub replay : P (log_and_model_row commands.Replay)
-  pub paths : P (log_row commands.Paths)
+  pub paths : P (kinds_row commands.Paths)
   pub bench : P (number_row commands.Bench)
+  pub migrate : P (model_row commands.Migrate)
 
 -- it holds of a row, where there is one
 abbrev OfRow : (Row → Type 0) → Option Row → Type 0
@@ -40,13 +41,14 @@ of-graph P all false = all.graph
 
 of-word : (P : Row → Type 0) → OfRows P → (text : Text) (given : Bool) → OfRow P (row_of text given)
 of-word P all text given =
-    step P (bytes_eq text (codes "invariants")) invariants_row _ all.invariants
+    step P (bytes_eq text (codes "invariants")) (kinds_row commands.Invariants) _ all.invariants
     (step P (bytes_eq text (codes "graph")) (graph_row given) _ (of-graph P all given)
-    (step P (bytes_eq text (codes "infer")) (log_row commands.Infer) _ all.infer
+    (step P (bytes_eq text (codes "infer")) (kinds_row commands.Infer) _ all.infer
     (step P (bytes_eq text (codes "check")) (log_and_model_row commands.Check) _ all.check
     (step P (bytes_eq text (codes "replay")) (log_and_model_row commands.Replay) _ all.replay
-    (step P (bytes_eq text (codes "paths")) (log_row commands.Paths) _ all.paths
-    (step P (bytes_eq text (codes "bench")) (number_row commands.Bench) None all.bench (none P)))))))
+    (step P (bytes_eq text (codes "paths")) (kinds_row commands.Paths) _ all.paths
+    (step P (bytes_eq text (codes "bench")) (number_row commands.Bench) _ all.bench
+    (step P (bytes_eq text (codes "migrate")) (model_row commands.Migrate) None all.migrate (none P))))))))
 
 -- what a row tells of the task that it allows
 abbrev pub Tells : (Row → Type 0) → (Task → Type 0) → Use → Type 0

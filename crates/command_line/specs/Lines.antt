@@ -1,5 +1,5 @@
 -- Telling command lines.
-use Rattle.std.specs.Prelude.{ℕ, ◌≡◌, Bool, true, false, List, [], ◌∷◌, Option, Some, None, codes, option_map}
+use Rattle.std.specs.Prelude.{ℕ, ◌≡◌, Bool, true, false, List, [], ◌∷◌, Option, Some, None, codes, option_map, ◌⊎◌}
 use Rattle.clap.specs.Words.{Text}
 use Rattle.command_line.specs.Task.{LineForm, Plain, Rules, Task, task_of}
 use Rattle.command_line.specs.declared.table.Command.{Command}
@@ -27,9 +27,9 @@ invariants_of form ignore join files = asks commands.Invariants (Some form) None
 abbrev pub with_interrupted : Task → Task
 with_interrupted task = record task { interrupted = true }
 
--- the invariants of four kinds of a log
-abbrev pub four_kinds_of : LineForm → Bool → Bool → List Text → Option Task
-four_kinds_of form ignore join files = option_map with_interrupted (invariants_of form ignore join files)
+-- the same, where there is a task
+abbrev pub four_kinds : Option Task → Option Task
+four_kinds task = option_map with_interrupted task
 
 -- the graph of a log
 abbrev pub graph_of : LineForm → Bool → Bool → List Text → Option Task
@@ -69,6 +69,10 @@ bench_of sessions =
       files = [];
     })
 
+-- the migration of the model in a file
+abbrev pub migration_of : Text → Option Task
+migration_of name = asks commands.Migrate None (Some name) false false []
+
 -- lines that ask for something
 pub record TakesLines : Type 0 where
   pub plain : task_of (codes "invariants" ∷ codes "-p" ∷ []) ≡ invariants_of Plain false false []
@@ -85,12 +89,12 @@ pub record TakesLines : Type 0 where
       ≡ invariants_of (Rules (codes "x")) true true (codes "a" ∷ codes "-p" ∷ [])
   pub hyphen : task_of (codes "invariants" ∷ codes "-p" ∷ codes "-" ∷ [])
       ≡ invariants_of Plain false false (codes "-" ∷ [])
-  pub interrupted : task_of (codes "invariants" ∷ codes "-p" ∷ codes "-r" ∷ []) ≡ four_kinds_of Plain false false []
+  pub interrupted : task_of (codes "invariants" ∷ codes "-p" ∷ codes "-r" ∷ []) ≡ four_kinds (invariants_of Plain false false [])
   pub interrupted_first :
       task_of (codes "-r" ∷ codes "invariants" ∷ codes "-e" ∷ codes "x" ∷ codes "a" ∷ [])
-      ≡ four_kinds_of (Rules (codes "x")) false false (codes "a" ∷ [])
+      ≡ four_kinds (invariants_of (Rules (codes "x")) false false (codes "a" ∷ []))
   pub interrupted_bundle : task_of (codes "invariants" ∷ codes "-prij" ∷ codes "a" ∷ [])
-      ≡ four_kinds_of Plain true true (codes "a" ∷ [])
+      ≡ four_kinds (invariants_of Plain true true (codes "a" ∷ []))
   pub interrupted_as_file : task_of (codes "invariants" ∷ codes "-p" ∷ codes "--" ∷ codes "-r" ∷ [])
       ≡ invariants_of Plain false false (codes "-r" ∷ [])
   pub graph : task_of (codes "graph" ∷ codes "-p" ∷ []) ≡ graph_of Plain false false []
@@ -99,6 +103,8 @@ pub record TakesLines : Type 0 where
       ≡ graph_of (Rules (codes "x")) true true (codes "a" ∷ codes "b" ∷ [])
   pub graph_model : task_of (codes "graph" ∷ codes "-m" ∷ codes "m" ∷ []) ≡ graph_of_model (codes "m")
   pub infer : task_of (codes "infer" ∷ codes "-p" ∷ []) ≡ model_of Plain false false []
+  pub infer_interrupted : task_of (codes "infer" ∷ codes "-rp" ∷ codes "a" ∷ [])
+      ≡ four_kinds (model_of Plain false false (codes "a" ∷ []))
   pub check : task_of (codes "check" ∷ codes "-m" ∷ codes "m" ∷ codes "-p" ∷ codes "a" ∷ [])
       ≡ check_of (codes "m") Plain false false (codes "a" ∷ [])
   pub check_rules : task_of (codes "check" ∷ codes "-ije" ∷ codes "x" ∷ codes "-m" ∷ codes "m" ∷ [])
@@ -109,7 +115,10 @@ pub record TakesLines : Type 0 where
       ≡ replay_of (codes "m") (Rules (codes "x")) true true []
   pub paths : task_of (codes "paths" ∷ codes "-e" ∷ codes "x" ∷ codes "-ij" ∷ codes "a" ∷ [])
       ≡ paths_of (Rules (codes "x")) true true (codes "a" ∷ [])
+  pub paths_interrupted : task_of (codes "paths" ∷ codes "-e" ∷ codes "x" ∷ codes "-rj" ∷ [])
+      ≡ four_kinds (paths_of (Rules (codes "x")) false true [])
   pub bench : task_of (codes "bench" ∷ codes "-n" ∷ codes "20000" ∷ []) ≡ bench_of 20000
+  pub migrate : task_of (codes "migrate" ∷ codes "-m" ∷ codes "m" ∷ []) ≡ migration_of (codes "m")
 
 -- lines that ask for nothing
 pub record RefusesLines : Type 0 where
@@ -156,21 +165,36 @@ pub record RefusesLines : Type 0 where
   pub bench_too_many : task_of (codes "bench" ∷ codes "-n" ∷ codes "20001" ∷ []) ≡ None
   pub bench_form : task_of (codes "bench" ∷ codes "-n" ∷ codes "3" ∷ codes "-p" ∷ []) ≡ None
   pub bench_file : task_of (codes "bench" ∷ codes "-n" ∷ codes "3" ∷ codes "a" ∷ []) ≡ None
+  pub migrate_no_model : task_of (codes "migrate" ∷ []) ≡ None
+  pub migrate_no_model_name : task_of (codes "migrate" ∷ codes "-m" ∷ codes "" ∷ []) ≡ None
+  pub migrate_form : task_of (codes "migrate" ∷ codes "-m" ∷ codes "m" ∷ codes "-p" ∷ []) ≡ None
+  pub migrate_rules :
+      task_of (codes "migrate" ∷ codes "-m" ∷ codes "m" ∷ codes "-e" ∷ codes "x" ∷ []) ≡ None
+  pub migrate_file : task_of (codes "migrate" ∷ codes "-m" ∷ codes "m" ∷ codes "a" ∷ []) ≡ None
+  pub migrate_skips : task_of (codes "migrate" ∷ codes "-m" ∷ codes "m" ∷ codes "-i" ∷ []) ≡ None
+  pub migrate_joins : task_of (codes "migrate" ∷ codes "-m" ∷ codes "m" ∷ codes "-j" ∷ []) ≡ None
+  pub migrate_number :
+      task_of (codes "migrate" ∷ codes "-m" ∷ codes "m" ∷ codes "-n" ∷ codes "3" ∷ []) ≡ None
   pub form_alone : task_of (codes "-p" ∷ []) ≡ None
   pub interrupted_twice : task_of (codes "invariants" ∷ codes "-p" ∷ codes "-r" ∷ codes "-r" ∷ []) ≡ None
   pub interrupted_no_form : task_of (codes "invariants" ∷ codes "-r" ∷ []) ≡ None
   pub interrupted_graph : task_of (codes "graph" ∷ codes "-p" ∷ codes "-r" ∷ []) ≡ None
   pub interrupted_graph_model : task_of (codes "graph" ∷ codes "-m" ∷ codes "m" ∷ codes "-r" ∷ []) ≡ None
-  pub interrupted_infer : task_of (codes "infer" ∷ codes "-p" ∷ codes "-r" ∷ []) ≡ None
   pub interrupted_check :
       task_of (codes "check" ∷ codes "-m" ∷ codes "m" ∷ codes "-p" ∷ codes "-r" ∷ []) ≡ None
   pub interrupted_replay :
       task_of (codes "replay" ∷ codes "-m" ∷ codes "m" ∷ codes "-p" ∷ codes "-r" ∷ []) ≡ None
-  pub interrupted_paths : task_of (codes "paths" ∷ codes "-p" ∷ codes "-r" ∷ []) ≡ None
   pub interrupted_bench : task_of (codes "bench" ∷ codes "-n" ∷ codes "3" ∷ codes "-r" ∷ []) ≡ None
+  pub interrupted_migrate :
+      task_of (codes "migrate" ∷ codes "-m" ∷ codes "m" ∷ codes "-r" ∷ []) ≡ None
 
--- InterruptedBy is asked for beside `invariants` alone
-abbrev pub InterruptedIsOfInvariants : Type 0
-InterruptedIsOfInvariants =
+-- the commands that may be asked for InterruptedBy
+abbrev pub TakesInterrupted : Command → Type 0
+TakesInterrupted command =
+    (command ≡ commands.Invariants) ⊎ ((command ≡ commands.Infer) ⊎ (command ≡ commands.Paths))
+
+-- InterruptedBy is asked for beside these three commands only
+abbrev pub InterruptedIsOfThreeCommands : Type 0
+InterruptedIsOfThreeCommands =
     (words : List Text) (task : Task) → task_of words ≡ Some task → task.interrupted ≡ true
-    → task.command ≡ commands.Invariants
+    → TakesInterrupted task.command

@@ -28,9 +28,9 @@ log_row command =
       interrupted = Never;
     }
 
--- `invariants` reads a log, and may be asked for InterruptedBy too
-abbrev pub invariants_row : Row
-invariants_row = record (log_row commands.Invariants) { interrupted = May }
+-- a command that reads a log, and may be asked for InterruptedBy too
+abbrev pub kinds_row : Command → Row
+kinds_row command = record (log_row command) { interrupted = May }
 
 -- a command that reads a log and a model's file, and takes nothing else
 abbrev pub log_and_model_row : Command → Row
@@ -79,13 +79,14 @@ graph_row false = log_row commands.Graph
 -- the table: the row of a word, where a model's file is given or not
 abbrev pub row_of : Text → Bool → Option Row
 row_of text has_model =
-    if bytes_eq text (codes "invariants") then Some invariants_row
+    if bytes_eq text (codes "invariants") then Some (kinds_row commands.Invariants)
     else if bytes_eq text (codes "graph") then Some (graph_row has_model)
-    else if bytes_eq text (codes "infer") then Some (log_row commands.Infer)
+    else if bytes_eq text (codes "infer") then Some (kinds_row commands.Infer)
     else if bytes_eq text (codes "check") then Some (log_and_model_row commands.Check)
     else if bytes_eq text (codes "replay") then Some (log_and_model_row commands.Replay)
-    else if bytes_eq text (codes "paths") then Some (log_row commands.Paths)
+    else if bytes_eq text (codes "paths") then Some (kinds_row commands.Paths)
     else if bytes_eq text (codes "bench") then Some (number_row commands.Bench)
+    else if bytes_eq text (codes "migrate") then Some (model_row commands.Migrate)
     else None
 
 -- what is given, or is not, is what the row says of it

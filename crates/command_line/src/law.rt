@@ -1,5 +1,5 @@
 //! Laws over the table.
-ghost use Rattle.command_line.specs.Lines.{InterruptedIsOfInvariants, RefusesLines, TakesLines};
+ghost use Rattle.command_line.specs.Lines.{InterruptedIsOfThreeCommands, RefusesLines, TakesLines};
 
 /// Telling command lines: what those that are taken ask for, and that the others ask for nothing.
 pub fn lines_tell()
@@ -7,7 +7,7 @@ pub fn lines_tell()
     ensures refused { RefusesLines }
 {}
 
-/// A task asks for InterruptedBy only where its command is `invariants`: no other command takes `-r`.
-pub fn interrupted_is_of_invariants()
-    ensures { InterruptedIsOfInvariants }
+/// A task asks for InterruptedBy only if its command is `invariants`, `infer` or `paths`: no other command takes `-r`.
+pub fn interrupted_is_of_three_commands()
+    ensures { InterruptedIsOfThreeCommands }
 {}

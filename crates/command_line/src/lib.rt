@@ -11,6 +11,6 @@ mod table;
 mod task;
 
 pub use crate::given::ParseError;
-pub use crate::law::{interrupted_is_of_invariants, lines_tell};
+pub use crate::law::{interrupted_is_of_three_commands, lines_tell};
 pub use crate::table::Command;
 pub use crate::task::{LineForm, Task, parse};

@@ -2,7 +2,7 @@
 ghost use Rattle.std.specs.Prelude.{◌≡◌, map, option_map};
 ghost use Rattle.std.specs.List.{list_all};
 ghost use Rattle.command_line.specs.Given.{given_held};
-ghost use Rattle.command_line.specs.Table.{are_words, fits, fits_form, graph_row, has_model, invariants_row, is_sound, is_word, log_and_model_row, log_row, model_row, number_row, option_is_number, option_is_word, passes, row_of};
+ghost use Rattle.command_line.specs.Table.{are_words, fits, fits_form, graph_row, has_model, is_sound, is_word, kinds_row, log_and_model_row, log_row, model_row, number_row, option_is_number, option_is_word, passes, row_of};
 
 use crate::given::Given;
 use crate::number::number_of;
@@ -26,6 +26,8 @@ pub enum Command {
     Paths,
     /// Make a log of so many sessions, infer its model, write it, read it back and check it, and print how large all is.
     Bench,
+    /// Write the model that stands in a file of version 1 as a file of version 2.
+    Migrate,
 }
 
 /// What a command says of something that may be given.
@@ -84,13 +86,13 @@ fn log_row(command: Command) -> Row
     }
 }
 
-/// The row of `invariants`, which reads a log, and may be asked for InterruptedBy too.
-fn invariants_row() -> Row
-    ensures { result ≡ invariants_row }
+/// The row of a command that reads a log, and may be asked for InterruptedBy too.
+fn kinds_row(command: Command) -> Row
+    ensures { result ≡ kinds_row command }
 {
     Row {
         interrupted: Want::May,
-        ..log_row(Command::Invariants)
+        ..log_row(command)
     }
 }
 
@@ -152,13 +154,14 @@ pub fn row_of(text: &str, has_model: bool) -> Option<Row>
     ensures { result ≡ row_of text.now has_model }
 {
     match text {
-        "invariants" => Some(invariants_row()),
+        "invariants" => Some(kinds_row(Command::Invariants)),
         "graph" => Some(graph_row(has_model)),
-        "infer" => Some(log_row(Command::Infer)),
+        "infer" => Some(kinds_row(Command::Infer)),
         "check" => Some(log_and_model_row(Command::Check)),
         "replay" => Some(log_and_model_row(Command::Replay)),
-        "paths" => Some(log_row(Command::Paths)),
+        "paths" => Some(kinds_row(Command::Paths)),
         "bench" => Some(number_row(Command::Bench)),
+        "migrate" => Some(model_row(Command::Migrate)),
         _ => None,
     }
 }

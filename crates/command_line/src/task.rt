@@ -33,7 +33,7 @@ pub struct Task<'a> {
     pub join: bool,
     /// The number (`-n`), from 1 to `MAX_SESSIONS`; None where the command asks for none.
     pub number: Option<u32>,
-    /// Whether InterruptedBy is asked for too (`-r`), beside the three kinds that `invariants` always prints.
+    /// Whether InterruptedBy is asked for too (`-r`), beside the three kinds that are always mined.
     pub interrupted: bool,
     /// The names of the log's files in their order, none of them empty; no names stand for standard input.
     pub files: Vec<&'a str>,

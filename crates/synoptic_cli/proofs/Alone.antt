@@ -2,6 +2,8 @@
 use Rattle.std.proofs.Common.{◌≡◌, List, ℕ, Option, Some, None, Result, Ok, Err, refl, sym, ap, ◌∙◌}
 use Rattle.outside.specs.Inputs.{Files}
 use Rattle.invariants.specs.declared.records.Model.{Model}
+use Rattle.invariants.specs.declared.Kinds.{Kinds}
+use Rattle.invariants.specs.declared.Kinds.TheVariants.{Three}
 use Rattle.models.specs.Models.{typed_words, TypedWords}
 use Rattle.models.specs.declared.parts.Part.{Part}
 use Rattle.models.specs.declared.parts.ReplayPart.{ReplayPart}
@@ -19,14 +21,14 @@ use Rattle.made_logs.specs.MadeLogs.{made_log}
 use Rattle.model_file.specs.Tree.{file_text}
 use Rattle.reports.specs.Paths.{path_report}
 use Rattle.command_line.specs.declared.table.Command.{Command}
-use Rattle.command_line.specs.declared.table.Command.TheVariants.{Invariants, Graph, GraphOfModel, Infer, Check, Replay, Paths, Bench}
+use Rattle.command_line.specs.declared.table.Command.TheVariants.{Invariants, Graph, GraphOfModel, Infer, Check, Replay, Paths, Bench, Migrate}
 use Rattle.synoptic_cli.specs.declared.answer.Answer.{Answer}
 use Rattle.synoptic_cli.specs.declared.material.Material.{Material}
 use Rattle.synoptic_cli.specs.declared.status.LimitKind.{LimitKind}
 use Rattle.synoptic_cli.specs.declared.status.LimitKind.TheVariants as limits
 use Rattle.synoptic_cli.specs.declared.status.Status.{Status}
 use Rattle.synoptic_cli.specs.declared.status.Status.TheVariants.{Limit}
-use Rattle.synoptic_cli.specs.Task.{input_count, stages_of}
+use Rattle.synoptic_cli.specs.Task.{input_count, kinds_of, stages_of}
 use Rattle.synoptic_cli.specs.Stages.{SoFar, Stop, at_start, reads, stop_after}
 use Rattle.synoptic_cli.specs.Commands.{AnswersBy}
 use Rattle.synoptic_cli.specs.Commands.Answered.{done}
@@ -83,34 +85,38 @@ one-file laws log a b p q =
     p.value ∙ (ap (λ (m : Model). done (file_text m)) (laws.model p.model q.model log p.inferred q.inferred) ∙ sym q.value)
 
 -- and one text of paths
-one-text : Laws → (log : Log) (a b : Answer) → TellsPaths log a → TellsPaths log b → a ≡ b
-one-text laws log a b p q =
-    p.value ∙ (ap (λ (ids : List ℕ). done (path_report log ids)) (laws.final (typed_words log) p.ids q.ids p.final q.final) ∙ sym q.value)
+one-text : Laws → (kinds : Kinds) (log : Log) (a b : Answer) → TellsPaths kinds log a → TellsPaths kinds log b → a ≡ b
+one-text laws kinds log a b p q =
+    p.value ∙ (ap (λ (ids : List ℕ). done (path_report log ids)) (laws.final (typed_words kinds log) p.ids q.ids p.final q.final) ∙ sym q.value)
 
 -- and one summary
 one-summary : Laws → (log : Log) (a b : Answer) → TellsRun log a → TellsRun log b → a ≡ b
 one-summary laws log a b p q =
-    p.value ∙ (ap (λ (m : Model). done (summary log m)) (laws.model p.model q.model (typed_words log) p.inferred q.inferred) ∙ sym q.value)
+    p.value ∙ (ap (λ (m : Model). done (summary log m)) (laws.model p.model q.model (typed_words Three log) p.inferred q.inferred) ∙ sym q.value)
 
 -- so of a made log
 one-run : Laws → (number : Option ℕ) (r s : Result Answer LimitKind) → run_bench.Answers number r → run_bench.Answers number s → r ≡ s
 one-run laws None r s a b = absurd a
-one-run laws (Some n) r s a b = one-inferred laws (typed_words (made_log n)) (TellsRun (made_log n)) (one-summary laws (made_log n)) r s a b
+one-run laws (Some n) r s a b = one-inferred laws (typed_words Three (made_log n)) (TellsRun (made_log n)) (one-summary laws (made_log n)) r s a b
 
 -- a command has one answer alone: a line for each
 one-answer : Laws → (command : Command) (task : Task) (m : Material) (r s : Result Answer LimitKind) → AnswersBy command task m r → AnswersBy command task m s → r ≡ s
 one-answer laws Invariants task m r s a b = a.value ∙ sym b.value
 one-answer laws Graph task m r s a b = a.value ∙ sym b.value
 one-answer laws GraphOfModel task m r s a b = a.value ∙ sym b.value
-one-answer laws Infer task m r s a b = one-inferred laws (typed_words m.log) (WritesModel (typed_words m.log)) (one-file laws (typed_words m.log)) r s a b
+one-answer laws Infer task m r s a b =
+    let log : TypedWords = typed_words (kinds_of task) m.log in
+    one-inferred laws log (WritesModel log) (one-file laws log) r s a b
 one-answer laws Check task m r s a b =
-    let same : a.verdict ≡ b.verdict = one-verdict m.model (typed_words m.log) a.verdict b.verdict a.exact b.exact in
+    let same : a.verdict ≡ b.verdict = one-verdict m.model (typed_words m.model.kinds m.log) a.verdict b.verdict a.exact b.exact in
     a.value ∙ (ap (λ (v : Verdict). let t : Result Answer LimitKind = Ok (answer_of v) in t) same ∙ sym b.value)
 one-answer laws Replay task m r s a b =
-    let same : a.outcome ≡ b.outcome = one-outcome m.model (typed_words m.log) a.outcome b.outcome a.exact b.exact in
+    let same : a.outcome ≡ b.outcome = one-outcome m.model (typed_words m.model.kinds m.log) a.outcome b.outcome a.exact b.exact in
     a.value ∙ (ap (λ (v : rust.Replay). let t : Result Answer LimitKind = Ok (replay_model.answer_of v) in t) same ∙ sym b.value)
-one-answer laws Paths task m r s a b = one-inferred laws (typed_words m.log) (TellsPaths m.log) (one-text laws m.log) r s a b
+one-answer laws Paths task m r s a b =
+    one-inferred laws (typed_words (kinds_of task) m.log) (TellsPaths (kinds_of task) m.log) (one-text laws (kinds_of task) m.log) r s a b
 one-answer laws Bench task m r s a b = one-run laws task.number r s a b
+one-answer laws Migrate task m r s a b = a.value ∙ sym b.value
 
 -- so a run ends in one way alone after a reading
 one-end : Laws → (task : Task) (read : Result SoFar Stop) (a b : Result Answer Stop) → EndsAfter task read a → EndsAfter task read b → a ≡ b

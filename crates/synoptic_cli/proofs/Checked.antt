@@ -17,9 +17,9 @@ verdict-says tells fails m log Yes is = (is, tells m log is)
 verdict-says tells fails m log (No part) is = (fails m log part is, is)
 
 -- so the verdict of the check, told, is the answer
-pub verdict-told : ValidTells → FirstPartFails → (m : Material) (v : Verdict) (a : Answer) → IsVerdict m.model (typed_words m.log) v → a ≡ answer_of v → Answers m (Ok a)
+pub verdict-told : ValidTells → FirstPartFails → (m : Material) (v : Verdict) (a : Answer) → IsVerdict m.model (typed_words m.model.kinds m.log) v → a ≡ answer_of v → Answers m (Ok a)
 verdict-told tells fails m v a is told = record {
   verdict = v;
   value = ap (λ (x : Answer). let r : Result Answer LimitKind = Ok x in r) told;
-  exact = verdict-says tells fails m.model (typed_words m.log) v is;
+  exact = verdict-says tells fails m.model (typed_words m.model.kinds m.log) v is;
 }

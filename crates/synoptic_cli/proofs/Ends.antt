@@ -13,7 +13,7 @@ use Rattle.command_line.specs.Task.{Task, task_of}
 use Rattle.synoptic_cli.specs.declared.status.Status.TheVariants.{Memory, ReadFault}
 use Rattle.synoptic_cli.specs.declared.status.Source.TheVariants as sources
 use Rattle.synoptic_cli.specs.declared.stages.SoFar as rust
-use Rattle.synoptic_cli.specs.Task.{LogFiles, Stage, input_count, log_stages, first_stages, rules_stages, stages_of}
+use Rattle.synoptic_cli.specs.Task.{LogFiles, Stage, input_count, log_stages, first_stages, rules_stages, stages_of, version_of}
 use Rattle.synoptic_cli.specs.Stages.{SoFar, Stop, at_start, reads, setting_by, status_of, stop_after}
 use Rattle.synoptic_cli.specs.Endings.{EndsOver, IsFirstLacking, ReadAll, SomeBytes}
 use Rattle.synoptic_cli.specs.Causes.{World, FailsToRead, HasCause, LeavesOpen, Stops, world}
@@ -26,8 +26,8 @@ use Rattle.synoptic_cli.proofs.ModelStage.{first-lacking, stopped}
 use Rattle.synoptic_cli.proofs.LogStage.{AreReadAlike, ReadAlike, alike-forms, log-lacks, log-stage-is, log-stops}
 
 -- where the stages before the log and then the log were read, all inputs of the task were read
-pub task-read : (task : Task) (start held : rust.SoFar) (old mid new : InputState) (last : rust.SoFar) → IsHeld start at_start → Stays old mid → Reads (first_stages task) start old mid held
-    → Reads (log_stages task) held mid new last → ReadsTask task old new last.material
+pub task-read : (task : Task) (start held : rust.SoFar) (old mid new : InputState) (last : rust.SoFar) → IsHeld (version_of task.command) start at_start → Stays old mid → Reads (version_of task.command) (first_stages task) start old mid held
+    → Reads (version_of task.command) (log_stages task) held mid new last → ReadsTask task old new last.material
 task-read task start held old mid new last is stays first second =
     let a = first at_start is in
     let b = second a.0 a.1 in
@@ -124,8 +124,8 @@ log-ends task s words old new mid refused.Memory before silent asks few cause =
 log-ends task s words old new mid e before silent asks few cause = (task, asks, refuses task s old new mid e before silent cause)
 
 -- the same for what the program holds
-pub log-stage-ends : ReadAlike → (task : Task) (start held : rust.SoFar) (old mid new : InputState) (before after : PatternsState) (e : ReadError) → IsHeld start at_start → Stays old mid
-    → Reads (first_stages task) start old mid held → LogHalts task (held_form held) mid new e → Ends (status_of e) task old new before after
+pub log-stage-ends : ReadAlike → (task : Task) (start held : rust.SoFar) (old mid new : InputState) (before after : PatternsState) (e : ReadError) → IsHeld (version_of task.command) start at_start → Stays old mid
+    → Reads (version_of task.command) (first_stages task) start old mid held → LogHalts task (held_form held) mid new e → Ends (status_of e) task old new before after
 log-stage-ends law task start held old mid new before after e is stays first halts = λ words out asks.
     let a = first at_start is in
     log-ends task (setting_of task (held_form held)) words (world old before out) (world new after out) mid e
@@ -138,9 +138,9 @@ log-memory refused.Memory is = refl
 log-memory e is = cc
 
 -- no fault was counted before the stage of the log
-pub stage-faults : (task : Task) (start held : rust.SoFar) (old mid : InputState) → IsHeld start at_start → Reads (first_stages task) start old mid held → mid.faults ≡ old.faults
+pub stage-faults : (task : Task) (start held : rust.SoFar) (old mid : InputState) → IsHeld (version_of task.command) start at_start → Reads (version_of task.command) (first_stages task) start old mid held → mid.faults ≡ old.faults
 stage-faults task start held old mid is first = read-faults (input_count (first_stages task)) old mid (first at_start is).2.inputs
 
 -- no fault was counted before the stage of the model
-pub rules-faults : (task : Task) (start held : rust.SoFar) (old mid : InputState) → IsHeld start at_start → Reads (rules_stages task) start old mid held → mid.faults ≡ old.faults
+pub rules-faults : (task : Task) (start held : rust.SoFar) (old mid : InputState) → IsHeld (version_of task.command) start at_start → Reads (version_of task.command) (rules_stages task) start old mid held → mid.faults ≡ old.faults
 rules-faults task start held old mid is first = read-faults (input_count (rules_stages task)) old mid (first at_start is).2.inputs

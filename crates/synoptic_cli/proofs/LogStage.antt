@@ -7,6 +7,7 @@ use Rattle.std.proofs.lemmas.Option.{none-some, same_Some}
 use Rattle.outside.specs.Inputs.{Files, InputState, bytes_of}
 use Rattle.traces.specs.Words.{Log, log_of}
 use Rattle.line_rules.specs.Rules.{Rule, AreAlike}
+use Rattle.model_file.specs.declared.version.Version.{Version}
 use Rattle.log_reader.specs.Reading.{Form, Setting, events_of, first_refusal}
 use Rattle.log_reader.specs.Reading as form
 use Rattle.log_reader.specs.Inputs.{IsLacking, IsRefusedAt, ReadsLog, RefusesLog, first_lacking, inputs_of, lacking, refused_input, told_contents, with_content}
@@ -85,10 +86,10 @@ some-input [] = omega arith
 some-input (name ∷ names) = omega arith
 
 -- a log that was read whole takes what the program holds to the same with that log
-pub log-held : ReadAlike → (task : Task) (held : rust.SoFar) (old new : InputState) (log : Log) → IsSome task.form
+pub log-held : ReadAlike → (version : Version) (task : Task) (held : rust.SoFar) (old new : InputState) (log : Log) → IsSome task.form
     → ReadsLog (setting_of task (held_form held)) (inputs_of task.files) old new log
-    → Reads (log_stages task) held old new (record { rules = held.rules; material = record { log = log; model = held.material.model } })
-log-held law task held old new log some read = λ so_far is. (
+    → Reads version (log_stages task) held old new (record { rules = held.rules; material = record { log = log; model = held.material.model } })
+log-held law version task held old new log some read = λ so_far is. (
   record { form = so_far.form; material = record { log = log; model = so_far.material.model } },
   record { form = is.form; material = ap (λ (m : Material). let n : Material = record { log = log; model = m.model } in n) is.material; shaped = is.shaped },
   subst (λ (stages : List Stage). HasRead stages old new so_far (record { form = so_far.form; material = record { log = log; model = so_far.material.model } })) (sym (log-stage-is task some))

@@ -1,15 +1,16 @@
 -- The file of a model: what was read of it, and how a run ends where it gives none.
-use Rattle.std.proofs.Common.{Bool, ◌≡◌, ◌≢◌, ℕ, ◌+◌, ◌<◌, ◌≤◌, ◌⊎◌, List, [], ◌∷◌, length, take, drop, nat_lt, true, sym, ap, ◌∙◌, subst, ⊎_elim, inl, inr, arith, Option, Some, None, Result, Ok, Err, refl, IsTrue}
+use Rattle.std.proofs.Common.{Bool, ◌≡◌, ◌≢◌, ℕ, ◌+◌, ◌^◌, ◌<◌, ◌≤◌, List, [], ◌∷◌, length, take, drop, nat_lt, true, sym, ap, ◌∙◌, subst, ⊎_elim, inl, inr, arith, Option, Some, None, Result, Ok, Err, refl, IsTrue}
 use Rattle.std.proofs.lemmas.Bool.{cond-true, cases_lt}
 use Rattle.std.proofs.lemmas.Bool.Decides.{nat_tests}
-use Rattle.std.specs.Prelude.{IsSome}
+use Rattle.std.specs.Prelude.{IfOk, IsSome}
 use Rattle.std.specs.Option.{IsSomeAnd}
 use Rattle.outside.specs.Inputs.{Files, InputState, Lacks, Stays}
 use Rattle.outside.specs.Reading.{IfTold, OpensNamed, OpensNone, ReadsInput}
-use Rattle.limits.specs.declared.TheConstants.{MAX_MODEL_BYTES}
 use Rattle.invariants.specs.declared.records.Model.{Model}
-use Rattle.model_shape.specs.Shapes.{IsWellShaped}
-use Rattle.model_file.specs.Reading.{reads as file_reads, Fails}
+use Rattle.model_file.specs.Reading.{reads_as, Fails}
+use Rattle.model_file.specs.Versions.{max_bytes}
+use Rattle.model_file.specs.declared.version.Version.{Version}
+use Rattle.model_file.specs.declared.version.Version.TheVariants.{One, Two}
 use Rattle.model_file.specs.declared.refusal.FileError.{FileError}
 use Rattle.model_file.specs.declared.refusal.FileError.TheVariants as refused
 use Rattle.line_rules.specs.Patterns.{PatternsState}
@@ -22,11 +23,11 @@ use Rattle.synoptic_cli.specs.declared.status.Source.TheVariants as sources
 use Rattle.synoptic_cli.specs.declared.stages.SoFar as rust
 use Rattle.synoptic_cli.specs.declared.model_stage.ModelHalt.{ModelHalt}
 use Rattle.synoptic_cli.specs.declared.model_stage.ModelHalt.TheVariants as halts
-use Rattle.synoptic_cli.specs.Task.{ModelFile, Stage, first_stages, input_count, log_stages, file_stage, model_stages, rules_stages, stages_of}
+use Rattle.synoptic_cli.specs.Task.{ModelFile, Stage, first_stages, input_count, log_stages, file_stage, model_stages, rules_stages, stages_of, version_of}
 use Rattle.synoptic_cli.specs.Stages.{Filled, SoFar, Stop, and_then, at_start, reads, reads_model, stop_after, with_model}
 use Rattle.synoptic_cli.specs.Endings.{EndsAfter, EndsOver, IsFirstLacking, ReadAll, SomeBytes}
 use Rattle.synoptic_cli.specs.Causes.{LeavesOpen, Stops, World, world}
-use Rattle.synoptic_cli.specs.Halts.{Ends, HasRead, IsHeld, ModelHalts, Reads, ReadsModel, RefusesFile, halt_of, halt_status}
+use Rattle.synoptic_cli.specs.Halts.{Ends, FitsVersion, HasRead, IsHeld, ModelHalts, Reads, ReadsModel, RefusesFile, halt_of, halt_status}
 use Rattle.synoptic_cli.proofs.Bytes.{bytes-first, bytes-map, bytes-told, contents-one, input_count-append, later, reads-stop}
 use Rattle.synoptic_cli.proofs.Through.{StopsReading, open-through, read-faults, read-most, read-stop, stop-bytes, stop-first, stops-through}
 use Rattle.synoptic_cli.proofs.Texts.{rose-since}
@@ -34,36 +35,47 @@ use Rattle.synoptic_cli.proofs.Rules.{memory-ends, told-bytes, told-part, whole-
 
 -- ---- the file
 
-too-long : (bytes : List ℕ) → MAX_MODEL_BYTES < length bytes → file_reads bytes ≡ Err refused.TooLong
-unfolding file_reads
-too-long bytes over =
-    let test : nat_lt MAX_MODEL_BYTES (length bytes) ≡ true = grind (arith, nat_tests) in
+-- what holds of what was read, and what holds of it too, hold of it both
+pub both-ok : {A E : Type 0} (r : Result A E) (P Q : A → Type 0) → IfOk r P → IfOk r Q → IfOk r (λ x. P x × Q x)
+both-ok (Ok x) P Q p q = (p, q)
+both-ok (Err e) P Q p q = tt
+
+-- so many bytes can be asked for
+pub few-bytes : (version : Version) → max_bytes version < 2 ^ 32
+few-bytes One = omega arith
+few-bytes Two = omega arith
+
+too-long : (version : Version) (bytes : List ℕ) → max_bytes version < length bytes → reads_as version bytes ≡ Err refused.TooLong
+unfolding reads_as
+too-long version bytes over =
+    let test : nat_lt (max_bytes version) (length bytes) ≡ true = grind (arith, nat_tests) in
     cond-true _ _ _ test
 
 -- what is read of a file up to the limit says what the whole says
-model-same : (content bytes : List ℕ) → bytes ≡ take (MAX_MODEL_BYTES + 1) content → file_reads bytes ≡ file_reads content
-model-same content bytes same =
-    ⊎_elim (λ (whole : bytes ≡ content). ap file_reads whole)
-    (λ (long : (MAX_MODEL_BYTES < length bytes) × (MAX_MODEL_BYTES < length content)). too-long bytes long.0 ∙ sym (too-long content long.1)) (whole-or-long MAX_MODEL_BYTES content bytes same)
+model-same : (version : Version) (content bytes : List ℕ) → bytes ≡ take (max_bytes version + 1) content → reads_as version bytes ≡ reads_as version content
+model-same version content bytes same =
+    ⊎_elim (λ (whole : bytes ≡ content). ap (reads_as version) whole)
+    (λ (long : (max_bytes version < length bytes) × (max_bytes version < length content)). too-long version bytes long.0 ∙ sym (too-long version content long.1)) (whole-or-long (max_bytes version) content bytes same)
 
 -- a file that was read so was read to its end
-short-read : (bytes : List ℕ) (model : Model) → file_reads bytes ≡ Ok model → length bytes ≤ MAX_MODEL_BYTES
-short-read bytes model read =
+short-read : (version : Version) (bytes : List ℕ) (model : Model) → reads_as version bytes ≡ Ok model → length bytes ≤ max_bytes version
+short-read version bytes model read =
     ⊎_elim
-    (λ (over : MAX_MODEL_BYTES < length bytes). let e : file_reads bytes ≡ Err refused.TooLong = too-long bytes over in cc)
-    (λ (short : length bytes ≤ MAX_MODEL_BYTES). short)
-    (cases_lt MAX_MODEL_BYTES (length bytes))
+    (λ (over : max_bytes version < length bytes). let e : reads_as version bytes ≡ Err refused.TooLong = too-long version bytes over in cc)
+    (λ (short : length bytes ≤ max_bytes version). short)
+    (cases_lt (max_bytes version) (length bytes))
 
 -- the model that is read of a file, up to one byte past its limit, is that of the file
-pub model-read : (old new : InputState) (name bytes : List ℕ) (model : Model) → ReadsInput old new name MAX_MODEL_BYTES bytes → file_reads bytes ≡ Ok model → IsWellShaped model → ReadsModel old new name model
-model-read old new name bytes model reads read shaped =
-    let found = told-bytes MAX_MODEL_BYTES old.files name bytes (λ content. file_reads content ≡ Ok model) _ reads.told (λ content same. sym (model-same content bytes same) ∙ read) read in
+pub model-read : (version : Version) (old new : InputState) (name bytes : List ℕ) (model : Model) → ReadsInput old new name (max_bytes version) bytes → reads_as version bytes ≡ Ok model
+    → FitsVersion version model → ReadsModel version old new name model
+model-read version old new name bytes model reads read shaped =
+    let found = told-bytes (max_bytes version) old.files name bytes (λ content. reads_as version content ≡ Ok model) _ reads.told (λ content same. sym (model-same version content bytes same) ∙ read) read in
     record {
       bytes = found.0;
       told = found.1;
       read = found.2;
       shaped = shaped;
-      opened = inl (omega arith, record { opens = reads.opens; faults = reads.faults }, reads.at_end (short-read bytes model read));
+      opened = inl (omega arith, record { opens = reads.opens; faults = reads.faults }, reads.at_end (short-read version bytes model read));
     }
 
 -- a refusal that is not want of memory is that of the bytes
@@ -72,29 +84,30 @@ fails-is refused.Memory read other fails = absurd (other refl)
 fails-is e read other fails = fails
 
 -- a refusal of what was read of a file is that of the file, unless memory was wanted
-pub model-refused : (old new : InputState) (name bytes : List ℕ) (e : FileError) → ReadsInput old new name MAX_MODEL_BYTES bytes → e ≢ refused.Memory → Fails e (file_reads bytes)
-    → RefusesFile old new name e
-model-refused old new name bytes e reads other fails =
-    let read = fails-is e (file_reads bytes) other fails in
-    let found = told-bytes MAX_MODEL_BYTES old.files name bytes (λ content. file_reads content ≡ Err e) _ reads.told (λ content same. sym (model-same content bytes same) ∙ read) read in
+pub model-refused : (version : Version) (old new : InputState) (name bytes : List ℕ) (e : FileError) → ReadsInput old new name (max_bytes version) bytes → e ≢ refused.Memory → Fails e (reads_as version bytes)
+    → RefusesFile version old new name e
+model-refused version old new name bytes e reads other fails =
+    let read = fails-is e (reads_as version bytes) other fails in
+    let found = told-bytes (max_bytes version) old.files name bytes (λ content. reads_as version content ≡ Err e) _ reads.told (λ content same. sym (model-same version content bytes same) ∙ read) read in
     record { bytes = found.0; told = found.1; read = found.2; not_memory = other; opened = record { opens = reads.opens; faults = reads.faults }; rest = told-part old.files name _ _ reads.told }
 
 -- a refusal of what was read of a file is why the file gives no model
-pub model-halts : (old new : InputState) (name bytes : List ℕ) (e : FileError) → ReadsInput old new name MAX_MODEL_BYTES bytes → Fails e (file_reads bytes) → ModelHalts old new name (halt_of e)
-model-halts old new name bytes refused.Memory reads fails = reads.opens
-model-halts old new name bytes e reads fails = model-refused old new name bytes e reads (λ same. cc) fails
+pub model-halts : (version : Version) (old new : InputState) (name bytes : List ℕ) (e : FileError) → ReadsInput old new name (max_bytes version) bytes → Fails e (reads_as version bytes)
+    → ModelHalts version old new name (halt_of e)
+model-halts version old new name bytes refused.Memory reads fails = reads.opens
+model-halts version old new name bytes e reads fails = model-refused version old new name bytes e reads (λ same. cc) fails
 
 -- ---- the stage
 
 -- the model of a file takes what the program holds to the same with that model
-pub model-held : (held : rust.SoFar) (old new : InputState) (name : List ℕ) (model : Model) → ReadsModel old new name model
-    → Reads (ModelFile name ∷ []) held old new (record { rules = held.rules; material = record { log = held.material.log; model = model } })
-model-held held old new name model read = λ so_far is. (
+pub model-held : (version : Version) (held : rust.SoFar) (old new : InputState) (name : List ℕ) (model : Model) → ReadsModel version old new name model
+    → Reads version (ModelFile version name ∷ []) held old new (record { rules = held.rules; material = record { log = held.material.log; model = model } })
+model-held version held old new name model read = λ so_far is. (
   record { form = so_far.form; material = record { log = so_far.material.log; model = model } },
   record { form = is.form; material = ap (λ m. record { log = m.log; model = model }) is.material; shaped = read.shaped },
   record {
     bytes =
-        contents-one old.files name read.bytes (λ contents. reads so_far ((ModelFile name, contents) ∷ []) ≡ Ok (record { form = so_far.form; material = record { log = so_far.material.log; model = model } })) read.told
+        contents-one old.files name read.bytes (λ contents. reads so_far ((ModelFile version name, contents) ∷ []) ≡ Ok (record { form = so_far.form; material = record { log = so_far.material.log; model = model } })) read.told
         (ap (λ (r : Result Model FileError). and_then (with_model so_far r) 1 (λ next. Ok next)) read.read);
     inputs = read.opened;
   },
@@ -108,31 +121,31 @@ pub record BeforeModel (task : Task) (name : List ℕ) (old mid : InputState) : 
   pub named : task.model ≡ Some name
 
 -- the stage alone stops
-model-stops : (so_far : SoFar) (old new : InputState) (name : List ℕ) (e : FileError) → RefusesFile old new name e
-    → StopsReading (ModelFile name ∷ []) old new so_far (stop_after 1 (statuses.ModelFile e))
-model-stops so_far old new name e refuses = record {
+model-stops : (version : Version) (so_far : SoFar) (old new : InputState) (name : List ℕ) (e : FileError) → RefusesFile version old new name e
+    → StopsReading (ModelFile version name ∷ []) old new so_far (stop_after 1 (statuses.ModelFile e))
+model-stops version so_far old new name e refuses = record {
   bytes =
-      contents-one old.files name refuses.bytes (λ contents. reads so_far ((ModelFile name, contents) ∷ []) ≡ Err (stop_after 1 (statuses.ModelFile e))) refuses.told
+      contents-one old.files name refuses.bytes (λ contents. reads so_far ((ModelFile version name, contents) ∷ []) ≡ Err (stop_after 1 (statuses.ModelFile e))) refuses.told
       (ap (λ (r : Result Model FileError). and_then (with_model so_far r) 1 (λ next. Ok next)) refuses.read);
   opened = inl (omega arith, refuses.opened);
 }
 
 -- the same for the stage of the task
-stage-named : (task : Task) (name : List ℕ) (P : List Stage → Type 0) → task.model ≡ Some name → P (ModelFile name ∷ []) → P (model_stages task)
-stage-named task name P named here = subst (λ (w : Option (List ℕ)). P (file_stage ModelFile w)) (sym named) here
+stage-named : (task : Task) (name : List ℕ) (P : List Stage → Type 0) → task.model ≡ Some name → P (ModelFile (version_of task.command) name ∷ []) → P (model_stages task)
+stage-named task name P named here = subst (λ (w : Option (List ℕ)). P (file_stage (ModelFile (version_of task.command)) w)) (sym named) here
 
 -- a reading that stops ends the run
 pub stopped : (task : Task) (filled : List Filled) (stop : Stop) → reads at_start filled ≡ Err stop → EndsOver task filled (Err stop)
 stopped task filled stop is = subst (λ (r : Result SoFar Stop). EndsAfter task r (Err stop)) (sym is) refl
 
 -- the run stops where its model's file is refused
-refuses : (task : Task) (name : List ℕ) (old new : World) (mid : InputState) (e : FileError) → BeforeModel task name old.inputs mid → new.out ≡ old.out → RefusesFile mid new.inputs name e
+refuses : (task : Task) (name : List ℕ) (old new : World) (mid : InputState) (e : FileError) → BeforeModel task name old.inputs mid → new.out ≡ old.out → RefusesFile (version_of task.command) mid new.inputs name e
     → Stops (statuses.ModelFile e) old new task
 refuses task name old new mid e before silent refusal =
     let stop = stop_after 1 (statuses.ModelFile e) in
     let first = later (input_count (rules_stages task)) stop in
     let here : StopsReading (model_stages task) mid new.inputs before.so_far stop =
-    stage-named task name (λ (stages : List Stage). StopsReading stages mid new.inputs before.so_far stop) before.named (model-stops before.so_far mid new.inputs name e refusal) in
+    stage-named task name (λ (stages : List Stage). StopsReading stages mid new.inputs before.so_far stop) before.named (model-stops (version_of task.command) before.so_far mid new.inputs name e refusal) in
     let there =
     stop-first (first_stages task) (log_stages task) old.inputs new.inputs at_start first
     (read-stop (rules_stages task) (model_stages task) old.inputs mid new.inputs at_start before.so_far stop before.stays before.read here) in
@@ -145,10 +158,10 @@ refuses task name old new mid e before silent refusal =
     }
 
 -- the model's file is not there
-lacks-value : (so_far : SoFar) (told : Option Files) (name : List ℕ) → Lacks told name
-    → SomeBytes told (ModelFile name ∷ []) (λ filled. reads so_far filled ≡ Err (stop_after 0 (ReadFault sources.ModelFile)))
-lacks-value so_far None name lacks = absurd lacks
-lacks-value so_far (Some files) name lacks = ap (λ (o : Option (List ℕ)). and_then (reads_model so_far (with_content o [])) 1 (λ next. Ok next)) lacks
+lacks-value : (version : Version) (so_far : SoFar) (told : Option Files) (name : List ℕ) → Lacks told name
+    → SomeBytes told (ModelFile version name ∷ []) (λ filled. reads so_far filled ≡ Err (stop_after 0 (ReadFault sources.ModelFile)))
+lacks-value version so_far None name lacks = absurd lacks
+lacks-value version so_far (Some files) name lacks = ap (λ (o : Option (List ℕ)). and_then (reads_model version so_far (with_content o [])) 1 (λ next. Ok next)) lacks
 
 -- files are told where one of them is not there
 told-lacks : (told : Option Files) (name : List ℕ) → Lacks told name → IsSome told
@@ -166,7 +179,7 @@ model-lacks task name old mid before lacking =
     let stop : Stop = stop_after 0 (ReadFault sources.ModelFile) in
     let count = input_count (rules_stages task) in
     let here : SomeBytes mid.files (model_stages task) (λ filled. reads before.so_far filled ≡ Err stop) =
-    stage-named task name (λ (stages : List Stage). SomeBytes mid.files stages (λ filled. reads before.so_far filled ≡ Err stop)) before.named (lacks-value before.so_far mid.files name lacking) in
+    stage-named task name (λ (stages : List Stage). SomeBytes mid.files stages (λ filled. reads before.so_far filled ≡ Err stop)) before.named (lacks-value (version_of task.command) before.so_far mid.files name lacking) in
     let first =
     stop-bytes old.files (rules_stages task) (model_stages task) at_start before.so_far stop before.read.bytes
     (subst (λ (files : Option Files). SomeBytes files (model_stages task) (λ filled. reads before.so_far filled ≡ Err stop)) before.stays.files here) in
@@ -180,15 +193,16 @@ one-more task name named =
     omega (arith, one, input_count-append (rules_stages task) (model_stages task), input_count-append (first_stages task) (log_stages task))
 
 -- the model's file failed at a read, and is open
-stays-open : (task : Task) (name : List ℕ) (count : ℕ) (old mid new : InputState) → ReadAll count old mid → Stays old mid → task.model ≡ Some name → OpensNamed mid new name MAX_MODEL_BYTES
-    → IsSomeAnd task.model (LeavesOpen count MAX_MODEL_BYTES old new)
+stays-open : (task : Task) (name : List ℕ) (count : ℕ) (old mid new : InputState) → ReadAll count old mid → Stays old mid → task.model ≡ Some name → OpensNamed mid new name (max_bytes (version_of task.command))
+    → IsSomeAnd task.model (LeavesOpen count (max_bytes (version_of task.command)) old new)
 stays-open task name count old mid new read stays named within =
-    let here : LeavesOpen 0 MAX_MODEL_BYTES mid new name = record { opens = within.opens; mark = within.mark; left = within.left } in
-    subst (λ (w : Option (List ℕ)). IsSomeAnd w (LeavesOpen count MAX_MODEL_BYTES old new)) (sym named)
-    (subst (λ (n : ℕ). LeavesOpen n MAX_MODEL_BYTES old new name) (omega arith) (open-through count 0 MAX_MODEL_BYTES old mid new name read stays here))
+    let most = max_bytes (version_of task.command) in
+    let here : LeavesOpen 0 most mid new name = record { opens = within.opens; mark = within.mark; left = within.left } in
+    subst (λ (w : Option (List ℕ)). IsSomeAnd w (LeavesOpen count most old new)) (sym named)
+    (subst (λ (n : ℕ). LeavesOpen n most old new name) (omega arith) (open-through count 0 most old mid new name read stays here))
 
 -- the run ends so where the model's file gives none
-model-ends : (task : Task) (name : List ℕ) (old mid new : InputState) (before after : PatternsState) (halt : ModelHalt) → BeforeModel task name old mid → ModelHalts mid new name halt
+model-ends : (task : Task) (name : List ℕ) (old mid new : InputState) (before after : PatternsState) (halt : ModelHalt) → BeforeModel task name old mid → ModelHalts (version_of task.command) mid new name halt
     → Ends (halt_status halt) task old new before after
 model-ends task name old mid new before after halts.Missing here cause = λ words out asks. (
   task,
@@ -214,7 +228,7 @@ model-ends task name old mid new before after halts.Fault here cause = λ words 
           opened =
               ⊎_elim
               (λ (none : OpensNone mid new). inl (subst (λ (n : ℕ). StopsBefore n old new) (omega arith) (stops-through (input_count (rules_stages task)) 0 old mid new here.read.inputs (record { opens = none.opens; closed = none.closed }))))
-              (λ (named : OpensNamed mid new name MAX_MODEL_BYTES).
+              (λ (named : OpensNamed mid new name (max_bytes (version_of task.command))).
               inr (stays-open task name (input_count (rules_stages task)) old mid new here.read.inputs here.stays here.named named))
               cause.2;
         });
@@ -228,8 +242,8 @@ model-ends task name old mid new before after (halts.Refused e) here cause = λ 
     stops = refuses task name (world old before out) (world new after out) mid e here refl cause;
     not_memory = cause.not_memory;
     read =
-        subst (λ (w : Option (List ℕ)). IsSomeAnd w (λ n. IfTold old.files n (λ content. new.rest ≡ Some (drop (MAX_MODEL_BYTES + 1) content)))) (sym here.named)
-        (subst (λ (files : Option Files). IfTold files name (λ content. new.rest ≡ Some (drop (MAX_MODEL_BYTES + 1) content))) here.stays.files cause.rest);
+        subst (λ (w : Option (List ℕ)). IsSomeAnd w (λ n. IfTold old.files n (λ content. new.rest ≡ Some (drop (max_bytes (version_of task.command) + 1) content)))) (sym here.named)
+        (subst (λ (files : Option Files). IfTold files name (λ content. new.rest ≡ Some (drop (max_bytes (version_of task.command) + 1) content))) here.stays.files cause.rest);
   },
 )
 model-ends task name old mid new before after halts.Memory here cause =
@@ -237,13 +251,13 @@ model-ends task name old mid new before after halts.Memory here cause =
 
 -- the same over what the task has
 model-ends-of : (task : Task) (w : Option (List ℕ)) (old mid new : InputState) (before after : PatternsState) (halt : ModelHalt) → task.model ≡ w → ((name : List ℕ) → task.model ≡ Some name → BeforeModel task name old mid)
-    → IsSomeAnd w (λ name. ModelHalts mid new name halt) → Ends (halt_status halt) task old new before after
+    → IsSomeAnd w (λ name. ModelHalts (version_of task.command) mid new name halt) → Ends (halt_status halt) task old new before after
 model-ends-of task None old mid new before after halt is here cause = absurd cause
 model-ends-of task (Some name) old mid new before after halt is here cause = model-ends task name old mid new before after halt (here name is) cause
 
 -- the run ends so where its model's file gives none, for what the program holds
-pub model-stage-ends : (task : Task) (start held : rust.SoFar) (old mid new : InputState) (before after : PatternsState) (halt : ModelHalt) → IsHeld start at_start → Stays old mid
-    → Reads (rules_stages task) start old mid held → IsSomeAnd task.model (λ name. ModelHalts mid new name halt) → Ends (halt_status halt) task old new before after
+pub model-stage-ends : (task : Task) (start held : rust.SoFar) (old mid new : InputState) (before after : PatternsState) (halt : ModelHalt) → IsHeld (version_of task.command) start at_start → Stays old mid
+    → Reads (version_of task.command) (rules_stages task) start old mid held → IsSomeAnd task.model (λ name. ModelHalts (version_of task.command) mid new name halt) → Ends (halt_status halt) task old new before after
 model-stage-ends task start held old mid new before after halt is stays first cause =
     let a = first at_start is in
     model-ends-of task task.model old mid new before after halt refl (λ name named. record { so_far = a.0; stays = stays; read = a.2; named = named }) cause

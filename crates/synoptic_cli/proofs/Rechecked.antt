@@ -3,6 +3,7 @@ use Rattle.std.proofs.Common.{◌≡◌, ◌≤◌, ℕ, ◌+◌, Bool, true, fa
 use Rattle.std.specs.Prelude.{if◌then◌else◌}
 use Rattle.std.proofs.lemmas.List.{append-nil, map-append}
 use Rattle.outside.specs.Inputs.{Files, bytes_of}
+use Rattle.invariants.specs.declared.Kinds.{Kinds}
 use Rattle.invariants.specs.declared.records.Model.{Model}
 use Rattle.traces.specs.Words.{log_of}
 use Rattle.models.specs.Models.{typed_words, TypedWords}
@@ -15,6 +16,7 @@ use Rattle.replay_check.specs.declared.answer.Replay as rust
 use Rattle.replay_check.specs.declared.answer.Replay.TheVariants as outcomes
 use Rattle.model_file.specs.Reading.{reads as file_reads}
 use Rattle.model_file.specs.declared.refusal.FileError.{FileError}
+use Rattle.model_file.specs.declared.version.Version.TheVariants.{Two}
 use Rattle.log_reader.specs.Reading.{Setting, events_of, first_refusal}
 use Rattle.log_reader.specs.Inputs.{inputs_of, told_contents, with_content}
 use Rattle.log_reader.specs.declared.refusal.ReadError.{ReadError}
@@ -24,7 +26,7 @@ use Rattle.command_line.specs.declared.table.Command.TheVariants.{Infer}
 use Rattle.synoptic_cli.specs.declared.answer.Answer.{Answer}
 use Rattle.synoptic_cli.specs.declared.material.Material.{Material}
 use Rattle.synoptic_cli.specs.declared.status.LimitKind.{LimitKind}
-use Rattle.synoptic_cli.specs.Task.{ModelFile, Stage, file_stage, log_stage, log_stages, rules_stages, stage_names, stages_of}
+use Rattle.synoptic_cli.specs.Task.{ModelFile, Stage, file_stage, log_stage, log_stages, rules_stages, stage_names, stages_of, kinds_of, version_of}
 use Rattle.synoptic_cli.specs.Stages.{Filled, SoFar, Stop, after, and_then, at_start, reads, reads_model, setting_by, with_log, with_model}
 use Rattle.synoptic_cli.specs.declared.status.Status.TheVariants.{Done}
 use Rattle.synoptic_cli.specs.Commands.{AnswersBy}
@@ -36,7 +38,7 @@ use Rattle.synoptic_cli.specs.Rechecks.{HistoriesAreAccepted, InferIsDone, Infer
 use Rattle.synoptic_cli.proofs.Bytes.{after-ok, filled_count, reads-append, reads-stop}
 
 -- the same with this model
-abbrev put : Model → SoFar → SoFar
+abbrev pub put : Model → SoFar → SoFar
 put model s = record { form = s.form; material = record { log = s.material.log; model = model } }
 
 put-ok : (model : Model) (a b : SoFar) → ◌≡◌ {A = Result SoFar Stop} (Ok a) (Ok b) → ◌≡◌ {A = Result SoFar Stop} (Ok (put model a)) (Ok (put model b))
@@ -71,9 +73,9 @@ put-stage files model a b (Some lines) names ignore join is =
 
 -- what the stage of the model reads
 model-reads : (files : Files) (name bytes : List ℕ) (model : Model) (a : SoFar) → bytes_of files name ≡ Some bytes → file_reads bytes ≡ Ok model
-    → reads a (told_stages files (ModelFile name ∷ [])) ≡ Ok (put model a)
+    → reads a (told_stages files (ModelFile Two name ∷ [])) ≡ Ok (put model a)
 model-reads files name bytes model a told read =
-    ap (λ (o : Option (List ℕ)). and_then (reads_model a (with_content o [])) 1 (λ next. Ok next)) told ∙ ap (λ (r : Result Model FileError). and_then (with_model a r) 1 (λ next. Ok next)) read
+    ap (λ (o : Option (List ℕ)). and_then (reads_model Two a (with_content o [])) 1 (λ next. Ok next)) told ∙ ap (λ (r : Result Model FileError). and_then (with_model a r) 1 (λ next. Ok next)) read
 
 -- stages that are read, and one more before the last of them
 put-between : (rules file log : List Filled) (model : Model) (s : SoFar) → ((a : SoFar) → reads a file ≡ Ok (put model a)) → ((a : SoFar) → reads a log ≡ Ok s → reads (put model a) log ≡ Ok (put model s))
@@ -92,29 +94,29 @@ told-append files a b = map-append (λ (stage : Stage). let x : Filled = (stage,
 -- the stages of a task that reads no model, and of the check against the named file
 without-file : (files : Files) (task : Task) → task.model ≡ None → told_stages files (stages_of task) ≡ told_stages files (rules_stages task) ++ told_stages files (log_stages task)
 without-file files task none =
-    ap (λ (w : Option (List ℕ)). told_stages files ((rules_stages task ++ file_stage ModelFile w) ++ log_stages task)) none
+    ap (λ (w : Option (List ℕ)). told_stages files ((rules_stages task ++ file_stage (ModelFile (version_of task.command)) w) ++ log_stages task)) none
     ∙ (ap (λ (first : List Stage). told_stages files (first ++ log_stages task)) (append-nil (rules_stages task)) ∙ told-append files (rules_stages task) (log_stages task))
 
 with-file : (files : Files) (task : Task) (name : List ℕ)
-    → told_stages files (stages_of (checking task name)) ≡ (told_stages files (rules_stages task) ++ told_stages files (ModelFile name ∷ [])) ++ told_stages files (log_stages task)
+    → told_stages files (stages_of (checking task name)) ≡ (told_stages files (rules_stages task) ++ told_stages files (ModelFile Two name ∷ [])) ++ told_stages files (log_stages task)
 with-file files task name =
-    told-append files (rules_stages task ++ (ModelFile name ∷ [])) (log_stages task)
-    ∙ ap (λ (first : List Filled). first ++ told_stages files (log_stages task)) (told-append files (rules_stages task) (ModelFile name ∷ []))
+    told-append files (rules_stages task ++ (ModelFile Two name ∷ [])) (log_stages task)
+    ∙ ap (λ (first : List Filled). first ++ told_stages files (log_stages task)) (told-append files (rules_stages task) (ModelFile Two name ∷ []))
 
-check-reads : (files : Files) (task : Task) (name bytes : List ℕ) (model : Model) (s : SoFar) → task.model ≡ None → reads at_start (told_stages files (stages_of task)) ≡ Ok s → bytes_of files name ≡ Some bytes
+pub check-reads : (files : Files) (task : Task) (name bytes : List ℕ) (model : Model) (s : SoFar) → task.model ≡ None → reads at_start (told_stages files (stages_of task)) ≡ Ok s → bytes_of files name ≡ Some bytes
     → file_reads bytes ≡ Ok model → reads at_start (told_stages files (stages_of (checking task name))) ≡ Ok (put model s)
 check-reads files task name bytes model s none whole told read =
     let rules : List Filled = told_stages files (rules_stages task) in
     ap (reads at_start) (with-file files task name)
-    ∙ put-between rules (told_stages files (ModelFile name ∷ [])) (told_stages files (log_stages task)) model s (λ a. model-reads files name bytes model a told read)
+    ∙ put-between rules (told_stages files (ModelFile Two name ∷ [])) (told_stages files (log_stages task)) model s (λ a. model-reads files name bytes model a told read)
     (λ a is. put-stage files model a s task.form task.files task.ignore task.join is) (sym (ap (reads at_start) (without-file files task none)) ∙ whole) (reads at_start rules) refl
 
 -- a valid model gives yes
-said-yes : (m : Material) (v : Verdict) (r : Result Answer LimitKind) → IsValid m.model (typed_words m.log) → Says m.model (typed_words m.log) v → r ≡ Ok (answer_of v) → r ≡ Ok (answer_of Yes)
+said-yes : (m : Material) (v : Verdict) (r : Result Answer LimitKind) → IsValid m.model (typed_words m.model.kinds m.log) → Says m.model (typed_words m.model.kinds m.log) v → r ≡ Ok (answer_of v) → r ≡ Ok (answer_of Yes)
 said-yes m Yes r valid says is = is
 said-yes m (No part) r valid says is = absurd (says.0 valid)
 
-ends-yes : (task : Task) (name : List ℕ) (s : SoFar) (end : Result Answer Stop) → IsValid s.material.model (typed_words s.material.log) → EndsAfter (checking task name) (Ok s) end → end ≡ Ok (answer_of Yes)
+pub ends-yes : (task : Task) (name : List ℕ) (s : SoFar) (end : Result Answer Stop) → IsValid s.material.model (typed_words s.material.model.kinds s.material.log) → EndsAfter (checking task name) (Ok s) end → end ≡ Ok (answer_of Yes)
 ends-yes task name s (Ok a) valid ends =
     let same : ◌≡◌ {A = Result Answer LimitKind} (Ok a) (Ok (answer_of Yes)) = said-yes s.material ends.verdict (Ok a) valid ends.exact ends.value in
     let is : a ≡ answer_of Yes = cc in
@@ -126,7 +128,7 @@ ends-yes task name s (Err last) valid ends =
 -- a file that says the model of a log passes its check against that log
 pub models-accepted : ModelsAreAccepted
 models-accepted files task name bytes model so_far end none whole typed is told read ends =
-    ends-yes task name (put model so_far) end (models-valid model (typed_words so_far.material.log) typed is)
+    ends-yes task name (put model so_far) end (models-valid model (typed_words model.kinds so_far.material.log) typed is)
     (subst (λ (r : Result SoFar Stop). EndsAfter (checking task name) r end) (check-reads files task name bytes model so_far none whole told read) ends)
 
 -- what was inferred of a log is the file of a model that is valid for it
@@ -136,7 +138,7 @@ accepted-after : (files : Files) (task : Task) (name : List ℕ) (a : Answer) (e
 accepted-after files task name a end (Err stop) infers none whole wrote told ends = absurd wrote
 accepted-after files task name a end (Ok s) infers none whole wrote told ends =
     let answers : AnswersBy Infer task s.material (Ok a) = subst (λ (command : Command). AnswersBy command task s.material (Ok a)) infers wrote in
-    ends-yes task name (put answers.1.model s) end answers.1.valid
+    ends-yes task name (put answers.1.model s) end (subst (λ (kinds : Kinds). IsValid answers.1.model (typed_words kinds s.material.log)) (sym answers.1.inferred.kinds) answers.1.valid)
     (subst (λ (r : Result SoFar Stop). EndsAfter (checking task name) r end) (check-reads files task name a.text answers.1.model s none whole told answers.1.reads_back) ends)
 
 -- a file with the text that an inference answered passes its check against the same log
@@ -147,12 +149,12 @@ inferred-accepted before after task name a status infers none alike wrote told e
     (yes, sym ended.is ∙ ap end_status yes)
 
 -- a justified history gives yes
-replayed-yes : (m : Material) (v : rust.Replay) (r : Result Answer LimitKind) → IsJustified m.model (typed_words m.log) → replay_model.Says m.model (typed_words m.log) v → r ≡ Ok (replay_model.answer_of v)
+replayed-yes : (m : Material) (v : rust.Replay) (r : Result Answer LimitKind) → IsJustified m.model (typed_words m.model.kinds m.log) → replay_model.Says m.model (typed_words m.model.kinds m.log) v → r ≡ Ok (replay_model.answer_of v)
     → r ≡ Ok (replay_model.answer_of outcomes.Yes)
 replayed-yes m outcomes.Yes r justified says is = is
 replayed-yes m (outcomes.No part) r justified says is = absurd (says.0 justified)
 
-replay-ends-yes : (task : Task) (name : List ℕ) (s : SoFar) (end : Result Answer Stop) → IsJustified s.material.model (typed_words s.material.log) → EndsAfter (replaying task name) (Ok s) end
+replay-ends-yes : (task : Task) (name : List ℕ) (s : SoFar) (end : Result Answer Stop) → IsJustified s.material.model (typed_words s.material.model.kinds s.material.log) → EndsAfter (replaying task name) (Ok s) end
     → end ≡ Ok (replay_model.answer_of outcomes.Yes)
 replay-ends-yes task name s (Ok a) justified ends =
     let same : ◌≡◌ {A = Result Answer LimitKind} (Ok a) (Ok (replay_model.answer_of outcomes.Yes)) = replayed-yes s.material ends.outcome (Ok a) justified ends.exact ends.value in
@@ -165,7 +167,7 @@ replay-ends-yes task name s (Err last) justified ends =
 -- a file that says the model of a log, within the limits, passes its replay against that log
 pub histories-accepted : HistoriesAreAccepted
 histories-accepted files task name bytes model so_far end none whole typed is within told read ends =
-    let log : TypedWords = typed_words so_far.material.log in
+    let log : TypedWords = typed_words model.kinds so_far.material.log in
     let ids : length log.types + 2 + length model.splits ≤ 1024 = subst (λ (ts : List (List ℕ)). length ts + 2 + length model.splits ≤ 1024) is.types within.ids in
     let passes = models_pass model log typed is ids in
     replay-ends-yes task name (put model so_far) end passes.1
@@ -178,7 +180,8 @@ replayed-after : (files : Files) (task : Task) (name : List ℕ) (a : Answer) (e
 replayed-after files task name a end (Err stop) infers none whole wrote told ends = absurd wrote
 replayed-after files task name a end (Ok s) infers none whole wrote told ends =
     let answers : AnswersBy Infer task s.material (Ok a) = subst (λ (command : Command). AnswersBy command task s.material (Ok a)) infers wrote in
-    replay-ends-yes task name (put answers.1.model s) end answers.1.justified
+    replay-ends-yes task name (put answers.1.model s) end
+    (subst (λ (kinds : Kinds). IsJustified answers.1.model (typed_words kinds s.material.log)) (sym answers.1.inferred.kinds) answers.1.justified)
     (subst (λ (r : Result SoFar Stop). EndsAfter (replaying task name) r end) (check-reads files task name a.text answers.1.model s none whole told answers.1.reads_back) ends)
 
 -- a file with the text that an inference answered passes its replay against the same log
@@ -189,7 +192,7 @@ inferred-replayed before after task name a status infers none alike wrote told e
     (yes, sym ended.is ∙ ap end_status yes)
 
 -- an inference that passes no limit is done
-done-after : (task : Task) (s : SoFar) (end : Result Answer Stop) → task.command ≡ Infer → PassesNone (typed_words s.material.log) → EndsAfter task (Ok s) end → end_status end ≡ Done
+done-after : (task : Task) (s : SoFar) (end : Result Answer Stop) → task.command ≡ Infer → PassesNone (typed_words (kinds_of task) s.material.log) → EndsAfter task (Ok s) end → end_status end ≡ Done
 done-after task s (Ok a) infers none ends =
     let wrote : AnswersBy Infer task s.material (Ok a) = subst (λ (command : Command). AnswersBy command task s.material (Ok a)) infers ends in
     ap (λ (x : Answer). x.status) wrote.1.value

@@ -17,9 +17,9 @@ outcome-says fails m log Yes is = is
 outcome-says fails m log (No part) is = (fails m log part is, is)
 
 -- so the outcome of the replay, told, is the answer
-pub outcome-told : FirstStepFails → (m : Material) (v : Replay) (a : Answer) → IsReplay m.model (typed_words m.log) v → a ≡ answer_of v → Answers m (Ok a)
+pub outcome-told : FirstStepFails → (m : Material) (v : Replay) (a : Answer) → IsReplay m.model (typed_words m.model.kinds m.log) v → a ≡ answer_of v → Answers m (Ok a)
 outcome-told fails m v a is told = record {
   outcome = v;
   value = ap (λ (x : Answer). let r : Result Answer LimitKind = Ok x in r) told;
-  exact = outcome-says fails m.model (typed_words m.log) v is;
+  exact = outcome-says fails m.model (typed_words m.model.kinds m.log) v is;
 }

@@ -12,6 +12,7 @@ use Rattle.line_rules.specs.Patterns.{PatternsState, NestsTooDeep}
 use Rattle.line_rules.specs.Files.{rules_of, AreRead, IsBuilt, IsRefused}
 use Rattle.line_rules.specs.declared.line_rules.RuleError.{RuleError}
 use Rattle.line_rules.specs.declared.line_rules.RuleError.TheVariants as refused
+use Rattle.model_file.specs.declared.version.Version.{Version}
 use Rattle.log_reader.specs.Reading as form
 use Rattle.command_line.specs.Task.{Task}
 use Rattle.synoptic_cli.specs.Task.{file_stage, input_count, log_stages, model_stages, rules_name, RulesFile, stages_of}
@@ -140,8 +141,8 @@ rules-through old new name rules so_far read = (
 )
 
 -- the rules of a file take what the program holds to the same with these rules
-pub rules-held : (held : rust.SoFar) (old new : InputState) (name : List ℕ) (rules : LineRules) → ReadsRules old new name (rules_in rules)
-    → Reads (RulesFile name ∷ []) held old new (record { rules = Some rules; material = held.material })
-rules-held held old new name rules read = λ so_far is.
+pub rules-held : (version : Version) (held : rust.SoFar) (old new : InputState) (name : List ℕ) (rules : LineRules) → ReadsRules old new name (rules_in rules)
+    → Reads version (RulesFile name ∷ []) held old new (record { rules = Some rules; material = held.material })
+rules-held version held old new name rules read = λ so_far is.
     let through = rules-through old new name (rules_in rules) so_far read in
     (record { form = form.Rules through.0; material = so_far.material }, record { form = through.1; material = is.material; shaped = is.shaped }, through.2)

@@ -4,6 +4,7 @@ use Rattle.std.specs.Io.KnownBytes.{IsAtEnd}
 use Rattle.outside.specs.Inputs.{Files, InputState, Stays}
 use Rattle.outside.specs.Reading.{IfTold, LosesFront}
 use Rattle.std.proofs.lemmas.Bool.{cases_lt}
+use Rattle.model_file.specs.declared.version.Version.{Version}
 use Rattle.log_reader.specs.Inputs.{Opened, StopsBefore, opens_after}
 use Rattle.synoptic_cli.specs.Task.{Stage, input_count}
 use Rattle.synoptic_cli.specs.Stages.{SoFar, Stop, after, reads}
@@ -143,9 +144,9 @@ stop-first first second old new a stop stops = record {
 }
 
 -- stages that were read one after another, for what the program holds
-pub reads-both : (first second : List Stage) (start held last : rust.SoFar) (old mid new : InputState) → Stays old mid → Reads first start old mid held → Reads second held mid new last
-    → Reads (first ++ second) start old new last
-reads-both first second start held last old mid new stays one two = λ so_far is.
+pub reads-both : (version : Version) (first second : List Stage) (start held last : rust.SoFar) (old mid new : InputState) → Stays old mid → Reads version first start old mid held → Reads version second held mid new last
+    → Reads version (first ++ second) start old new last
+reads-both version first second start held last old mid new stays one two = λ so_far is.
     let a = one so_far is in
     let b = two a.0 a.1 in
     (b.0, b.1, read-more first second old mid new so_far a.0 b.0 stays a.2 b.2)

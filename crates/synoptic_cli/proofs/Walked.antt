@@ -5,6 +5,7 @@ use Rattle.std.proofs.lemmas.Bool.{cases_Bool, cond-true, cond-false}
 use Rattle.std.proofs.lemmas.List.{map-append, length-map}
 use Rattle.std.proofs.lemmas.List.Sums.{sum_by-cons}
 use Rattle.std.proofs.Math.Seq.{take-append_seam, drop-append_seam}
+use Rattle.invariants.specs.declared.Kinds.{Kinds}
 use Rattle.traces.specs.Words.{Log, Trace, event_count_of, first_met, with_new}
 use Rattle.partition_model.specs.Graphs.{Graph, IsPath, word}
 use Rattle.partition_model.specs.Assignments.{Event, Assignment, AllEvents, G, events, id_list, ids_of, inner_words, type_of, types_of, word_of}
@@ -111,24 +112,24 @@ walked g [] all = tt
 walked g (trace ∷ h) all = (all.0, walked g h all.1)
 
 -- where coarsening ends, the assignment keeps the log's words and its mined invariants
-pub final-keeps : (log : Log) (ids : List ℕ) → RefinementKeeps → CoarseningKeeps → IsTypedLog (typed_words log) → (final : AreFinal (typed_words log) ids)
-    → Keeps (mined_of (typed_words log)) (inner_words_of log) final.end
-final-keeps log ids refinement coarsening typed final =
-    let invs = mined_of (typed_words log) in
+pub final-keeps : (kinds : Kinds) (log : Log) (ids : List ℕ) → RefinementKeeps → CoarseningKeeps → IsTypedLog (typed_words kinds log) → (final : AreFinal (typed_words kinds log) ids)
+    → Keeps (mined_of (typed_words kinds log)) (inner_words_of log) final.end
+final-keeps kinds log ids refinement coarsening typed final =
+    let invs = mined_of (typed_words kinds log) in
     let words = inner_words_of log in
-    (coarsening invs words final.refined final.merges final.end (refinement invs words (length log.types + 2) final.splits final.refined typed (mined-hold (typed_words log)) final.refines) final.coarsens).0
+    (coarsening invs words final.refined final.merges final.end (refinement invs words (length log.types + 2) final.splits final.refined typed (mined-hold (typed_words kinds log)) final.refines) final.coarsens).0
 
 -- where coarsening ends, there is an id for each event of the log
-pub final-count : (log : Log) (ids : List ℕ) → RefinementKeeps → CoarseningKeeps → IsTypedLog (typed_words log) → AreFinal (typed_words log) ids → length ids ≡ event_count_of log.traces
-final-count log ids refinement coarsening typed final =
-    ap length final.value ∙ ids-count log.traces final.end (final-keeps log ids refinement coarsening typed final).words_are
+pub final-count : (kinds : Kinds) (log : Log) (ids : List ℕ) → RefinementKeeps → CoarseningKeeps → IsTypedLog (typed_words kinds log) → AreFinal (typed_words kinds log) ids → length ids ≡ event_count_of log.traces
+final-count kinds log ids refinement coarsening typed final =
+    ap length final.value ∙ ids-count log.traces final.end (final-keeps kinds log ids refinement coarsening typed final).words_are
 
 -- by the ids where coarsening ends, each trace is shown in one line, as a path of the graph there
-pub paths-shown : (log : Log) (ids : List ℕ) → RefinementKeeps → CoarseningKeeps → AcceptsTraces → PathsTell → IsTypedLog (typed_words log) → (final : AreFinal (typed_words log) ids)
+pub paths-shown : (kinds : Kinds) (log : Log) (ids : List ℕ) → RefinementKeeps → CoarseningKeeps → AcceptsTraces → PathsTell → IsTypedLog (typed_words kinds log) → (final : AreFinal (typed_words kinds log) ids)
     → ShowsPaths log ids (G final.end)
-paths-shown log ids refinement coarsening accepts tell typed final =
+paths-shown kinds log ids refinement coarsening accepts tell typed final =
     let end : Assignment = final.end in
-    let keeps = final-keeps log ids refinement coarsening typed final in
+    let keeps = final-keeps kinds log ids refinement coarsening typed final in
     let are : paths log ids ≡ map path_in end = ap (λ (l : List ℕ). paths_of log.traces l) final.value ∙ paths-in log.traces end keeps.words_are in
     record {
       all = tell.all (paths log ids) ∙ paths-count log.traces ids;

@@ -10,10 +10,12 @@ use Rattle.line_rules.specs.Files.{rules_of}
 use Rattle.line_rules.specs.Views.{rules_in}
 use Rattle.line_rules.specs.declared.line_rules.RuleError.{RuleError}
 use Rattle.line_rules.specs.declared.line_rules.RuleError.TheVariants as rule_error
-use Rattle.limits.specs.declared.TheConstants.{MAX_MODEL_BYTES}
 use Rattle.invariants.specs.declared.records.Model.{Model}
-use Rattle.model_shape.specs.Shapes.{IsWellShaped}
+use Rattle.model_shape.specs.Shapes.{IsOfVersion1, IsWellShaped}
 use Rattle.model_file.specs.Reading as model_file
+use Rattle.model_file.specs.Versions.{max_bytes}
+use Rattle.model_file.specs.declared.version.Version.{Version}
+use Rattle.model_file.specs.declared.version.Version.TheVariants.{One, Two}
 use Rattle.model_file.specs.declared.refusal.FileError.{FileError}
 use Rattle.model_file.specs.declared.refusal.FileError.TheVariants as file_error
 use Rattle.log_reader.specs.Reading.{Form, Setting}
@@ -34,7 +36,7 @@ use Rattle.synoptic_cli.specs.declared.status.Status.TheVariants.{Done, NoCheck,
 use Rattle.synoptic_cli.specs.declared.status.Source.TheVariants as sources
 use Rattle.synoptic_cli.specs.declared.model_stage.ModelHalt.{ModelHalt}
 use Rattle.synoptic_cli.specs.declared.model_stage.ModelHalt.TheVariants as halts
-use Rattle.synoptic_cli.specs.Task.{input_count, rules_name, Stage, stages_of}
+use Rattle.synoptic_cli.specs.Task.{input_count, rules_name, Stage, stages_of, version_of}
 use Rattle.synoptic_cli.specs.Stages.{SoFar, at_start, reads}
 use Rattle.synoptic_cli.specs.Endings.{IsTold, SomeBytes, ReadAll}
 use Rattle.synoptic_cli.specs.Causes.{HasCause, world}
@@ -69,31 +71,36 @@ pub record ReadsRules (old new : InputState) (name : List ℕ) (rules : List Rul
   pub alike : AreAlike rules plain
   pub opened : ReadAll 1 old new
 
--- the named file was read to its end, and this is its model, which is well shaped
-pub record ReadsModel (old new : InputState) (name : List ℕ) (model : Model) : Type 0 where
+-- a model that a file of this version can say: it is well shaped, and of version 1 where the file is
+abbrev pub FitsVersion : Version → Model → Type 0
+FitsVersion One model = IsWellShaped model × IsOfVersion1 model
+FitsVersion Two model = IsWellShaped model
+
+-- the named file of this version was read to its end, and this is its model
+pub record ReadsModel (version : Version) (old new : InputState) (name : List ℕ) (model : Model) : Type 0 where
   pub bytes : List ℕ
   pub told : IsTold old.files name bytes
-  pub read : model_file.reads bytes ≡ Ok model
-  pub shaped : IsWellShaped model
+  pub read : model_file.reads_as version bytes ≡ Ok model
+  pub shaped : FitsVersion version model
   pub opened : ReadAll 1 old new
 
--- the named file was read to its end, or to one byte past its limit, and is refused so
-pub record RefusesFile (old new : InputState) (name : List ℕ) (e : FileError) : Type 0 where
+-- the named file was read to its end, or to one byte past the limit of this version, and is refused so
+pub record RefusesFile (version : Version) (old new : InputState) (name : List ℕ) (e : FileError) : Type 0 where
   pub bytes : List ℕ
   pub told : IsTold old.files name bytes
-  pub read : model_file.reads bytes ≡ Err e
+  pub read : model_file.reads_as version bytes ≡ Err e
   pub not_memory : e ≢ file_error.Memory
   pub opened : Opened 1 old new
-  pub rest : IfTold old.files name (λ content. new.rest ≡ Some (drop (MAX_MODEL_BYTES + 1) content))
+  pub rest : IfTold old.files name (λ content. new.rest ≡ Some (drop (max_bytes version + 1) content))
 
--- why the named file gives no model
-abbrev pub ModelHalts : (old new : InputState) → List ℕ → ModelHalt → Type 0
-ModelHalts old new name halts.Missing = Lacks old.files name × OpensNone old new × (new.faults ≡ old.faults)
-ModelHalts old new name halts.Fault =
+-- why the named file gives no model of this version
+abbrev pub ModelHalts : Version → (old new : InputState) → List ℕ → ModelHalt → Type 0
+ModelHalts version old new name halts.Missing = Lacks old.files name × OpensNone old new × (new.faults ≡ old.faults)
+ModelHalts version old new name halts.Fault =
     Rose old.faults new.faults × IsTrue (old.may_fail name)
-    × (OpensNone old new ⊎ OpensNamed old new name MAX_MODEL_BYTES)
-ModelHalts old new name (halts.Refused e) = RefusesFile old new name e
-ModelHalts old new name halts.Memory = new.opens ≡ next_call old.opens
+    × (OpensNone old new ⊎ OpensNamed old new name (max_bytes version))
+ModelHalts version old new name (halts.Refused e) = RefusesFile version old new name e
+ModelHalts version old new name halts.Memory = new.opens ≡ next_call old.opens
 
 -- what a refusal of the file is: want of memory is no fault of the file
 abbrev pub halt_of : FileError → ModelHalt
@@ -132,28 +139,28 @@ pub record LogHalts (task : Task) (f : Form) (old new : InputState) (e : ReadErr
   pub cause : HasReadCause (setting_of task f) (inputs_of task.files) old new e
   pub opens : new.opens ≤ old.opens + length (inputs_of task.files)
 
--- the program holds what was read so far, with rules that are alike, and its model is well shaped
-pub record IsHeld (held : rust.SoFar) (so_far : SoFar) : Type 0 where
+-- the program holds what was read so far, with rules that are alike, and its model is one of a file of this version
+pub record IsHeld (version : Version) (held : rust.SoFar) (so_far : SoFar) : Type 0 where
   pub form : AreAlikeForms (held_form held) so_far.form
   pub material : so_far.material ≡ held.material
-  pub shaped : IsWellShaped held.material.model
+  pub shaped : FitsVersion version held.material.model
 
 -- the inputs of the stages were read, and take what was read before to what is read now
 pub record HasRead (stages : List Stage) (old new : InputState) (before now : SoFar) : Type 0 where
   pub bytes : SomeBytes old.files stages (λ filled. reads before filled ≡ Ok now)
   pub inputs : ReadAll (input_count stages) old new
 
--- the stages were read, after what the program held, and gave what it holds now
-abbrev pub Reads : List Stage → rust.SoFar → (old new : InputState) → rust.SoFar → Type 0
-Reads stages before old new now =
-    (so_far : SoFar) → IsHeld before so_far
-    → (next : SoFar) × IsHeld now next × HasRead stages old new so_far next
+-- the stages were read, after what the program held, and gave what it holds now, for models of this version
+abbrev pub Reads : Version → List Stage → rust.SoFar → (old new : InputState) → rust.SoFar → Type 0
+Reads version stages before old new now =
+    (so_far : SoFar) → IsHeld version before so_far
+    → (next : SoFar) × IsHeld version now next × HasRead stages old new so_far next
 
--- the task's inputs were read, and this is what the command is to work on, with a model that is well shaped
+-- the task's inputs were read, and this is what the command is to work on, with a model of the version that it reads
 pub record ReadsTask (task : Task) (old new : InputState) (material : Material) : Type 0 where
   pub so_far : SoFar
   pub value : so_far.material ≡ material
-  pub shaped : IsWellShaped material.model
+  pub shaped : FitsVersion (version_of task.command) material.model
   pub read : HasRead (stages_of task) old new at_start so_far
 
 -- a status that comes with an answer

@@ -59,7 +59,7 @@ log_message task (faults.TraceTooLong at) = line_message task at (codes "trace t
 
 -- which quantity passes its limit, and the limit
 abbrev pub limit_message : LimitKind → List ℕ
-limit_message limits.Types = codes "synoptic: limit: types 128\n"
+limit_message limits.Types = codes "synoptic: limit: types 256\n"
 limit_message limits.Events = codes "synoptic: limit: events 1000000\n"
 limit_message limits.Input = codes "synoptic: limit: input 268435456\n"
 limit_message limits.Partitions = codes "synoptic: limit: partitions 1024\n"
@@ -71,6 +71,7 @@ field_name fields.Root = codes "root"
 field_name fields.Version = codes "version"
 field_name fields.Extra = codes "extra"
 field_name fields.Types = codes "types"
+field_name fields.Kinds = codes "kinds"
 field_name fields.Partitions = codes "partitions"
 field_name fields.Edges = codes "edges"
 field_name fields.Invariants = codes "invariants"
@@ -92,7 +93,7 @@ task_message task Done = []
 task_message task (NoCheck part) = []
 task_message task (NoReplay part) = []
 task_message task Usage =
-    codes "usage: synoptic infer|check|replay|invariants|graph|paths|bench "
+    codes "usage: synoptic infer|check|replay|invariants|graph|paths|bench|migrate "
     ++ codes "[-e FILE] [-p] [-m FILE] [-i] [-j] [-n N] [-r] [--] [FILE]...\n"
 task_message task (Expressions e) = codes "synoptic: expressions" ++ rule_message e
 task_message task (Log fault) = log_message task fault

@@ -1,5 +1,5 @@
 -- When an inference is done, and what a check and a replay say of what was inferred.
-use Rattle.std.specs.Prelude.{ℕ, ◌≡◌, List, Some, None, Result, Ok}
+use Rattle.std.specs.Prelude.{ℕ, ◌≡◌, false, List, Some, None, Result, Ok}
 use Rattle.outside.specs.Inputs.{Files, bytes_of}
 use Rattle.invariants.specs.declared.records.Model.{Model}
 use Rattle.models.specs.Models.{typed_words, IsModelOf}
@@ -13,31 +13,33 @@ use Rattle.command_line.specs.declared.table.Command.TheVariants as commands
 use Rattle.synoptic_cli.specs.declared.answer.Answer.{Answer}
 use Rattle.synoptic_cli.specs.declared.status.Status.{Status}
 use Rattle.synoptic_cli.specs.declared.status.Status.TheVariants.{Done}
-use Rattle.synoptic_cli.specs.Task.{stages_of}
+use Rattle.synoptic_cli.specs.Task.{kinds_of, stages_of}
 use Rattle.synoptic_cli.specs.Stages.{SoFar, Stop, at_start, reads}
 use Rattle.synoptic_cli.specs.Commands.CheckModel.{answer_of}
 use Rattle.synoptic_cli.specs.Commands.Inference.{PassesNone}
 use Rattle.synoptic_cli.specs.Commands.ReplayModel as replay_model
 use Rattle.synoptic_cli.specs.Endings.{EndsOver, EndsTold, told_stages}
 
--- the check of the named file against the log that the task reads
+-- the check of the named file against the log that the task reads; the kinds of invariants are those that the file says
 abbrev pub checking : Task → List ℕ → Task
-checking task name = record task { command = commands.Check; model = Some name }
+checking task name = record task { command = commands.Check; model = Some name; interrupted = false }
 
--- where the file says the model of the log that the task reads, whose words use exactly its types, its check against
--- that log ends with yes
+-- where the file says the model of the log that the task reads, by the kinds that are named there, and the words of the log
+-- use exactly its types, its check against that log ends with yes
 abbrev pub ModelsAreAccepted : Type 0
 ModelsAreAccepted =
     (files : Files) (task : Task) (name bytes : List ℕ) (model : Model) (so_far : SoFar)
     (end : Result Answer Stop)
     → task.model ≡ None → reads at_start (told_stages files (stages_of task)) ≡ Ok so_far
-    → IsTypedLog (typed_words so_far.material.log) → IsModelOf model (typed_words so_far.material.log)
+    → IsTypedLog (typed_words model.kinds so_far.material.log)
+    → IsModelOf model (typed_words model.kinds so_far.material.log)
     → bytes_of files name ≡ Some bytes → model_file.reads bytes ≡ Ok model
     → EndsOver (checking task name) (told_stages files (stages_of (checking task name))) end
     → end ≡ Ok (answer_of Yes)
 
--- What the inference of a log answers over some files is accepted: over files in which the task's own inputs are the
--- same, and the named one has that answer's text, the check of it ends with yes, and so with this status alone.
+-- What the inference of a log answers over some files is accepted, whichever kinds the task asks for: over files in which
+-- the task's own inputs are the same, and the named one has that answer's text, the check of it ends with yes, and so with
+-- this status alone.
 abbrev pub InferredAreAccepted : Type 0
 InferredAreAccepted =
     (before after : Files) (task : Task) (name : List ℕ) (a : Answer) (status : Status)
@@ -47,25 +49,27 @@ InferredAreAccepted =
     → (told : EndsTold after (checking task name) status)
     → (told.end ≡ Ok (answer_of Yes)) × (status ≡ Done)
 
--- the replay of the named file against the log that the task reads
+-- the replay of the named file against the log that the task reads; again the kinds are those that the file says
 abbrev pub replaying : Task → List ℕ → Task
-replaying task name = record task { command = commands.Replay; model = Some name }
+replaying task name = record task { command = commands.Replay; model = Some name; interrupted = false }
 
--- where the file says the model of the log that the task reads, whose words use exactly its types, and that model is
--- within the limits, its replay against that log ends with yes
+-- where the file says the model of the log that the task reads, by the kinds that are named there and within the limits, and
+-- the words of the log use exactly its types, its replay against that log ends with yes
 abbrev pub HistoriesAreAccepted : Type 0
 HistoriesAreAccepted =
     (files : Files) (task : Task) (name bytes : List ℕ) (model : Model) (so_far : SoFar)
     (end : Result Answer Stop)
     → task.model ≡ None → reads at_start (told_stages files (stages_of task)) ≡ Ok so_far
-    → IsTypedLog (typed_words so_far.material.log) → IsModelOf model (typed_words so_far.material.log)
+    → IsTypedLog (typed_words model.kinds so_far.material.log)
+    → IsModelOf model (typed_words model.kinds so_far.material.log)
     → KeepsLimits model
     → bytes_of files name ≡ Some bytes → model_file.reads bytes ≡ Ok model
     → EndsOver (replaying task name) (told_stages files (stages_of (replaying task name))) end
     → end ≡ Ok (replay_model.answer_of outcomes.Yes)
 
--- What the inference of a log answers over some files is accepted by its replay too: over files in which the task's own
--- inputs are the same, and the named one has that answer's text, the replay ends with yes, and so with this status alone.
+-- What the inference of a log answers over some files is accepted by its replay too, whichever kinds the task asks for: over
+-- files in which the task's own inputs are the same, and the named one has that answer's text, the replay ends with yes, and
+-- so with this status alone.
 abbrev pub InferredAreReplayed : Type 0
 InferredAreReplayed =
     (before after : Files) (task : Task) (name : List ℕ) (a : Answer) (status : Status)
@@ -80,4 +84,4 @@ abbrev pub InferIsDone : Type 0
 InferIsDone =
     (files : Files) (task : Task) (so_far : SoFar) (status : Status)
     → task.command ≡ commands.Infer → reads at_start (told_stages files (stages_of task)) ≡ Ok so_far
-    → PassesNone (typed_words so_far.material.log) → EndsTold files task status → status ≡ Done
+    → PassesNone (typed_words (kinds_of task) so_far.material.log) → EndsTold files task status → status ≡ Done

@@ -2,10 +2,12 @@
 use Rattle.std.specs.Prelude.{ℕ, ◌+◌, Bool, List, [], ◌∷◌, length, nat_lt, Option, Some, None, Result, Ok, Err, if◌then◌else◌}
 use Rattle.traces.specs.Words.{log_of}
 use Rattle.limits.specs.declared.TheConstants.{INITIAL, TERMINAL}
+use Rattle.invariants.specs.declared.Kinds.TheVariants.{Three}
 use Rattle.invariants.specs.declared.records.Model.{Model}
 use Rattle.model_shape.specs.Shapes.{end_of}
 use Rattle.model_file.specs.Reading as model_file
 use Rattle.model_file.specs.declared.refusal.FileError.{FileError}
+use Rattle.model_file.specs.declared.version.Version.{Version}
 use Rattle.line_rules.specs.Rules.{Rule}
 use Rattle.line_rules.specs.Files.{rules_of}
 use Rattle.line_rules.specs.declared.line_rules.RuleError.{RuleError}
@@ -33,6 +35,7 @@ abbrev pub no_model : Model
 no_model =
     record {
       types = [];
+      kinds = Three;
       partitions = end_of INITIAL 0 ∷ end_of TERMINAL 0 ∷ [];
       edges = [];
       invariants = [];
@@ -70,9 +73,9 @@ with_model so_far (Ok model) = Ok (record so_far { material = record so_far.mate
 with_model so_far (Err e) = Err (stop_after 1 (statuses.ModelFile e))
 
 -- what the stage of the model gives over the bytes of its file, if that is there
-abbrev pub reads_model : SoFar → List (List ℕ) → Result SoFar Stop
-reads_model so_far [] = Err (stop_after 0 (ReadFault sources.ModelFile))
-reads_model so_far (bytes ∷ more) = with_model so_far (model_file.reads bytes)
+abbrev pub reads_model : Version → SoFar → List (List ℕ) → Result SoFar Stop
+reads_model version so_far [] = Err (stop_after 0 (ReadFault sources.ModelFile))
+reads_model version so_far (bytes ∷ more) = with_model so_far (model_file.reads_as version bytes)
 
 -- the status that a refusal of the log is answered by
 abbrev pub status_of : ReadError → Status
@@ -111,7 +114,7 @@ reads_log so_far s count contents = with_log so_far s count contents (first_refu
 -- what a stage makes of the bytes of its inputs, up to the first that is not there, after what was read so far
 abbrev pub stage_reads : Stage → SoFar → List (List ℕ) → Result SoFar Stop
 stage_reads (RulesFile name) so_far contents = reads_rules so_far contents
-stage_reads (ModelFile name) so_far contents = reads_model so_far contents
+stage_reads (ModelFile version name) so_far contents = reads_model version so_far contents
 stage_reads (LogFiles names ignore join) so_far contents =
     reads_log so_far (setting_by so_far ignore join) (length names) contents
 

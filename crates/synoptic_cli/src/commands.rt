@@ -1,12 +1,13 @@
 //! The table of the commands: what each answers of what was read. Each has a file of its own.
 ghost use Rattle.command_line.specs.Task.{HasSessions, task_held};
-ghost use Rattle.model_shape.specs.Shapes.{IsWellShaped};
 ghost use Rattle.synoptic_cli.specs.Commands.{Answers};
-ghost use Rattle.synoptic_cli.specs.Halts.{Gives};
+ghost use Rattle.synoptic_cli.specs.Halts.{Gives, FitsVersion};
+ghost use Rattle.synoptic_cli.specs.Task.{version_of};
 
 mod check_model;
 mod infer_model;
 mod inference;
+mod migrate_model;
 mod numbered;
 mod print_graph;
 mod print_graph_of_model;
@@ -23,7 +24,7 @@ use std::alloc::Global;
 
 /// What the task's command answers of what was read.
 pub fn answer(alloc: Global, task: &Task<'_>, material: Material) -> Result<Answer, NoAnswer>
-    requires shaped { IsWellShaped material.model }
+    requires shaped { FitsVersion (version_of (task_held task.now).command) material.model }
     requires sessions { HasSessions (task_held task.now) }
     ensures { Gives (Answers (task_held task.now) material) result }
 {
@@ -31,13 +32,14 @@ pub fn answer(alloc: Global, task: &Task<'_>, material: Material) -> Result<Answ
         Command::Invariants => print_invariants::answer(alloc, kinds_of(task), material),
         Command::Graph => print_graph::answer(alloc, material),
         Command::GraphOfModel => print_graph_of_model::answer(alloc, material),
-        Command::Infer => infer_model::answer(alloc, material),
+        Command::Infer => infer_model::answer(alloc, kinds_of(task), material),
         Command::Check => check_model::answer(alloc, material),
         Command::Replay => replay_model::answer(alloc, material),
-        Command::Paths => print_paths::answer(alloc, material),
+        Command::Paths => print_paths::answer(alloc, kinds_of(task), material),
         Command::Bench => {
             drop(material);
             run_bench::answer(alloc, task.number)
         }
+        Command::Migrate => migrate_model::answer(alloc, material),
     }
 }

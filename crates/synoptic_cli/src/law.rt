@@ -1,5 +1,6 @@
 //! Laws over the endings of runs.
 ghost use Rattle.synoptic_cli.specs.Endings.{EndsAreOne, StatusesAreOne};
+ghost use Rattle.synoptic_cli.specs.Migrations.{MigratedAreAlike, MigrationsEnd};
 ghost use Rattle.synoptic_cli.specs.Rechecks.{HistoriesAreAccepted, InferIsDone, InferredAreAccepted, InferredAreReplayed, ModelsAreAccepted};
 
 use infer_core::{ends_exclude, one_final};
@@ -23,8 +24,8 @@ pub fn infer_is_done()
 {}
 
 /// Over files that are told, where one of them says the very model of the log that a task reads, `check` of it
-/// against that log ends with `yes`. So it does for a file with the text that `infer` answered of that log, by the
-/// same rules and options, and then the words and the files have the status `Done`.
+/// against that log ends with `yes`. So it does for a file with the text that `infer` answered of that log, with `-r` or
+/// without, by the same rules and options but for `-r`, and then the words and the files have the status `Done`.
 pub fn models_are_accepted()
     ensures models { ModelsAreAccepted }
     ensures inferred { InferredAreAccepted }
@@ -32,8 +33,17 @@ pub fn models_are_accepted()
 
 /// Over files that are told, where one of them says the very model of the log that a task reads, within the limits,
 /// `replay` of it against that log ends with `yes`. So it does for a file with the text that `infer` answered of that
-/// log, by the same rules and options, and then the words and the files have the status `Done`.
+/// log, with `-r` or without, by the same rules and options but for `-r`, and then the words and the files have the
+/// status `Done`.
 pub fn histories_are_accepted()
     ensures models { HistoriesAreAccepted }
     ensures inferred { InferredAreReplayed }
+{}
+
+/// Over files that are told, where the named one is there, its migration ends as version 1 reads it: with the text of
+/// version 2 of its model, or with its refusal. A check of that text against a log ends with `yes` exactly where the
+/// model that was read is valid for that log, by three kinds of invariants.
+pub fn migrations_keep_models()
+    ensures ends { MigrationsEnd }
+    ensures alike { MigratedAreAlike }
 {}

@@ -17,7 +17,10 @@ mod status;
 mod task;
 mod top;
 
-pub use law::{histories_are_accepted, infer_is_done, models_are_accepted, runs_end_alike};
+pub use law::{
+    histories_are_accepted, infer_is_done, migrations_keep_models, models_are_accepted,
+    runs_end_alike,
+};
 pub use message::tell;
 pub use status::{LimitKind, LogFault, Source, Status};
 pub use top::run;

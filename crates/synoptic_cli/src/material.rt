@@ -8,6 +8,6 @@ use traces::TraceSet;
 pub struct Material {
     /// The log.
     pub log: TraceSet,
-    /// The model of a file. It is well shaped.
+    /// The model of a file. It is well shaped, and of version 1 if the command reads files of that version.
     pub model: Model,
 }

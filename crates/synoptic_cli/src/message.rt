@@ -15,7 +15,7 @@ use model_file::{Field, FileError};
 use outside::{Failed, Sink, write_whole};
 
 const USAGE: &[u8] =
-    b"usage: synoptic infer|check|replay|invariants|graph|paths|bench [-e FILE] [-p] [-m FILE] [-i] [-j] [-n N] [-r] [--] [FILE]...\n";
+    b"usage: synoptic infer|check|replay|invariants|graph|paths|bench|migrate [-e FILE] [-p] [-m FILE] [-i] [-j] [-n N] [-r] [--] [FILE]...\n";
 
 /// Writes the texts, one after another, and takes no memory.
 fn write_texts<E: Sink>(texts: &[&str], err: &mut E) -> Result<(), Failed>
@@ -132,7 +132,7 @@ fn write_limit<E: Sink>(kind: LimitKind, err: &mut E) -> Result<(), Failed>
     ensures { WholeGives (E.state err.old) (limit_message kind) result (E.state err.new) }
 {
     match kind {
-        LimitKind::Types => write_whole(err, b"synoptic: limit: types 128\n"),
+        LimitKind::Types => write_whole(err, b"synoptic: limit: types 256\n"),
         LimitKind::Events => write_whole(err, b"synoptic: limit: events 1000000\n"),
         LimitKind::Input => write_whole(err, b"synoptic: limit: input 268435456\n"),
         LimitKind::Partitions => write_whole(err, b"synoptic: limit: partitions 1024\n"),
@@ -149,6 +149,7 @@ fn field_name(field: Field) -> &'static str
         Field::Version => "version",
         Field::Extra => "extra",
         Field::Types => "types",
+        Field::Kinds => "kinds",
         Field::Partitions => "partitions",
         Field::Edges => "edges",
         Field::Invariants => "invariants",

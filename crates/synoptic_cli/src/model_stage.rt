@@ -1,12 +1,14 @@
 //! Reads the file of a model.
-ghost use Rattle.std.specs.Prelude.{◌≡◌, Err, IfOk, IfErr};
+ghost use Rattle.std.specs.Prelude.{◌≡◌, Ok, Err, IfOk, IfErr};
 ghost use Rattle.outside.specs.Inputs.{Stays};
-ghost use Rattle.synoptic_cli.specs.Halts.{ModelHalts, ReadsModel, halt_of, halt_status};
+ghost use Rattle.outside.specs.Reading.{InputGives};
+ghost use Rattle.model_file.specs.Reading.{Fails, reads_as};
+ghost use Rattle.model_file.specs.Versions.{max_bytes};
+ghost use Rattle.synoptic_cli.specs.Halts.{FitsVersion, ModelHalts, ReadsModel, halt_of, halt_status};
 
 use crate::status::{Source, Status};
 use invariants::Model;
-use limits::MAX_MODEL_BYTES;
-use model_file::{FileError, read_model};
+use model_file::{FileError, Version, read_model, read_version_1};
 use outside::{InputError, Inputs, read_input};
 use std::alloc::Global;
 
@@ -33,25 +35,52 @@ fn halt_of(error: FileError) -> ModelHalt
     }
 }
 
-/// Reads the model of the named file, to its end or to one byte past the most that is taken.
+/// The model of the bytes of a file of this version.
+fn read_of(alloc: Global, version: Version, bytes: &[u8]) -> Result<Model, FileError>
+    ensures ok { IfOk result (λ model. reads_as version bytes.now ≡ Ok model) }
+    ensures shaped { IfOk result (FitsVersion version) }
+    ensures err { IfErr result (λ e. Fails e (reads_as version bytes.now)) }
+{
+    match version {
+        Version::One => read_version_1(alloc, bytes),
+        Version::Two => read_model(alloc, bytes),
+    }
+}
+
+/// Reads the named file, to its end or to one byte past the most that a file of this version has.
+fn read_bytes<I: Inputs>(
+    alloc: Global,
+    version: Version,
+    name: &str,
+    inputs: &mut I,
+) -> Result<Vec<u8>, InputError>
+    ensures stays { Stays (I.state inputs.old) (I.state inputs.new) }
+    ensures gives { InputGives (I.state inputs.old) name.now (max_bytes version) result
+        (I.state inputs.new) }
+{
+    read_input(alloc, inputs, name, version.max_bytes())
+}
+
+/// Reads the model of the named file of this version, to its end or to one byte past the most that the version allows.
 pub fn read_model_file<I: Inputs>(
     alloc: Global,
+    version: Version,
     name: &str,
     inputs: &mut I,
 ) -> Result<Model, ModelHalt>
     ensures stays { Stays (I.state inputs.old) (I.state inputs.new) }
-    ensures ok { IfOk result (ReadsModel (I.state inputs.old) (I.state inputs.new) name.now) }
+    ensures ok { IfOk result (ReadsModel version (I.state inputs.old) (I.state inputs.new) name.now) }
     ensures memory { result ≡ Err ModelHalt.Memory
         → (I.state inputs.new).faults ≡ (I.state inputs.old).faults }
-    ensures err { IfErr result (ModelHalts (I.state inputs.old) (I.state inputs.new) name.now) }
+    ensures err { IfErr result (ModelHalts version (I.state inputs.old) (I.state inputs.new) name.now) }
 {
-    let bytes = match read_input(alloc, inputs, name, MAX_MODEL_BYTES) {
+    let bytes = match read_bytes(alloc, version, name, inputs) {
         Ok(bytes) => bytes,
         Err(InputError::Missing) => return Err(ModelHalt::Missing),
         Err(InputError::Fault) => return Err(ModelHalt::Fault),
         Err(InputError::Memory) => return Err(ModelHalt::Memory),
     };
-    match read_model(alloc, &bytes) {
+    match read_of(alloc, version, &bytes) {
         Ok(model) => Ok(model),
         Err(error) => Err(halt_of(error)),
     }

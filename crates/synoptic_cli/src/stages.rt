@@ -1,5 +1,6 @@
 //! Reads what a task works on: stage after stage.
 ghost use Rattle.std.specs.Prelude.{◌≡◌, ◌<◌, ◌≤◌, ◌+◌, ◌^◌, Err, IfOk, IfErr, length, option_map};
+ghost use Rattle.model_file.specs.declared.version.Version.{Version};
 ghost use Rattle.std.specs.Option.{IsSomeAnd};
 ghost use Rattle.outside.specs.Inputs.{Stays};
 ghost use Rattle.line_rules.specs.Patterns.{Stays as PatternsStay};
@@ -9,7 +10,7 @@ ghost use Rattle.log_reader.specs.Views.{form_view};
 ghost use Rattle.command_line.specs.Task.{task_held};
 ghost use Rattle.model_shape.specs.Shapes.{end_of};
 ghost use Rattle.synoptic_cli.specs.Causes.{KeepsCounts};
-ghost use Rattle.synoptic_cli.specs.Task.{log_stages, model_stages, rules_stages};
+ghost use Rattle.synoptic_cli.specs.Task.{log_stages, model_stages, rules_stages, version_of};
 ghost use Rattle.synoptic_cli.specs.Stages.{at_start, no_model};
 ghost use Rattle.synoptic_cli.specs.Halts.{Ends, IsHeld, LogHalts, ModelHalts, Reads, ReadsTask, form_with, held_form, setting_of};
 
@@ -17,9 +18,9 @@ use crate::material::Material;
 use crate::model_stage::{ModelHalt, halt_status, read_model_file};
 use crate::reading::{read_rules, status_of};
 use crate::status::Status;
-use crate::task::{names_of, rules_name};
+use crate::task::{names_of, rules_name, version_of};
 use command_line::Task;
-use invariants::{Model, Partition, Seq};
+use invariants::{Kinds, Model, Partition, Seq};
 use limits::{INITIAL, TERMINAL};
 use line_rules::{LineRules, Patterns};
 use log_reader::{ReadError, alike_rules_read_alike, read_log};
@@ -56,6 +57,7 @@ fn no_model(alloc: Global) -> Result<Model, AllocError>
     let ends = [end_of(INITIAL), end_of(TERMINAL)].to_vec(alloc)?;
     Ok(Model {
         types: Seq::from_vec(Vec::new(alloc)),
+        kinds: Kinds::Three,
         partitions: Seq::from_vec(ends),
         edges: Seq::from_vec(Vec::new(alloc)),
         invariants: Seq::from_vec(Vec::new(alloc)),
@@ -67,7 +69,7 @@ fn no_model(alloc: Global) -> Result<Model, AllocError>
 
 /// What is there before the first stage: what no stage reads says nothing.
 fn start(alloc: Global) -> Result<SoFar, AllocError>
-    ensures { IfOk result (λ so_far. IsHeld so_far at_start) }
+    ensures { IfOk result (λ so_far. (version : Version) → IsHeld version so_far at_start) }
 {
     gathering_in_order_is_the_log();
     let log = Builder::new(alloc).finish()?;
@@ -96,7 +98,8 @@ fn read_rules_stage<I: Inputs, P: Patterns>(
 
     // What is read where the run goes on, and why it ends.
     ensures ok { IfOk result
-        (Reads (rules_stages (task_held task.now)) so_far
+        (Reads (version_of (task_held task.now).command)
+        (rules_stages (task_held task.now)) so_far
         (I.state inputs.old) (I.state inputs.new)) }
     ensures err { IfErr result (λ status.
         Ends status (task_held task.now) (I.state inputs.old) (I.state inputs.new)
@@ -122,7 +125,7 @@ fn read_rules_stage<I: Inputs, P: Patterns>(
     }
 }
 
-/// The stage of the model: reads its file, where the task has one.
+/// The stage of the model: reads its file, where the task has one, of the version that the command reads.
 fn read_model_stage<I: Inputs>(
     alloc: Global,
     task: &Task<'_>,
@@ -133,10 +136,12 @@ fn read_model_stage<I: Inputs>(
 
     // What is read where the run goes on, and why it ends.
     ensures ok { IfOk result
-        (Reads (model_stages (task_held task.now)) so_far
+        (Reads (version_of (task_held task.now).command)
+        (model_stages (task_held task.now)) so_far
         (I.state inputs.old) (I.state inputs.new)) }
     ensures err { IfErr result (λ halt. IsSomeAnd (task_held task.now).model
-        (λ name. ModelHalts (I.state inputs.old) (I.state inputs.new) name halt)) }
+        (λ name. ModelHalts (version_of (task_held task.now).command)
+        (I.state inputs.old) (I.state inputs.new) name halt)) }
 
     // Want of memory hides no fault.
     ensures memory { result ≡ Err ModelHalt.Memory
@@ -148,7 +153,7 @@ fn read_model_stage<I: Inputs>(
     let SoFar { rules, material } = so_far;
     let Material { log, model: empty } = material;
     drop(empty);
-    match read_model_file(alloc, name, inputs) {
+    match read_model_file(alloc, version_of(task.command), name, inputs) {
         Ok(model) => Ok(SoFar {
             rules,
             material: Material { log, model },
@@ -218,7 +223,8 @@ fn read_log_stage<I: Inputs>(
 
     // What is read where the run goes on, and why it ends.
     ensures ok { IfOk result
-        (Reads (log_stages (task_held task.now)) so_far
+        (Reads (version_of (task_held task.now).command)
+        (log_stages (task_held task.now)) so_far
         (I.state inputs.old) (I.state inputs.new)) }
     ensures err { IfErr result
         (LogHalts (task_held task.now) (held_form so_far)

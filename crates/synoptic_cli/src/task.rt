@@ -3,11 +3,12 @@ ghost use Rattle.std.specs.Prelude.{◌≡◌, ◌<◌, ◌^◌, IfOk, length, m
 ghost use Rattle.std.specs.String.{string_bytes};
 ghost use Rattle.log_reader.specs.Inputs.{inputs_of};
 ghost use Rattle.command_line.specs.Task.{form_held, task_held};
-ghost use Rattle.synoptic_cli.specs.Task.{kinds_of, rules_name, source_name};
+ghost use Rattle.synoptic_cli.specs.Task.{kinds_of, rules_name, source_name, version_of};
 
 use crate::status::Source;
-use command_line::{LineForm, Task};
+use command_line::{Command, LineForm, Task};
 use invariants::Kinds;
+use model_file::Version;
 use std::alloc::{AllocError, Global};
 
 /// So many files are more than a log has.
@@ -54,6 +55,16 @@ pub fn kinds_of(task: &Task<'_>) -> Kinds
         Kinds::Four
     } else {
         Kinds::Three
+    }
+}
+
+/// The version of the model files that a command reads.
+pub fn version_of(command: Command) -> Version
+    ensures { result ≡ version_of command }
+{
+    match command {
+        Command::Migrate => Version::One,
+        _ => Version::Two,
     }
 }
 

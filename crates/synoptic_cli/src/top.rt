@@ -74,7 +74,9 @@ fn status_without_task(error: ParseError) -> Status
 /// - `cause`: why the run ended with its status. Of the inputs, it says how many were opened, from the first on.
 ///   - `Done`: `out` has the whole answer of the command, and counted no fault. All inputs of the task were opened without a
 ///     fault, and the last was read to its end. For each command, a file of `specs/Commands/` says what the answer is and
-///     what is promised of it.
+///     what is promised of it. Invariants are of the kinds that the words ask for (`invariants`, `infer`, `paths`), of
+///     those that the file of the model names (`check`, `replay`), or of three kinds (`bench`). `migrate` writes the
+///     model of a file of version 1 as the text of version 2 that is read back as that very model.
 ///   - `NoCheck`: as `Done`, for `check` alone. The model in the file is not valid for the log. The named part is the first
 ///     that fails, in the order of `Part`, first at the number or the pair that it names. The answer names it.
 ///   - `NoReplay`: as `Done`, for `replay` alone. The history of the model in the file is not justified by the log. The named
@@ -87,8 +89,9 @@ fn status_without_task(error: ParseError) -> Status
 ///     inputs up to the one with that line, or with the byte past the limit, were opened without a fault.
 ///   - `Limit` of partitions or paths: nothing in the inputs is refused, and all were opened without a fault. Refinement of
 ///     the log wants one partition more than 1,024, or the paths of its splits and blocks have more than 4,000,000 numbers.
-///   - `ModelFile`: the file of the model has this refusal, which is never want of memory. The inputs up to it were opened
-///     without a fault, and it was read to its end, or to one byte past its limit.
+///   - `ModelFile`: the file of the model has this refusal, which is never want of memory: as a file of version 1 for
+///     `migrate`, and as one of version 2 for all others. The inputs up to it were opened without a fault, and it was read
+///     to its end, or to one byte past the limit of that version.
 ///   - `ReadFault`: the inputs counted a fault and may fail the named input. Or files are known, the named input is the first
 ///     that is not there, nothing before it is refused, and no fault was counted. The inputs before it were opened, and it
 ///     too unless its opening failed. Where a read of it failed, it is still open, with what stands behind some front of it;

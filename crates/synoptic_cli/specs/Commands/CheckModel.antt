@@ -32,8 +32,9 @@ abbrev pub Says : Model → TypedWords → Verdict → Type 0
 Says m log Yes = IsValid m log × Promises m log
 Says m log (No part) = (IsValid m log → ⊥) × IsFirstPart m log part
 
--- the answer: a verdict is told, and says so of the file's model and of the log
+-- the answer: a verdict is told, and says so of the file's model and of the log, which is asked for the kinds that the model
+-- says
 pub record Answers (m : Material) (r : Result Answer LimitKind) : Type 0 where
   pub verdict : Verdict
   pub value : r ≡ Ok (answer_of verdict)
-  pub exact : Says m.model (typed_words m.log) verdict
+  pub exact : Says m.model (typed_words m.model.kinds m.log) verdict

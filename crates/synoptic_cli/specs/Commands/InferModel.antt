@@ -1,5 +1,6 @@
--- `infer`: the model of a log.
+-- `infer`: the model of a log, which is asked for some kinds of invariants.
 use Rattle.std.specs.Prelude.{◌≡◌, Result, Ok}
+use Rattle.invariants.specs.declared.Kinds.{Kinds}
 use Rattle.invariants.specs.declared.records.Model.{Model}
 use Rattle.models.specs.Models.{typed_words, TypedWords, IsModelOf}
 use Rattle.models.specs.Limits.{KeepsLimits}
@@ -26,5 +27,5 @@ pub record WritesModel (log : TypedWords) (a : Answer) : Type 0 where
   pub justified : IsJustified model log
 
 -- the answer: the file of the log's model, or the limit that its inference passes
-abbrev pub Answers : Material → Result Answer LimitKind → Type 0
-Answers m r = AnswersInferred (typed_words m.log) (WritesModel (typed_words m.log)) r
+abbrev pub Answers : Kinds → Material → Result Answer LimitKind → Type 0
+Answers kinds m r = AnswersInferred (typed_words kinds m.log) (WritesModel (typed_words kinds m.log)) r

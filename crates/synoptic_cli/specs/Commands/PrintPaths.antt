@@ -1,6 +1,7 @@
--- `paths`: the paths that the traces of a log take through its model.
+-- `paths`: the paths that the traces of a log take through its model, which is asked for some kinds of invariants.
 use Rattle.std.specs.Prelude.{ℕ, ◌≡◌, true, List, length, count_by, Contains, Result}
 use Rattle.std.specs.List.{AllByRecursion}
+use Rattle.invariants.specs.declared.Kinds.{Kinds}
 use Rattle.traces.specs.Words.{Log}
 use Rattle.partition_model.specs.Graphs.{Graph, IsPath, word}
 use Rattle.partition_model.specs.Assignments.{G, with_ends}
@@ -40,12 +41,12 @@ pub record ShowsPaths (log : Log) (ids : List ℕ) (g : Graph) : Type 0 where
 
 -- the text is that of the paths by the ids that the events have where coarsening of the log ends, and shows
 -- exactly these, through the graph there
-pub record TellsPaths (log : Log) (a : Answer) : Type 0 where
+pub record TellsPaths (kinds : Kinds) (log : Log) (a : Answer) : Type 0 where
   pub ids : List ℕ
-  pub final : AreFinal (typed_words log) ids
+  pub final : AreFinal (typed_words kinds log) ids
   pub value : a ≡ done (path_report log ids)
   pub exact : ShowsPaths log ids (G final.end)
 
 -- the answer: the paths of the traces, or the limit that inference of the log passes
-abbrev pub Answers : Material → Result Answer LimitKind → Type 0
-Answers m r = AnswersInferred (typed_words m.log) (TellsPaths m.log) r
+abbrev pub Answers : Kinds → Material → Result Answer LimitKind → Type 0
+Answers kinds m r = AnswersInferred (typed_words kinds m.log) (TellsPaths kinds m.log) r

@@ -31,8 +31,9 @@ abbrev pub Says : Model → TypedWords → Replay → Type 0
 Says m log Yes = IsJustified m log
 Says m log (No part) = (IsJustified m log → ⊥) × IsFirstStep m log part
 
--- the answer: an outcome is told, and says so of the file's model and of the log
+-- the answer: an outcome is told, and says so of the file's model and of the log, which is asked for the kinds that the
+-- model says
 pub record Answers (m : Material) (r : Result Answer LimitKind) : Type 0 where
   pub outcome : Replay
   pub value : r ≡ Ok (answer_of outcome)
-  pub exact : Says m.model (typed_words m.log) outcome
+  pub exact : Says m.model (typed_words m.model.kinds m.log) outcome

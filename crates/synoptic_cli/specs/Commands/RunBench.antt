@@ -1,7 +1,8 @@
--- `bench`: the model of a made log, which is written, read back and checked, and how large all is.
+-- `bench`: the model of a made log, by three kinds of invariants, which is written, read back and checked, and how large all is.
 use Rattle.std.specs.Prelude.{ℕ, ◌≡◌, ◌++◌, List, length, codes, decimal, Option, Result, Ok}
 use Rattle.std.specs.Option.{IsSomeAnd}
 use Rattle.traces.specs.Words.{Log, event_count_of}
+use Rattle.invariants.specs.declared.Kinds.TheVariants.{Three}
 use Rattle.invariants.specs.declared.records.Model.{Model}
 use Rattle.models.specs.Models.{typed_words, TypedWords, IsModelOf}
 use Rattle.models.specs.Limits.{KeepsLimits}
@@ -51,16 +52,16 @@ pub record IsChecked (text : List ℕ) (log : TypedWords) (m : Model) (v : Verdi
 -- the log, and so promises all that a valid model does.
 pub record TellsRun (log : Log) (a : Answer) : Type 0 where
   pub model : Model
-  pub inferred : IsModelOf model (typed_words log)
+  pub inferred : IsModelOf model (typed_words Three log)
   pub within : KeepsLimits model
   pub reads_back : reads (file_text model) ≡ Ok model
-  pub valid : IsValid model (typed_words log)
-  pub promises : Promises model (typed_words log)
+  pub valid : IsValid model (typed_words Three log)
+  pub promises : Promises model (typed_words Three log)
   pub value : a ≡ done (summary log model)
 
 -- the answer of a log: what it and its model are, or the limit that its inference passes
 abbrev pub AnswersOf : Log → Result Answer LimitKind → Type 0
-AnswersOf log r = AnswersInferred (typed_words log) (TellsRun log) r
+AnswersOf log r = AnswersInferred (typed_words Three log) (TellsRun log) r
 
 -- the answer for so many sessions
 abbrev pub Answers : Option ℕ → Result Answer LimitKind → Type 0

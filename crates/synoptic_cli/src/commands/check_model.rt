@@ -1,4 +1,4 @@
-//! `check`: tells whether the model of a file is valid for a log.
+//! `check`: tells whether the model of a file is valid for a log, by the kinds of invariants that it says.
 ghost use Rattle.std.specs.Prelude.{◌≡◌, IfOk, Ok};
 ghost use Rattle.model_shape.specs.Shapes.{IsWellShaped};
 ghost use Rattle.synoptic_cli.specs.Commands.CheckModel.{Answers, answer_of, no_text};
@@ -68,7 +68,7 @@ fn print(alloc: Global, material: &Material) -> Result<Answer, AllocError>
     answer_of(alloc, verdict)
 }
 
-/// Whether the file's model is valid for the log: `yes`, or `no` with the first part that fails.
+/// Whether the file's model is valid for the log, by the kinds of invariants that it says: `yes`, or `no` with the first part that fails.
 pub fn answer(alloc: Global, material: Material) -> Result<Answer, NoAnswer>
     requires { IsWellShaped material.model }
     ensures { Gives (Answers material) result }

@@ -9,6 +9,7 @@ use crate::commands::inference::inferred;
 use crate::material::Material;
 use crate::status::Status;
 use infer_core::{Stage, Workbench, log_is_typed};
+use invariants::Kinds;
 use model_file::write_model;
 use models::{models_are_shaped, models_pass, models_tell};
 use std::alloc::{AllocError, Global};
@@ -16,7 +17,7 @@ use std::alloc::{AllocError, Global};
 /// The file of the model that is inferred, where memory is not wanted.
 pub fn write(alloc: Global, bench: &Workbench) -> Result<Answer, AllocError>
     requires { (bench.now).stage ≡ Stage.Inferred }
-    ensures { IfOk result (WritesModel (typed_words (bench.now).log)) }
+    ensures { IfOk result (WritesModel (typed_words (bench.now).kinds (bench.now).log)) }
 {
     models_are_shaped();
     models_pass();
@@ -32,13 +33,13 @@ pub fn write(alloc: Global, bench: &Workbench) -> Result<Answer, AllocError>
     })
 }
 
-/// The file of the log's model. It promises all that a valid model does, is valid for the log, and its steps are justified by it.
-pub fn answer(alloc: Global, material: Material) -> Result<Answer, NoAnswer>
-    ensures { Gives (Answers material) result }
+/// The file of the log's model by these kinds of invariants. It promises all that a valid model does, is valid for the log, and its steps are justified by it.
+pub fn answer(alloc: Global, kinds: Kinds, material: Material) -> Result<Answer, NoAnswer>
+    ensures { Gives (Answers kinds material) result }
 {
     let Material { log, model } = material;
     drop(model);
-    let bench = inferred(alloc, log)?;
+    let bench = inferred(alloc, kinds, log)?;
     let written = write(alloc, &bench);
     drop(bench);
     match written {

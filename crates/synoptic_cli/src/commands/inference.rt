@@ -6,6 +6,7 @@ ghost use Rattle.synoptic_cli.specs.Commands.Inference.{kind_of, NotInferred, Pa
 use crate::answer::NoAnswer;
 use crate::status::LimitKind;
 use infer_core::{InferLimit, Stage, Workbench};
+use invariants::Kinds;
 use std::alloc::Global;
 use std::marker::Brand;
 use std::sync::ledger::{Blank, Ledger};
@@ -30,11 +31,12 @@ fn infer<L: Ledger>(bench: &mut Workbench, blank: Blank) -> Result<(), LimitKind
     requires stands { 0 < blank.parts }
     requires opened { (bench.old).stage ≡ Stage.Opened }
 
-    // The log stays. Its model is inferred, or the limit that its inference passes is answered.
+    // The kinds that are asked for and the log stay. Its model is inferred, or the limit that its inference passes is answered.
+    ensures kinds { (bench.new).kinds ≡ (bench.old).kinds }
     ensures log { (bench.new).log ≡ (bench.old).log }
     ensures stage { OnOk result ((bench.new).stage ≡ Stage.Inferred) }
-    ensures none { OnOk result (PassesNone (typed_words (bench.old).log)) }
-    ensures limit { IfErr result (λ kind. PassesLimit kind (typed_words (bench.old).log)) }
+    ensures none { OnOk result (PassesNone (typed_words (bench.old).kinds (bench.old).log)) }
+    ensures limit { IfErr result (λ kind. PassesLimit kind (typed_words (bench.old).kinds (bench.old).log)) }
 {
     let mut steps = Steps::<L>::open(blank);
     match bench.infer(&mut steps) {
@@ -43,15 +45,19 @@ fn infer<L: Ledger>(bench: &mut Workbench, blank: Blank) -> Result<(), LimitKind
     }
 }
 
-/// A workbench on which the model of the traces is inferred.
+/// A workbench on which the model of the traces is inferred, by these kinds of invariants.
 ///
 /// `Limit(Partitions)` and `Limit(Paths)` come exactly where inference passes them, but for want of memory.
-pub fn inferred(alloc: Global, traces: TraceSet) -> Result<Workbench, NoAnswer>
-    ensures bench { IfOk result (λ bench. bench ≡ record { log = traces; stage = Stage.Inferred }) }
-    ensures none { OnOk result (PassesNone (typed_words traces)) }
-    ensures err { IfErr result (NotInferred (typed_words traces)) }
+pub fn inferred(alloc: Global, kinds: Kinds, traces: TraceSet) -> Result<Workbench, NoAnswer>
+    ensures bench { IfOk result (λ bench. bench ≡ record {
+      kinds = kinds;
+      log = traces;
+      stage = Stage.Inferred;
+    }) }
+    ensures none { OnOk result (PassesNone (typed_words kinds traces)) }
+    ensures err { IfErr result (NotInferred (typed_words kinds traces)) }
 {
-    let Ok(mut bench) = Workbench::open(alloc, traces) else {
+    let Ok(mut bench) = Workbench::open(alloc, kinds, traces) else {
         return Err(NoAnswer::Memory);
     };
     match infer::<Brand>(&mut bench, Blank::new(1)) {

@@ -8,6 +8,7 @@ use crate::commands::inference::inferred;
 use crate::material::Material;
 use crate::status::Status;
 use infer_core::{Stage, Workbench, log_is_typed};
+use invariants::Kinds;
 use partition_model::{accepts_traces, coarsening_keeps, refinement_keeps};
 use reports::{path_report, paths_tell};
 use std::alloc::{AllocError, Global};
@@ -15,7 +16,7 @@ use std::alloc::{AllocError, Global};
 /// The paths through the model that is inferred, where memory is not wanted.
 fn print(alloc: Global, bench: &Workbench) -> Result<Answer, AllocError>
     requires { (bench.now).stage ≡ Stage.Inferred }
-    ensures { IfOk result (TellsPaths (bench.now).log) }
+    ensures { IfOk result (TellsPaths (bench.now).kinds (bench.now).log) }
 {
     refinement_keeps();
     coarsening_keeps();
@@ -31,13 +32,14 @@ fn print(alloc: Global, bench: &Workbench) -> Result<Answer, AllocError>
     })
 }
 
-/// The paths of the traces, each with how many take it, one a line, through the model that `infer` writes.
-pub fn answer(alloc: Global, material: Material) -> Result<Answer, NoAnswer>
-    ensures { Gives (Answers material) result }
+/// The paths of the traces, each with how many take it, one a line, through the model that `infer` writes by these kinds of
+/// invariants.
+pub fn answer(alloc: Global, kinds: Kinds, material: Material) -> Result<Answer, NoAnswer>
+    ensures { Gives (Answers kinds material) result }
 {
     let Material { log, model } = material;
     drop(model);
-    let bench = inferred(alloc, log)?;
+    let bench = inferred(alloc, kinds, log)?;
     let printed = print(alloc, &bench);
     drop(bench);
     match printed {

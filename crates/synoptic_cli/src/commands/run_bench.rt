@@ -1,4 +1,4 @@
-//! `bench`: makes a log, infers its model, writes it, reads it back and checks it, and prints how large all is.
+//! `bench`: makes a log, infers its model by three kinds of invariants, writes it, reads it back and checks it, and prints how large all is.
 ghost use Rattle.std.specs.Prelude.{◌≡◌, ◌++◌, IfOk, OnOk};
 ghost use Rattle.std.specs.Option.{IsSomeAnd};
 ghost use Rattle.command_line.specs.Task.{IsSessions};
@@ -11,7 +11,7 @@ use crate::commands::infer_model::write;
 use crate::commands::inference::inferred;
 use crate::status::Status;
 use infer_core::{Stage, Workbench};
-use invariants::{Model, Seq};
+use invariants::{Kinds, Model, Seq};
 use itoa::Buffer;
 use made_logs::read_made_log;
 use model_check::{Verdict, check};
@@ -73,7 +73,7 @@ fn summary(alloc: Global, traces: &TraceSet, model: &Model) -> Result<Seq<u8>, A
 /// Reads the model that stands in the text of a file, and checks it against the log.
 fn read_and_check(alloc: Global, text: &[u8], traces: &TraceSet) -> Result<Checked, AllocError>
     requires { SaysModel text.now }
-    ensures { IfOk result (λ c. IsChecked text.now (typed_words traces.now) c.model c.verdict) }
+    ensures { IfOk result (λ c. IsChecked text.now (typed_words c.model.kinds traces.now) c.model c.verdict) }
 {
     let model = match read_model(alloc, text) {
         Ok(model) => model,
@@ -92,7 +92,8 @@ fn read_and_check(alloc: Global, text: &[u8], traces: &TraceSet) -> Result<Check
 
 /// How large the log and its model are, once the model was written, read back and checked, where memory is not wanted.
 fn tell(alloc: Global, bench: &Workbench) -> Result<Answer, AllocError>
-    requires { (bench.now).stage ≡ Stage.Inferred }
+    requires kinds { (bench.now).kinds ≡ Kinds.Three }
+    requires stage { (bench.now).stage ≡ Stage.Inferred }
     ensures { IfOk result (TellsRun (bench.now).log) }
 {
     first_part_fails();
@@ -119,7 +120,7 @@ fn tell(alloc: Global, bench: &Workbench) -> Result<Answer, AllocError>
 fn tell_of(alloc: Global, traces: TraceSet) -> Result<Answer, NoAnswer>
     ensures { Gives (AnswersOf traces) result }
 {
-    let bench = inferred(alloc, traces)?;
+    let bench = inferred(alloc, Kinds::Three, traces)?;
     let told = tell(alloc, &bench);
     drop(bench);
     match told {

@@ -3,8 +3,11 @@ use Rattle.command_line.specs.Task.{task_held}
 use Rattle.command_line.specs.declared.table.Command.{Command}
 use Rattle.invariants.specs.declared.Kinds.{Kinds}
 use Rattle.synoptic_cli.specs.Commands.{AnswersBy}
+use Rattle.synoptic_cli.specs.Commands.InferModel as infer_model
 use Rattle.synoptic_cli.specs.Commands.PrintInvariants as print_invariants
-use Rattle.synoptic_cli.specs.Halts.{Gives}
+use Rattle.synoptic_cli.specs.Commands.PrintPaths as print_paths
+use Rattle.synoptic_cli.specs.Halts.{FitsVersion, Gives}
+use Rattle.synoptic_cli.specs.Task.{version_of}
 use Rattle.synoptic_cli.proofs.commands.answer.Goals as goal
 
 pub returns-in-Invariants : goal.returns-in-Invariants
@@ -22,11 +25,13 @@ returns-in-GraphOfModel c =
 
 pub returns-in-Infer : goal.returns-in-Infer
 returns-in-Infer c =
-    subst (λ (command : Command). Gives (AnswersBy command (task_held c.args.task.now) c.args.material) c.answer-in-Infer.result) (sym c.in-Infer.is) c.answer-in-Infer.ensures
+    subst (λ (command : Command). Gives (AnswersBy command (task_held c.args.task.now) c.args.material) c.answer-in-Infer.result) (sym c.in-Infer.is)
+    (subst (λ (kinds : Kinds). Gives (infer_model.Answers kinds c.args.material) c.answer-in-Infer.result) c.kinds_of-in-Infer.ensures c.answer-in-Infer.ensures)
 
 pub returns-in-Paths : goal.returns-in-Paths
 returns-in-Paths c =
-    subst (λ (command : Command). Gives (AnswersBy command (task_held c.args.task.now) c.args.material) c.answer-in-Paths.result) (sym c.in-Paths.is) c.answer-in-Paths.ensures
+    subst (λ (command : Command). Gives (AnswersBy command (task_held c.args.task.now) c.args.material) c.answer-in-Paths.result) (sym c.in-Paths.is)
+    (subst (λ (kinds : Kinds). Gives (print_paths.Answers kinds c.args.material) c.answer-in-Paths.result) c.kinds_of-in-Paths.ensures c.answer-in-Paths.ensures)
 
 pub returns-in-Check : goal.returns-in-Check
 returns-in-Check c =
@@ -39,6 +44,22 @@ returns-in-Replay c =
 pub returns-in-Bench : goal.returns-in-Bench
 returns-in-Bench c =
     subst (λ (command : Command). Gives (AnswersBy command (task_held c.args.task.now) c.args.material) c.answer-in-Bench.result) (sym c.in-Bench.is) c.answer-in-Bench.ensures
+
+pub returns-in-Migrate : goal.returns-in-Migrate
+returns-in-Migrate c =
+    subst (λ (command : Command). Gives (AnswersBy command (task_held c.args.task.now) c.args.material) c.answer-in-Migrate.result) (sym c.in-Migrate.is) c.answer-in-Migrate.ensures
+
+pub answer-requires-in-Check : goal.answer-requires-in-Check
+answer-requires-in-Check c = subst (λ (command : Command). FitsVersion (version_of command) c.args.material.model) c.in-Check.is c.requires.shaped
+
+pub answer-requires-in-Replay : goal.answer-requires-in-Replay
+answer-requires-in-Replay c = subst (λ (command : Command). FitsVersion (version_of command) c.args.material.model) c.in-Replay.is c.requires.shaped
+
+pub answer-requires-in-Migrate-clause-shaped : goal.answer-requires-in-Migrate-clause-shaped
+answer-requires-in-Migrate-clause-shaped c = (subst (λ (command : Command). FitsVersion (version_of command) c.args.material.model) c.in-Migrate.is c.requires.shaped).0
+
+pub answer-requires-in-Migrate-clause-former : goal.answer-requires-in-Migrate-clause-former
+answer-requires-in-Migrate-clause-former c = (subst (λ (command : Command). FitsVersion (version_of command) c.args.material.model) c.in-Migrate.is c.requires.shaped).1
 
 pub answer-requires-in-Bench : goal.answer-requires-in-Bench
 answer-requires-in-Bench c = c.requires.sessions c.in-Bench.is

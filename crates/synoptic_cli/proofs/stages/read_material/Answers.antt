@@ -4,7 +4,7 @@ use Rattle.log_reader.specs.declared.refusal.ReadError.TheVariants as refused
 use Rattle.command_line.specs.Task.{task_held}
 use Rattle.synoptic_cli.specs.declared.status.Status.{Status}
 use Rattle.synoptic_cli.specs.declared.model_stage.ModelHalt.TheVariants as halts
-use Rattle.synoptic_cli.specs.Task.{model_stages, rules_stages}
+use Rattle.synoptic_cli.specs.Task.{model_stages, rules_stages, version_of}
 use Rattle.synoptic_cli.specs.Halts.{Ends}
 use Rattle.synoptic_cli.proofs.LogStage.{ReadAlike}
 use Rattle.synoptic_cli.proofs.ModelStage.{halt-memory, model-stage-ends}
@@ -29,9 +29,9 @@ returns-in-Ok-read_log_stage-clause-ok g c =
     let mid = g.I.Inputs.state c.read_rules_stage.new.inputs in
     let next = g.I.Inputs.state c.read_model_stage.new.inputs in
     let first =
-    reads-both (rules_stages task) (model_stages task) c.in-Ok.start c.in_ok-so_far.so_far c.in-Ok-read_model_stage.so_far old mid next c.read_rules_stage.ensures.stays
+    reads-both (version_of task.command) (rules_stages task) (model_stages task) c.in-Ok.start c.in_ok-so_far.so_far c.in-Ok-read_model_stage.so_far old mid next c.read_rules_stage.ensures.stays
     c.in_ok-so_far.ensures.ok c.in-Ok-read_model_stage.ensures.ok in
-    task-read task c.in-Ok.start c.in-Ok-read_model_stage.so_far old next (g.I.Inputs.state c.read_log_stage.new.inputs) c.in-Ok-read_log_stage.so_far c.in-Ok.ensures
+    task-read task c.in-Ok.start c.in-Ok-read_model_stage.so_far old next (g.I.Inputs.state c.read_log_stage.new.inputs) c.in-Ok-read_log_stage.so_far (c.in-Ok.ensures (version_of task.command))
     (stays-both old mid next c.read_rules_stage.ensures.stays c.read_model_stage.ensures.stays) first c.in-Ok-read_log_stage.ensures.ok
 
 pub returns-in-Err-read_log_stage-clause-memory : goal.returns-in-Err-read_log_stage-clause-memory
@@ -41,10 +41,10 @@ returns-in-Err-read_log_stage-clause-memory g c = λ is.
     let mid = g.I.Inputs.state c.read_rules_stage.new.inputs in
     let next = g.I.Inputs.state c.read_model_stage.new.inputs in
     let first =
-    reads-both (rules_stages task) (model_stages task) c.in-Ok.start c.in_ok-so_far.so_far c.in-Ok-read_model_stage.so_far old mid next c.read_rules_stage.ensures.stays
+    reads-both (version_of task.command) (rules_stages task) (model_stages task) c.in-Ok.start c.in_ok-so_far.so_far c.in-Ok-read_model_stage.so_far old mid next c.read_rules_stage.ensures.stays
     c.in_ok-so_far.ensures.ok c.in-Ok-read_model_stage.ensures.ok in
     let wanted : c.in-Err-read_log_stage.error ≡ refused.Memory = log-memory c.in-Err-read_log_stage.error (sym c.status_of.ensures ∙ cc is) in
-    c.in-Err-read_log_stage.ensures.memory (ap Err wanted) ∙ stage-faults task c.in-Ok.start c.in-Ok-read_model_stage.so_far old next c.in-Ok.ensures first
+    c.in-Err-read_log_stage.ensures.memory (ap Err wanted) ∙ stage-faults task c.in-Ok.start c.in-Ok-read_model_stage.so_far old next (c.in-Ok.ensures (version_of task.command)) first
 
 pub returns-in-Err-read_log_stage-clause-err : goal.returns-in-Err-read_log_stage-clause-err
 returns-in-Err-read_log_stage-clause-err g c =
@@ -57,18 +57,18 @@ returns-in-Err-read_log_stage-clause-err g c =
     let before = g.P.Patterns.state c.args.patterns.now in
     let after = g.P.Patterns.state c.read_rules_stage.new.patterns in
     let first =
-    reads-both (rules_stages task) (model_stages task) c.in-Ok.start c.in_ok-so_far.so_far c.in-Ok-read_model_stage.so_far old mid next c.read_rules_stage.ensures.stays
+    reads-both (version_of task.command) (rules_stages task) (model_stages task) c.in-Ok.start c.in_ok-so_far.so_far c.in-Ok-read_model_stage.so_far old mid next c.read_rules_stage.ensures.stays
     c.in_ok-so_far.ensures.ok c.in-Ok-read_model_stage.ensures.ok in
     subst (λ (status : Status). Ends status task old new before after) (sym c.status_of.ensures)
-    (log-stage-ends law task c.in-Ok.start c.in-Ok-read_model_stage.so_far old next new before after c.in-Err-read_log_stage.error c.in-Ok.ensures
+    (log-stage-ends law task c.in-Ok.start c.in-Ok-read_model_stage.so_far old next new before after c.in-Err-read_log_stage.error (c.in-Ok.ensures (version_of task.command))
     (stays-both old mid next c.read_rules_stage.ensures.stays c.read_model_stage.ensures.stays) first c.in-Err-read_log_stage.ensures.err)
 
 pub returns-in-Err-clause-memory : goal.returns-in-Err-clause-memory
 returns-in-Err-clause-memory g c = λ is.
     let wanted : c.in-Err.halt ≡ halts.Memory = halt-memory c.in-Err.halt (sym c.halt_status.ensures ∙ cc is) in
     c.in-Err.ensures.memory (ap Err wanted)
-    ∙ rules-faults (task_held c.args.task.now) c.in-Ok.start c.in_ok-so_far.so_far (g.I.Inputs.state c.args.inputs.now) (g.I.Inputs.state c.read_rules_stage.new.inputs) c.in-Ok.ensures
-    c.in_ok-so_far.ensures.ok
+    ∙ rules-faults (task_held c.args.task.now) c.in-Ok.start c.in_ok-so_far.so_far (g.I.Inputs.state c.args.inputs.now) (g.I.Inputs.state c.read_rules_stage.new.inputs)
+    (c.in-Ok.ensures (version_of (task_held c.args.task.now).command)) c.in_ok-so_far.ensures.ok
 
 pub returns-in-Err-clause-err : goal.returns-in-Err-clause-err
 returns-in-Err-clause-err g c =
@@ -78,5 +78,5 @@ returns-in-Err-clause-err g c =
     let before = g.P.Patterns.state c.args.patterns.now in
     let after = g.P.Patterns.state c.read_rules_stage.new.patterns in
     subst (λ (status : Status). Ends status task old new before after) (sym c.halt_status.ensures)
-    (model-stage-ends task c.in-Ok.start c.in_ok-so_far.so_far old (g.I.Inputs.state c.read_rules_stage.new.inputs) new before after c.in-Err.halt c.in-Ok.ensures
+    (model-stage-ends task c.in-Ok.start c.in_ok-so_far.so_far old (g.I.Inputs.state c.read_rules_stage.new.inputs) new before after c.in-Err.halt (c.in-Ok.ensures (version_of task.command))
     c.read_rules_stage.ensures.stays c.in_ok-so_far.ensures.ok c.in-Err.ensures.err)

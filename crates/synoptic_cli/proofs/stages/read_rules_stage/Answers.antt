@@ -1,7 +1,7 @@
 use Rattle.std.proofs.Common.{◌∙◌, ℕ, List, Option, Some, ap, subst, sym}
 use Rattle.std.specs.Option.{option_map}
 use Rattle.command_line.specs.Task.{task_held}
-use Rattle.synoptic_cli.specs.Task.{file_stage, RulesFile}
+use Rattle.synoptic_cli.specs.Task.{file_stage, RulesFile, version_of}
 use Rattle.synoptic_cli.specs.Halts.{Reads}
 use Rattle.synoptic_cli.proofs.Rules.{rules-held}
 use Rattle.synoptic_cli.proofs.stages.read_rules_stage.Goals as goal
@@ -11,8 +11,9 @@ returns-in-Ok-clause-ok g c =
     let old = g.I.Inputs.state c.args.inputs.now in
     let new = g.I.Inputs.state c.read_rules.new.inputs in
     let named = sym c.rules_name.ensures ∙ ap (option_map (λ s. s.now)) c.in-Some.is in
-    subst (λ (w : Option (List ℕ)). Reads (file_stage RulesFile w) c.args.so_far old new (record { rules = Some c.in-Ok.rules; material = c.args.so_far.material })) (sym named)
-    (rules-held c.args.so_far old new c.in-Some.name.now c.in-Ok.rules c.in-Ok.ensures.ok)
+    let version = version_of (task_held c.args.task.now).command in
+    subst (λ (w : Option (List ℕ)). Reads version (file_stage RulesFile w) c.args.so_far old new (record { rules = Some c.in-Ok.rules; material = c.args.so_far.material })) (sym named)
+    (rules-held version c.args.so_far old new c.in-Some.name.now c.in-Ok.rules c.in-Ok.ensures.ok)
 
 pub returns-in-Err-clause-err : goal.returns-in-Err-clause-err
 returns-in-Err-clause-err g c =
