@@ -446,6 +446,7 @@ COMMANDS = {
     "check": "Check",
     "replay": "Replay",
     "paths": "Paths",
+    "migrate": "Migrate",
 }
 
 
@@ -480,13 +481,13 @@ def task(words):
     rules, model, flags = given.get("-e"), given.get("-m"), given["flags"]
     if command not in COMMANDS or rules == "" or model == "" or "" in files:
         return None
-    if "-r" in flags and command != "invariants":
+    if "-r" in flags and command not in ("invariants", "infer", "paths"):
         return None
     name = COMMANDS[command]
-    if command == "graph" and model is not None:
-        if rules is not None or flags or files:
+    if command == "migrate" or (command == "graph" and model is not None):
+        if model is None or rules is not None or flags or files:
             return None
-        name = "GraphOfModel"
+        name = "Migrate" if command == "migrate" else "GraphOfModel"
     elif (command in ("check", "replay")) != (model is not None) or (rules is not None) == ("-p" in flags):
         return None
     form = "Plain" if "-p" in flags else None if rules is None else "Rules(%s)" % quoted(rules)

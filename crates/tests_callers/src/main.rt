@@ -5,6 +5,7 @@
 ghost use Rattle.std.specs.Prelude.{◌≡◌, ◌<◌};
 
 use infer_core::{Stage, Workbench, log_is_typed};
+use invariants::Kinds;
 use model_check::{Verdict, check};
 use model_file::{read_model, write_model};
 use models::models_are_shaped;
@@ -49,7 +50,7 @@ fn verdict<L: Ledger>(alloc: Global, blank: Blank) -> Option<Verdict>
     requires stands { 0 < blank.parts }
 {
     let traces = small_log(alloc).ok()?;
-    let Ok(mut bench) = Workbench::open(alloc, traces) else {
+    let Ok(mut bench) = Workbench::open(alloc, Kinds::Three, traces) else {
         return None;
     };
     let mut steps = Steps::<L>::open(blank);

@@ -36,6 +36,7 @@ fn take_steps(
         "logs" => logs::run(alloc, words, steps, out),
         "made" => made::run(alloc, words, out),
         "text" => text::run(alloc, steps, out),
+        "old" => text::old(alloc, steps, out),
         "fronts" => text::fronts(alloc, steps, out),
         "said" => said::run(alloc, steps, out),
         "verdict" => verdict::run(alloc, words, steps, out),

@@ -69,6 +69,7 @@ fn write_blocks(out: &mut String, blocks: &[Block]) -> Result<(), AllocError> {
 /// Says what a model says.
 fn write_model(out: &mut String, model: &Model) -> Result<(), AllocError> {
     write_types(out, model.types.as_slice())?;
+    writeln!(out, "{:?}", model.kinds)?;
     writeln!(out, "{:?}", model.partitions.as_slice())?;
     writeln!(out, "{:?}", model.edges.as_slice())?;
     writeln!(out, "{:?}", model.merges.as_slice())?;

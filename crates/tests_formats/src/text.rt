@@ -4,7 +4,7 @@ use crate::changes::changed;
 use crate::notation::{bytes_of, write_bytes};
 use crate::said::write_types;
 use invariants::Model;
-use model_file::{FileError, is_well_shaped, read_model, write_model};
+use model_file::{FileError, is_well_shaped, read_model, read_version_1, write_model};
 use std::alloc::{AllocError, Global};
 use std::fmt::Write;
 
@@ -47,6 +47,33 @@ pub fn run(alloc: Global, steps: &str, out: &mut String) -> Result<(), AllocErro
     for change in changes.split('\n') {
         let file = changed(alloc, &base, change)?;
         write_answer(alloc, &file, &base, out)?;
+    }
+    Ok(())
+}
+
+/// Says what comes of a file of version 1: the text of its model in version 2, or why it is refused.
+fn write_old_answer(
+    alloc: Global,
+    file: &[u8],
+    new: &[u8],
+    out: &mut String,
+) -> Result<(), AllocError> {
+    match read_version_1(alloc, file) {
+        Ok(model) => write_text(alloc, &model, new, out),
+        Err(fault) => writeln!(out, "{fault:?}"),
+    }
+}
+
+/// Says what comes of each change of the text of the second step, of version 1, where that of the first step is the same model
+/// in version 2.
+pub fn old(alloc: Global, steps: &str, out: &mut String) -> Result<(), AllocError> {
+    let (new, rest) = steps.split_once('\n').unwrap_or((steps, ""));
+    let (base, changes) = rest.split_once('\n').unwrap_or((rest, ""));
+    let new = bytes_of(alloc, new)?;
+    let base = bytes_of(alloc, base)?;
+    for change in changes.split('\n') {
+        let file = changed(alloc, &base, change)?;
+        write_old_answer(alloc, &file, &new, out)?;
     }
     Ok(())
 }

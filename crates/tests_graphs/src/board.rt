@@ -1,6 +1,6 @@
 //! The labels of invariants, and the marks that tell what merges lose.
-ghost use Rattle.std.specs.Prelude.{◌≡◌, ◌≤◌, ◌<◌, ℕ, IfOk, Some, length, slice_get};
-ghost use Rattle.limits.specs.declared.TheConstants.{LAST_TYPE, MAX_INVARIANTS};
+ghost use Rattle.std.specs.Prelude.{◌≡◌, ◌≢◌, ◌≤◌, ◌<◌, ℕ, IfOk, Some, length, slice_get};
+ghost use Rattle.limits.specs.declared.TheConstants.{LAST_TYPE, MAX_INVARIANTS, MAX_PARTITIONS};
 ghost use Rattle.partition_graph.specs.Seen.{IsSound};
 
 use crate::known::{are_named, is_pair};
@@ -98,6 +98,56 @@ fn label(planes: &mut Planes, view: &View<'_>)
     label_counted::<Brand>(planes, view, Blank::new(1));
 }
 
+/// Finds both marks of the graph with a counter.
+fn find_counted<L: Ledger>(
+    planes: &mut Planes,
+    clashes: &mut Clashes,
+    graph: &PartGraph,
+    blank: Blank,
+)
+    requires name { blank.name ≡ L.name }
+    requires parts { blank.parts ≡ L.parts }
+    requires stands { 0 < blank.parts }
+    ensures { planes.new.invs ≡ planes.old.invs }
+{
+    let mut steps = Steps::<L>::open(blank);
+    planes.find_clashes(graph, &mut steps);
+    clashes.find(graph, &mut steps);
+}
+
+/// Makes both marks those after a merge with a counter.
+fn join_counted<L: Ledger>(
+    planes: &mut Planes,
+    clashes: &mut Clashes,
+    graph: &PartGraph,
+    pair: (u32, u32),
+    blank: Blank,
+)
+    requires kept { pair.0 < MAX_PARTITIONS }
+    requires gone { pair.1 < MAX_PARTITIONS }
+    requires apart { pair.0 ≢ pair.1 }
+    requires name { blank.name ≡ L.name }
+    requires parts { blank.parts ≡ L.parts }
+    requires stands { 0 < blank.parts }
+    ensures { planes.new.invs ≡ planes.old.invs }
+{
+    let mut steps = Steps::<L>::open(blank);
+    planes.join(graph, pair.0, pair.1, &mut steps);
+    clashes.join(graph, pair.0, pair.1, &mut steps);
+}
+
+/// Says which invariants the graph satisfies with a counter.
+fn tell_counted<L: Ledger>(planes: &mut Planes, graph: &PartGraph, flags: &mut [bool], blank: Blank)
+    requires room { length flags.old ≡ length (planes.old).invs }
+    requires name { blank.name ≡ L.name }
+    requires parts { blank.parts ≡ L.parts }
+    requires stands { 0 < blank.parts }
+    ensures { planes.new.invs ≡ planes.old.invs }
+{
+    let mut steps = Steps::<L>::open(blank);
+    planes.tell_satisfied(&View::Plain(graph), flags, &mut steps);
+}
+
 /// Puts the labels of the invariant with this number behind the text.
 fn put_row(told: &mut String, planes: &Planes, number: usize) -> Result<(), AllocError>
     requires { number < length (planes.now).invs }
@@ -160,7 +210,7 @@ impl Board {
         graph: &PartGraph,
     ) -> Result<(), AllocError> {
         let mut flags = Vec::from_elem(alloc, false, self.invs.len())?;
-        self.planes.tell_satisfied(&View::Plain(graph), &mut flags);
+        tell_counted::<Brand>(&mut self.planes, graph, &mut flags, Blank::new(1));
         told.push_str(" ")?;
         for flag in &flags {
             told.push_str(if *flag { "1" } else { "0" })?;
@@ -170,8 +220,7 @@ impl Board {
 
     /// Finds the marks of the graph.
     pub fn find(&mut self, graph: &PartGraph) {
-        self.planes.find_clashes(graph);
-        self.clashes.find(graph);
+        find_counted::<Brand>(&mut self.planes, &mut self.clashes, graph, Blank::new(1));
     }
 
     /// Merges a pair, makes the marks those after it, and says whether it is one.
@@ -180,8 +229,13 @@ impl Board {
             return false;
         }
         graph.merge(p, q);
-        self.planes.join(graph, p, q);
-        self.clashes.join(graph, p, q);
+        join_counted::<Brand>(
+            &mut self.planes,
+            &mut self.clashes,
+            graph,
+            (p, q),
+            Blank::new(1),
+        );
         true
     }
 
