@@ -2,9 +2,9 @@
 what two models differ."""
 
 # The state of an invariant's monitor from which a path can still break it, as the digits of a label count it:
-# AlwaysFollowedBy waits in state 1, NeverFollowedBy has met its first type in state 1, and AlwaysPrecedes has not yet
-# met it in state 0.
-CRITICAL = {"AF": 2, "NF": 2, "AP": 1}
+# AlwaysFollowedBy waits in state 1, NeverFollowedBy has met its first type in state 1, AlwaysPrecedes has not yet met it
+# in state 0, and InterruptedBy has met its first type in state 1, and its second not since.
+CRITICAL = {"AF": 2, "NF": 2, "AP": 1, "IB": 2}
 
 
 def rows_of(invariants, kind):
@@ -49,7 +49,8 @@ def ends_of(model):
 def reasons_of(model):
     """For each invariant what it follows from, or None if it is a telling one:
     ["last"] its first type is always last; ["first"] its second type is always first;
-    [k, c, l] the two invariants of the kinds k and l that meet in the type c.
+    [k, c, l] the two invariants of the kinds k and l that meet in the type c;
+    ["once"] an InterruptedBy whose first type comes at most once in a trace, so that there is nothing between two of it.
     AlwaysFollowedBy and AlwaysPrecedes are orders without circles if each type occurs, so what follows through a third
     type rests on telling ones in the end; and NeverFollowedBy follows from one between a type further on or back."""
     after, before, never = (rows_of(model.invariants, kind) for kind in ("AF", "AP", "NF"))
@@ -57,6 +58,8 @@ def reasons_of(model):
     last, first = ends_of(model)
 
     def reason(kind, a, b):
+        if kind == "IB":
+            return ["once"] if never.get(a, 0) >> a & 1 else None
         if kind == "AF":
             through = after.get(a, 0) & into_after.get(b, 0)
             return ["AF", numbers(through)[0], "AF"] if through else None
@@ -80,9 +83,9 @@ def reasons_of(model):
 
 def order_of(model, reasons):
     """The places of the invariants in the order of the table: telling ones first, and of these first those that blocks
-    and splits name, then AlwaysFollowedBy and AlwaysPrecedes, then NeverFollowedBy."""
+    and splits name, then AlwaysFollowedBy, AlwaysPrecedes and InterruptedBy, then NeverFollowedBy."""
     named = {block[2] for block in model.blocks} | {split[0] for split in model.splits}
-    kinds = {"AF": 0, "AP": 1, "NF": 2}
+    kinds = {"AF": 0, "AP": 1, "IB": 2, "NF": 3}
 
     def key(place):
         return (reasons[place] is not None, place not in named, kinds[model.invariants[place][0]], place)
@@ -119,7 +122,7 @@ def short_paths(blocks):
 
 class Differences:
     """What the new model has and the old one lacks, and the other way round; types beyond those of the new model get
-    the numbers after them."""
+    the numbers after them. If only one of the two was asked for InterruptedBy, invariants of this kind are left out."""
 
     def __init__(self, new, old):
         self.texts = list(new.texts)
@@ -132,9 +135,10 @@ class Differences:
                     self.texts.append(text)
                 renamed[typ] = number[text]
         self.types = differing(range(2, len(new.texts)), [renamed[t] for t in range(2, len(old.texts))])
+        self.kinds = differing(new.kinds, old.kinds)
         self.invariants = differing(
-            [(kind, a, b) for kind, a, b, _ in new.invariants],
-            [(kind, renamed[a], renamed[b]) for kind, a, b, _ in old.invariants],
+            [(kind, a, b) for kind, a, b, _ in new.invariants if kind in old.kinds],
+            [(kind, renamed[a], renamed[b]) for kind, a, b, _ in old.invariants if kind in new.kinds],
         )
         self.edges = differing(
             [(new.type_of[p], new.type_of[q]) for p, q, _ in new.edges],

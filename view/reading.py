@@ -3,9 +3,11 @@ model is well shaped is for `synoptic graph -m FILE` to say, and whether it fits
 import json
 import re
 
-KEYS = ("blocks", "edges", "invariants", "merges", "partitions", "splits", "types", "version")
-KINDS = ("AF", "NF", "AP")
-MOST_BYTES = 134217728
+KEYS = ("blocks", "edges", "invariants", "kinds", "merges", "partitions", "splits", "types", "version")
+THREE = ["AF", "NF", "AP"]
+FOUR = THREE + ["IB"]
+MOST_BYTES = 536870912
+MOST_TYPES = 256
 MOST_IDS = 1024
 
 
@@ -14,11 +16,12 @@ class Refused(Exception):
 
 
 class Model:
-    """A model: the eight parts of its file, with INITIAL and TERMINAL in front of the texts of types."""
+    """A model: the parts of its file, with INITIAL and TERMINAL in front of the texts of types."""
 
     def __init__(self, name, root):
         self.name = name
         self.texts = ["INITIAL", "TERMINAL"] + root["types"]
+        self.kinds = root["kinds"]
         self.partitions = root["partitions"]
         self.edges = root["edges"]
         self.invariants = root["invariants"]
@@ -55,7 +58,7 @@ def is_path(path):
 
 def test_types(types):
     need(isinstance(types, list) and all(isinstance(text, str) and text for text in types), "bad types")
-    need(len(types) <= 128 and len(set(types)) == len(types), "bad types")
+    need(len(types) <= MOST_TYPES and len(set(types)) == len(types), "bad types")
     for text in types:
         try:
             need(len(text.encode("utf-8")) <= 256, "bad types")
@@ -76,16 +79,19 @@ def test_graph(root):
     need(len({(row[0], row[1]) for row in rows}) == len(rows), "bad edges")
 
 
-def is_invariant(row, last, partitions):
+def is_invariant(row, kinds, last, partitions):
     kind, a, b, labels = row
-    if kind not in KINDS or not are_numbers((a, b), last) or b < 2 or a == 1 or (a == 0 and kind != "AF"):
+    if kind not in kinds or not are_numbers((a, b), last) or b < 2 or a == 1 or (a == 0 and kind != "AF"):
+        return False
+    if kind == "IB" and a == b:
         return False
     return isinstance(labels, str) and len(labels) == partitions and set(labels) <= set("01234567")
 
 
 def test_history(root):
     rows, last, partitions = root["invariants"], len(root["types"]) + 1, len(root["partitions"])
-    need(has_rows(rows, 4) and all(is_invariant(row, last, partitions) for row in rows), "bad invariants")
+    good = has_rows(rows, 4) and all(is_invariant(row, root["kinds"], last, partitions) for row in rows)
+    need(good, "bad invariants")
     rows, invariants = root["merges"], len(root["invariants"])
     need(has_rows(rows, 2) and all(are_numbers(row, MOST_IDS) for row in rows), "bad merges")
     rows = root["splits"]
@@ -114,9 +120,13 @@ def read_model(file, name):
         root = json.loads(content.decode("utf-8"))
     except (ValueError, RecursionError):
         raise Refused("is no model: not JSON")
-    need(isinstance(root, dict) and set(root) == set(KEYS), "bad root")
-    need(root["version"] == 1 and type(root["version"]) is int, "another version")
+    need(isinstance(root, dict) and type(root.get("version")) is int, "bad root")
+    if root["version"] == 1:
+        raise Refused("is of version 1: make the page of what `synoptic migrate -m FILE` writes")
+    need(root["version"] == 2, "another version")
+    need(set(root) == set(KEYS), "bad root")
     test_types(root["types"])
+    need(root["kinds"] in (THREE, FOUR), "bad kinds")
     test_graph(root)
     test_history(root)
     return Model(name, root)

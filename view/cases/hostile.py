@@ -22,7 +22,7 @@ def hostile_model():
     invariants[2][3] = "1" * 4 + "2" + "1" * (len(partitions) - 5)
     path = [0, 2, 3, 4, 1]
     return {"blocks": [[4, second + 1, 2, path]], "edges": sorted(edges), "invariants": invariants, "merges": [],
-            "partitions": partitions, "splits": [[2, 3, path]], "types": HOSTILE, "version": 1}
+            "partitions": partitions, "splits": [[2, 3, path]], "types": HOSTILE, "kinds": ["AF", "NF", "AP"], "version": 2}
 
 
 def check_hostile(page, room):

@@ -39,7 +39,7 @@ def large_model():
     return {"blocks": sorted([p, q, t, path(t, p)] for t, p, q in pairs),
             "edges": sorted([p, q, 1 + (p + q) % 10] for p, q in edges), "invariants": invariants, "merges": [],
             "partitions": [[0, 0, 380], [1, 1, 380]] + partitions, "splits": splits,
-            "types": [f"call{t}" for t in range(KINDS)], "version": 1}
+            "types": [f"call{t}" for t in range(KINDS)], "kinds": ["AF", "NF", "AP"], "version": 2}
 
 
 DRAWN = "const done = arguments[0]; requestAnimationFrame(() => setTimeout(() => done(performance.now())))"
@@ -143,7 +143,7 @@ def dense_model():
     edges = [[0, t, 1] for t in types] + [[t, 1, 1] for t in types] + [[t, u, 1] for t in types for u in types]
     return {"blocks": [], "edges": sorted(edges), "invariants": [], "merges": [],
             "partitions": [[0, 0, 70], [1, 1, 70]] + [[t, t, 71] for t in types], "splits": [],
-            "types": [f"call{t}" for t in types], "version": 1}
+            "types": [f"call{t}" for t in types], "kinds": ["AF", "NF", "AP"], "version": 2}
 
 
 def check_dense(page, room):

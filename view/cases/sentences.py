@@ -2,7 +2,8 @@
 from cases.browser import check_closed, make, same, store
 
 # The paths of the blocks: the page keeps only what one differs in from the one before.
-PATHS = ([0, 2, 4, 3, 1], [0, 4, 1], [0, 2, 4, 4, 3, 1], [0, 2, 4, 4, 4, 3, 1], [0, 4, 4, 1])
+PATHS = ([0, 2, 4, 3, 1], [0, 4, 1], [0, 2, 4, 4, 3, 1], [0, 2, 4, 4, 4, 3, 1], [0, 4, 4, 1], [0, 2, 4, 2, 1],
+         [0, 2, 4, 4, 2, 1])
 STEPS = {0: "INITIAL", 1: "TERMINAL", 2: "a", 3: "b", 4: "c (@4 and @5 as one)"}
 ALIKE, FIRST, SECOND = "111111", "111121", "111112"  # labels in which neither, the first or the second c is critical
 
@@ -11,11 +12,11 @@ def sentences_model():
     """The types a, b and c, and two partitions of c with a block for each invariant. It is not the model of a log."""
     path = [0, 2, 4, 3, 1]
     return {
-        "types": ["a", "b", "c"], "version": 1,
+        "types": ["a", "b", "c"], "kinds": ["AF", "NF", "AP", "IB"], "version": 2,
         "partitions": [[0, 0, 3], [1, 1, 3], [2, 2, 1], [3, 3, 1], [4, 4, 1], [5, 4, 2]],
         "edges": [[0, 2, 1], [0, 5, 2], [2, 4, 1], [3, 1, 1], [4, 3, 1], [5, 1, 2]],
         "invariants": [["AF", 2, 3, FIRST], ["AF", 0, 3, SECOND], ["NF", 2, 3, FIRST], ["AP", 2, 3, "222221"],
-                       ["NF", 3, 3, ALIKE]],
+                       ["NF", 3, 3, ALIKE], ["IB", 2, 3, FIRST], ["IB", 2, 4, ALIKE]],
         "blocks": [[4, 5, at, path] for at, path in enumerate(PATHS)],
         "splits": [[0, 2, path], [0, 2, [0, 2, 4, 1]], [0, 2, [0, 2, 4, 1]], [0, 1, [0, 4, 1]]],
         "merges": [[4, 6], [5, 7], [5, 8]],
@@ -32,6 +33,9 @@ BLOCKS = [
     ("each b has an earlier a (a AlwaysPrecedes b). Some paths reach c @5 with no a so far. "
      "Some paths lead from c @4 to b with no a between. ", "it has b without an earlier a."),
     ("no b has a later b (b NeverFollowedBy b). ", "it has b and later b."),
+    ("between any two a there is a b (a InterruptedBy b). Some paths reach c @4 after a with no b since. "
+     "Some paths lead from c @5 to a with no b before it. ", "it has two a without a b between."),
+    ("between any two a there is a c (a InterruptedBy c). ", "it has two a without a c between."),
 ]
 IF_ONE = ("If the two were one, the graph would have the path below, which no trace took. "
           "It breaks the invariant: ")
@@ -74,7 +78,7 @@ def around_model():
     before, path = range(2, 7), [0, 2, 7, 1]
     labels = "1" * 9
     return {
-        "types": ["v", "w", "x", "y", "z", "c"], "version": 1,
+        "types": ["v", "w", "x", "y", "z", "c"], "kinds": ["AF", "NF", "AP"], "version": 2,
         "partitions": [[0, 0, 16], [1, 1, 16]] + [[t, t, t] for t in before] + [[7, 7, 20], [8, 7, 1]],
         "edges": [[0, t, t] for t in before] + [[0, 8, 1]] + [[t, 7, t] for t in before] + [[7, 1, 20], [8, 1, 1]],
         "invariants": [["AF", 0, 7, labels]], "blocks": [[7, 8, 0, path]], "splits": [[0, 2, path]], "merges": [],

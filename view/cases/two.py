@@ -67,6 +67,23 @@ def check_refusals(room):
         other.write(model.read().replace(b"login", b"log\xffn"))
     same("refused: a type that is no UTF-8", ends(os.path.join(room, "bytes.model")), (
         1, b"", "model-page: ROOM/bytes.model is no model: not JSON\n"))
+    def refused(name, root):
+        return ends(store(room, name, root))
+
+    root = older_model()
+    root["version"] = 1
+    same("refused: a model of version 1", refused("old.model", root), (
+        1, b"", "model-page: ROOM/old.model is of version 1: make the page of what `synoptic migrate -m FILE` writes\n"))
+    root["version"] = 3
+    same("refused: a model of version 3", refused("later.model", root), (
+        1, b"", "model-page: ROOM/later.model is no model: another version\n"))
+    for kinds in (["AF"], ["AF", "NF", "AP", "AP"], "AF", None):
+        same(f"refused: the kinds {kinds}", refused("kinds.model", {**older_model(), "kinds": kinds}), (
+            1, b"", "model-page: ROOM/kinds.model is no model: bad kinds\n"))
+    root = older_model()
+    root["invariants"].append(["IB", 2, 3, root["invariants"][0][3]])
+    same("refused: an invariant of a kind that the model does not name", refused("four.model", root), (
+        1, b"", "model-page: ROOM/four.model is no model: bad invariants\n"))
     root = older_model()
     root["types"][0] = "\ud800"
     with open(os.path.join(room, "half.model"), "w", encoding="ascii") as model:

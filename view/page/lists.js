@@ -24,7 +24,7 @@ function filtered(kind, typ, hide) {
 
 function invariantsPanel() {
   const types = data.plain.slice(0, data.types).map((text, t) => (t === 1 ? [] : option(t, text)));
-  const kinds = Object.keys(KINDS).map((k) => option(k, KINDS[k]));
+  const kinds = data.kinds.map((k) => option(k, KINDS[k]));
   const kind = make("select", { id: "kind" }, option("", "all kinds"), kinds);
   const typ = make("select", { id: "type" }, option("", "all types"), types);
   const hide = make("input", { type: "checkbox", id: "hide" });
@@ -80,10 +80,17 @@ function differenceTable(name, title, rows, textOf, typesOf) {
     rows.length ? paged("table", rows, row, ["new or gone", "what"]) : make("p", {}, "none"));
 }
 
+// What is said of a kind of invariants that only one of the two models has.
+function kindText([sign, kind]) {
+  const which = sign > 0 ? "this model" : "the other model";
+  return make("p", { class: "kinds" }, `Only ${which} was asked for invariants of the kind ${KINDS[kind]}, `
+    + "so these are not compared.");
+}
+
 function differencesPanel() {
-  const { types, invariants, edges } = data.differences;
+  const { types, kinds, invariants, edges } = data.differences;
   const text = ". In the graph, what is new has a plus and a thick frame, and what is gone a minus and dots.";
-  return [make("p", {}, "Compared with ", make("bdi", {}, data.old), text),
+  return [make("p", {}, "Compared with ", make("bdi", {}, data.old), text), kinds.map(kindText),
     differenceTable("types", "Types", types, ([, typ]) => typeText(typ), ([, typ]) => [typ, typ]),
     differenceTable("steps-between", "Edges between types", edges,
       ([, a, b]) => [typeText(a), " → ", typeText(b)], ([, a, b]) => [a, b]),

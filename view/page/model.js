@@ -2,7 +2,7 @@
 // and never as markup.
 const byId = (name) => document.getElementById(name);
 const data = JSON.parse(byId("data").textContent);
-const KINDS = { AF: "AlwaysFollowedBy", NF: "NeverFollowedBy", AP: "AlwaysPrecedes" };
+const KINDS = { AF: "AlwaysFollowedBy", NF: "NeverFollowedBy", AP: "AlwaysPrecedes", IB: "InterruptedBy" };
 const PAGE = 100; // rows of a list that are made at a time
 const typeOf = new Map(data.partitions.map(([p, typ]) => [p, typ]));
 const countOf = new Map(data.partitions.map(([p, , count]) => [p, count]));
@@ -95,6 +95,7 @@ function meaning([kind, a, b]) {
   if (a === 0) return ["each trace has ", typeText(b)];
   if (kind === "AF") return ["each ", typeText(a), " has a later ", typeText(b)];
   if (kind === "NF") return ["no ", typeText(a), " has a later ", typeText(b)];
+  if (kind === "IB") return ["between any two ", typeText(a), " there is a ", typeText(b)];
   return ["each ", typeText(b), " has an earlier ", typeText(a)];
 }
 
@@ -103,6 +104,7 @@ function breach([kind, a, b]) {
   if (a === 0) return ["it has no ", typeText(b)];
   if (kind === "AF") return ["it has ", typeText(a), " without a later ", typeText(b)];
   if (kind === "NF") return ["it has ", typeText(a), " and later ", typeText(b)];
+  if (kind === "IB") return ["it has two ", typeText(a), " without a ", typeText(b), " between"];
   return ["it has ", typeText(b), " without an earlier ", typeText(a)];
 }
 
@@ -114,6 +116,10 @@ function sides([kind, a, b], met, other) {
   if (kind === "AP") {
     return [reach, " with no ", first(), " so far. ", lead, " to ", second(), " with no ", first(), " between. "];
   }
+  if (kind === "IB") {
+    return [reach, " after ", first(), " with no ", second(), " since. ",
+      lead, " to ", first(), " with no ", second(), " before it. "];
+  }
   const since = a === 0 ? [] : [" after ", first()];
   return [reach, since, " with ", second(), " still to come. ", lead, " to the end with no ", second(), ". "];
 }
@@ -124,6 +130,7 @@ function reasonText(place) {
   if (!reason) return [];
   if (reason[0] === "last") return [typeText(a), " is always the last"];
   if (reason[0] === "first") return [typeText(b), " is always the first"];
+  if (reason[0] === "once") return ["follows: ", invariantText(["NF", a, a])];
   const [kind, c, then] = reason;
   const first = kind === "AP" && then === "NF" ? ["AP", c, a] : [kind, a, c];
   const second = then === "from b" ? ["AF", b, c] : [then, c, b];

@@ -107,7 +107,7 @@ function edgeTable(title, list, end, p) {
     rows.length ? paged("table", rows, row, titles) : make("p", {}, "none"));
 }
 
-// One of the three lists of the invariants of a type.
+// One of the lists of the invariants of a type.
 function typeList(title, wanted, other) {
   const found = data.order.filter((place) => wanted(data.invariants[place]));
   const row = (place) => make("li", { class: data.reasons[place] ? "implied" : "telling" },
@@ -119,7 +119,9 @@ function lists(typ) {
   return make("div", { class: "columns", id: "lists" },
     typeList("Always before it", ([kind, , b]) => kind === "AP" && b === typ, 1),
     typeList(typ ? "Always after it" : "In each trace", ([kind, a]) => kind === "AF" && a === typ, 2),
-    typeList("Never after it", ([kind, a]) => kind === "NF" && a === typ, 2));
+    typeList("Never after it", ([kind, a]) => kind === "NF" && a === typ, 2),
+    typ > 1 && data.kinds.includes("IB")
+      ? typeList("Between any two of it", ([kind, a]) => kind === "IB" && a === typ, 2) : []);
 }
 
 function eventsText(p) {
