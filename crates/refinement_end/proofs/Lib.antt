@@ -1,0 +1,4 @@
+pub mod Searching
+pub mod Violations
+pub mod NextSplits
+pub mod WholeRuns
