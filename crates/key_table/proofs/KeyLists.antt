@@ -1,13 +1,14 @@
 -- Keys in lists: their signs, and their texts behind one another.
-use Rattle.std.proofs.Common.{◌≡◌, ℕ, zero, suc, ◌+◌, ◌<◌, ◌≤◌, List, [], ◌∷◌, ◌++◌, map, length, take, drop, get_or, slice_get, Some, refl, sym, ap, ◌∙◌, subst, ⊎_elim, arith, length-append, length-drop}
+use Rattle.std.proofs.Common.{◌≡◌, ℕ, zero, suc, ◌+◌, ◌-◌, ◌<◌, ◌≤◌, List, [], ◌∷◌, ◌++◌, map, length, take, drop, get_or, slice_get, Some, refl, sym, ap, ◌∙◌, subst, ⊎_elim, arith, length-append, length-drop}
 use Rattle.std.proofs.lemmas.Bool.{cases_lt}
-use Rattle.std.proofs.lemmas.List.{drop-drop, take_all, take_at, take-append-le, drop-append-le, map-append, length-take, get_or-take, get_or-drop, get_or_past, get_or_append_left, get_or_push}
+use Rattle.std.proofs.lemmas.List.{drop-drop, take_all, take_at, take-append-le, drop-append-le, map-append, length-take, get_or-take, get_or-drop, get_or_past, get_or_append_left, get_or_push, get_or_read}
 use Rattle.std.proofs.lemmas.List.Sums.{sum_by-cons, sum_by_push}
 use Rattle.std.proofs.lemmas.Option.{same_Some, none-some, slice_get-map, slice_get_read}
 use Rattle.std.specs.Option.{option_map}
+use Rattle.std.specs.Str.{IsUtf8}
 use Rattle.key_table.specs.Keys.{Key}
 use Rattle.key_table.specs.Signs.{sign_of}
-use Rattle.key_table.specs.KeyLists.{keys_in, length_of, AreKeysIn}
+use Rattle.key_table.specs.KeyLists.{keys_in, length_of, AreKeysIn, HaveTexts}
 use Rattle.key_table.specs.declared.sign.Sign.{Sign}
 
 -- the key with a sign whose text starts at a place of the texts
@@ -51,6 +52,20 @@ pub signed-from : (signs : List Sign) (starts texts : List ℕ) (i : ℕ) (sign 
 signed-from signs starts texts i sign are at =
     signed-at signs starts texts i sign (key_from sign (length_of (take i signs)) texts) are at (keys_in-at signs texts i sign at)
 
+-- the key with a sign and a start that are read, and the part of the texts from there
+pub key-read : (signs : List Sign) (starts texts now : List ℕ) (place : ℕ) (sign : Sign) (start : ℕ) → AreKeysIn signs starts texts → slice_get signs place ≡ Some sign → place < length signs
+    → start ≡ get_or starts place start → now ≡ texts
+    → slice_get (keys_in signs texts) place ≡ Some (record { file = sign.file; section = sign.section; text = take (start + sign.length - start) (drop start now) })
+key-read signs starts texts now place sign start are at inside read same =
+    let begun : start ≡ length_of (take place signs) = get_or_read starts place start (omega (arith, inside, are.begun)) read 0 ∙ are.starts_are place inside in
+    let K : List ℕ → Key = λ t. record { file = sign.file; section = sign.section; text = t } in
+    let long : sign.length ≡ start + sign.length - start = omega arith in
+    keys_in-at signs texts place sign at
+    ∙ ap (λ (k : Key). Some k)
+    (ap (λ n. key_from sign n texts) (sym begun)
+    ∙ (ap (λ (ts : List ℕ). key_from sign start ts) (sym same)
+    ∙ ap (λ n. K (take n (drop start now))) long))
+
 -- a sign that is read stands at its place
 pub sign-read : (signs found : List Sign) (i : ℕ) (sign : Sign) → found ≡ signs → i < length found → sign ≡ get_or found i sign → slice_get signs i ≡ Some sign
 sign-read signs found i sign same inside read = ap (λ (ss : List Sign). slice_get ss i) (sym same) ∙ slice_get_read found (length found) i sign refl inside read
@@ -81,10 +96,21 @@ keys_in-push (x ∷ signs) texts sign text long same =
     ∙ (ap (λ (t : List ℕ). K (take x.length texts) ∷ keys_in (signs ++ sign ∷ []) t) (drop-append-le x.length texts text inside)
     ∙ ap (λ (ks : List Key). K (take x.length texts) ∷ ks) (keys_in-push signs (drop x.length texts) sign text rest same))
 
+-- no keys have no texts
+pub no-texts : HaveTexts []
+no-texts i key at = absurd (none-some key at)
+
+-- the texts are UTF-8 after one more
+texts-push : (keys : List Key) (key : Key) → HaveTexts keys → IsUtf8 key.text → HaveTexts (keys ++ key ∷ [])
+texts-push [] key have utf8 zero found at = subst (λ (k : Key). IsUtf8 k.text) (same_Some key found at) utf8
+texts-push [] key have utf8 (suc i) found at = absurd (none-some found at)
+texts-push (k ∷ keys) key have utf8 zero found at = have zero found at
+texts-push (k ∷ keys) key have utf8 (suc i) found at = texts-push keys key (λ j. have (suc j)) utf8 i found at
+
 -- the signs are those of the keys after one more
-pub keys-push : (signs : List Sign) (starts texts : List ℕ) (key : Key) → AreKeysIn signs starts texts
+pub keys-push : (signs : List Sign) (starts texts : List ℕ) (key : Key) → AreKeysIn signs starts texts → IsUtf8 key.text
     → AreKeysIn (signs ++ sign_of key ∷ []) (starts ++ length texts ∷ []) (texts ++ key.text)
-keys-push signs starts texts key are =
+keys-push signs starts texts key are utf8 =
     let sign : Sign = sign_of key in
     record {
       signed = ap (map sign_of) (keys_in-push signs texts sign key.text are.long refl)
@@ -102,15 +128,16 @@ keys-push signs starts texts key are =
           get_or_push starts (length texts) 0 i (omega (arith, last, are.begun))
           ∙ (sym are.long ∙ ap length_of (sym (take_at signs (sign ∷ []) i last))))
           (cases_lt i (length signs));
+      utf8 = subst HaveTexts (sym (keys_in-push signs texts sign key.text are.long refl)) (texts-push (keys_in signs texts) key are.utf8 utf8);
     }
 
 -- the lists after one more, by what became of each
 pub keys-pushed : (signs : List Sign) (starts texts : List ℕ) (key : Key) (new_signs : List Sign) (new_starts new_texts : List ℕ) → AreKeysIn signs starts texts
-    → new_signs ≡ signs ++ sign_of key ∷ [] → new_starts ≡ starts ++ length texts ∷ [] → new_texts ≡ texts ++ key.text → AreKeysIn new_signs new_starts new_texts
-keys-pushed signs starts texts key new_signs new_starts new_texts are signs_are starts_are texts_are =
+    → IsUtf8 key.text → new_signs ≡ signs ++ sign_of key ∷ [] → new_starts ≡ starts ++ length texts ∷ [] → new_texts ≡ texts ++ key.text → AreKeysIn new_signs new_starts new_texts
+keys-pushed signs starts texts key new_signs new_starts new_texts are utf8 signs_are starts_are texts_are =
     subst (λ (ss : List Sign). AreKeysIn ss new_starts new_texts) (sym signs_are)
     (subst (λ (ns : List ℕ). AreKeysIn (signs ++ sign_of key ∷ []) ns new_texts) (sym starts_are)
-    (subst (λ (ts : List ℕ). AreKeysIn (signs ++ sign_of key ∷ []) (starts ++ length texts ∷ []) ts) (sym texts_are) (keys-push signs starts texts key are)))
+    (subst (λ (ts : List ℕ). AreKeysIn (signs ++ sign_of key ∷ []) (starts ++ length texts ∷ []) ts) (sym texts_are) (keys-push signs starts texts key are utf8)))
 
 -- the keys after one more, likewise
 pub keys_in-pushed : (signs : List Sign) (texts : List ℕ) (key : Key) (new_signs : List Sign) (new_texts : List ℕ) → length_of signs ≡ length texts

@@ -1,6 +1,6 @@
 -- Keys that are the same, and keys at their places.
 use Rattle.std.proofs.Common.{◌≡◌, ◌⊎◌, ℕ, zero, suc, true, false, ◌&&◌, ◌||◌, List, [], ◌∷◌, ◌++◌, length, refl, sym, ap, ◌∙◌, subst, inl, inr, ⊎_elim, arith, true≢false, ◌==◌, Option, Some, None}
-use Rattle.std.proofs.lemmas.Bool.{cases_Bool, cond-true, cond-false, and_parts, and_from, or_left, or_right, false_from_ne_true}
+use Rattle.std.proofs.lemmas.Bool.{cases_Bool, cond-true, and_parts, and_from, or_left, or_right, false_from_ne_true}
 use Rattle.std.proofs.lemmas.Bool.Decides.{Decides-eqb}
 use Rattle.std.proofs.lemmas.Slice.Eq.{bytes_eq-Decides}
 use Rattle.std.proofs.lemmas.Option.{same_Some, none-some}
@@ -12,7 +12,6 @@ use Rattle.key_table.specs.Keys.{Key, same_key, with_new, AreApart}
 use Rattle.key_table.specs.Signs.{sign_of}
 use Rattle.key_table.specs.declared.sign.Sign.{Sign}
 use Rattle.key_table.proofs.Apart.{apart-place}
-use Rattle.key_table.proofs.Positions.{position-all}
 
 -- a key is the same as itself
 pub same_key-refl : (k : Key) → same_key k k ≡ true
@@ -99,9 +98,3 @@ IsKnown old new i key = (i ≡ position_or_len (same_key key) old) × (new ≡ w
 pub known-key : (old keys : List Key) (i : ℕ) (key : Key) → AreApart same_key keys → keys ≡ old → slice_get keys i ≡ Some key → IsKnown old keys i key
 known-key old keys i key apart view at =
     subst (λ (ks : List Key). IsKnown ks keys i key) view (key-at keys i key apart at, sym (cond-true _ _ _ (stands-any keys i key at)))
-
--- a new key
-pub new-key : (old keys after : List Key) (end : ℕ) (key : Key) → keys ≡ old → list_any (same_key key) keys ≡ false → after ≡ keys ++ key ∷ [] → end ≡ length keys → IsKnown old after end key
-new-key old keys after end key view none grown last =
-    subst (λ (ks : List Key). IsKnown ks after end key) view
-    (last ∙ sym ((position-all (same_key key) keys).0 none), grown ∙ sym (cond-false _ _ _ none))

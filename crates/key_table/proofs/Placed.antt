@@ -37,10 +37,6 @@ empty-there slots at empty = by (slice_get slots at) refl
     by None is = absurd (true≢false (sym empty ∙ ap (λ f. option_map_or is_empty f false) is))
     by (Some slot) is = (slot, (is, sym (ap (λ f. option_map_or is_empty f false) is) ∙ empty))
 
--- so it is within
-pub empty-within : (slots : List Slot) (at : ℕ) → is_empty_at slots at ≡ true → at < length slots
-empty-within slots at empty = let there = empty-there slots at empty in slice_get_within slots at there.0 there.1.0
-
 -- the slot of a key with a small place is not empty
 not-empty : (key : Key) (place : ℕ) → place < 4294967295 → is_empty (slot_of key place) ≡ false
 not-empty key place few = grind (arith, nat_tests)

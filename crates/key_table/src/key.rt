@@ -18,6 +18,6 @@ pub struct ShownKey<'a> {
     pub file: u32,
     /// How many separator lines stand before the event in the file.
     pub section: u32,
-    /// The bytes of the trace text.
+    /// The bytes of the trace text, which are UTF-8.
     pub text: &'a [u8],
 }

@@ -1,6 +1,7 @@
 //! Keys in a list: a sign of each, and the texts of all behind one another.
 ghost use Rattle.std.specs.Prelude.{◌≡◌, ◌++◌, ◌∷◌, [], ◌<◌, false, length, slice_get, OnOk, OnErr, Some};
 ghost use Rattle.std.specs.Option.{option_map_or};
+ghost use Rattle.std.specs.Str.{IsUtf8};
 ghost use Rattle.key_table.specs.Keys.{Key, key_in, key_shown, same_key};
 ghost use Rattle.key_table.specs.Signs.{IsTold, sign_of};
 
@@ -57,7 +58,8 @@ impl KeyList {
     #[inline]
     pub fn key(&self, place: usize) -> ShownKey<'_>
         requires within { place < length self.now }
-        ensures { slice_get self.now place ≡ Some (key_shown result) }
+        ensures value { slice_get self.now place ≡ Some (key_shown result) }
+        ensures utf8 { IsUtf8 result.text.now }
     {
         let sign = &self.signs[place];
         let start = self.starts[place];

@@ -1,6 +1,7 @@
 //! The table of the keys: slots that say at which place a key stands, and whether it is new.
 ghost use Rattle.std.specs.Prelude.{◌≡◌, ◌++◌, ◌∷◌, [], ◌<◌, ◌-◌, ◌^◌, List, length, IfOk, OnOk, OnErr, IfSome, slice_get, false, Ok, Some, None};
 ghost use Rattle.std.specs.List.{list_any, position_or_len};
+ghost use Rattle.std.specs.Str.{IsUtf8};
 ghost use Rattle.key_table.specs.Keys.{AreApart, key_in, key_shown, same_key, with_new};
 ghost use Rattle.key_table.specs.Signs.{sign_of, mix_of, mark_of};
 ghost use Rattle.key_table.specs.Placed.{AreKeysPlaced, ArePlaced, GrowsAt, KeepsPlaced, RestGrows, StandsNowhere, key_home, rest_place};
@@ -33,6 +34,8 @@ pub struct KeyTable {
     slots: Vec<Slot>,
     /// How far the upper half of a mixed sign is shifted to give the home.
     shift: u32,
+    /// How many keys there are at least when more slots are asked for again, after memory for them was refused.
+    retry_at: usize,
     /// By the words of the sign first, which tell most keys apart without a look at a text, and in the order of the texts, in
     /// which names often come.
     rest: BTreeMap<(u64, u64, u32, u32, String), usize>,
@@ -236,6 +239,7 @@ impl KeyTable {
             keys: KeyList::new(alloc),
             slots: Vec::new(alloc),
             shift: MAX_BITS - FIRST_BITS,
+            retry_at: 0,
             rest: BTreeMap::new(alloc),
         }
     }
@@ -250,19 +254,21 @@ impl KeyTable {
     /// The key at a place.
     pub fn key(&self, place: usize) -> ShownKey<'_>
         requires within { place < length self.now }
-        ensures { slice_get self.now place ≡ Some (key_shown result) }
+        ensures value { slice_get self.now place ≡ Some (key_shown result) }
+        ensures utf8 { IsUtf8 result.text.now }
     {
         self.keys.key(place)
     }
 
-    /// Makes more slots where there are fewer than two for each key. Without memory for them it leaves those that there
-    /// are.
+    /// Makes more slots if there are fewer than two for each key. If memory for them is refused, those that there are stay, and
+    /// more are asked for only once there are twice as many keys: each attempt may visit all keys.
     #[inline(never)]
     fn grow(&mut self, alloc: Global)
         requires few { length self.old < 2 ^ 32 - 1 }
         ensures { self.new ≡ self.old }
     {
-        if self.keys.len() < self.slots.len() / 2 {
+        let count = self.keys.len();
+        if count < self.slots.len() / 2 || count < self.retry_at {
             return;
         }
         let shift = if self.slots.is_empty() {
@@ -270,9 +276,12 @@ impl KeyTable {
         } else {
             self.shift.saturating_sub(2)
         };
-        if let Ok(slots) = spread(alloc, &self.keys, shift, &mut self.rest) {
-            self.slots = slots;
-            self.shift = shift;
+        match spread(alloc, &self.keys, shift, &mut self.rest) {
+            Ok(slots) => {
+                self.slots = slots;
+                self.shift = shift;
+            }
+            Err(_) => self.retry_at = 2 * count + 1,
         }
     }
 
@@ -408,6 +417,7 @@ impl KeyTable {
             keys,
             slots,
             shift: _,
+            retry_at: _,
             rest,
         } = self;
         drop(slots);

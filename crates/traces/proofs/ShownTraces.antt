@@ -1,11 +1,11 @@
 -- What traces that are laid one behind another show.
-use Rattle.std.proofs.Common.{◌≡◌, ℕ, zero, suc, ◌+◌, ◌-◌, ◌<◌, ◌≤◌, List, [], ◌∷◌, length, get_or, take, drop, replicate, slice_get, slice_index, Some, IfSome, sym, ap, ◌∙◌, subst, arith}
+use Rattle.std.proofs.Common.{◌≡◌, ℕ, zero, suc, ◌+◌, ◌-◌, ◌<◌, ◌≤◌, List, [], ◌∷◌, length, get_or, take, drop, slice_get, slice_index, Some, IfSome, sym, ap, ◌∙◌, subst, arith}
 use Rattle.std.specs.List.{All}
 use Rattle.traces.specs.Columns.{times_beside, part_at, traces_from, laid, AreBeside, AreStarts, Suffice}
 use Rattle.traces.specs.Kept.{IsTypeNumber, IsKept}
 use Rattle.traces.specs.Words.{Trace, Log}
 use Rattle.key_table.specs.Keys.{Key}
-use Rattle.std.proofs.lemmas.List.{length-take-le, length-drop, length-replicate, take-map, drop-map}
+use Rattle.std.proofs.lemmas.List.{length-take-le, length-drop, take-map, drop-map}
 use Rattle.traces.proofs.Columned.{length-traces_from}
 use Rattle.traces.proofs.Numbered.{numbers-at, begun-at}
 use Rattle.traces.proofs.TracesInTime.{times-kept}
@@ -121,13 +121,3 @@ front-is starts zeros t bounds now part at same is =
 -- a key to read places by
 pub no-key : Key
 no-key = record { file = 0; section = 0; text = [] }
-
--- zeros that are enough for each part
-pub zeros-enough : (zeros : List ℕ) (count parts end : ℕ) (starts times : List ℕ) → zeros ≡ replicate count 0 → AreStarts parts end starts
-    → (times ≡ [] → (k : ℕ) → suc k < length starts → slice_index starts (suc k) - slice_index starts k ≤ count) → Suffice zeros parts starts times
-zeros-enough zeros count parts end starts times same are enough =
-    let long : length zeros ≡ count = ap length same ∙ length-replicate count 0 in
-    record {
-      zero = same ∙ ap (λ n. replicate n 0) (sym long);
-      enough = λ none k inside. let fewer = enough none k (omega (arith, inside, are.count)) in omega (arith, fewer, long);
-    }

@@ -1,6 +1,6 @@
 //! A log as types and traces, and how its events are laid out.
 ghost use Rattle.std.specs.Prelude.{◌≡◌, ◌<◌, ◌≤◌, ◌-◌, suc, length, take, drop, slice_index, slice_get, IfSome};
-ghost use Rattle.std.specs.Str.{bytes_eq};
+ghost use Rattle.std.specs.Str.{IsUtf8, bytes_eq};
 ghost use Rattle.key_table.specs.Keys.{key_shown};
 ghost use Rattle.limits.specs.declared.TheConstants.{MAX_EVENTS, MAX_TYPE_BYTES, MAX_TYPES};
 
@@ -153,10 +153,11 @@ impl TraceSet {
         self.event_count
     }
 
-    /// What the events of trace t have in common; traces are counted from 0 in the order first met.
+    /// What the events of trace t have in common, with a text that is UTF-8. Traces are counted from 0 in the order first met.
     pub fn key(&self, t: u32) -> ShownKey<'_>
         requires { t < length (self.now).traces }
-        ensures { IfSome (slice_get (self.now).traces t) (λ trace. key_shown result ≡ trace.key) }
+        ensures value { IfSome (slice_get (self.now).traces t) (λ trace. key_shown result ≡ trace.key) }
+        ensures utf8 { IsUtf8 result.text.now }
     {
         self.keys.key(t as usize)
     }

@@ -42,12 +42,12 @@ returns-else-sign-le-MAX_TOLD c =
     let kept : Key = key_shown c.key.result in
     let lookup = c.in-Some.ensures.lookup in
     let at : slice_get signs place ≡ Some known = sign-read signs c.deref-2.result.now place known c.deref-2.ensures.value (ltb-true _ _ (sym lookup.0)) lookup.1 in
-    let stands : slice_get (keys_in signs c.self.inside.texts.items) place ≡ Some kept = ap (λ (ks : List Key). slice_get ks place) c.self.view_is ∙ c.key.ensures in
+    let stands : slice_get (keys_in signs c.self.inside.texts.items) place ≡ Some kept = ap (λ (ks : List Key). slice_get ks place) c.self.view_is ∙ c.key.ensures.value in
     let one_sign : sign_of key ≡ sign_of kept =
     sym c.sign-sign.ensures ∙ (sym (c.is.ensures.0 c.if-is.true) ∙ signed-at signs c.self.inside.starts.items c.self.inside.texts.items place known kept c.self.invariant at stands) in
     let decides : Decides c.eq.result (kept.text ≡ key.text) =
     subst (λ (text : List ℕ). Decides c.eq.result (kept.text ≡ text)) (c.as_bytes-text.ensures.value ∙ c.text.ensures) (slice_eq-Decides Decides-eqb _ _ c.eq.result c.eq.ensures) in
-    tells-texts key kept c.eq.result one_sign decides ∙ sym (ap (λ found. option_map_or (same_key key) found false) c.key.ensures)
+    tells-texts key kept c.eq.result one_sign decides ∙ sym (ap (λ found. option_map_or (same_key key) found false) c.key.ensures.value)
 
 pub returns-else-is : goal.returns-else-is
 returns-else-is c =

@@ -1,4 +1,5 @@
-use Rattle.std.proofs.Common.{◌≡◌, ℕ, List, [], ◌∷◌, ◌++◌, length, ap, ◌∙◌, arith}
+use Rattle.std.proofs.Common.{◌≡◌, ℕ, List, [], ◌∷◌, ◌++◌, length, ap, ◌∙◌, subst, arith}
+use Rattle.std.specs.Str.{IsUtf8}
 use Rattle.key_table.specs.Keys.{Key}
 use Rattle.key_table.specs.declared.sign.Sign.{Sign}
 use Rattle.key_table.proofs.KeyLists.{keys-pushed, keys_in-pushed}
@@ -11,6 +12,7 @@ invariant_of-self-2 c =
     let texts : List ℕ = c.self.inside.texts.items in
     let start : c.len-start.result ≡ length texts = omega (arith, c.len-start.ensures, c.self.inside.texts.ok.0) in
     keys-pushed signs starts texts (c.args.key.now) c.push_reserved-2.new.self.items c.push_reserved.new.self.items c.extend_from_slice.new.self.items c.self.invariant
+    (subst IsUtf8 (c.as_bytes.ensures.value ∙ c.text.ensures) c.as_bytes.ensures.utf8)
     (c.push_reserved-2.ensures.items ∙ (ap (λ (ss : List Sign). ss ++ c.sign.result ∷ []) c.reserve.ensures.items ∙ ap (λ (s : Sign). signs ++ s ∷ []) c.sign.ensures))
     (c.push_reserved.ensures.items ∙ (ap (λ (ns : List ℕ). ns ++ c.len-start.result ∷ []) c.reserve-2.ensures.items ∙ ap (λ n. starts ++ n ∷ []) start))
     (c.in_ok-extend_from_slice.ensures.items ∙ ap (λ (ts : List ℕ). texts ++ ts) (c.as_bytes.ensures.value ∙ c.text.ensures))
