@@ -2,7 +2,7 @@
 use Rattle.std.proofs.Common.{◌≡◌, ℕ, ◌+◌, ◌-◌, ◌<◌, ◌≤◌, ◌==◌, Bool, true, false, nat_lt, List, [], ◌∷◌, ◌++◌, length, take, drop, Option, Some, None, refl, sym, ap, ap₂, ◌∙◌, subst, arith, ⊎_elim, length-take, length-drop, length-append, length-take-le, take_all, append-nil, append_assoc, take-append-drop, true≢false, Err}
 use Rattle.std.proofs.lemmas.Bool.{cases_Bool, cases_lt, cond-true, cond-false}
 use Rattle.std.proofs.lemmas.Bool.Decides.{nat_tests}
-use Rattle.std.proofs.lemmas.List.{take-take, drop-drop, drop-take, drop_all}
+use Rattle.std.proofs.lemmas.List.{take-take, drop-drop, drop-take, drop_all, get_or-take, get_or-drop}
 use Rattle.std.proofs.lemmas.Option.{none-some}
 use Rattle.std.proofs.Math.Seq.{take-add, take-append-add}
 use Rattle.std.proofs.KnownBytes.{Consumes-trans}
@@ -12,7 +12,7 @@ use Rattle.limits.specs.declared.TheConstants.{MAX_INPUT_BYTES, MAX_LINE_BYTES}
 use Rattle.outside.specs.Inputs.{InputState, Stays}
 use Rattle.lines.specs.Lines.{is_feed, line_of, pieces}
 use Rattle.log_reader.specs.LineReader.{SeenLines, with_more, without_line, feed_if, feed_bytes, first_piece_refusal, refusal_to_come, GivesLine, NextGives}
-use Rattle.log_reader.specs.Buffers.{part_of, line_in, ReadsMore, FindsEnd, IsWithinLimits, PassesLimit}
+use Rattle.log_reader.specs.Buffers.{part_of, line_in, IsClean, ReadsMore, FindsEnd, IsWithinLimits, PassesLimit}
 use Rattle.log_reader.specs.declared.line_reader.Cut.{Cut}
 use Rattle.log_reader.specs.declared.line_reader.LineError.{LineError}
 use Rattle.log_reader.specs.declared.line_reader.LineError.TheVariants.{ReadFault, TooLong, InputLimit}
@@ -65,6 +65,16 @@ reads-more old new before after b held count is inside read at_end faults = reco
   some = some-got b held count inside;
   none = λ none. let zero_is = none-got count none in (ap (λ n. take n (drop held b)) zero_is, at_end zero_is);
 }
+
+-- bytes behind clean ones are clean
+pub clean-more : (buf part : List ℕ) (clean_from held to : ℕ) → part ≡ take (to - held) (drop held buf) → IsClean clean_from held buf → ((i : ℕ) → slice_index part i < 128) → IsClean clean_from to buf
+clean-more buf part clean_from held to is before new i from below = ⊎_elim
+    (λ (old : i < held). before i from old)
+    (λ (after : held ≤ i).
+    let at : i - held < to - held = omega arith in
+    let place : held + (i - held) ≡ i = omega arith in
+    omega (arith, new (i - held), ap (λ (xs : List ℕ). slice_index xs (i - held)) is, get_or-take (to - held) (drop held buf) (i - held) 0 at, get_or-drop held buf (i - held) 0, ap (λ n. slice_index buf n) place))
+    (cases_lt i held)
 
 -- a line at the front of some bytes
 pub line-at-front : (n : ℕ) (bytes : List ℕ) → take (length (line_of (take n bytes))) bytes ≡ line_of (take n bytes)
@@ -141,6 +151,7 @@ pub record IsSearching (first now : SeenLines) (before after : InputState) (sear
   pub stays : Stays before after
   pub mark : after.mark ≡ before.mark
   pub opens : after.opens ≡ before.opens
+  pub turn : after.followed ≡ before.followed
   pub faults : after.faults ≡ before.faults
   pub got : List ℕ
   pub read : Consumes before.rest after.rest got
@@ -168,15 +179,16 @@ finds-near s state n first inside limits = record {
 
 -- where no line feed was found and bytes were read, the search goes on behind those that were searched
 pub searches-on : (first now next : SeenLines) (before mid after : InputState) (searched length_is : ℕ) (some : Bool) → IsSearching first now before mid searched
-    → Stays mid after → after.mark ≡ mid.mark → after.opens ≡ mid.opens → ReadsMore now next mid after some
+    → Stays mid after → after.mark ≡ mid.mark → after.opens ≡ mid.opens → after.followed ≡ mid.followed → ReadsMore now next mid after some
     → length_is ≡ length now.buffered → position_or_len is_feed now.buffered ≡ length now.buffered
     → IsSearching first next before after length_is
-searches-on first now next before mid after searched n some way stays mark opens more is none =
+searches-on first now next before mid after searched n some way stays mark opens turn more is none =
     let bytes : next.buffered ≡ now.buffered ++ more.got = ap (λ (s : SeenLines). s.buffered) more.leaves in
     record {
       stays = record { files = stays.files ∙ way.stays.files; may_fail = stays.may_fail ∙ way.stays.may_fail; faults = omega (arith, way.stays.faults, stays.faults) };
       mark = mark ∙ way.mark;
       opens = opens ∙ way.opens;
+      turn = turn ∙ way.turn;
       faults = more.faults ∙ way.faults;
       got = way.got ++ more.got;
       read = Consumes-trans before.rest mid.rest after.rest way.got more.got way.read more.read;

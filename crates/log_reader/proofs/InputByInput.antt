@@ -1,20 +1,24 @@
 -- The inputs of a log, one by one.
-use Rattle.std.proofs.Common.{◌≡◌, ℕ, zero, suc, ◌+◌, ◌-◌, ◌^◌, ◌<◌, ◌≤◌, min, max, nat_lt, false, List, [], ◌∷◌, ◌++◌, length, map, drop, Option, Some, None, option_map, refl, sym, ap, ap₂, ◌∙◌, subst, arith, append-nil, append_assoc, length-append}
+use Rattle.std.proofs.Common.{◌≡◌, ℕ, zero, suc, ◌+◌, ◌-◌, ◌^◌, ◌<◌, ◌≤◌, min, max, nat_lt, Bool, false, List, [], ◌∷◌, ◌++◌, length, map, take, drop, inr, ⊎_elim, Option, Some, None, option_map, refl, sym, ap, ap₂, ◌∙◌, subst, arith, append-nil, append_assoc, length-append}
 use Rattle.std.proofs.lemmas.Bool.{cond-false}
 use Rattle.std.proofs.lemmas.Bool.Decides.{nat_tests}
-use Rattle.std.proofs.lemmas.Option.{none-some, same_Some}
+use Rattle.std.proofs.lemmas.Option.{none-some, same_Some, slice_get_within}
 use Rattle.std.specs.Io.KnownBytes.{IsAtEnd}
 use Rattle.std.specs.List.{slice_get}
-use Rattle.std.proofs.lemmas.List.{length-map}
+use Rattle.std.proofs.lemmas.List.{length-map, take_all}
+use Rattle.std.specs.Prelude.{IsSomeAnd}
 use Rattle.outside.specs.Counts.{next_call}
 use Rattle.outside.specs.Inputs.{Files, InputState, Stays}
+use Rattle.outside.specs.Reading.{IfTold, LosesFront, OpensNamed, OpensNone}
+use Rattle.outside.specs.Turns.{in_turn, all_in_turn, followed_to_end, OpensInTurn, OpensFirst}
+use Rattle.outside.proofs.Turns.{all_in_turn-append, closes}
 use Rattle.limits.specs.declared.TheConstants.{MAX_INPUT_BYTES}
 use Rattle.lines.specs.Lines.{pieces}
 use Rattle.traces.specs.Words.{Event as KeyedEvent, Log, gathered_of, in_order, log_of}
 use Rattle.log_reader.specs.Reading.{Setting, piece_events, section_at_end, key_file, next_section, file_events, events_of, first_of, files_refusal, first_refusal}
-use Rattle.log_reader.specs.Inputs.{inputs_of, with_content, told_contents, lacking, first_lacking, SomeContents, ReadsLog, file_past, opens_after}
+use Rattle.log_reader.specs.Inputs.{inputs_of, with_content, told_contents, lacking, first_lacking, SomeContents, ReadsLog, StopsWithin, file_past, opens_after}
 use Rattle.log_reader.specs.SoFar.{IsGatheredOf, IsReady, setting_of}
-use Rattle.log_reader.specs.Files.{HasContent, FileIsRead, ReadsFile}
+use Rattle.log_reader.specs.Files.{HasContent, FileIsRead, OpensFile, OpensOne, ReadsFile}
 use Rattle.log_reader.specs.declared.reader.LogReader.{LogReader}
 use Rattle.log_reader.specs.declared.refusal.ReadError.{ReadError}
 
@@ -31,6 +35,8 @@ pub record IsUpTo (s : Setting) (names : List (List ℕ)) (count : ℕ) (old now
   pub none : count ≡ 0 → now.opens ≡ old.opens
   pub some : 0 < count → now.opens ≡ min (old.opens + count) (2 ^ 64 - 1)
   pub at_end : 0 < count → IsAtEnd now.rest
+  pub turn : followed_to_end now ≡ all_in_turn old.files (followed_to_end old) (take count names)
+  pub last : 0 < count → IsSomeAnd (slice_get names (count - 1)) (StopsWithin (count - 1) old now)
   pub ready : IsReady reader
   pub setting : setting_of reader ≡ s
   pub few : reader.log.section + room ≤ MAX_INPUT_BYTES
@@ -73,6 +79,8 @@ up-to-none s names old reader ready setting section log = record {
   none = λ _. refl;
   some = λ some. absurd (omega arith);
   at_end = λ some. absurd (omega arith);
+  turn = refl;
+  last = λ some. absurd (omega arith);
   ready = ready;
   setting = setting;
   few = omega arith;
@@ -129,11 +137,44 @@ opened-next a b c k none some next =
 pub stays-on : (a b c : InputState) → Stays a b → Stays b c → Stays a c
 stays-on a b c p q = record { files = q.files ∙ p.files; may_fail = q.may_fail ∙ p.may_fail; faults = omega (arith, p.faults, q.faults) }
 
+-- what stands behind a front within a limit stands behind one within a greater limit
+wider : (files : Option Files) (name : List ℕ) (rest : Option (List ℕ)) (room limit : ℕ) → room ≤ limit
+    → IfTold files name (λ content. LosesFront (Some content) rest room) → IfTold files name (λ content. LosesFront (Some content) rest limit)
+wider None name rest room limit le left = tt
+wider (Some files) name rest room limit le left = (left.0, left.1, (left.2.0, omega (arith, left.2.1), left.2.2))
+
+-- the input that is open, from the first input on
+pub stops-within : (s : Setting) (names : List (List ℕ)) (k : ℕ) (old before after : InputState) (reader : LogReader) (room : ℕ) (name : List ℕ)
+    → IsUpTo s names k old before reader room → slice_get names k ≡ Some name → OpensNamed before after name room → IsSomeAnd (slice_get names k) (StopsWithin k old after)
+stops-within s names k old before after reader room name so_far at named =
+    subst (λ o. IsSomeAnd o (StopsWithin k old after)) (sym at) (record {
+      opens = opened-next old.opens before.opens after.opens k so_far.none so_far.some named.opens;
+      mark = named.mark ∙ ap (λ (f : List ℕ → Bool). f name) so_far.stays.may_fail;
+      left = wider old.files name after.rest room MAX_INPUT_BYTES (omega (arith, so_far.few))
+          (subst (λ f. IfTold f name (λ content. LosesFront (Some content) after.rest room)) so_far.stays.files named.left);
+    })
+
+take-at : (names : List (List ℕ)) (k : ℕ) (name : List ℕ) → slice_get names k ≡ Some name → take (suc k) names ≡ take k names ++ name ∷ []
+take-at [] k name at = absurd (none-some name at)
+take-at (x ∷ names) zero name at = ap (λ (n : List ℕ). n ∷ []) (same_Some x name at)
+take-at (x ∷ names) (suc k) name at = ap (λ (ns : List (List ℕ)). x ∷ ns) (take-at names k name at)
+
+-- one name more in turn
+turn-next : (s : Setting) (names : List (List ℕ)) (k : ℕ) (old before after : InputState) (reader : LogReader) (room : ℕ) (name : List ℕ)
+    → IsUpTo s names k old before reader room → slice_get names k ≡ Some name → OpensInTurn (name ∷ []) before after → OpensInTurn (take (k + 1) names) old after
+turn-next s names k old before after reader room name so_far at turn =
+    let one : suc k ≡ k + 1 = omega arith in
+    turn
+    ∙ (ap (λ (f : Option Files). in_turn f name (followed_to_end before)) so_far.stays.files
+    ∙ (ap (λ (n : Option ℕ). in_turn old.files name n) so_far.turn
+    ∙ (sym (all_in_turn-append old.files (followed_to_end old) (take k names) (name ∷ []))
+    ∙ ap (λ (ns : List (List ℕ)). all_in_turn old.files (followed_to_end old) ns) (sym (take-at names k name at) ∙ ap (λ n. take n names) one))))
+
 -- one input more was read
 pub up-to-more : (s : Setting) (names : List (List ℕ)) (k : ℕ) (old before after : InputState) (reader new : LogReader) (room left : ℕ) (name : List ℕ)
     → IsUpTo s names k old before reader room → slice_get names k ≡ Some name → Stays before after → ReadsFile before after name k room left reader new
-    → IsUpTo s names (k + 1) old after new left
-up-to-more s names k old before after reader new room left name so_far at stays reads =
+    → OpensOne name room before after → IsUpTo s names (k + 1) old after new left
+up-to-more s names k old before after reader new room left name so_far at stays reads one =
     let content = reads.content in
     let section = reader.log.section in
     let events = so_far.events in
@@ -149,6 +190,10 @@ up-to-more s names k old before after reader new room left name so_far at stays 
       none = λ none. absurd (omega arith);
       some = λ some. opens-next old.opens before.opens after.opens k so_far.none so_far.some reads.opens;
       at_end = λ some. reads.at_end;
+      turn = closes after reads.at_end ∙ turn-next s names k old before after reader room name so_far at one.1;
+      last = λ some.
+          let same : k ≡ k + 1 - 1 = omega arith in
+          subst (λ n. IsSomeAnd (slice_get names n) (StopsWithin n old after)) same (stops-within s names k old before after reader room name so_far at one.0);
       ready = reads.ready;
       setting = reads.setting ∙ so_far.setting;
       few = omega (arith, reads.few, so_far.few);
@@ -179,6 +224,32 @@ some-all None names contents P many has holds = (contents, omega arith, holds)
 some-all (Some files) names contents P many has holds =
     subst P (sym (has.0 ∙ (ap (λ ns. contents ++ told_contents files ns) (at-end names) ∙ append-nil contents))) holds
 
+all-names : (names : List (List ℕ)) → take (length names) names ≡ names
+all-names names = take_all (length names) names (omega arith)
+
+-- all inputs were opened in turn
+up-to-turn : (s : Setting) (names : List (List ℕ)) (k : ℕ) (old now : InputState) (reader : LogReader) (room : ℕ) → IsUpTo s names k old now reader room → k ≡ length names → 0 < k → OpensInTurn names old now
+up-to-turn s names k old now reader room so_far all some =
+    sym (closes now (so_far.at_end some))
+    ∙ (so_far.turn ∙ ap (λ (ns : List (List ℕ)). all_in_turn old.files (followed_to_end old) ns) (ap (λ n. take n names) all ∙ all-names names))
+
+-- the first so many were opened, and this one or no more
+pub up-to-opens : (s : Setting) (names : List (List ℕ)) (k : ℕ) (old before after : InputState) (reader : LogReader) (room : ℕ) (name : List ℕ)
+    → IsUpTo s names k old before reader room → slice_get names k ≡ Some name → OpensFile name room before after → OpensFirst names old after
+up-to-opens s names k old before after reader room name so_far at file =
+    let below : k < length names = slice_get_within names k name at in
+    inr (⊎_elim
+    (λ (one : OpensOne name room before after).
+    (k + 1, omega (arith, below), opened-next old.opens before.opens after.opens k so_far.none so_far.some one.0.opens, turn-next s names k old before after reader room name so_far at one.1))
+    (λ (none : OpensNone before after × OpensInTurn [] before after).
+    (k, omega (arith, below), none.0.opens ∙ opened-so old.opens before.opens k so_far.none so_far.some, none.1 ∙ so_far.turn))
+    file)
+
+-- all were
+pub up-to-all : (s : Setting) (names : List (List ℕ)) (k : ℕ) (old now : InputState) (reader : LogReader) (room : ℕ) → IsUpTo s names k old now reader room → k ≡ length names → 0 < k → OpensFirst names old now
+up-to-all s names k old now reader room so_far all some =
+    inr (k, omega (arith, all), opened-so old.opens now.opens k so_far.none so_far.some, sym (closes now (so_far.at_end some)) ∙ so_far.turn)
+
 -- all inputs were read
 pub up-to-end : (s : Setting) (names : List (List ℕ)) (k : ℕ) (old now : InputState) (reader : LogReader) (room : ℕ) (log : Log) → IsUpTo s names k old now reader room → k ≡ length names → 0 < k → log ≡ in_order reader.log.builder
     → ((events : List KeyedEvent) → in_order (gathered_of events) ≡ log_of events) → ReadsLog s names old now log
@@ -191,6 +262,7 @@ up-to-end s names k old now reader room log so_far all some is ordered =
           (so_far.many ∙ all, nothing, is ∙ (ap in_order so_far.log ∙ (ordered so_far.events ∙ ap log_of (sym events))));
       opened = record { opens = subst (λ n. now.opens ≡ min (old.opens + n) (2 ^ 64 - 1)) all (so_far.some some); faults = so_far.faults };
       at_end = so_far.at_end some;
+      turn = up-to-turn s names k old now reader room so_far all some;
     }
 
 -- standard input alone, or the named inputs

@@ -1,5 +1,5 @@
 -- The lines of an input, as a reader of lines gives them.
-use Rattle.std.proofs.Common.{◌≡◌, ℕ, suc, ◌+◌, ◌-◌, ◌<◌, ◌≤◌, ◌&&◌, ◌==◌, Bool, true, false, List, [], ◌∷◌, ◌++◌, length, take, nat_lt, cond, Option, Some, None, refl, sym, ap, ap₂, ◌∙◌, subst, arith, inr, ⊎_elim, append_assoc, append-nil, length-append, take_all, length-take, IsTrue}
+use Rattle.std.proofs.Common.{◌≡◌, ℕ, suc, ◌+◌, ◌-◌, ◌<◌, ◌≤◌, ◌&&◌, ◌==◌, Bool, true, false, List, [], ◌∷◌, ◌++◌, length, take, nat_lt, cond, Option, Some, None, Result, Ok, Err, refl, sym, ap, ap₂, ◌∙◌, subst, arith, inr, ⊎_elim, append_assoc, append-nil, length-append, take_all, length-take, IsTrue}
 use Rattle.std.proofs.lemmas.Bool.{cases_lt, cond-false}
 use Rattle.std.proofs.lemmas.Bool.Decides.{nat_tests}
 use Rattle.std.proofs.lemmas.Option.{none-some, same_Some}
@@ -10,10 +10,11 @@ use Rattle.std.specs.List.{list_any}
 use Rattle.limits.specs.declared.TheConstants.{MAX_INPUT_BYTES, MAX_LINE_BYTES}
 use Rattle.outside.specs.Counts.{Rose}
 use Rattle.outside.specs.Inputs.{InputState, Stays}
+use Rattle.outside.specs.Reading.{LosesFront}
 use Rattle.lines.specs.Lines.{pieces, is_feed, line_of, with_feeds, HaveNoFeed}
 use Rattle.traces.specs.Words.{gathered_of}
 use Rattle.log_reader.specs.Reading.{decided_piece, line_events, section_after, key_file, first_of, line_refusal, at_line, pieces_refusal}
-use Rattle.log_reader.specs.LineReader.{SeenLines, TellsLine, GivesLine, GivesNone, RefusesPiece, FailsToRead, feed_if, feed_bytes, first_piece_refusal, refusal_to_come}
+use Rattle.log_reader.specs.LineReader.{SeenLines, TellsLine, GivesLine, GivesNone, RefusesPiece, FailsToRead, NextGives, feed_if, feed_bytes, first_piece_refusal, refusal_to_come}
 use Rattle.log_reader.specs.Files.{ReadsLines, RefusesLines, FailsWithin, known_rest}
 use Rattle.log_reader.specs.SoFar.{decided_line, setting_of, IsReady, IsRefusal, ReadsText, ReadsPiece, ReadsPieces, IsPiecesRefusal, refusal_in, piece_refusal_in}
 use Rattle.log_reader.specs.declared.line_reader.LineError.{LineError}
@@ -59,6 +60,7 @@ more-left cut piece rest = and-no cut (length (piece ∷ rest) == 0) (λ is. no-
 pub record IsReading (number : ℕ) (start now : InputState) (first lines : SeenLines) (old reader : LogReader) : Type 0 where
   pub stays : Stays start now
   pub opens : now.opens ≡ start.opens
+  pub turn : now.followed ≡ start.followed
   pub mark : now.mark ≡ start.mark
   pub faults : now.faults ≡ start.faults
   pub front : List (List ℕ)
@@ -92,6 +94,7 @@ pub reading-begins : (number : ℕ) (start : InputState) (first : SeenLines) (ol
 reading-begins number start first old ready nothing zero_is unrefused within = record {
   stays = record { files = refl; may_fail = refl; faults = omega arith };
   opens = refl;
+  turn = refl;
   mark = refl;
   faults = refl;
   front = [];
@@ -139,11 +142,11 @@ feeds-length front piece =
 
 -- a line with its line feed was taken in
 pub reading-more : (number : ℕ) (start before after : InputState) (first lines next : SeenLines) (old reader new : LogReader) (bytes : List ℕ)
-    → IsReading number start before first lines old reader → Stays before after → after.opens ≡ before.opens → after.mark ≡ before.mark
+    → IsReading number start before first lines old reader → Stays before after → after.opens ≡ before.opens → after.followed ≡ before.followed → after.mark ≡ before.mark
     → GivesLine lines next before after → next.taken ≤ MAX_INPUT_BYTES → next.line ≡ Some bytes → next.fed ≡ true
     → ReadsText (at_line number next.number) (decided_line (setting_of reader).form bytes) reader new
     → IsReading number start after first next old new
-reading-more number start before after first lines next old reader new bytes way stays opens mark gives within line fed reads =
+reading-more number start before after first lines next old reader new bytes way stays opens turn mark gives within line fed reads =
     let piece = gives.piece in
     let is_line : bytes ≡ line_of piece = same_Some bytes (line_of piece) (sym line ∙ gives.line) in
     let at : ReadsText (at_line number (lines.number + 1)) (decided_line (setting_of reader).form bytes) reader new =
@@ -154,6 +157,7 @@ reading-more number start before after first lines next old reader new bytes way
     record {
       stays = record { files = stays.files ∙ way.stays.files; may_fail = stays.may_fail ∙ way.stays.may_fail; faults = omega (arith, way.stays.faults, stays.faults) };
       opens = opens ∙ way.opens;
+      turn = turn ∙ way.turn;
       mark = mark ∙ way.mark;
       faults = gives.faults ∙ way.faults;
       front = way.front ++ piece ∷ [];
@@ -424,6 +428,51 @@ reading-fails number start before after first lines last old reader e way fails 
       );
     }
 
+-- what a call read, and that it is within the limit on all input, or has one byte past it
+pub record ReadsSome (lines : SeenLines) (before after : InputState) : Type 0 where
+  pub got : List ℕ
+  pub read : Consumes before.rest after.rest got
+  pub few : lines.taken + length (lines.buffered ++ got) ≤ MAX_INPUT_BYTES + 1
+
+feed-size : (fed : Bool) → length (feed_if fed) ≡ feed_bytes fed
+feed-size true = refl
+feed-size false = refl
+
+refused-some : (lines next : SeenLines) (before after : InputState) (e : LineError) → next.taken + length next.buffered ≤ MAX_INPUT_BYTES + 1 → RefusesPiece lines next before after e
+    → ReadsSome lines before after
+refused-some lines next before after e within refuses =
+    let taken : next.taken ≡ lines.taken = ap (λ (s : SeenLines). s.taken) refuses.leaves in
+    let bytes : next.buffered ≡ lines.buffered ++ refuses.got = ap (λ (s : SeenLines). s.buffered) refuses.leaves in
+    record { got = refuses.got; read = refuses.read; few = omega (arith, within, taken, ap length bytes) }
+
+-- so it is at each answer of a call
+pub reads-some : (lines next : SeenLines) (before after : InputState) (result : Result Bool LineError) → next.taken + length next.buffered ≤ MAX_INPUT_BYTES + 1
+    → NextGives lines before result next after → ReadsSome lines before after
+reads-some lines next before after (Ok true) within gives =
+    let all : length (lines.buffered ++ gives.got) ≡ length gives.piece + (feed_bytes next.fed + length next.buffered) =
+    ap length gives.is
+    ∙ (length-append gives.piece (feed_if next.fed ++ next.buffered)
+    ∙ ap (λ n. length gives.piece + n) (length-append (feed_if next.fed) next.buffered ∙ ap (λ n. n + length next.buffered) (feed-size next.fed))) in
+    record { got = gives.got; read = gives.read; few = omega (arith, within, gives.taken, all) }
+reads-some lines next before after (Ok false) within none =
+    let taken : next.taken ≡ lines.taken = ap (λ (s : SeenLines). s.taken) none.same in
+    let bytes : lines.buffered ++ [] ≡ [] = ap (λ bs. bs ++ []) none.nothing in
+    record { got = []; read = none.read; few = omega (arith, within, taken, ap length bytes) }
+reads-some lines next before after (Err ReadFault) within fails = record { got = fails.got; read = fails.read; few = fails.few }
+reads-some lines next before after (Err TooLong) within refuses = refused-some lines next before after TooLong within refuses
+reads-some lines next before after (Err InputLimit) within refuses = refused-some lines next before after InputLimit within refuses
+
+-- a front of the input is gone, from its first line on
+pub front-lost : (number : ℕ) (start before after : InputState) (first lines next : SeenLines) (old reader : LogReader) (result : Result Bool LineError)
+    → IsReading number start before first lines old reader → next.taken + length next.buffered ≤ MAX_INPUT_BYTES + 1 → NextGives lines before result next after
+    → LosesFront start.rest after.rest (MAX_INPUT_BYTES - first.taken)
+front-lost number start before after first lines next old reader result way within gives =
+    let some = reads-some lines next before after result within gives in (
+      (with_feeds way.front ++ lines.buffered) ++ some.got,
+      omega (arith, ap length (append_assoc (with_feeds way.front) lines.buffered some.got), length-append (with_feeds way.front) (lines.buffered ++ some.got), some.few, way.taken, way.within),
+      Consumes-trans start.rest before.rest after.rest (with_feeds way.front ++ lines.buffered) some.got way.read some.read,
+    )
+
 left-of : (before after : Option (List ℕ)) (rest got : List ℕ) → before ≡ Some rest → Consumes before after got → (left : List ℕ) × (after ≡ Some left) × (rest ≡ got ++ left)
 left-of before after rest got told read = by after (subst (λ o. Consumes o after got) told read)
   where
@@ -442,10 +491,6 @@ cut-pieces piece rest true none last = piece-first piece rest none
 cut-pieces piece rest false none last =
     let parts = last refl in
     ap (λ bs. pieces (piece ++ bs)) parts.1 ∙ (ap pieces (append-nil piece) ∙ (piece-alone piece none parts.0 ∙ ap (λ bs. piece ∷ pieces bs) (sym parts.1)))
-
-feed-length : (fed : Bool) → length (feed_if fed) ≡ feed_bytes fed
-feed-length true = refl
-feed-length false = refl
 
 end-is : (rest left : List ℕ) (after : Option (List ℕ)) → after ≡ Some left → IsAtEnd after → left ≡ []
 end-is rest left after is at_end = subst IsAtEnd is at_end
@@ -468,7 +513,7 @@ tells-line old new before after rest told gives =
       piece = piece;
       first = ap pieces to_come ∙ cut-pieces piece behind new.fed gives.no_feed last;
       line = gives.line;
-      taken = omega (arith, gives.taken, ap length to_come, length-append piece (feed_if new.fed ++ behind), length-append (feed_if new.fed) behind, feed-length new.fed);
+      taken = omega (arith, gives.taken, ap length to_come, length-append piece (feed_if new.fed ++ behind), length-append (feed_if new.fed) behind, feed-size new.fed);
       allowed = ap (refusal_to_come old.taken) to_come
           ∙ allowed (MAX_INPUT_BYTES - old.taken) piece (piece ++ (feed_if new.fed ++ behind)) gives.short
           (stands-first (MAX_INPUT_BYTES - old.taken) piece behind new.fed gives.no_feed (omega (arith, gives.taken, gives.within)) last);

@@ -1,5 +1,5 @@
 -- Why a log is refused.
-use Rattle.std.proofs.Common.{◌≡◌, ◌⊎◌, ℕ, zero, suc, ◌+◌, ◌-◌, ◌<◌, ◌&&◌, ◌==◌, Bool, true, false, cond, not, nat_lt, nat_le, ◌≤◌, List, [], ◌∷◌, ◌++◌, length, take, drop, Option, Some, None, option_map, refl, sym, ap, ◌∙◌, subst, arith, inl, inr, ⊎_elim, append-nil, length-append}
+use Rattle.std.proofs.Common.{◌≡◌, ◌⊎◌, ℕ, zero, suc, ◌+◌, ◌-◌, ◌<◌, ◌&&◌, ◌==◌, Bool, true, false, cond, not, nat_lt, nat_le, List, [], ◌∷◌, ◌++◌, length, take, drop, Option, Some, None, option_map, refl, sym, ap, ◌∙◌, subst, arith, inl, inr, ⊎_elim, append-nil, length-append}
 use Rattle.std.proofs.lemmas.Bool.{cond-true}
 use Rattle.std.proofs.lemmas.Option.{none-some}
 use Rattle.std.specs.List.{slice_get, list_any}
@@ -7,19 +7,19 @@ use Rattle.std.specs.Prelude.{IsSomeAnd, IsTrue}
 use Rattle.std.specs.Str.{bytes_eq}
 use Rattle.outside.specs.Counts.{Rose}
 use Rattle.outside.specs.Inputs.{Files, InputState, Lacks}
-use Rattle.outside.specs.Reading.{IfTold, LosesFront, OpensNamed, OpensNone}
+use Rattle.outside.specs.Reading.{OpensNamed, OpensNone}
 use Rattle.limits.specs.declared.TheConstants.{MAX_EVENTS, MAX_INPUT_BYTES, MAX_LINE_BYTES, MAX_TRACE_BYTES, MAX_TYPE_BYTES, MAX_TYPES}
 use Rattle.lines.specs.Lines.{pieces}
 use Rattle.traces.specs.Words.{Event as KeyedEvent, types_of}
 use Rattle.log_reader.specs.Reading as spec
 use Rattle.log_reader.specs.Reading.{Setting, Decided, decided_piece, line_events, piece_events, section_after, section_at_end, key_file, next_section, at_line, first_of, event_refusal, line_refusal, piece_refusal, bytes_refusal, pieces_refusal, files_refusal, first_refusal}
-use Rattle.log_reader.specs.Inputs.{with_content, told_contents, lacking, first_lacking, file_past, SomeContents, refused_input, IsRefusedAt, RefusesLog, IsLacking, StopsBefore, StopsWithin, Fails, IsMissing, HasReadCause}
+use Rattle.log_reader.specs.Inputs.{with_content, told_contents, lacking, first_lacking, file_past, SomeContents, refused_input, IsRefusedAt, RefusesLog, IsLacking, StopsAnywhere, StopsBefore, StopsWithin, Fails, IsMissing, HasReadCause}
 use Rattle.log_reader.specs.Files.{HasContent, RefusesFile, IsUnread, HasFileCause}
 use Rattle.log_reader.specs.declared.reader.LogReader.{LogReader}
 use Rattle.log_reader.specs.declared.refusal.At.{At}
 use Rattle.log_reader.specs.declared.refusal.ReadError.{ReadError}
 use Rattle.log_reader.specs.declared.refusal.ReadError.TheVariants as refused
-use Rattle.log_reader.proofs.InputByInput.{HasContents, IsUpTo, next-name, opens-next, opened-so, opened-next}
+use Rattle.log_reader.proofs.InputByInput.{HasContents, IsUpTo, next-name, opens-next, opened-so, stops-within}
 
 -- a refusal names a line of this file, or is the limit on all input, where that cuts the file
 abbrev IsOfFile : ℕ → Bool → Option ReadError → Type 0
@@ -93,24 +93,29 @@ never-fault : (s : Setting) (told : Option Files) (names : List (List ℕ)) (n n
 never-fault s None names n number some = none-some number some.2.1
 never-fault s (Some files) names n number some = none-some number some.1
 
+-- nor is want of memory
+never-memory : (s : Setting) (told : Option Files) (names : List (List ℕ)) (number : ℕ) → SomeContents told names (IsRefusedAt s refused.Memory number) → ⊥
+never-memory s None names number some = none-some number some.2.1
+never-memory s (Some files) names number some = none-some number some.1
+
 IsUnreadable : Setting → List (List ℕ) → InputState → InputState → ReadError → Type 0
 IsUnreadable s names old new e = (number : ℕ) × (e ≡ refused.ReadFault number) × (Fails names old new number ⊎ IsMissing s names old new number)
 
 -- the three causes of an answer
 Causes : Setting → List (List ℕ) → InputState → InputState → ReadError → Type 0
 unfolding IsUnreadable
-Causes s names old new e = (e ≡ refused.Memory) ⊎ (IsUnreadable s names old new e ⊎ RefusesLog s names old new e)
+Causes s names old new e = ((e ≡ refused.Memory) × StopsAnywhere names old new) ⊎ (IsUnreadable s names old new e ⊎ RefusesLog s names old new e)
 
 -- of the refusals of lines only the last is a cause
 of-lines : (s : Setting) (names : List (List ℕ)) (old new : InputState) (e : ReadError) → (e ≡ refused.Memory → ⊥) → ((n : ℕ) → e ≡ refused.ReadFault n → ⊥) → Causes s names old new e → RefusesLog s names old new e
 unfolding IsUnreadable Causes
 of-lines s names old new e memory fault causes =
-    ⊎_elim (λ is. absurd (memory is)) (λ rest. ⊎_elim (λ unread. absurd (fault unread.0 unread.1)) (λ refuses. refuses) rest) causes
+    ⊎_elim (λ is. absurd (memory is.0)) (λ rest. ⊎_elim (λ unread. absurd (fault unread.0 unread.1)) (λ refuses. refuses) rest) causes
 
 cause-of : (s : Setting) (names : List (List ℕ)) (old new : InputState) (e : ReadError) → Causes s names old new e → HasReadCause s names old new e
 unfolding IsUnreadable Causes
 cause-of s names old new (refused.ReadFault n) causes = ⊎_elim
-    (λ (is : refused.ReadFault n ≡ refused.Memory). cc)
+    (λ (is : (refused.ReadFault n ≡ refused.Memory) × StopsAnywhere names old new). let never : refused.ReadFault n ≡ refused.Memory = is.0 in cc (never))
     (λ rest. ⊎_elim
     (λ unread.
     let same : unread.0 ≡ n = cc (unread.1) in
@@ -126,7 +131,13 @@ cause-of s names old new (refused.TraceTooLong at) causes = of-lines s names old
 cause-of s names old new (refused.TypeLimit at) causes = of-lines s names old new (refused.TypeLimit at) (λ is. cc) (λ n is. cc) causes
 cause-of s names old new (refused.EventLimit at) causes = of-lines s names old new (refused.EventLimit at) (λ is. cc) (λ n is. cc) causes
 cause-of s names old new refused.InputLimit causes = of-lines s names old new refused.InputLimit (λ is. cc) (λ n is. cc) causes
-cause-of s names old new refused.Memory causes = tt
+cause-of s names old new refused.Memory causes = ⊎_elim
+    (λ (is : (refused.Memory ≡ refused.Memory) × StopsAnywhere names old new). is.1)
+    (λ rest. ⊎_elim
+    (λ unread. let never : refused.Memory ≡ refused.ReadFault unread.0 = unread.1 in cc (never))
+    (λ (refuses : RefusesLog s names old new refused.Memory). absurd (never-memory s old.files names refuses.number refuses.refusal))
+    rest)
+    causes
 
 lacking-at : (s : Setting) (told : Option Files) (names : List (List ℕ)) (k : ℕ) (contents : List (List ℕ)) (name : List ℕ) → slice_get names k ≡ Some name
     → HasContents told names k contents → Lacks told name → first_refusal s contents ≡ None → IsLacking s told names k
@@ -137,24 +148,13 @@ lacking-at s (Some files) names k contents name at has lacks none =
       ap (first_refusal s) (has.0 ∙ (ap (λ ns. contents ++ told_contents files ns) (next-name names k name at) ∙ (ap (λ o. contents ++ with_content o (told_contents files later)) lacks ∙ append-nil contents))) ∙ none,
     )
 
--- what stands behind a front within a limit stands behind one within a greater limit
-wider : (files : Option Files) (name : List ℕ) (rest : Option (List ℕ)) (room limit : ℕ) → room ≤ limit
-    → IfTold files name (λ content. LosesFront (Some content) rest room) → IfTold files name (λ content. LosesFront (Some content) rest limit)
-wider None name rest room limit le left = tt
-wider (Some files) name rest room limit le left = (left.0, left.1, (left.2.0, omega (arith, left.2.1), left.2.2))
-
 -- where the reading of this input stopped, from the first input on
 stopped : (s : Setting) (names : List (List ℕ)) (k : ℕ) (old before after : InputState) (reader : LogReader) (room : ℕ) (name : List ℕ)
     → IsUpTo s names k old before reader room → slice_get names k ≡ Some name → OpensNone before after ⊎ OpensNamed before after name room
     → StopsBefore k old after ⊎ IsSomeAnd (slice_get names k) (StopsWithin k old after)
 stopped s names k old before after reader room name so_far at = ⊎_elim
     (λ (none : OpensNone before after). inl (record { opens = none.opens ∙ opened-so old.opens before.opens k so_far.none so_far.some; closed = none.closed }))
-    (λ (named : OpensNamed before after name room). inr (subst (λ o. IsSomeAnd o (StopsWithin k old after)) (sym at) (record {
-      opens = opened-next old.opens before.opens after.opens k so_far.none so_far.some named.opens;
-      mark = named.mark ∙ ap (λ (f : List ℕ → Bool). f name) so_far.stays.may_fail;
-      left = wider old.files name after.rest room MAX_INPUT_BYTES (omega (arith, so_far.few))
-          (subst (λ f. IfTold f name (λ content. LosesFront (Some content) after.rest room)) so_far.stays.files named.left);
-    })))
+    (λ (named : OpensNamed before after name room). inr (stops-within s names k old before after reader room name so_far at named))
 
 -- an input that could not be read is a cause of the log's answer
 unreadable : (s : Setting) (names : List (List ℕ)) (k : ℕ) (old before after : InputState) (reader : LogReader) (room : ℕ) (name : List ℕ) (e : ReadError)
@@ -216,6 +216,7 @@ refused-log s names k old before after reader room name e so_far at refuses =
       refusal = some-refused old.files names k so_far.contents name content (IsRefusedAt s e k) at so_far.many so_far.told (subst (λ f. HasContent f name content) so_far.stays.files refuses.told)
           (λ rest. (so_far.refusal (content ∷ rest) ∙ ap (λ o. first_of o (next rest)) here, number rest));
       opened = record { opens = opens-next old.opens before.opens after.opens k so_far.none so_far.some refuses.opens; faults = refuses.faults ∙ so_far.faults };
+      stops = stops-within s names k old before after reader room name so_far at refuses.named;
     }
 
 -- the cause of an input's answer is one of the log's
@@ -225,7 +226,7 @@ pub up-to-cause : (s : Setting) (names : List (List ℕ)) (k : ℕ) (old before 
 unfolding Causes
 up-to-cause s names k old before after reader room name e so_far at cause =
     cause-of s names old after e (⊎_elim
-    (λ memory. inl memory)
+    (λ (memory : (e ≡ refused.Memory) × OpensNamed before after name room). inl (memory.0, inr (k, stops-within s names k old before after reader room name so_far at memory.1)))
     (λ rest. inr (⊎_elim
     (λ unread. inl (unreadable s names k old before after reader room name e so_far at unread))
     (λ refuses. inr (refused-log s names k old before after reader room name e so_far at refuses))

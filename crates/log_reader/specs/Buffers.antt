@@ -28,9 +28,9 @@ abbrev pub IsLineWithin : ℕ → Option Part → Type 0
 IsLineWithin size None = ⊤
 IsLineWithin size (Some part) = (part.from ≤ part.to) × (part.to ≤ size)
 
--- where they are said to be clean, all bytes before a place are ASCII
-abbrev pub IsClean : Bool → ℕ → List ℕ → Type 0
-IsClean clean to buf = clean ≡ true → (i : ℕ) → i < to → slice_index buf i < 128
+-- from one place on, all bytes before another are ASCII
+abbrev pub IsClean : ℕ → ℕ → List ℕ → Type 0
+IsClean clean_from to buf = (i : ℕ) → clean_from ≤ i → i < to → slice_index buf i < 128
 
 -- a buffer and the counts of its reader: it is never read more than one byte past the limit on all
 -- input

@@ -1,10 +1,11 @@
 -- What reading one input of a log leaves.
-use Rattle.std.specs.Prelude.{ℕ, ◌≡◌, ◌≤◌, ◌+◌, ◌-◌, ◌⊎◌, List, [], ◌++◌, length, take, nat_lt, false, IsTrue, Option, Some, None, Err}
+use Rattle.std.specs.Prelude.{ℕ, ◌≡◌, ◌≤◌, ◌+◌, ◌-◌, ◌⊎◌, List, [], ◌∷◌, ◌++◌, length, take, nat_lt, false, IsTrue, Option, Some, None, Err}
 use Rattle.std.specs.Io.KnownBytes.{Consumes, IsAtEnd}
 use Rattle.limits.specs.declared.TheConstants.{MAX_INPUT_BYTES}
 use Rattle.outside.specs.Counts.{Rose, next_call}
 use Rattle.outside.specs.Inputs.{Files, InputState, bytes_of}
-use Rattle.outside.specs.Reading.{InputGives, LosesFront}
+use Rattle.outside.specs.Reading.{InputGives, LosesFront, OpensNamed, OpensNone}
+use Rattle.outside.specs.Turns.{OpensInTurn}
 use Rattle.outside.specs.declared.reading.InputError.TheVariants.{Fault, Missing}
 use Rattle.lines.specs.Lines.{pieces}
 use Rattle.traces.specs.Words.{Event as KeyedEvent, Gathering}
@@ -104,6 +105,7 @@ pub record RefusesFile (before after : InputState) (name : List ℕ) (number roo
   pub faults : after.faults ≡ before.faults
   pub content : List ℕ
   pub told : HasContent before.files name content
+  pub named : OpensNamed before after name room
   pub refusal : (events : List KeyedEvent) → IsGatheredOf old.log.builder events
       → bytes_refusal (setting_of old) number old.log.section events room content ≡ Some e
 
@@ -117,5 +119,14 @@ pub record IsUnread (before after : InputState) (name : List ℕ) (number room :
 -- why the input with this number is refused so
 abbrev pub HasFileCause : InputState → InputState → List ℕ → ℕ → ℕ → LogReader → ReadError → Type 0
 HasFileCause before after name number room old e =
-    (e ≡ refused.Memory)
+    ((e ≡ refused.Memory) × OpensNamed before after name room)
     ⊎ (IsUnread before after name number room e ⊎ RefusesFile before after name number room old e)
+
+-- the input of this name was opened, and no other, and it is open
+abbrev pub OpensOne : List ℕ → ℕ → InputState → InputState → Type 0
+OpensOne name room before after = OpensNamed before after name room × OpensInTurn (name ∷ []) before after
+
+-- that, or none was opened, and nothing is open
+abbrev pub OpensFile : List ℕ → ℕ → InputState → InputState → Type 0
+OpensFile name room before after =
+    OpensOne name room before after ⊎ (OpensNone before after × OpensInTurn [] before after)

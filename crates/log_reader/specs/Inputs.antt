@@ -1,11 +1,13 @@
 -- The inputs of a log, and why reading them ends as it does.
-use Rattle.std.specs.Prelude.{ℕ, zero, suc, ◌≡◌, ◌≤◌, ◌<◌, ◌⊎◌, ◌+◌, ◌-◌, ◌^◌, min, nat_lt, if◌then◌else◌}
+use Rattle.std.specs.Prelude.{ℕ, ◌≡◌, ◌≤◌, ◌<◌, ◌⊎◌, ◌+◌, ◌-◌, ◌^◌, min, nat_lt, if◌then◌else◌}
 use Rattle.std.specs.Prelude.{List, [], ◌∷◌, length, slice_get, IsTrue, IsSomeAnd, Option, Some, None, option_map}
 use Rattle.std.specs.Io.KnownBytes.{IsAtEnd}
 use Rattle.limits.specs.declared.TheConstants.{MAX_INPUT_BYTES}
 use Rattle.outside.specs.Counts.{Rose}
 use Rattle.outside.specs.Inputs.{Files, InputState, bytes_of}
 use Rattle.outside.specs.Reading.{IfTold, LosesFront}
+use Rattle.outside.specs.Turns.{OpensInTurn}
+pub use Rattle.outside.specs.Turns.{opens_after}
 use Rattle.traces.specs.Words.{Log, log_of}
 use Rattle.log_reader.specs.Reading.{Setting, events_of, first_refusal}
 use Rattle.log_reader.specs.declared.refusal.ReadError.{ReadError}
@@ -48,11 +50,6 @@ pub record Opened (count : ℕ) (old new : InputState) : Type 0 where
   pub opens : new.opens ≡ min (old.opens + count) (2 ^ 64 - 1)
   pub faults : new.faults ≡ old.faults
 
--- how many inputs were opened, after so many more: the count stands still at its type's end
-abbrev pub opens_after : ℕ → ℕ → ℕ
-opens_after opens zero = opens
-opens_after opens (suc count) = min (opens + suc count) (2 ^ 64 - 1)
-
 -- the log is that of the inputs: each was read to its end, and nothing in them is refused
 pub record ReadsLog (s : Setting) (names : List (List ℕ)) (old new : InputState) (log : Log) : Type 0 where
   pub words : SomeContents old.files names (λ contents.
@@ -60,6 +57,7 @@ pub record ReadsLog (s : Setting) (names : List (List ℕ)) (old new : InputStat
       × (log ≡ log_of (events_of s contents)))
   pub opened : Opened (length names) old new
   pub at_end : IsAtEnd new.rest
+  pub turn : OpensInTurn names old new
 
 -- the number of the file with the first byte past so many, counted from 0
 abbrev pub file_past : ℕ → List (List ℕ) → Option ℕ
@@ -87,15 +85,6 @@ abbrev pub IsRefusedAt : Setting → ReadError → ℕ → List (List ℕ) → T
 IsRefusedAt s e number contents =
     (first_refusal s contents ≡ Some e) × (refused_input e contents ≡ Some number)
 
--- the inputs have this first refusal, and those up to the one at which reading stops were opened,
--- and no others
-pub record RefusesLog (s : Setting) (names : List (List ℕ)) (old new : InputState)
-    (e : ReadError) : Type 0 where
-  pub number : ℕ
-  pub few : number < length names
-  pub refusal : SomeContents old.files names (IsRefusedAt s e number)
-  pub opened : Opened (number + 1) old new
-
 -- files are told, the one with this number is the first that is not there, and nothing in those
 -- before it is refused
 abbrev pub IsLacking : Setting → Option Files → List (List ℕ) → ℕ → Type 0
@@ -114,6 +103,21 @@ pub record StopsWithin (number : ℕ) (old new : InputState) (name : List ℕ) :
   pub opens : new.opens ≡ opens_after old.opens (number + 1)
   pub mark : new.mark ≡ old.may_fail name
   pub left : IfTold old.files name (λ content. LosesFront (Some content) new.rest MAX_INPUT_BYTES)
+
+-- the inputs have this first refusal, and those up to the one at which reading stops were opened,
+-- and no others; that one is open, and has left what stands behind some front
+pub record RefusesLog (s : Setting) (names : List (List ℕ)) (old new : InputState)
+    (e : ReadError) : Type 0 where
+  pub number : ℕ
+  pub few : number < length names
+  pub refusal : SomeContents old.files names (IsRefusedAt s e number)
+  pub opened : Opened (number + 1) old new
+  pub stops : IsSomeAnd (slice_get names number) (StopsWithin number old new)
+
+-- no call was made, or the inputs up to some one were opened, and no others, and that one is open
+abbrev pub StopsAnywhere : List (List ℕ) → InputState → InputState → Type 0
+StopsAnywhere names old new =
+    (new ≡ old) ⊎ ((number : ℕ) × IsSomeAnd (slice_get names number) (StopsWithin number old new))
 
 -- a fault was counted, and the input with this number may fail
 abbrev pub MayFail : List (List ℕ) → InputState → InputState → ℕ → Type 0
@@ -136,5 +140,5 @@ IsMissing s names old new number =
 abbrev pub HasReadCause : Setting → List (List ℕ) → InputState → InputState → ReadError → Type 0
 HasReadCause s names old new (refused.ReadFault number) =
     Fails names old new number ⊎ IsMissing s names old new number
-HasReadCause s names old new refused.Memory = Unit {0}
+HasReadCause s names old new refused.Memory = StopsAnywhere names old new
 HasReadCause s names old new e = RefusesLog s names old new e

@@ -6,7 +6,7 @@ ghost use Rattle.limits.specs.declared.TheConstants.{MAX_INPUT_BYTES, MAX_LINE_B
 ghost use Rattle.lines.specs.Lines.{is_feed, line_of};
 ghost use Rattle.outside.specs.Inputs.{Stays};
 ghost use Rattle.log_reader.specs.LineReader.{NextGives, at_start, feed_bytes, unused_lines, without_line};
-ghost use Rattle.log_reader.specs.Buffers.{FillGives, FindsEnd, IsWithinLimits, MissesEnd, PassesLimit, ReadsBehind, part_of};
+ghost use Rattle.log_reader.specs.Buffers.{FillGives, FindsEnd, IsClean, IsWithinLimits, MissesEnd, PassesLimit, ReadsBehind, part_of};
 
 use limits::{MAX_INPUT_BYTES, MAX_LINE_BYTES};
 use lines::without_return;
@@ -81,8 +81,8 @@ pub struct Lines {
     from: usize,
     /// Where it ends.
     to: usize,
-    /// Whether all bytes before that are known to be ASCII.
-    clean: bool,
+    /// From where on all bytes before that are known to be ASCII.
+    clean_from: usize,
     line: Option<Part>,
     fed: bool,
     number: u32,
@@ -108,7 +108,7 @@ impl Model for Lines {
 
     ghost invariant = { λ l.
         IsSound l.buf.items l.from l.to l.line l.number l.taken
-        × IsClean l.clean l.to l.buf.items };
+        × IsClean l.clean_from l.to l.buf.items };
 }
 
 /// Where the first line feed stands, if there is one, by a search from a place before which none stands.
@@ -212,6 +212,21 @@ fn are_clean(bytes: &[u8]) -> bool
     greatest(bytes) < 128
 }
 
+/// From where on the bytes before a place are ASCII, if those before an earlier one are from here on. Only the bytes between the
+/// two are looked at.
+fn clean_after(buf: &[u8], clean_from: usize, held: usize, to: usize) -> usize
+    requires order { held ≤ to }
+    requires inside { to ≤ length buf.now }
+    requires clean { IsClean clean_from held buf.now }
+    ensures { IsClean result to buf.now }
+{
+    if are_clean(&buf[held..to]) {
+        clean_from
+    } else {
+        to
+    }
+}
+
 /// Moves the bytes between two places to the front of a buffer.
 fn to_front(buf: &mut [u8], from: usize, to: usize)
     requires order { from ≤ to }
@@ -236,6 +251,7 @@ fn read_behind<I: Inputs>(
     ensures stays { Stays (I.state inputs.old) (I.state inputs.new) }
     ensures mark { (I.state inputs.new).mark ≡ (I.state inputs.old).mark }
     ensures opens { (I.state inputs.new).opens ≡ (I.state inputs.old).opens }
+    ensures turn { (I.state inputs.new).followed ≡ (I.state inputs.old).followed }
 
     // The bytes that are read, and where they are put.
     ensures size { length buf.new ≡ length buf.old }
@@ -256,7 +272,7 @@ impl Lines {
             buf,
             from: 0,
             to: 0,
-            clean: true,
+            clean_from: 0,
             line: None,
             fed: false,
             number: 0,
@@ -299,11 +315,14 @@ impl Lines {
         }
     }
 
-    /// Whether the current line is known to be ASCII: it is, where it was read with nothing else.
+    /// Whether the current line is known to be ASCII.
     pub(crate) fn is_known_ascii(&self) -> bool
         ensures { result ≡ true → IfSome (self.now).line (λ line. IsAscii line) }
     {
-        self.clean
+        match self.line {
+            Some(part) => part.from >= self.clean_from,
+            None => false,
+        }
     }
 
     /// The number of the current line in its input, from 1: how many of the input's lines were
@@ -330,7 +349,7 @@ impl Lines {
         &self.buf[self.from..self.to]
     }
 
-    /// Reads more of the open input, and says whether there was more.
+    /// Reads more of the open input, and says whether there was more. Of what is buffered only the new bytes are looked at.
     fn fill<I: Inputs>(&mut self, inputs: &mut I) -> Result<bool, Failed>
         requires line { self.old ≡ without_line self.old }
         requires short { length (self.old).buffered ≤ MAX_LINE_BYTES }
@@ -340,18 +359,19 @@ impl Lines {
         ensures stays { Stays (I.state inputs.old) (I.state inputs.new) }
         ensures mark { (I.state inputs.new).mark ≡ (I.state inputs.old).mark }
         ensures opens { (I.state inputs.new).opens ≡ (I.state inputs.old).opens }
+        ensures turn { (I.state inputs.new).followed ≡ (I.state inputs.old).followed }
         ensures gives { FillGives self.old (I.state inputs.old) result
             self.new (I.state inputs.new) }
     {
         let held = self.to - self.from;
         to_front(&mut self.buf, self.from, self.to);
+        self.clean_from = self.clean_from.saturating_sub(self.from);
         self.from = 0;
         self.to = held;
-        self.clean = false;
         let room = (BUFFER_BYTES - held).min(MAX_INPUT_BYTES + 1 - self.taken - held);
         let count = read_behind(inputs, &mut self.buf, held, room)?;
         self.to = held + count;
-        self.clean = are_clean(&self.buf[..self.to]);
+        self.clean_from = clean_after(&self.buf, self.clean_from, held, self.to);
         Ok(count > 0)
     }
 
@@ -363,6 +383,7 @@ impl Lines {
         ensures stays { Stays (I.state inputs.old) (I.state inputs.new) }
         ensures mark { (I.state inputs.new).mark ≡ (I.state inputs.old).mark }
         ensures opens { (I.state inputs.new).opens ≡ (I.state inputs.old).opens }
+        ensures turn { (I.state inputs.new).followed ≡ (I.state inputs.old).followed }
 
         // Where the end is found, and why it is not.
         ensures ok { IfOk result
@@ -448,12 +469,14 @@ impl Lines {
         ensures stays { Stays (I.state inputs.old) (I.state inputs.new) }
         ensures mark { (I.state inputs.new).mark ≡ (I.state inputs.old).mark }
         ensures opens { (I.state inputs.new).opens ≡ (I.state inputs.old).opens }
+        ensures turn { (I.state inputs.new).followed ≡ (I.state inputs.old).followed }
 
         // The line that is given, and what is counted.
         ensures gives { NextGives self.old (I.state inputs.old) result
             self.new (I.state inputs.new) }
         ensures number { (self.new).number ≤ (self.new).taken }
         ensures taken { (self.new).taken ≤ MAX_INPUT_BYTES }
+        ensures within { (self.new).taken + length (self.new).buffered ≤ MAX_INPUT_BYTES + 1 }
     {
         if let Some(length) = self.near_end() {
             self.take(Cut { length, fed: true });

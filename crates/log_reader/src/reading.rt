@@ -2,7 +2,9 @@
 ghost use Rattle.std.specs.Prelude.{◌≡◌, ◌<◌, ◌≤◌, ◌+◌, ◌-◌, ◌^◌, length, slice_get, Some, Err, IfOk, IfErr, OnOk};
 ghost use Rattle.limits.specs.declared.TheConstants.{MAX_INPUT_BYTES};
 ghost use Rattle.outside.specs.Inputs.{Stays};
-ghost use Rattle.log_reader.specs.Files.{ReadsFile, ReadsLines, HasFileCause, HasLinesCause, IsBetween};
+ghost use Rattle.outside.specs.Reading.{LosesFront};
+ghost use Rattle.outside.specs.Turns.{OpensFirst};
+ghost use Rattle.log_reader.specs.Files.{ReadsFile, ReadsLines, HasFileCause, HasLinesCause, IsBetween, OpensFile, OpensOne};
 ghost use Rattle.log_reader.specs.Inputs.{ReadsLog, HasReadCause};
 ghost use Rattle.log_reader.specs.Reading.{setting};
 ghost use Rattle.log_reader.specs.SoFar.{IsReady};
@@ -53,6 +55,9 @@ fn read_lines<I: Inputs>(
     ensures stays { Stays (I.state inputs.old) (I.state inputs.new) }
     ensures mark { (I.state inputs.new).mark ≡ (I.state inputs.old).mark }
     ensures opens { (I.state inputs.new).opens ≡ (I.state inputs.old).opens }
+    ensures turn { (I.state inputs.new).followed ≡ (I.state inputs.old).followed }
+    ensures left { LosesFront (I.state inputs.old).rest (I.state inputs.new).rest
+        (MAX_INPUT_BYTES - (lines.old).taken) }
 
     // The lines that are taken in, and each error with its cause.
     ensures ok { OnOk result (ReadsLines (I.state inputs.old) (I.state inputs.new) number
@@ -117,6 +122,10 @@ fn read_file<I: Inputs>(
     ensures memory { result ≡ Err ReadError.Memory
         → (I.state inputs.new).faults ≡ (I.state inputs.old).faults }
     ensures opens { (I.state inputs.new).opens ≤ (I.state inputs.old).opens + 1 }
+    ensures one { OnOk result (OpensOne name.now (MAX_INPUT_BYTES - (lines.old).taken)
+        (I.state inputs.old) (I.state inputs.new)) }
+    ensures turn { OpensFile name.now (MAX_INPUT_BYTES - (lines.old).taken)
+        (I.state inputs.old) (I.state inputs.new) }
 {
     match inputs.open(name) {
         Ok(()) => {}
@@ -137,6 +146,9 @@ fn read_file<I: Inputs>(
 /// one whose time is bad is refused either way. With `join` the inputs are one log: traces go on
 /// from one to the next, and separators count over all. The events of a trace stand by their times.
 ///
+/// Whatever is answered, the first so many of the inputs were opened, each but the last was read to
+/// its end before the next was opened, and no other input was opened.
+///
 /// - `Ok`: each input was opened and read to its end, nothing in them is refused, and no fault was
 ///   counted.
 /// - `ReadFault`: the inputs before the named one were opened, and no others but that one. Either
@@ -146,9 +158,10 @@ fn read_file<I: Inputs>(
 ///   fault was counted.
 /// - Each other refusal but `Memory` is the first in the order of the bytes. The inputs up to the
 ///   one with the line that is named, or with the byte past the limit on all input, were opened,
-///   and no others, and no fault was counted.
-/// - `Memory`: memory was wanted. No more inputs were opened than there are, and no fault was
-///   counted.
+///   and no others, and no fault was counted. That input stays open, with what follows the prefix
+///   that was read.
+/// - `Memory`: memory was refused. No fault was counted. Either no call of the inputs was made, or
+///   one of them is open, with what follows the prefix that was read of it.
 pub fn read_log<I: Inputs>(
     alloc: Global,
     inputs: &mut I,
@@ -171,6 +184,9 @@ pub fn read_log<I: Inputs>(
         → (I.state inputs.new).faults ≡ (I.state inputs.old).faults }
     ensures opens { (I.state inputs.new).opens
         ≤ (I.state inputs.old).opens + length (names_in names.now) }
+
+    // The first so many inputs were opened, each but the last was read to its end, and no others were.
+    ensures turn { OpensFirst (names_in names.now) (I.state inputs.old) (I.state inputs.new) }
 {
     let mut reader = LogReader::make(alloc, form, ignore, join)?;
     let mut lines = Lines::make(alloc)?;

@@ -1,5 +1,5 @@
 -- A text in memory as the one input of a log's reader: what contracts see of it.
-use Rattle.std.specs.Prelude.{ℕ, List, [], ◌∷◌, Some, false}
+use Rattle.std.specs.Prelude.{ℕ, List, [], ◌∷◌, None, Some, false}
 use Rattle.outside.specs.Inputs.{Files, InputState}
 
 -- what contracts see of the input
@@ -28,4 +28,5 @@ text_state s = record {
   faults = 0;
   may_fail = λ _. false;
   mark = false;
+  followed = None;
 }

@@ -23,6 +23,8 @@ pub record StoredInputs : Type 0 where
   pub opens : ℕ
   -- how many of them failed
   pub faults : ℕ
+  -- how many files, in their order, were opened in turn, each but the last read to its end; none once another was opened
+  pub followed : Option ℕ
 
 -- inputs over these files before the first call, with nothing open
 abbrev pub unused_inputs : Files → ℕ → List ℕ → StoredInputs
@@ -35,6 +37,7 @@ unused_inputs files piece failing =
       calls = 0;
       opens = 0;
       faults = 0;
+      followed = Some 0;
     }
 
 -- what the file at a place has from a byte on
@@ -51,6 +54,7 @@ input_state s = record {
   faults = s.faults;
   may_fail = λ _. true;
   mark = true;
+  followed = s.followed;
 }
 
 -- one more call, which leaves this rest and this count of faults
@@ -58,17 +62,17 @@ abbrev pub after_input : StoredInputs → List ℕ → ℕ → StoredInputs
 after_input old rest faults =
     record old { rest = rest; calls = next_call old.calls; faults = faults }
 
--- what `open(name)` answers, and all that it leaves
+-- what `open(name)` answers, and all that it leaves beside how many files were opened in turn
 abbrev pub OpensStored
     : {T : Type 0} → StoredInputs → List ℕ → Result T OpenError → StoredInputs → Type 0
 OpensStored old name (Ok x) new =
     ¬ FailsNext old.failing old.calls × (bytes_of old.files name ≡ Some new.rest)
-    × (new ≡ record (after_input old new.rest old.faults) { opens = next_call old.opens })
+    × (new ≡ record (after_input old new.rest old.faults) { opens = next_call old.opens; followed = new.followed })
 OpensStored old name (Err Missing) new =
     ¬ FailsNext old.failing old.calls × (bytes_of old.files name ≡ None)
-    × (new ≡ after_input old [] old.faults)
+    × (new ≡ record (after_input old [] old.faults) { followed = new.followed })
 OpensStored old name (Err Failed) new =
-    FailsNext old.failing old.calls × (new ≡ after_input old [] (raised old.faults))
+    FailsNext old.failing old.calls × (new ≡ record (after_input old [] (raised old.faults)) { followed = new.followed })
 
 -- how many bytes a read into this much room gives
 abbrev pub read_count : StoredInputs → ℕ → ℕ

@@ -1,5 +1,5 @@
 -- An input that is read to its end, or to one byte past a limit.
-use Rattle.std.specs.Prelude.{ℕ, ◌≡◌, ◌⊎◌, ◌≤◌, ◌+◌, List, [], length, take, drop, IsTrue, ⊤}
+use Rattle.std.specs.Prelude.{ℕ, ◌≡◌, ◌⊎◌, ◌≤◌, ◌+◌, List, [], ◌∷◌, length, take, drop, IsTrue, ⊤}
 use Rattle.std.specs.Prelude.{Option, Some, None, Result, Ok, Err, Vec}
 use Rattle.std.specs.Io.KnownBytes.{Consumes, IsAtEnd}
 use Rattle.std.specs.declared.alloc.Global.{Global}
@@ -7,6 +7,7 @@ use Rattle.outside.specs.declared.reading.InputError.{InputError}
 use Rattle.outside.specs.declared.reading.InputError.TheVariants.{Missing, Fault, Memory}
 use Rattle.outside.specs.Counts.{Rose, next_call}
 use Rattle.outside.specs.Inputs.{Files, InputState, Lacks, bytes_of}
+use Rattle.outside.specs.Turns.{OpensInTurn}
 
 -- where files are told, the name is among them, and P holds of its bytes
 abbrev pub IfTold : Option Files → List ℕ → (List ℕ → Type 0) → Type 0
@@ -24,6 +25,7 @@ pub record ReadsInput (old new : InputState) (name : List ℕ) (limit : ℕ) (by
   pub told : IfTold old.files name
       (λ content. (bytes ≡ take (limit + 1) content) × (new.rest ≡ Some (drop (limit + 1) content)))
   pub at_end : length bytes ≤ limit → IsAtEnd new.rest
+  pub turn : OpensInTurn (name ∷ []) old new
 
 -- no input was opened, and nothing is open: what is left to read is known to be empty
 pub record OpensNone (old new : InputState) : Type 0 where

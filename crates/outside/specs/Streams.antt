@@ -49,6 +49,7 @@ stream_state s = record {
   faults = s.faults;
   may_fail = λ _. true;
   mark = true;
+  followed = None;
 }
 
 -- what a name opens: the empty name standard input, and each other a file

@@ -1,10 +1,11 @@
 //! Reads a whole input, up to a limit.
 
-ghost use Rattle.std.specs.Prelude.{◌≡◌, ◌≢◌, ◌≤◌, ◌<◌, ◌+◌, ◌^◌, IfOk, OnOk, Err, IsTrue, length};
+ghost use Rattle.std.specs.Prelude.{◌≡◌, ◌≢◌, ◌≤◌, ◌<◌, ◌+◌, ◌^◌, ◌∷◌, [], IfOk, OnOk, Err, IsTrue, length};
 ghost use Rattle.std.specs.Io.KnownBytes.{Consumes, IsAtEnd};
 ghost use Rattle.outside.specs.Counts.{Rose};
 ghost use Rattle.outside.specs.Inputs.{Stays, ReadGives};
 ghost use Rattle.outside.specs.Reading.{InputGives, LosesFront};
+ghost use Rattle.outside.specs.Turns.{OpensFirst};
 
 use crate::{Inputs, OpenError};
 use std::alloc::Global;
@@ -25,6 +26,7 @@ fn read_piece<I: Inputs>(inputs: &mut I, buf: &mut [u8]) -> Result<usize, InputE
     ensures stays { Stays (I.state inputs.old) (I.state inputs.new) }
     ensures opens { (I.state inputs.new).opens ≡ (I.state inputs.old).opens }
     ensures mark { (I.state inputs.new).mark ≡ (I.state inputs.old).mark }
+    ensures turn { (I.state inputs.new).followed ≡ (I.state inputs.old).followed }
     ensures gives { ReadGives (I.state inputs.old) result buf.new (I.state inputs.new) }
     ensures missing { result ≢ Err InputError.Missing }
     ensures memory { result ≢ Err InputError.Memory }
@@ -43,6 +45,7 @@ fn read_rest<I: Inputs>(alloc: Global, inputs: &mut I, limit: usize) -> Result<V
     ensures stays { Stays (I.state inputs.old) (I.state inputs.new) }
     ensures opens { (I.state inputs.new).opens ≡ (I.state inputs.old).opens }
     ensures mark { (I.state inputs.new).mark ≡ (I.state inputs.old).mark }
+    ensures turn { (I.state inputs.new).followed ≡ (I.state inputs.old).followed }
     ensures left { LosesFront (I.state inputs.old).rest (I.state inputs.new).rest limit }
 
     // At Ok the bytes are those that are gone from the rest, and no fault was counted.
@@ -101,6 +104,9 @@ pub fn read_input<I: Inputs>(
     requires { limit < 2 ^ 32 }
     ensures stays { Stays (I.state inputs.old) (I.state inputs.new) }
     ensures gives { InputGives (I.state inputs.old) name.now limit result (I.state inputs.new) }
+
+    // Which inputs were opened.
+    ensures turn { OpensFirst (name.now ∷ []) (I.state inputs.old) (I.state inputs.new) }
 {
     match inputs.open(name) {
         Ok(()) => Ok(read_rest(alloc, inputs, limit)?),

@@ -7,7 +7,7 @@ use Rattle.log_reader.specs.declared.line_reader.LineError.{LineError}
 use Rattle.log_reader.specs.declared.line_reader.LineError.TheVariants.{ReadFault, TooLong, InputLimit}
 use Rattle.log_reader.specs.declared.refusal.ReadError.{ReadError}
 use Rattle.log_reader.specs.declared.refusal.ReadError.TheVariants as refused
-use Rattle.log_reader.proofs.LineByLine.{reading-begins, reading-more, reading-ends, reading-ends-in-line, reading-refused, reading-refused-at, reading-fails}
+use Rattle.log_reader.proofs.LineByLine.{reading-begins, reading-more, reading-ends, reading-ends-in-line, reading-refused, reading-refused-at, reading-fails, front-lost}
 use Rattle.log_reader.proofs.reading.read_lines.Goals as goal
 
 pub lines-init : goal.lines-init
@@ -88,5 +88,35 @@ lines-preserved g c =
     let gives : GivesLine c.lines.lines c.next.new.self before after = subst (λ r. NextGives c.lines.lines before r c.next.new.self after) is c.next.ensures.gives in
     let fed : c.next.new.self.fed ≡ true = sym c.ends_with_feed.ensures ∙ c.if-not-ends_with_feed.false in
     reading-more c.args.number (g.I.Inputs.state c.args.inputs.now) before after c.args.lines.now c.lines.lines c.next.new.self c.args.reader.now reader c.read_line.new.self c.line.result.now c.lines.invariant
-    c.next.ensures.stays c.next.ensures.opens c.next.ensures.mark gives c.next.ensures.taken c.line.ensures fed
+    c.next.ensures.stays c.next.ensures.opens c.next.ensures.turn c.next.ensures.mark gives c.next.ensures.taken c.line.ensures fed
     (subst (λ k. ReadsText (at_line c.args.number k) (decided_line (setting_of reader).form c.line.result.now) reader c.read_line.new.self) c.number.ensures c.in_ok-read_line.ensures.ok)
+
+pub returns-in-Ok-false-clause-left : goal.returns-in-Ok-false-clause-left
+returns-in-Ok-false-clause-left g c =
+    front-lost c.args.number (g.I.Inputs.state c.args.inputs.now) (g.I.Inputs.state c.lines.inputs) (g.I.Inputs.state c.next.new.inputs) c.args.lines.now c.lines.lines c.next.new.self c.args.reader.now c.lines.reader c.next.result
+    c.lines.invariant c.next.ensures.within c.next.ensures.gives
+
+pub returns-in-Err-ReadFault-clause-left : goal.returns-in-Err-ReadFault-clause-left
+returns-in-Err-ReadFault-clause-left g c =
+    front-lost c.args.number (g.I.Inputs.state c.args.inputs.now) (g.I.Inputs.state c.lines.inputs) (g.I.Inputs.state c.next.new.inputs) c.args.lines.now c.lines.lines c.next.new.self c.args.reader.now c.lines.reader c.next.result
+    c.lines.invariant c.next.ensures.within c.next.ensures.gives
+
+pub returns-in-Err-TooLong-clause-left : goal.returns-in-Err-TooLong-clause-left
+returns-in-Err-TooLong-clause-left g c =
+    front-lost c.args.number (g.I.Inputs.state c.args.inputs.now) (g.I.Inputs.state c.lines.inputs) (g.I.Inputs.state c.next.new.inputs) c.args.lines.now c.lines.lines c.next.new.self c.args.reader.now c.lines.reader c.next.result
+    c.lines.invariant c.next.ensures.within c.next.ensures.gives
+
+pub returns-in-Err-InputLimit-clause-left : goal.returns-in-Err-InputLimit-clause-left
+returns-in-Err-InputLimit-clause-left g c =
+    front-lost c.args.number (g.I.Inputs.state c.args.inputs.now) (g.I.Inputs.state c.lines.inputs) (g.I.Inputs.state c.next.new.inputs) c.args.lines.now c.lines.lines c.next.new.self c.args.reader.now c.lines.reader c.next.result
+    c.lines.invariant c.next.ensures.within c.next.ensures.gives
+
+pub returns-in_err-read_line-clause-left : goal.returns-in_err-read_line-clause-left
+returns-in_err-read_line-clause-left g c =
+    front-lost c.args.number (g.I.Inputs.state c.args.inputs.now) (g.I.Inputs.state c.lines.inputs) (g.I.Inputs.state c.next.new.inputs) c.args.lines.now c.lines.lines c.next.new.self c.args.reader.now c.lines.reader c.next.result
+    c.lines.invariant c.next.ensures.within c.next.ensures.gives
+
+pub returns-then-not-ends_with_feed-clause-left : goal.returns-then-not-ends_with_feed-clause-left
+returns-then-not-ends_with_feed-clause-left g c =
+    front-lost c.args.number (g.I.Inputs.state c.args.inputs.now) (g.I.Inputs.state c.lines.inputs) (g.I.Inputs.state c.next.new.inputs) c.args.lines.now c.lines.lines c.next.new.self c.args.reader.now c.lines.reader c.next.result
+    c.lines.invariant c.next.ensures.within c.next.ensures.gives

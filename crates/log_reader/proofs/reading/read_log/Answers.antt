@@ -4,7 +4,7 @@ use Rattle.std.specs.String.{string_bytes}
 use Rattle.log_reader.specs.Views.{names_in}
 use Rattle.limits.specs.declared.TheConstants.{MAX_INPUT_BYTES}
 use Rattle.log_reader.specs.LineReader.{SeenLines}
-use Rattle.log_reader.proofs.InputByInput.{IsUpTo, count-inputs, up-to-none, up-to-more, up-to-end, opened-few, stays-on}
+use Rattle.log_reader.proofs.InputByInput.{IsUpTo, count-inputs, up-to-none, up-to-more, up-to-end, up-to-all, up-to-opens, opened-few, stays-on}
 use Rattle.log_reader.proofs.WhyRefused.{up-to-cause}
 use Rattle.log_reader.proofs.reading.read_log.Goals as goal
 
@@ -32,7 +32,7 @@ pub loop-number-preserved : goal.loop-number-preserved
 loop-number-preserved g c = record {
   inputs = up-to-more _ _ c.loop-number.number _ (g.I.Inputs.state c.loop-number.inputs) (g.I.Inputs.state c.read_file.new.inputs) c.loop-number.reader c.read_file.new.reader
       (MAX_INPUT_BYTES - c.loop-number.lines.taken) (MAX_INPUT_BYTES - c.read_file.new.lines.taken) c.name_at-name.result.now
-      c.loop-number.invariant.inputs c.name_at-name.ensures c.in_ok-read_file.ensures.stays c.in_ok-read_file.ensures.ok;
+      c.loop-number.invariant.inputs c.name_at-name.ensures c.in_ok-read_file.ensures.stays c.in_ok-read_file.ensures.ok c.in_ok-read_file.ensures.one;
   lines = c.in_ok-read_file.ensures.between;
 }
 
@@ -54,3 +54,22 @@ returns-in_err-finish-clause-opens g c =
     let k = c.loop-number.number in
     let all : k ≡ length (names_in c.args.names.now) = omega (arith, c.count_of-count.ensures.value, c.loop-number.auto.number-end, c.loop-number-test.false) in
     omega (arith, all, opened-few (g.I.Inputs.state c.args.inputs.now).opens (g.I.Inputs.state c.loop-number.inputs).opens k c.loop-number.invariant.inputs.none c.loop-number.invariant.inputs.some)
+
+pub returns-clause-turn : goal.returns-clause-turn
+returns-clause-turn g c =
+    let k = c.loop-number.number in
+    let all : k ≡ length (names_in c.args.names.now) = omega (arith, c.count_of-count.ensures.value, c.loop-number.auto.number-end, c.loop-number-test.false) in
+    let some : 0 < length (names_in c.args.names.now) = omega (arith, count-inputs (map string_bytes c.args.names.now)) in
+    up-to-all _ _ k _ (g.I.Inputs.state c.loop-number.inputs) c.loop-number.reader (MAX_INPUT_BYTES - c.loop-number.lines.taken) c.loop-number.invariant.inputs all (omega (arith, all, some))
+
+pub returns-in_err-finish-clause-turn : goal.returns-in_err-finish-clause-turn
+returns-in_err-finish-clause-turn g c =
+    let k = c.loop-number.number in
+    let all : k ≡ length (names_in c.args.names.now) = omega (arith, c.count_of-count.ensures.value, c.loop-number.auto.number-end, c.loop-number-test.false) in
+    let some : 0 < length (names_in c.args.names.now) = omega (arith, count-inputs (map string_bytes c.args.names.now)) in
+    up-to-all _ _ k _ (g.I.Inputs.state c.loop-number.inputs) c.loop-number.reader (MAX_INPUT_BYTES - c.loop-number.lines.taken) c.loop-number.invariant.inputs all (omega (arith, all, some))
+
+pub returns-in_err-read_file-clause-turn : goal.returns-in_err-read_file-clause-turn
+returns-in_err-read_file-clause-turn g c =
+    up-to-opens _ _ c.loop-number.number _ (g.I.Inputs.state c.loop-number.inputs) (g.I.Inputs.state c.read_file.new.inputs) c.loop-number.reader (MAX_INPUT_BYTES - c.loop-number.lines.taken) c.name_at-name.result.now
+    c.loop-number.invariant.inputs c.name_at-name.ensures c.read_file.ensures.turn

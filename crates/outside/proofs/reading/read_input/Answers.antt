@@ -13,6 +13,7 @@ returns-in_ok-read_rest-in-Ok-clause-gives g c =
       short = read.short;
       told = told-read _ _ _ _ c.in_ok-read_rest-in-Ok.field-0.items _ opened.0 read.read read.short read.at_end;
       at_end = read.at_end;
+      turn = read.turn ∙ c.in-Ok.ensures.turn;
     }
 
 pub returns-in-Err-Missing-clause-gives : goal.returns-in-Err-Missing-clause-gives

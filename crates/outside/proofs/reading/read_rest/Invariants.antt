@@ -9,6 +9,7 @@ invariant-loop-buf g l = record {
   opens : (g.I.Inputs.state l.inputs).opens ≡ (g.I.Inputs.state l.initial.inputs).opens;
   no_fault : (g.I.Inputs.state l.inputs).faults ≡ (g.I.Inputs.state l.initial.inputs).faults;
   mark : (g.I.Inputs.state l.inputs).mark ≡ (g.I.Inputs.state l.initial.inputs).mark;
+  turn : (g.I.Inputs.state l.inputs).followed ≡ (g.I.Inputs.state l.initial.inputs).followed;
   read : Consumes (g.I.Inputs.state l.initial.inputs).rest (g.I.Inputs.state l.inputs).rest l.bytes.items;
   short : vec_len l.bytes ≤ l.limit + 1;
 }

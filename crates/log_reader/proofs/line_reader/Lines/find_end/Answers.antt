@@ -10,7 +10,7 @@ use Rattle.log_reader.proofs.line_reader.Lines.find_end.Goals as goal
 pub loop-length-preserved : goal.loop-length-preserved
 loop-length-preserved g c =
     let held = c.buffered-held.ensures.value in
-    searches-on _ _ _ _ _ _ c.loop-length.searched (length c.buffered-held.result.now) c.in-Ok-true.field-0 c.loop-length.invariant c.fill.ensures.stays c.fill.ensures.mark c.fill.ensures.opens c.in-Ok-true.ensures.gives
+    searches-on _ _ _ _ _ _ c.loop-length.searched (length c.buffered-held.result.now) c.in-Ok-true.field-0 c.loop-length.invariant c.fill.ensures.stays c.fill.ensures.mark c.fill.ensures.opens c.fill.ensures.turn c.in-Ok-true.ensures.gives
     (ap length held) (subst (λ bs. position_or_len is_feed bs ≡ length bs) held c.in_default.ensures.none)
 
 pub returns-in_err-within_limits-clause-err : goal.returns-in_err-within_limits-clause-err
