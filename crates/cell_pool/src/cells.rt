@@ -1,5 +1,5 @@
 //! Cells in lists, each in one list at any time.
-ghost use Rattle.std.specs.Prelude.{◌≡◌, ◌≢◌, ℕ, ◌+◌, ◌-◌, ◌<◌, ◌≤◌, [], ◌∷◌, ◌++◌, Some, None, length, map, replicate, slice_get, slice_set, nat_lt, if◌then◌else◌, IfOk, Contains};
+ghost use Rattle.std.specs.Prelude.{◌≡◌, ◌≢◌, ℕ, ◌+◌, ◌-◌, ◌^◌, ◌<◌, ◌≤◌, [], ◌∷◌, ◌++◌, Some, None, length, map, replicate, slice_get, slice_set, nat_lt, if◌then◌else◌, IfOk, Contains};
 ghost use Rattle.std.specs.List.{range_with_len};
 ghost use Rattle.cell_pool.specs.Tables.{row_at, without, StandsIn, HasCells, KeepsCells};
 ghost use Rattle.cell_pool.specs.Chains.{next_at_start, prev_at_start};
@@ -95,17 +95,16 @@ fn all_prev(alloc: Global, cells: u32, nodes: u32) -> Result<Vec<u32>, AllocErro
 }
 
 impl Cells {
-    /// This many cells, all of them in list 0 and ascending, and this many lists, at least one. This alone takes memory:
-    /// `AllocError` comes where there is not enough, and where cells and lists together are 2^32 or more.
+    /// This many cells, all of them in list 0 and ascending, and this many lists, at least one. Cells and lists together are
+    /// fewer than 2^32. This alone takes memory: `AllocError` comes only where there is not enough.
     pub fn make(alloc: Global, cells: u32, lists: u32) -> Result<Cells, AllocError>
-        requires { 1 ≤ lists }
+        requires some { 1 ≤ lists }
+        requires few { cells + lists < 2 ^ 32 }
         ensures lists { IfOk result
             (λ made. made ≡ range_with_len 0 cells ∷ replicate (lists - 1) []) }
         ensures cells { IfOk result (λ made. HasCells made cells) }
     {
-        let Some(nodes) = cells.checked_add(lists) else {
-            return Err(AllocError);
-        };
+        let nodes = cells + lists;
         let next = all_next(alloc, cells, nodes)?;
         let prev = all_prev(alloc, cells, nodes)?;
         Ok(Cells {

@@ -22,3 +22,4 @@ pub mod Sorting
 pub mod Dividing
 pub mod Copied
 pub mod Sharing
+pub mod Seeding

@@ -4,6 +4,7 @@ use Rattle.std.specs.List.{flat_map}
 use Rattle.std.specs.Borrow.{Bor}
 use Rattle.limits.specs.declared.TheConstants.{FIRST_TYPE}
 use Rattle.traces.specs.Words.{Log}
+use Rattle.seeded_hash.specs.Seeds.{list_bytes}
 use Rattle.partition_graph.specs.declared.cells.Cell.{Cell}
 use Rattle.partition_graph.specs.Cells.{cells_of, IsGathered}
 use Rattle.partition_graph.specs.Parts.{inner_words_of}
@@ -50,3 +51,7 @@ pub record Begin (firsts : List ℕ) (traces : List (List Cell)) : Type 0 where
 -- the traces with these numbers, one for each number
 abbrev pub picked : List ℕ → List (List Cell) → List (List Cell)
 picked numbers traces = map (λ k. slice_index_or traces k []) numbers
+
+-- the words of a log as bytes, each with a mark of its end
+abbrev pub words_bytes : Log → List ℕ
+words_bytes log = flat_map list_bytes (inner_words_of log)

@@ -6,8 +6,10 @@ ghost use Rattle.partition_graph.specs.Cells.{cells_of, id_behind, IsGatheredOf}
 ghost use Rattle.partition_graph.specs.Counts.{before_next, id_before};
 ghost use Rattle.partition_graph.specs.Shared.{joined_traces, picked, trace_cells, words_in, AreShared, Begin, IsNoted};
 
+use crate::seed::seed_of;
 use indexmap::IndexSet;
 use limits::{INITIAL, TERMINAL};
+use seeded_hash::Seed;
 use std::alloc::{AllocError, Global};
 use traces::TraceSet;
 
@@ -64,11 +66,12 @@ pub fn gather_shared(alloc: Global, traces: &TraceSet) -> Result<SharedCells, Al
         (λ s. (words : List (List ℕ)) × AreShared traces.now (length traces.now.traces) words s.cells.items s.firsts.items s.numbers.items) }
     ensures few { IfOk result (λ s. length s.cells.items ≤ MAX_EVENTS) }
 {
+    let seed = seed_of(alloc, traces)?;
     // Room that no event needs is never touched.
     let mut cells = Vec::with_capacity(alloc, traces.event_count() as usize)?;
     let mut numbers = Vec::with_capacity(alloc, traces.trace_count() as usize)?;
     let mut firsts = Vec::new(alloc);
-    let mut words = IndexSet::new(alloc);
+    let mut words = IndexSet::with_hasher(alloc, seed);
     let noted = note_all(&mut words, &mut cells, &mut firsts, &mut numbers, traces);
     drop(words);
     noted?;
@@ -81,7 +84,7 @@ pub fn gather_shared(alloc: Global, traces: &TraceSet) -> Result<SharedCells, Al
 
 /// Notes the word of each trace, and puts its place behind the other numbers.
 fn note_all<'a>(
-    words: &mut IndexSet<&'a [u16]>,
+    words: &mut IndexSet<&'a [u16], Seed>,
     cells: &mut Vec<Cell>,
     firsts: &mut Vec<u32>,
     numbers: &mut Vec<u32>,
@@ -107,7 +110,7 @@ fn note_all<'a>(
 /// The place of a word among those that were noted: where it is new it is noted as the last one, and its cells stand
 /// behind the others.
 fn note<'a>(
-    words: &mut IndexSet<&'a [u16]>,
+    words: &mut IndexSet<&'a [u16], Seed>,
     cells: &mut Vec<Cell>,
     firsts: &mut Vec<u32>,
     word: &'a [u16],

@@ -8,6 +8,7 @@ mod graph;
 mod law;
 mod links;
 mod merged;
+mod seed;
 mod tables;
 mod view;
 

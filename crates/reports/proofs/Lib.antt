@@ -1,5 +1,6 @@
 pub mod Counted
 pub mod Found
 pub mod Noted
+pub mod Seeding
 pub mod Stepped
 pub mod Traced

@@ -4,6 +4,7 @@ use Rattle.std.specs.List.{zip}
 use Rattle.std.specs.Str.{bytes_eq}
 use Rattle.std.specs.Borrow.{Bor}
 use Rattle.traces.specs.Words.{Trace, Log, first_met}
+use Rattle.seeded_hash.specs.Seeds.{list_bytes}
 use Rattle.reports.specs.Reports.{name_of}
 use Rattle.reports.specs.declared.taken.TakenPath.{TakenPath}
 
@@ -85,3 +86,7 @@ with_path [] p = record { path = p; count = 1 } ∷ []
 with_path (t ∷ ts) p =
     if same_ids p t.path then record { path = t.path; count = t.count + 1 } ∷ ts
     else t ∷ with_path ts p
+
+-- the ids of paths as bytes, each list with a mark of its end
+abbrev pub paths_bytes : List TracePath → List ℕ
+paths_bytes paths = flat_map (λ p. list_bytes p.ids) paths

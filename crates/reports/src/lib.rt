@@ -8,6 +8,7 @@ mod name;
 mod number;
 mod partitions;
 mod path;
+mod seed;
 mod taken;
 
 pub use graph::graph_report;

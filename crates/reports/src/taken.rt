@@ -3,7 +3,9 @@ ghost use Rattle.std.specs.Prelude.{◌≡◌, ◌+◌, ◌^◌, ◌<◌, OnOk, 
 ghost use Rattle.traces.specs.Words.{event_count_of};
 ghost use Rattle.reports.specs.Paths.{paths_of, shown, taken, total, trace_path, with_path, AreKeys};
 
+use crate::seed::seed_of;
 use indexmap::IndexSet;
+use seeded_hash::Seed;
 use std::alloc::{AllocError, Global};
 use traces::TraceSet;
 
@@ -21,7 +23,7 @@ pub struct TakenPath<'a> {
 /// Counts one more trace that takes a path: with those of the same ids, or else as the first of a new path at the end.
 /// The lists of ids of the paths stand in `lists`, in the same order.
 fn note<'a>(
-    lists: &mut IndexSet<&'a [u32]>,
+    lists: &mut IndexSet<&'a [u32], Seed>,
     paths: &mut Vec<TakenPath<'a>>,
     types: &'a [u16],
     ids: &'a [u32],
@@ -55,7 +57,7 @@ pub fn taken_paths<'a>(
     ensures { IfOk result (λ paths. map shown paths.items
         ≡ taken (paths_of (traces.now).traces parts.now)) }
 {
-    let mut lists = IndexSet::new(alloc);
+    let mut lists = IndexSet::with_hasher(alloc, seed_of(alloc, traces, parts)?);
     let mut paths = Vec::new(alloc);
     let mut rest = parts;
     for t in 0..traces.trace_count() {
