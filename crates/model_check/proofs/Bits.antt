@@ -1,12 +1,12 @@
 -- What a write leaves in the rows, place by place.
-use Rattle.std.proofs.Common.{◌≡◌, ◌≢◌, ℕ, ◌<◌, ◌≤◌, ◌==◌, ◌&&◌, ◌||◌, Bool, true, false, List, [], Option, Some, None, length, set, replicate, refl, sym, ◌∙◌, ap, ap₂, arith, inl, inr, eq-eqb, ne_eqb}
+use Rattle.std.proofs.Common.{◌≡◌, ◌≢◌, ℕ, ◌<◌, ◌≤◌, ◌==◌, ◌&&◌, ◌||◌, not, Bool, true, false, List, [], Option, Some, None, length, set, replicate, refl, sym, ◌∙◌, ap, ap₂, arith, inl, inr, eq-eqb, ne_eqb}
 use Rattle.std.proofs.lemmas.Bool.{cases_eq, cases_lt}
 use Rattle.std.proofs.Math.Bool.{or-false, or-true}
 use Rattle.std.proofs.lemmas.List.{get_or-set_same, get_or-set_other, get_or-replicate, get_or_past, length-replicate}
 use Rattle.std.proofs.lemmas.Simd.{length-zip2}
 use Rattle.std.specs.Prelude.{MatchOption}
 use Rattle.limits.specs.declared.TheConstants.{MAX_PARTITIONS}
-use Rattle.bit_rows.specs.Tables.{row_at, is_set, HasShape, IsNextSet, either, both}
+use Rattle.bit_rows.specs.Tables.{row_at, is_set, HasShape, IsNextSet, either, both, without}
 use Rattle.bit_rows.proofs.Done.{is_set-zip2}
 use Rattle.model_check.specs.declared.rows.IdRows.{IdRows}
 use Rattle.model_check.specs.declared.sets.TheConstants.{ROWS}
@@ -65,6 +65,16 @@ module _ (rows : List (List Bool)) (n m r : ℕ) (shape : HasShape rows n m) (wi
       this-row (either (row_at rows r) (both (row_at rows a) (row_at rows mask))) k
       ∙ is_set-zip2 (λ x y. x || y) refl (row_at rows r) (both (row_at rows a) (row_at rows mask)) k (u ∙ sym (length-zip2 (λ x y. x && y) (row_at rows a) (row_at rows mask) (v ∙ sym w) ∙ v))
       ∙ ap (λ x. cell rows r k || x) (is_set-zip2 (λ x y. x && y) refl (row_at rows a) (row_at rows mask) k (v ∙ sym w))
+
+  -- and those that the one has and the other lacks
+  pub join-without-bit : (a b k : ℕ) → a < n → b < n → cell (set rows r (either (row_at rows r) (without (row_at rows a) (row_at rows b)))) r k ≡ (cell rows r k || (cell rows a k && not (cell rows b k)))
+  join-without-bit a b k ha hb =
+      let u : length (row_at rows r) ≡ m = shape.long r within in
+      let v : length (row_at rows a) ≡ m = shape.long a ha in
+      let w : length (row_at rows b) ≡ m = shape.long b hb in
+      this-row (either (row_at rows r) (without (row_at rows a) (row_at rows b))) k
+      ∙ is_set-zip2 (λ x y. x || y) refl (row_at rows r) (without (row_at rows a) (row_at rows b)) k (u ∙ sym (length-zip2 (λ x y. x && not y) (row_at rows a) (row_at rows b) (v ∙ sym w) ∙ v))
+      ∙ ap (λ x. cell rows r k || x) (is_set-zip2 (λ x y. x && not y) refl (row_at rows a) (row_at rows b) k (v ∙ sym w))
 
 -- in a new table no bit is on
 pub no-bit : (n m r k : ℕ) → cell (replicate n (replicate m false)) r k ≡ false

@@ -1,15 +1,14 @@
 -- The word of a trace, followed by sets of ids.
-use Rattle.std.proofs.Common.{◌≡◌, ◌↔◌, ℕ, ◌+◌, ◌<◌, ◌&&◌, nat_lt, Bool, true, List, [], ◌∷◌, ◌++◌, Option, Some, None, refl, sym, ◌∙◌, ap, ap₂, inl, inr, arith, get_or, true≢false, eq-eqb, eqb-true, lt-ltb, le-ltb}
-use Rattle.std.specs.Prelude.{IfSome}
+use Rattle.std.proofs.Common.{◌≡◌, ◌≢◌, ◌↔◌, ℕ, ◌+◌, ◌<◌, ◌&&◌, nat_lt, Bool, true, List, [], ◌∷◌, ◌++◌, refl, sym, ◌∙◌, ap, ap₂, ◌≤◌, inl, inr, arith, get_or, eq-eqb, eqb-true, lt-ltb, le-ltb}
 use Rattle.std.proofs.lemmas.Bool.{and_parts, cases_lt}
 use Rattle.limits.specs.declared.TheConstants.{INITIAL, TERMINAL, MAX_PARTITIONS}
 use Rattle.partition_model.specs.Graphs.{Graph, Walk, IsPath, word, Accepts}
 use Rattle.partition_model.specs.Assignments.{with_ends}
 use Rattle.model_check.specs.declared.rows.IdRows.{IdRows}
-use Rattle.model_check.specs.declared.sets.TheConstants.{MEMBERS, LISTED, NOW, ROWS, TYPES}
+use Rattle.model_check.specs.declared.sets.TheConstants.{MEMBERS, LISTED, NEXT, LOOSE, ROOM, TYPES}
 use Rattle.model_check.specs.Rows.{bit, shown, IsLaid}
-use Rattle.model_check.specs.InHand.{in_hand, IsEnteredFrom}
-use Rattle.model_check.proofs.Bits.{none-past}
+use Rattle.model_check.specs.Successors.{in_set, IsEnteredFrom, IsSet}
+use Rattle.model_check.proofs.Numbers.{set-within}
 
 -- from some id of the set goes a walk with these types that ends at TERMINAL
 abbrev pub Continues : Graph → (ℕ → Bool) → List ℕ → Type 0
@@ -56,47 +55,35 @@ follow_end g set = (λ o. there o, λ e. (TERMINAL, [], e, refl, refl))
     there (p, [], s, w, e) = ap set (sym w) ∙ s
     there (p, x ∷ xs, s, w, e) = absurd (cc e)
 
--- what lies in the rows, the set in hand, and the word as far as it was followed
-pub record IsFollowed (g : Graph) (whole : List ℕ) (types : List ℕ) (rows : IdRows) (hand : Option ℕ) (rest : List ℕ) : Type 0 where
+-- what lies in the rows, the number of the set in hand, and the word as far as it was followed
+pub record IsFollowed (g : Graph) (whole : List ℕ) (types : List ℕ) (rows : IdRows) (kept set : ℕ) (rest : List ℕ) : Type 0 where
   pub laid : IsLaid types rows
   pub shows : shown (record { types = types; rows = rows.bits }) ≡ g
-  pub within : IfSome hand (λ p. p < MAX_PARTITIONS)
-  pub tells : Accepts g (with_ends whole) ↔ Continues g (in_hand rows hand) rest
-
--- an id that is on has a place in the row
-pub bit-within : (rows : IdRows) (r q : ℕ) → r < ROWS → bit rows r q ≡ true → q < MAX_PARTITIONS
-bit-within rows r q h e =
-    elim (cases_lt q MAX_PARTITIONS) [
-      | inl l ↦ l
-      | inr p ↦ absurd (true≢false (sym e ∙ none-past rows r q h p))
-    ]
-
--- an id in hand has a place in the rows
-in-hand-within : (rows : IdRows) (hand : Option ℕ) (p : ℕ) → IfSome hand (λ q. q < MAX_PARTITIONS) → in_hand rows hand p ≡ true → p < MAX_PARTITIONS
-in-hand-within rows None p w e = bit-within rows NOW p (omega arith) e
-in-hand-within rows (Some q) p w e =
-    let same : p ≡ q = eqb-true p q e in
-    let l : q < MAX_PARTITIONS = w in
-    omega arith
+  pub number : IsSet (ROOM + 1) set
+  pub known : set ≢ LOOSE → IsSet kept set
+  pub tells : Accepts g (with_ends whole) ↔ Continues g (in_set rows set) rest
 
 -- what the next set has, in the words of the graph
-entered-is : (g : Graph) (types : List ℕ) (rows : IdRows) (hand : Option ℕ) (x q : ℕ) → IsLaid types rows → shown (record { types = types; rows = rows.bits }) ≡ g → IfSome hand (λ p. p < MAX_PARTITIONS)
+entered-is : (g : Graph) (types : List ℕ) (rows : IdRows) (set x q : ℕ) → IsLaid types rows → shown (record { types = types; rows = rows.bits }) ≡ g → IsSet (ROOM + 1) set
     → 0 < x → x < TYPES
-    → IsEnteredFrom (in_hand rows hand) rows x q ↔ ((p : ℕ) × (in_hand rows hand p ≡ true) × (g.edge p q ≡ true) × (g.typ q ≡ x))
-entered-is g types rows hand x q laid s within low high = (
+    → IsEnteredFrom (in_set rows set) rows x q ↔ ((p : ℕ) × (in_set rows set p ≡ true) × (g.edge p q ≡ true) × (g.typ q ≡ x))
+entered-is g types rows set x q laid s number low high = (
   λ o.
-      let l : o.0 < MAX_PARTITIONS = in-hand-within rows hand o.0 within o.1 in
+      let l : o.0 < MAX_PARTITIONS = set-within rows (ROOM + 1) set o.0 small number o.1 in
       (o.0, o.1, sym (edges o.0) ∙ rw (lt-ltb o.0 MAX_PARTITIONS l) o.2, sym (ap (λ (h : Graph). h.typ q) s) ∙ eqb-true _ x (sym (laid.members x q low high) ∙ o.3)),
   λ o.
       let both = and_parts (nat_lt o.0 MAX_PARTITIONS) (bit rows o.0 q) (edges o.0 ∙ o.2) in
       (o.0, o.1, both.1, laid.members x q low high ∙ eq-eqb _ x (ap (λ (h : Graph). h.typ q) s ∙ o.3)),
 )
   where
+    small : ROOM + 1 ≤ ROOM + 1
+    small = omega arith
+
     edges : (p : ℕ) → (nat_lt p MAX_PARTITIONS && bit rows p q) ≡ g.edge p q
     edges p = ap (λ (h : Graph). h.edge p q) s
 
 -- rows that agree below the sets show the same graph
-pub still-shown : (types : List ℕ) (old new : IdRows) → ((r k : ℕ) → r < NOW → bit new r k ≡ bit old r k) → shown (record { types = types; rows = new.bits }) ≡ shown (record { types = types; rows = old.bits })
+pub still-shown : (types : List ℕ) (old new : IdRows) → ((r k : ℕ) → r < NEXT → bit new r k ≡ bit old r k) → shown (record { types = types; rows = new.bits }) ≡ shown (record { types = types; rows = old.bits })
 still-shown types old new same =
     λ i. record {
       typ = λ p. get_or types p 0;
@@ -112,7 +99,7 @@ still-shown types old new same =
         ]
 
 -- rows that agree below the sets have the same ids in the row of each type
-pub still-laid : (types : List ℕ) (old new : IdRows) → IsLaid types old → ((r k : ℕ) → r < NOW → bit new r k ≡ bit old r k) → IsLaid types new
+pub still-laid : (types : List ℕ) (old new : IdRows) → IsLaid types old → ((r k : ℕ) → r < NEXT → bit new r k ≡ bit old r k) → IsLaid types new
 still-laid types old new laid same =
     record {
       size = laid.size;
@@ -120,31 +107,33 @@ still-laid types old new laid same =
     }
 
 -- one type further the set in hand is the next one, and the word goes on from it
-pub follow_more : (g : Graph) (whole types : List ℕ) (old new : IdRows) (from to : Option ℕ) (x : ℕ) (rest : List ℕ) → 0 < x → x < TYPES
-    → ((r k : ℕ) → r < NOW → bit new r k ≡ bit old r k) → IfSome to (λ p. p < MAX_PARTITIONS)
-    → ((q : ℕ) → (in_hand new to q ≡ true) ↔ IsEnteredFrom (in_hand old from) old x q)
-    → IsFollowed g whole types old from (x ∷ rest) → IsFollowed g whole types new to rest
-follow_more g whole types old new from to x rest low high same within set f =
-    let next : IsNextSet g (in_hand old from) x (in_hand new to) = λ q.
-    let e = entered-is g types old from x q f.laid f.shows f.within low high in
-    (λ b. e.0 ((set q).0 b), λ o. (set q).1 (e.1 o)) in
+pub follow_more : (g : Graph) (whole types : List ℕ) (old new : IdRows) (kept more from to x : ℕ) (rest : List ℕ) → 0 < x → x < TYPES
+    → ((r k : ℕ) → r < NEXT → bit new r k ≡ bit old r k) → IsSet (ROOM + 1) to → (to ≢ LOOSE → IsSet more to)
+    → ((q : ℕ) → (in_set new to q ≡ true) ↔ IsEnteredFrom (in_set old from) old x q)
+    → IsFollowed g whole types old kept from (x ∷ rest) → IsFollowed g whole types new more to rest
+follow_more g whole types old new kept more from to x rest low high same number known entered f =
+    let next : IsNextSet g (in_set old from) x (in_set new to) = λ q.
+    let e = entered-is g types old from x q f.laid f.shows f.number low high in
+    (λ b. e.0 ((entered q).0 b), λ o. (entered q).1 (e.1 o)) in
     record {
       laid = still-laid types old new f.laid same;
       shows = still-shown types old new same ∙ f.shows;
-      within = within;
+      number = number;
+      known = known;
       tells = (
-        λ a. goes-on g (in_hand old from) (in_hand new to) x rest next (f.tells.0 a),
-        λ k. f.tells.1 (goes-back g (in_hand old from) (in_hand new to) x rest next k),
+        λ a. goes-on g (in_set old from) (in_set new to) x rest next (f.tells.0 a),
+        λ k. f.tells.1 (goes-back g (in_set old from) (in_set new to) x rest next k),
       );
     }
 
 -- before the first type the set in hand is INITIAL alone
-pub follow_first : (g : Graph) (whole types : List ℕ) (rows : IdRows) → IsLaid types rows → shown (record { types = types; rows = rows.bits }) ≡ g → g.typ INITIAL ≡ INITIAL
-    → IsFollowed g whole types rows (Some INITIAL) (whole ++ TERMINAL ∷ [])
-follow_first g whole types rows laid shows ty =
+pub follow_first : (g : Graph) (whole types : List ℕ) (rows : IdRows) (kept : ℕ) → IsLaid types rows → shown (record { types = types; rows = rows.bits }) ≡ g → g.typ INITIAL ≡ INITIAL
+    → IsFollowed g whole types rows kept INITIAL (whole ++ TERMINAL ∷ [])
+follow_first g whole types rows kept laid shows ty =
     record {
       laid = laid;
       shows = shows;
-      within = omega arith;
-      tells = follow_start g (in_hand rows (Some INITIAL)) (whole ++ TERMINAL ∷ []) ty (λ q. (λ e. eqb-true q INITIAL e, λ e. eq-eqb q INITIAL e));
+      number = (omega arith, λ m. absurd (let l : MAX_PARTITIONS ≤ INITIAL = m in omega arith));
+      known = λ n. (omega arith, λ m. absurd (let l : MAX_PARTITIONS ≤ INITIAL = m in omega arith));
+      tells = follow_start g (in_set rows INITIAL) (whole ++ TERMINAL ∷ []) ty (λ q. (λ e. eqb-true q INITIAL e, λ e. eq-eqb q INITIAL e));
     }

@@ -10,5 +10,6 @@ pub mod Inductive
 pub mod Breaking
 pub mod Opening
 pub mod Reading
+pub mod Numbers
 pub mod Stepping
 pub mod Together

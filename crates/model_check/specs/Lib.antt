@@ -2,5 +2,5 @@ pub mod Verdicts
 pub mod States
 pub mod Rows
 pub mod Pairs
-pub mod InHand
+pub mod Successors
 pub mod Columns

@@ -7,7 +7,7 @@ use Rattle.bit_rows.specs.Tables.{row_at, is_set}
 use Rattle.partition_model.specs.Graphs.{Graph}
 use Rattle.model_shape.specs.Shapes.{is_listed}
 use Rattle.model_check.specs.declared.rows.IdRows.{IdRows}
-use Rattle.model_check.specs.declared.sets.TheConstants.{MEMBERS, LISTED, NOW, TYPES}
+use Rattle.model_check.specs.declared.sets.TheConstants.{MEMBERS, LISTED, TYPES}
 
 -- the truth value at place k of row r
 abbrev pub cell : List (List Bool) → ℕ → ℕ → Bool
@@ -42,11 +42,6 @@ abbrev pub marked : ℕ → ℕ → List Partition → Bool
 marked r k [] = false
 marked r k (x ∷ xs) =
     (LISTED == r && x.id == k) || (MEMBERS + x.typ == r && x.id == k) || marked r k xs
-
--- the ids of the type to which edges lead from the set in hand
-abbrev pub IsEntered : IdRows → ℕ → ℕ → Type 0
-IsEntered rows typ q =
-    (p : ℕ) × (bit rows NOW p ≡ true) × (bit rows p q ≡ true) × (bit rows (MEMBERS + typ) q ≡ true)
 
 -- the type of each id, and the rows
 pub record Tables : Type 0 where

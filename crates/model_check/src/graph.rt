@@ -10,7 +10,8 @@ ghost use Rattle.model_check.specs.Rows.{shown, IsMarkable, AreApart};
 
 use crate::rows::IdRows;
 use crate::sets::{IDS, mark_edges, mark_partitions};
-use crate::steps::{Targets, is_in_hand, step};
+use crate::steps::{is_in_set, step};
+use crate::successors::Successors;
 use invariants::Partition;
 use limits::{INITIAL, MAX_PARTITIONS, TERMINAL};
 use std::alloc::{AllocError, Global};
@@ -31,37 +32,26 @@ fn types_of(alloc: Global, partitions: &[Partition]) -> Result<Vec<u16>, AllocEr
     Ok(types)
 }
 
-/// A number of ids, beyond all that are listed where they ascend.
-fn id_count(partitions: &[Partition]) -> usize
-    requires { All IsMarkable partitions.now }
-    ensures { result ≤ MAX_PARTITIONS }
-{
-    if partitions.is_empty() {
-        return 0;
-    }
-    partitions[partitions.len() - 1].id as usize + 1
-}
-
 /// The graph of a model. Contracts see its tables, and with `shown` the graph that lies in them.
 #[derive(Drop)]
 pub struct ModelGraph {
     /// The type of each id.
     types: Vec<u16>,
-    /// Where edges lead, the ids of each type, and the sets of ids in hand.
+    /// Where edges lead, the ids of each type, and sets of ids that were met.
     rows: IdRows,
-    /// To which id each type leads from each id.
-    targets: Targets,
+    /// To which set each type leads from each set, as far as it is known.
+    successors: Successors,
 }
 
 impl Model for ModelGraph {
     ghost use Rattle.model_check.specs.Rows.{Tables, IsLaid};
-    ghost use Rattle.model_check.specs.InHand.{AreTargets};
+    ghost use Rattle.model_check.specs.Successors.{AreSuccessors};
 
     ghost Value = { Tables };
 
     ghost view = { λ g. record { types = g.types.items; rows = g.rows.bits } };
 
-    ghost invariant = { λ g. IsLaid g.types.items g.rows × AreTargets g.rows g.targets.ids.items };
+    ghost invariant = { λ g. IsLaid g.types.items g.rows × AreSuccessors g.rows g.successors.numbers.items g.successors.kept };
 }
 
 impl ModelGraph {
@@ -74,11 +64,11 @@ impl ModelGraph {
         let mut rows = IdRows::make(alloc)?;
         mark_partitions(&mut rows, model.partitions.as_slice());
         mark_edges(&mut rows, model.edges.as_slice());
-        let targets = Targets::make(alloc, id_count(model.partitions.as_slice()))?;
+        let successors = Successors::make(alloc)?;
         Ok(ModelGraph {
             types,
             rows,
-            targets,
+            successors,
         })
     }
 
@@ -120,11 +110,11 @@ impl ModelGraph {
         ensures accepts { IsTrue result ↔ Accepts (shown self.old) (with_ends events.now) }
         ensures stays { shown self.new ≡ shown self.old }
     {
-        let mut hand = Some(INITIAL as usize);
+        let mut set = INITIAL as usize;
         for typ in events {
-            hand = step(&mut self.rows, &mut self.targets, hand, usize::from(*typ));
+            set = step(&mut self.rows, &mut self.successors, set, usize::from(*typ));
         }
-        hand = step(&mut self.rows, &mut self.targets, hand, TERMINAL as usize);
-        is_in_hand(&self.rows, hand, TERMINAL as usize)
+        set = step(&mut self.rows, &mut self.successors, set, TERMINAL as usize);
+        is_in_set(&self.rows, set, TERMINAL as usize)
     }
 }

@@ -23,6 +23,7 @@ mod rows;
 mod sets;
 mod states;
 mod steps;
+mod successors;
 mod verdict;
 
 use acceptance::first_refused;

@@ -1,5 +1,5 @@
 //! Rows of ids, all of one shape.
-ghost use Rattle.std.specs.Prelude.{◌≡◌, ◌≢◌, ◌<◌, ◌≤◌, ◌==◌, ◌&&◌, ◌||◌, ℕ, false, IfOk, MatchOption};
+ghost use Rattle.std.specs.Prelude.{◌≡◌, ◌≢◌, ◌<◌, ◌≤◌, ◌==◌, ◌&&◌, ◌||◌, ◌↔◌, ℕ, false, not, IfOk, IsTrue, MatchOption};
 ghost use Rattle.limits.specs.declared.TheConstants.{MAX_PARTITIONS};
 ghost use Rattle.bit_rows.specs.Tables.{HasShape};
 ghost use Rattle.model_check.specs.declared.sets.TheConstants.{ROWS};
@@ -89,5 +89,40 @@ impl IdRows {
         ensures others { (s k : ℕ) → s ≢ to → bit self.new s k ≡ bit self.old s k }
     {
         self.bits.or_and_into(to, a, b);
+    }
+
+    /// Puts the ids that are in row `a` and not in row `b` into row `to` as well, which is neither. The other rows stay.
+    fn join_without(&mut self, to: usize, a: usize, b: usize)
+        requires to_row { to < ROWS }
+        requires a_row { a < ROWS }
+        requires b_row { b < ROWS }
+        requires a_apart { to ≢ a }
+        requires b_apart { to ≢ b }
+
+        // The row has the ids of the one that the other lacks in addition, and the other rows stay.
+        ensures row { (k : ℕ) → bit self.new to k
+            ≡ (bit self.old to k || (bit self.old a k && not (bit self.old b k))) }
+        ensures others { (s k : ℕ) → s ≢ to → bit self.new s k ≡ bit self.old s k }
+    {
+        self.bits.or_and_not_into(to, a, b);
+    }
+
+    /// Whether row `a` and row `b` have the same ids. Row `spare`, which is neither, is overwritten. The other rows stay.
+    pub fn are_same(&mut self, a: usize, b: usize, spare: usize) -> bool
+        requires a_row { a < ROWS }
+        requires b_row { b < ROWS }
+        requires spare_row { spare < ROWS }
+        requires a_apart { spare ≢ a }
+        requires b_apart { spare ≢ b }
+        ensures same { IsTrue result ↔ ((k : ℕ) → bit self.old a k ≡ bit self.old b k) }
+        ensures others { (s k : ℕ) → s ≢ spare → bit self.new s k ≡ bit self.old s k }
+    {
+        self.clear(spare);
+        self.join_without(spare, a, b);
+        self.join_without(spare, b, a);
+        match self.next(spare, 0) {
+            Some(_) => false,
+            None => true,
+        }
     }
 }

@@ -1,8 +1,9 @@
-//! Rows of ids: where edges lead from each id, the ids of each type, and the set of ids in hand.
-ghost use Rattle.std.specs.Prelude.{◌≡◌, ◌↔◌, ◌<◌, ℕ, true, ◌||◌, IfSome, All};
+//! Rows of ids: where edges lead from each id, the ids of each type, and sets of ids that are reached.
+ghost use Rattle.std.specs.Prelude.{◌≡◌, ◌≢◌, ◌↔◌, ◌<◌, ◌≤◌, ◌+◌, ℕ, true, ◌||◌, IfSome, All};
 ghost use Rattle.limits.specs.declared.TheConstants.{MAX_PARTITIONS};
 ghost use Rattle.models.specs.Models.{has_edge};
-ghost use Rattle.model_check.specs.Rows.{bit, marked, IsMarkable, IsEdgeWithin, IsEntered};
+ghost use Rattle.model_check.specs.Rows.{bit, marked, IsMarkable, IsEdgeWithin};
+ghost use Rattle.model_check.specs.Successors.{in_set, IsEnteredFrom, IsSet};
 
 use crate::rows::IdRows;
 use invariants::{Edge, Partition};
@@ -20,14 +21,23 @@ pub(crate) const MEMBERS: usize = IDS;
 /// The row of all ids that are listed.
 pub(crate) const LISTED: usize = MEMBERS + TYPES;
 
-/// The row of the set in hand.
-pub(crate) const NOW: usize = LISTED + 1;
+/// The row of the set that comes next. Those before it hold the graph.
+pub(crate) const NEXT: usize = LISTED + 1;
 
-/// The row of the set that comes next.
-const NEXT: usize = LISTED + 2;
+/// The row in which two sets are compared.
+pub(crate) const SPARE: usize = LISTED + 2;
+
+/// The first of the rows of the sets that are kept.
+pub(crate) const KEPT: usize = LISTED + 3;
+
+/// How many sets are kept at most.
+pub(crate) const ROOM: usize = 256;
+
+/// The row of a set that is not kept.
+pub(crate) const LOOSE: usize = KEPT + ROOM;
 
 /// How many rows there are.
-pub(crate) const ROWS: usize = LISTED + 3;
+pub(crate) const ROWS: usize = LOOSE + 1;
 
 /// Puts each partition into the row of all and into that of its type.
 pub fn mark_partitions(rows: &mut IdRows, partitions: &[Partition])
@@ -51,39 +61,44 @@ pub fn mark_edges(rows: &mut IdRows, edges: &[Edge])
     }
 }
 
-/// Makes the id the only one of the set in hand.
-pub fn take_up(rows: &mut IdRows, p: usize)
-    requires { p < IDS }
-    ensures others { (r k : ℕ) → r < NOW → bit rows.new r k ≡ bit rows.old r k }
-    ensures set { (q : ℕ) → (bit rows.new NOW q ≡ true) ↔ (q ≡ p) }
-{
-    rows.clear(NOW);
-    rows.put(NOW, p);
-}
-
-/// The id that is the only one of the set in hand; `None` where it has none or several.
+/// The id that is the only one of the next set; `None` where it has none or several.
 pub fn only_one(rows: &IdRows) -> Option<usize>
     ensures within { IfSome result (λ p. p < IDS) }
-    ensures only { IfSome result (λ p. (q : ℕ) → (bit rows.now NOW q ≡ true) ↔ (q ≡ p)) }
+    ensures only { IfSome result (λ p. (q : ℕ) → (bit rows.now NEXT q ≡ true) ↔ (q ≡ p)) }
 {
-    let p = rows.next(NOW, 0)?;
-    match rows.next(NOW, p + 1) {
+    let p = rows.next(NEXT, 0)?;
+    match rows.next(NEXT, p + 1) {
         Some(_) => None,
         None => Some(p),
     }
 }
 
-/// Exchanges the set in hand for the ids of the type to which edges lead from it.
-pub fn advance(rows: &mut IdRows, typ: usize)
-    requires { typ < TYPES }
-    ensures others { (r k : ℕ) → r < NOW → bit rows.new r k ≡ bit rows.old r k }
-    ensures set { (q : ℕ) → (bit rows.new NOW q ≡ true) ↔ IsEntered rows.old typ q }
+/// Exchanges the next set for the ids of the type to which edges lead from the set in a row.
+fn advance_from_row(rows: &mut IdRows, set: usize, typ: usize)
+    requires row { KEPT ≤ set }
+    requires within { set < ROWS }
+    requires typ { typ < TYPES }
+    ensures others { (r k : ℕ) → r ≢ NEXT → bit rows.new r k ≡ bit rows.old r k }
+    ensures next { (q : ℕ) → (bit rows.new NEXT q ≡ true) ↔ IsEnteredFrom (bit rows.old set) rows.old typ q }
 {
     rows.clear(NEXT);
     let mut from = 0;
-    while let Some(p) = rows.next(NOW, from) {
+    while let Some(p) = rows.next(set, from) {
         rows.join(NEXT, p, MEMBERS + typ);
         from = p + 1;
     }
-    rows.copy(NOW, NEXT);
+}
+
+/// Exchanges the next set for the ids of the type to which edges lead from a set.
+pub fn advance(rows: &mut IdRows, set: usize, typ: usize)
+    requires set { IsSet (ROOM + 1) set }
+    requires typ { typ < TYPES }
+    ensures others { (r k : ℕ) → r ≢ NEXT → bit rows.new r k ≡ bit rows.old r k }
+    ensures next { (q : ℕ) → (bit rows.new NEXT q ≡ true) ↔ IsEnteredFrom (in_set rows.old set) rows.old typ q }
+{
+    if set >= IDS {
+        return advance_from_row(rows, set, typ);
+    }
+    rows.clear(NEXT);
+    rows.join(NEXT, set, MEMBERS + typ);
 }

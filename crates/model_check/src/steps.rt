@@ -1,121 +1,118 @@
-//! Steps from one set of ids to the next. Most sets are of one id, and where a type leads from it to one id alone, this is
-//! kept, so that the same step costs one look the next time.
-ghost use Rattle.std.specs.Prelude.{◌≡◌, ◌↔◌, ◌<◌, ◌≤◌, ◌==◌, ◌⊎◌, ℕ, true, IfOk, IfSome};
-ghost use Rattle.limits.specs.declared.TheConstants.{MAX_PARTITIONS};
+//! Steps from one set of ids to the next, as a lazy automaton makes them: each set that is met gets a number, and the number of
+//! the next one is kept for it and the type, so that the same step costs one look the next time. A set of one id has the number of
+//! this id, and any other that of the row in which it lies. There is room for some. If it is full, the other sets lie in one row,
+//! each until the next comes, and after many of them all sets are forgotten.
+ghost use Rattle.std.specs.Prelude.{◌≡◌, ◌≢◌, ◌↔◌, ◌<◌, ◌+◌, ℕ, true};
 ghost use Rattle.model_check.specs.Rows.{bit};
-ghost use Rattle.model_check.specs.InHand.{known, in_hand, AreTargets, IsEnteredFrom};
+ghost use Rattle.model_check.specs.Successors.{in_set, AreSuccessors, IsEnteredFrom, IsSet};
 
 use crate::rows::IdRows;
-use crate::sets::{IDS, NOW, TYPES, advance, only_one, take_up};
-use std::alloc::{AllocError, Global};
+use crate::sets::{IDS, LOOSE, NEXT, ROOM, TYPES, advance, only_one};
+use crate::successors::{SLOTS, Successors, slot_of};
 
-/// For each id and type the one id to which the type leads from it, where that is known, and else 0.
-#[derive(Drop)]
-pub struct Targets {
-    ids: Vec<u16>,
+/// Forgets all sets, and keeps the next one as the first. Its number is given.
+fn begin_again(rows: &mut IdRows, successors: &mut Successors, slot: usize) -> usize
+    requires slot { slot < SLOTS }
+
+    // The graph stays, and what is known of it is right.
+    ensures graph { (r k : ℕ) → r < NEXT → bit rows.new r k ≡ bit rows.old r k }
+    ensures successors { AreSuccessors rows.new (successors.new).numbers.items (successors.new).kept }
+    ensures number { IsSet (successors.new).kept result }
+    ensures set { (q : ℕ) → (in_set rows.new result q ≡ true) ↔ (bit rows.old NEXT q ≡ true) }
+{
+    successors.forget();
+    successors.keep(rows, slot)
 }
 
-impl Targets {
-    /// None is known. There is room for those of the ids below `ids`.
-    pub fn make(alloc: Global, ids: usize) -> Result<Targets, AllocError>
-        requires { ids ≤ MAX_PARTITIONS }
-        ensures { IfOk result (λ targets. (p t : ℕ) → known targets.ids.items p t ≡ 0) }
-    {
-        Ok(Targets {
-            ids: vec![in alloc; 0; ids * TYPES]?,
-        })
-    }
-
-    /// The one id to which the type leads, where that is known, and else 0.
-    pub fn get(&self, p: usize, typ: usize) -> usize
-        requires id { p < IDS }
-        requires typ { typ < TYPES }
-        ensures { result ≡ known (self.now).ids.items p typ }
-    {
-        let place = p * TYPES + typ;
-        if place >= self.ids.len() {
-            return 0;
-        }
-        usize::from(self.ids[place])
-    }
-
-    /// Keeps that the type leads from the one id to the other alone, where there is room for it.
-    pub fn put(&mut self, p: usize, typ: usize, q: usize)
-        requires id { p < IDS }
-        requires typ { typ < TYPES }
-        requires target { q < IDS }
-        ensures { (r t : ℕ) → t < TYPES
-            → (known (self.new).ids.items r t ≡ known (self.old).ids.items r t)
-            ⊎ ((r ≡ p) × (t ≡ typ) × (known (self.new).ids.items r t ≡ q)) }
-    {
-        let place = p * TYPES + typ;
-        if place < self.ids.len() {
-            self.ids[place] = q as u16;
-        }
-    }
-}
-
-/// The same as `step` from one id, where it is not known to what it leads.
-fn step_anew(rows: &mut IdRows, targets: &mut Targets, p: usize, typ: usize) -> Option<usize>
-    requires id { p < IDS }
+/// The number of the next set, to which the type leads from this one. It is kept from now on.
+fn number_next(rows: &mut IdRows, successors: &mut Successors, set: usize, typ: usize) -> usize
+    requires set { IsSet (ROOM + 1) set }
+    requires kept { set ≢ LOOSE → IsSet (successors.old).kept set }
     requires typ { typ < TYPES }
-    requires targets { AreTargets rows.old (targets.old).ids.items }
+    requires successors { AreSuccessors rows.old (successors.old).numbers.items (successors.old).kept }
+    requires next { (q : ℕ) → (bit rows.old NEXT q ≡ true) ↔ IsEnteredFrom (in_set rows.old set) rows.old typ q }
 
-    // The graph in the rows stays, and what is kept of it is right.
-    ensures others { (r k : ℕ) → r < NOW → bit rows.new r k ≡ bit rows.old r k }
-    ensures targets { AreTargets rows.new (targets.new).ids.items }
+    // The graph stays, and what is known of it is right.
+    ensures graph { (r k : ℕ) → r < NEXT → bit rows.new r k ≡ bit rows.old r k }
+    ensures successors { AreSuccessors rows.new (successors.new).numbers.items (successors.new).kept }
 
-    // The next set, named by its one id or else in its row.
-    ensures within { IfSome result (λ q. q < IDS) }
-    ensures set { (q : ℕ) → (in_hand rows.new result q ≡ true)
-        ↔ IsEnteredFrom (λ x. x == p) rows.old typ q }
+    // The next set.
+    ensures kept { IsSet (successors.new).kept result }
+    ensures set { (q : ℕ) → (in_set rows.new result q ≡ true) ↔ (bit rows.old NEXT q ≡ true) }
 {
-    take_up(rows, p);
-    advance(rows, typ);
-    let only = only_one(rows);
-    if let Some(q) = only {
-        targets.put(p, typ, q);
+    let slot = slot_of(rows);
+    if let Some(next) = successors.find(rows, slot) {
+        successors.put(set, typ, next);
+        return next;
     }
-    only
+    if successors.is_full() {
+        return begin_again(rows, successors, slot);
+    }
+    let next = successors.keep(rows, slot);
+    successors.put(set, typ, next);
+    next
 }
 
-/// Exchanges the set in hand, which is of one id or else in its row, for the ids of the type to which edges lead from it.
-pub fn step(
-    rows: &mut IdRows,
-    targets: &mut Targets,
-    hand: Option<usize>,
-    typ: usize,
-) -> Option<usize>
-    requires within { IfSome hand (λ p. p < IDS) }
+/// The same as `step`, where the next set is not known.
+fn step_anew(rows: &mut IdRows, successors: &mut Successors, set: usize, typ: usize) -> usize
+    requires set { IsSet (ROOM + 1) set }
+    requires kept { set ≢ LOOSE → IsSet (successors.old).kept set }
     requires typ { typ < TYPES }
-    requires targets { AreTargets rows.old (targets.old).ids.items }
+    requires successors { AreSuccessors rows.old (successors.old).numbers.items (successors.old).kept }
 
-    // The graph in the rows stays, and what is kept of it is right.
-    ensures others { (r k : ℕ) → r < NOW → bit rows.new r k ≡ bit rows.old r k }
-    ensures targets { AreTargets rows.new (targets.new).ids.items }
+    // The graph stays, and what is known of it is right.
+    ensures graph { (r k : ℕ) → r < NEXT → bit rows.new r k ≡ bit rows.old r k }
+    ensures successors { AreSuccessors rows.new (successors.new).numbers.items (successors.new).kept }
 
-    // The next set, named by its one id or else in its row.
-    ensures within { IfSome result (λ q. q < IDS) }
-    ensures set { (q : ℕ) → (in_hand rows.new result q ≡ true)
-        ↔ IsEnteredFrom (in_hand rows.old hand) rows.old typ q }
+    // The next set.
+    ensures number { IsSet (ROOM + 1) result }
+    ensures kept { result ≢ LOOSE → IsSet (successors.new).kept result }
+    ensures set { (q : ℕ) → (in_set rows.new result q ≡ true)
+        ↔ IsEnteredFrom (in_set rows.old set) rows.old typ q }
 {
-    let Some(p) = hand else {
-        advance(rows, typ);
-        return only_one(rows);
-    };
-    let target = targets.get(p, typ);
-    if target != 0 {
-        return Some(target);
+    advance(rows, set, typ);
+    if let Some(p) = only_one(rows) {
+        successors.put(set, typ, p);
+        return p;
     }
-    step_anew(rows, targets, p, typ)
+    if successors.goes_on_without() {
+        rows.copy(LOOSE, NEXT);
+        return LOOSE;
+    }
+    number_next(rows, successors, set, typ)
 }
 
-/// Whether the id is in the set in hand.
-pub fn is_in_hand(rows: &IdRows, hand: Option<usize>, q: usize) -> bool
-    ensures { result ≡ in_hand rows.now hand q }
+/// The number of the set that comes next: of the ids of the type to which edges lead from the set of a number.
+pub fn step(rows: &mut IdRows, successors: &mut Successors, set: usize, typ: usize) -> usize
+    requires set { IsSet (ROOM + 1) set }
+    requires kept { set ≢ LOOSE → IsSet (successors.old).kept set }
+    requires typ { typ < TYPES }
+    requires successors { AreSuccessors rows.old (successors.old).numbers.items (successors.old).kept }
+
+    // The graph stays, and what is known of it is right.
+    ensures graph { (r k : ℕ) → r < NEXT → bit rows.new r k ≡ bit rows.old r k }
+    ensures successors { AreSuccessors rows.new (successors.new).numbers.items (successors.new).kept }
+
+    // The next set.
+    ensures number { IsSet (ROOM + 1) result }
+    ensures kept { result ≢ LOOSE → IsSet (successors.new).kept result }
+    ensures set { (q : ℕ) → (in_set rows.new result q ≡ true)
+        ↔ IsEnteredFrom (in_set rows.old set) rows.old typ q }
 {
-    match hand {
-        Some(p) => q == p,
-        None => rows.has(NOW, q),
+    let next = successors.get(set, typ);
+    if next != 0 {
+        return next;
     }
+    step_anew(rows, successors, set, typ)
+}
+
+/// Whether the id is in the set of a number.
+pub fn is_in_set(rows: &IdRows, set: usize, q: usize) -> bool
+    requires { IsSet (ROOM + 1) set }
+    ensures { result ≡ in_set rows.now set q }
+{
+    if set < IDS {
+        return q == set;
+    }
+    rows.has(set, q)
 }

@@ -32,7 +32,7 @@ built c =
 pub invariant_of-result : goal.invariant_of-result
 invariant_of-result c = (
   built-laid c.args.model.now c.in_ok-types.types.items c.mark_edges.new.rows c.requires (built ((goal.at.invariant_of-result c).After-mark_edges)),
-  none-known-right c.mark_edges.new.rows c.in_ok-targets.targets.ids.items c.in_ok-targets.ensures,
+  none-known-right c.mark_edges.new.rows c.in_ok-successors.successors.numbers.items c.in_ok-successors.successors.kept c.in_ok-successors.ensures.numbers,
 )
 
 pub returns : goal.returns

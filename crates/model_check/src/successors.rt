@@ -1,0 +1,162 @@
+//! What is kept of the steps from one set of ids to the next.
+ghost use Rattle.std.specs.Prelude.{◌≡◌, ◌≢◌, ◌↔◌, ◌<◌, ◌≤◌, ◌+◌, ◌*◌, ◌⊎◌, ℕ, length, IfOk, IfSome, IsTrue};
+ghost use Rattle.model_check.specs.declared.sets.TheConstants.{LOOSE, ROOM, ROWS, TYPES};
+ghost use Rattle.model_check.specs.declared.successors.TheConstants.{SLOTS};
+ghost use Rattle.model_check.specs.Rows.{bit};
+ghost use Rattle.model_check.specs.Successors.{known};
+
+use crate::rows::IdRows;
+use crate::sets::{KEPT, LOOSE, NEXT, ROOM, ROWS, SPARE, TYPES};
+use std::alloc::{AllocError, Global};
+
+/// How many slots there are, in which kept sets are looked up.
+pub(crate) const SLOTS: usize = 1024;
+
+/// How many sets are not kept, because there is no room, before all are forgotten.
+const PATIENCE: u32 = 16_384;
+
+/// By how many of its first ids the slot of a set is chosen.
+const FIRST_IDS: usize = 32;
+
+/// The next set for each set and type, where it is known.
+#[derive(Drop)]
+pub struct Successors {
+    /// For each number of a set and each type the number of the next set, and 0 where it is not known.
+    numbers: Vec<u16>,
+    /// The number of a kept set with this slot, in most cases the last one. It may be of a set that was forgotten.
+    slots: Vec<u16>,
+    /// How many sets are kept. The rows from `KEPT` on are theirs.
+    kept: usize,
+    /// How many sets were not kept, because there was no room, since the last time that all were forgotten.
+    missed: u32,
+    ghost numbers_size: { length numbers.items ≡ ROWS * TYPES },
+    ghost slots_size: { length slots.items ≡ SLOTS },
+    ghost room: { kept ≤ ROOM },
+}
+
+impl Successors {
+    /// None is known, and no set is kept.
+    pub fn make(alloc: Global) -> Result<Successors, AllocError>
+        ensures numbers { IfOk result (λ made. (s t : ℕ) → known made.numbers.items s t ≡ 0) }
+        ensures kept { IfOk result (λ made. made.kept ≡ 0) }
+    {
+        Ok(Successors {
+            numbers: vec![in alloc; 0; ROWS * TYPES]?,
+            slots: vec![in alloc; 0; SLOTS]?,
+            kept: 0,
+            missed: 0,
+        })
+    }
+
+    /// The number of the next set, where it is known, and else 0.
+    pub fn get(&self, set: usize, typ: usize) -> usize
+        requires set { set < ROWS }
+        requires typ { typ < TYPES }
+        ensures { result ≡ known (self.now).numbers.items set typ }
+    {
+        usize::from(self.numbers[set * TYPES + typ])
+    }
+
+    /// Keeps the number of the next set, if this one is not that of `LOOSE`, whose row is overwritten.
+    pub fn put(&mut self, set: usize, typ: usize, next: usize)
+        requires set { set < ROWS }
+        requires typ { typ < TYPES }
+        requires next { next < ROWS }
+        ensures kept { (self.new).kept ≡ (self.old).kept }
+        ensures numbers { (s t : ℕ) → t < TYPES
+            → (known (self.new).numbers.items s t ≡ known (self.old).numbers.items s t)
+            ⊎ ((s ≡ set) × (t ≡ typ) × (known (self.new).numbers.items s t ≡ next) × (set ≢ LOOSE)) }
+    {
+        if set != LOOSE {
+            self.numbers[set * TYPES + typ] = next as u16;
+        }
+    }
+
+    /// Whether there is no room for one more set.
+    pub fn is_full(&self) -> bool
+        ensures { IsTrue result ↔ ((self.now).kept ≡ ROOM) }
+    {
+        self.kept == ROOM
+    }
+
+    /// Whether the next set is not kept: there is no room, and too few sets were not kept since all were forgotten. To forget
+    /// all costs as much as a few hundred steps.
+    pub fn goes_on_without(&mut self) -> bool
+        ensures numbers { (self.new).numbers.items ≡ (self.old).numbers.items }
+        ensures kept { (self.new).kept ≡ (self.old).kept }
+    {
+        if self.kept < ROOM {
+            return false;
+        }
+        if self.missed == PATIENCE {
+            self.missed = 0;
+            return false;
+        }
+        self.missed = self.missed.wrapping_add(1);
+        true
+    }
+
+    /// Forgets all sets and all that is known of them.
+    pub fn forget(&mut self)
+        ensures numbers { (s t : ℕ) → known (self.new).numbers.items s t ≡ 0 }
+        ensures kept { (self.new).kept ≡ 0 }
+    {
+        self.numbers.as_mut_slice().fill(0);
+        self.kept = 0;
+    }
+
+    /// Keeps the next set, and gives its number. It is found by the slot from now on.
+    pub fn keep(&mut self, rows: &mut IdRows, slot: usize) -> usize
+        requires room { (self.old).kept < ROOM }
+        requires slot { slot < SLOTS }
+
+        // The set is one more, in a row of its own.
+        ensures number { result ≡ KEPT + (self.old).kept }
+        ensures kept { (self.new).kept ≡ (self.old).kept + 1 }
+        ensures set { (q : ℕ) → bit rows.new result q ≡ bit rows.old NEXT q }
+
+        // All else stays.
+        ensures numbers { (self.new).numbers.items ≡ (self.old).numbers.items }
+        ensures others { (r k : ℕ) → r ≢ result → bit rows.new r k ≡ bit rows.old r k }
+    {
+        let number = KEPT + self.kept;
+        rows.copy(number, NEXT);
+        self.slots[slot] = number as u16;
+        self.kept += 1;
+        number
+    }
+
+    /// The number of the next set, where it is kept and found by the slot.
+    pub fn find(&self, rows: &mut IdRows, slot: usize) -> Option<usize>
+        requires slot { slot < SLOTS }
+        ensures others { (r k : ℕ) → r ≢ SPARE → bit rows.new r k ≡ bit rows.old r k }
+        ensures row { IfSome result (λ n. KEPT ≤ n) }
+        ensures kept { IfSome result (λ n. n < KEPT + (self.now).kept) }
+        ensures set { IfSome result (λ n. (q : ℕ) → bit rows.old n q ≡ bit rows.old NEXT q) }
+    {
+        let number = usize::from(self.slots[slot]);
+        if number < KEPT || number >= KEPT + self.kept {
+            return None;
+        }
+        if rows.are_same(number, NEXT, SPARE) {
+            return Some(number);
+        }
+        None
+    }
+}
+
+/// The slot of the next set, by its first ids.
+pub fn slot_of(rows: &IdRows) -> usize
+    ensures { result < SLOTS }
+{
+    let mut slot = 0;
+    let mut from = 0;
+    for _i in 0..FIRST_IDS {
+        let Some(p) = rows.next(NEXT, from) else {
+            return slot;
+        };
+        slot = (slot * 31 + p) % SLOTS;
+        from = p + 1;
+    }
+    slot
+}
