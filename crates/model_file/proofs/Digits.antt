@@ -39,11 +39,6 @@ no-labels (byte ∷ bytes) n =
 pub labels_none : (bytes : List ℕ) → (All IsLabelDigit bytes → ⊥) → labels_of bytes ≡ None
 labels_none bytes n = no-labels bytes (λ a. n (All-from_recursion IsLabelDigit bytes a))
 
--- so a string has the labels of its bytes
-pub labels_read : (d : Data) (text : List ℕ) (found : Option (List ℕ)) → Some text ≡ as_str d → labels_of text ≡ found → found ≡ labels_in d
-unfolding labels_in
-labels_read d text found read e = sym e ∙ ap (λ (o : Option (List ℕ)). o >>= labels_of) read
-
 -- a list of which the numbers before a place were made anew
 pub record IsPartly (old now made : List ℕ) (k : ℕ) : Type 0 where
   pub size : length now ≡ length old

@@ -17,15 +17,10 @@ Fails-then _ r f h = ap (λ x. x >>= f) h
 pub Fails-at : {A B : Type 0} (e : FileError) (whole : Result B FileError) (r : Result A FileError) (f : A → Result B FileError) → whole ≡ (r >>= f) → Fails e r → Fails e whole
 Fails-at e whole r f is h = subst (Fails e) (sym is) (Fails-then e r f h)
 
--- the same of an answer that is this refusal
-pub Gives-at : {A B : Type 0} (e refusal : FileError) (answer whole : Result B FileError) (r : Result A FileError) (f : A → Result B FileError)
-    → answer ≡ Err refusal → refusal ≡ e → whole ≡ (r >>= f) → Fails e r → Gives answer whole
-Gives-at e refusal answer whole r f failed same is h = subst (λ x. Gives x whole) (sym (failed ∙ ap Err same)) (Fails-at e whole r f is h)
-
--- the same of a step that is also written in another way
-pub Gives-by : {A B : Type 0} (e refusal : FileError) (answer whole : Result B FileError) (r s : Result A FileError) (f : A → Result B FileError)
-    → answer ≡ Err refusal → refusal ≡ e → whole ≡ (r >>= f) → s ≡ r → Fails e s → Gives answer whole
-Gives-by e refusal answer whole r s f failed same is moved h = Gives-at e refusal answer whole r f failed same is (subst (Fails e) moved h)
+-- the same of a call that answers something else, with its refusal
+pub fails-at : {A B C : Type 0} (e refusal : FileError) (answer : Result C FileError) (whole : Result B FileError) (r : Result A FileError) (f : A → Result B FileError)
+    → answer ≡ Err refusal → refusal ≡ e → whole ≡ (r >>= f) → Fails e r → IfErr answer (λ x. Fails x whole)
+fails-at e refusal answer whole r f failed same is h = subst (λ x. IfErr x (λ y. Fails y whole)) (sym (failed ∙ ap Err same)) (Fails-at e whole r f is h)
 
 -- an answer that is a model is what was to be read
 pub Gives-ok : {A : Type 0} (r read : Result A FileError) → Gives r read → IfOk r (λ x. read ≡ Ok x)

@@ -1,6 +1,3 @@
-pub mod Turns
-pub mod Rows
-pub mod Each
 pub mod Bounds
 pub mod Back
 pub mod Shapes
@@ -19,3 +16,10 @@ pub mod Limit
 pub mod Passing
 pub mod Telling
 pub mod Digits
+pub mod Grammar
+pub mod Streaming
+pub mod Plain
+pub mod Listing
+pub mod Entering
+pub mod Finding
+pub mod FoundIs

@@ -44,7 +44,7 @@ tested-ok field true x y e = (refl, ok-is x y e)
 tested-ok field false x y e = absurd cc
 
 -- what passed the rule of its part
-rule-of : {A : Type 0} (field : Field) (rule : A → Bool) (r : Result A FileError) (y : A) → (r >>= λ x. tested field (rule x) x) ≡ Ok y → rule y ≡ true
+pub rule-of : {A : Type 0} (field : Field) (rule : A → Bool) (r : Result A FileError) (y : A) → (r >>= λ x. tested field (rule x) x) ≡ Ok y → rule y ≡ true
 rule-of field rule r y e =
     let b = bind-ok r (λ x. tested field (rule x) x) y e in
     let t = tested-ok field (rule b.0) b.0 y b.2 in

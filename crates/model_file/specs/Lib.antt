@@ -4,6 +4,10 @@ pub mod Rules
 pub mod Table
 pub mod Entries
 pub mod Reading
+pub mod Streams
+pub mod Lists
+pub mod Rows
+pub mod Found
 pub mod Writing
 pub mod Laws
 pub mod Labels

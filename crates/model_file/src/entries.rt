@@ -1,21 +1,87 @@
-//! The entries of a model's lists, as JSON values.
-ghost use Rattle.std.specs.Prelude.{◌≡◌, ◌↔◌, ◌-◌, map, IfOk, IsTrue, All};
-ghost use Rattle.serde_json.specs.View.{view};
-ghost use Rattle.model_file.specs.Entries.{partition_in, edge_in, merge_in, kind_in, kinds_from, kinds_named, invariant_in, labels_in, path_in};
+//! The entries of a model's lists, read from the tokens of a JSON text.
+ghost use Rattle.std.specs.Prelude.{◌≡◌, ◌↔◌, ◌-◌, ◌^◌, map, IfOk, IsTrue, All, option_and_then};
+ghost use Rattle.model_file.specs.Entries.{if_below, kind_named, kinds_from, labels_of};
 ghost use Rattle.model_file.specs.Labels.{IsLabelDigit};
 
-use crate::arrays::{Entry, four, list, number, three, two, type_number};
+use crate::lists::{Entry, list, row_of};
+use crate::stream::{Stop, number, string};
 use invariants::{Block, Edge, Invariant, Kind, Kinds, Listed, Merge, Partition, Seq, Split, Text};
-use serde_json::Value;
+use json::Reader;
 use std::alloc::{AllocError, Global};
 
+/// The number, where it is below 2^32.
+#[inline(always)]
+fn below_32(n: Option<u64>) -> Option<u32>
+    ensures { result ≡ option_and_then (if_below (2 ^ 32)) n }
+{
+    let n = n?;
+    if n >= 1 << 32 {
+        return None;
+    }
+    Some(n as u32)
+}
+
+/// The number, where it is below 2^16.
+#[inline(always)]
+fn below_16(n: Option<u64>) -> Option<u16>
+    ensures { result ≡ option_and_then (if_below (2 ^ 16)) n }
+{
+    let n = n?;
+    if n >= 1 << 16 {
+        return None;
+    }
+    Some(n as u16)
+}
+
+impl Entry for u64 {
+    ghost use Rattle.model_file.specs.Streams.{whole_in};
+
+    ghost read_as = { whole_in };
+
+    #[inline(always)]
+    fn read(_alloc: Global, reader: &mut Reader<'_>, depth: usize) -> Result<Option<u64>, Stop> {
+        number(reader, depth)
+    }
+}
+
+/// An id, a count or a place.
 impl Entry for u32 {
     ghost use Rattle.model_file.specs.Entries.{number_in};
 
     ghost read_as = { number_in };
 
-    fn read(_alloc: Global, value: &Value) -> Result<Option<u32>, AllocError> {
-        Ok(number(value))
+    #[inline(always)]
+    fn read(_alloc: Global, reader: &mut Reader<'_>, depth: usize) -> Result<Option<u32>, Stop> {
+        match number(reader, depth) {
+            Ok(n) => Ok(below_32(n)),
+            Err(e) => Err(e),
+        }
+    }
+}
+
+/// The number of a type.
+impl Entry for u16 {
+    ghost use Rattle.model_file.specs.Entries.{type_in};
+
+    ghost read_as = { type_in };
+
+    #[inline(always)]
+    fn read(_alloc: Global, reader: &mut Reader<'_>, depth: usize) -> Result<Option<u16>, Stop> {
+        match number(reader, depth) {
+            Ok(n) => Ok(below_16(n)),
+            Err(e) => Err(e),
+        }
+    }
+}
+
+impl<T: Entry + Drop> Entry for Seq<T> {
+    ghost use Rattle.model_file.specs.Entries.{list_in};
+
+    ghost read_as = { list_in T.read_as };
+
+    #[inline(always)]
+    fn read(alloc: Global, reader: &mut Reader<'_>, depth: usize) -> Result<Option<Seq<T>>, Stop> {
+        list(alloc, reader, depth)
     }
 }
 
@@ -24,85 +90,23 @@ impl Entry for Text {
 
     ghost read_as = { as_str };
 
-    fn read(alloc: Global, value: &Value) -> Result<Option<Text>, AllocError> {
-        let Some(text) = value.as_str() else {
-            return Ok(None);
+    fn read(alloc: Global, reader: &mut Reader<'_>, depth: usize) -> Result<Option<Text>, Stop> {
+        let text = match string(reader, depth) {
+            Ok(Some(text)) => text,
+            Ok(None) => return Ok(None),
+            Err(e) => return Err(e),
         };
-        Ok(Some(Text::from_string(String::from_str(alloc, text)?)))
+        match String::from_str(alloc, text) {
+            Ok(text) => Ok(Some(Text::from_string(text))),
+            Err(_) => Err(Stop::Memory),
+        }
     }
 }
 
-#[tactic(auto, unfolding(crate::specs::Entries::partition_in))]
-fn partition_of(value: &Value) -> Option<Partition>
-    ensures { result ≡ partition_in (view value.now) }
+/// The kind with this name.
+fn kind_named(text: &str) -> Option<Kind>
+    ensures { result ≡ kind_named text.now }
 {
-    let (id, typ, count) = three(value)?;
-    Some(Partition {
-        id: number(id)?,
-        typ: type_number(typ)?,
-        count: number(count)?,
-    })
-}
-
-impl Entry for Partition {
-    ghost use Rattle.model_file.specs.Entries.{partition_in};
-
-    ghost read_as = { partition_in };
-
-    fn read(_alloc: Global, value: &Value) -> Result<Option<Partition>, AllocError> {
-        Ok(partition_of(value))
-    }
-}
-
-#[tactic(auto, unfolding(crate::specs::Entries::edge_in))]
-fn edge_of(value: &Value) -> Option<Edge>
-    ensures { result ≡ edge_in (view value.now) }
-{
-    let (from, to, count) = three(value)?;
-    Some(Edge {
-        from: number(from)?,
-        to: number(to)?,
-        count: number(count)?,
-    })
-}
-
-impl Entry for Edge {
-    ghost use Rattle.model_file.specs.Entries.{edge_in};
-
-    ghost read_as = { edge_in };
-
-    fn read(_alloc: Global, value: &Value) -> Result<Option<Edge>, AllocError> {
-        Ok(edge_of(value))
-    }
-}
-
-#[tactic(auto, unfolding(crate::specs::Entries::merge_in))]
-fn merge_of(value: &Value) -> Option<Merge>
-    ensures { result ≡ merge_in (view value.now) }
-{
-    let (p, q) = two(value)?;
-    Some(Merge {
-        p: number(p)?,
-        q: number(q)?,
-    })
-}
-
-impl Entry for Merge {
-    ghost use Rattle.model_file.specs.Entries.{merge_in};
-
-    ghost read_as = { merge_in };
-
-    fn read(_alloc: Global, value: &Value) -> Result<Option<Merge>, AllocError> {
-        Ok(merge_of(value))
-    }
-}
-
-/// The kind with the name that the value is.
-#[tactic(auto, unfolding(crate::specs::Entries::kind_in))]
-fn kind_of(value: &Value) -> Option<Kind>
-    ensures { result ≡ kind_in (view value.now) }
-{
-    let text = value.as_str()?;
     if text == "AF" {
         return Some(Kind::AF);
     }
@@ -123,8 +127,12 @@ impl Entry for Kind {
 
     ghost read_as = { kind_in };
 
-    fn read(_alloc: Global, value: &Value) -> Result<Option<Kind>, AllocError> {
-        Ok(kind_of(value))
+    fn read(_alloc: Global, reader: &mut Reader<'_>, depth: usize) -> Result<Option<Kind>, Stop> {
+        match string(reader, depth) {
+            Ok(Some(text)) => Ok(kind_named(text)),
+            Ok(None) => Ok(None),
+            Err(e) => Err(e),
+        }
     }
 }
 
@@ -139,14 +147,17 @@ fn kinds_from(kinds: &[Kind]) -> Option<Kinds>
     }
 }
 
-/// The kinds with the names that the value is an array of.
-#[tactic(auto, unfolding(crate::specs::Entries::kinds_named))]
-pub(crate) fn kinds_named(alloc: Global, value: &Value) -> Result<Option<Kinds>, AllocError>
-    ensures { IfOk result (λ found. found ≡ kinds_named (view value.now)) }
-{
-    match list::<Kind>(alloc, value)? {
-        Some(kinds) => Ok(kinds_from(&kinds)),
-        None => Ok(None),
+impl Entry for Kinds {
+    ghost use Rattle.model_file.specs.Entries.{kinds_named};
+
+    ghost read_as = { kinds_named };
+
+    fn read(alloc: Global, reader: &mut Reader<'_>, depth: usize) -> Result<Option<Kinds>, Stop> {
+        match list::<Kind>(alloc, reader, depth) {
+            Ok(Some(kinds)) => Ok(kinds_from(kinds.as_slice())),
+            Ok(None) => Ok(None),
+            Err(e) => Err(e),
+        }
     }
 }
 
@@ -172,15 +183,10 @@ fn digits_to_numbers(bytes: &mut [u8])
     }
 }
 
-/// The labels of a string of digits from `0` to `7`.
-#[tactic(auto, unfolding(crate::specs::Entries::labels_in))]
-fn labels_of(alloc: Global, value: &Value) -> Result<Option<Seq<u8>>, AllocError>
-    ensures { IfOk result (λ found. found ≡ labels_in (view value.now)) }
+/// The labels of digits from `0` to `7`.
+fn labels_of(alloc: Global, digits: &[u8]) -> Result<Option<Seq<u8>>, AllocError>
+    ensures { IfOk result (λ found. found ≡ labels_of digits.now) }
 {
-    let Some(text) = value.as_str() else {
-        return Ok(None);
-    };
-    let digits = text.as_bytes();
     if !are_labels(digits) {
         return Ok(None);
     }
@@ -190,15 +196,75 @@ fn labels_of(alloc: Global, value: &Value) -> Result<Option<Seq<u8>>, AllocError
     Ok(Some(Seq::from_vec(labels)))
 }
 
-#[tactic(auto, unfolding(crate::specs::Entries::invariant_in))]
-fn invariant_of(name: &Value, a: &Value, b: &Value) -> Option<Invariant>
-    ensures { result ≡ invariant_in (view name.now) (view a.now) (view b.now) }
-{
-    Some(Invariant {
-        kind: kind_of(name)?,
-        a: type_number(a)?,
-        b: type_number(b)?,
-    })
+/// The labels of an invariant.
+#[derive(Drop)]
+struct Labels {
+    labels: Seq<u8>,
+}
+
+impl Entry for Labels {
+    ghost use Rattle.model_file.specs.Rows.{labels_as};
+
+    ghost read_as = { labels_as };
+
+    fn read(alloc: Global, reader: &mut Reader<'_>, depth: usize) -> Result<Option<Labels>, Stop> {
+        let digits = match string(reader, depth) {
+            Ok(Some(digits)) => digits,
+            Ok(None) => return Ok(None),
+            Err(e) => return Err(e),
+        };
+        match labels_of(alloc, digits.as_bytes()) {
+            Ok(Some(labels)) => Ok(Some(Labels { labels })),
+            Ok(None) => Ok(None),
+            Err(_) => Err(Stop::Memory),
+        }
+    }
+}
+
+impl Entry for Partition {
+    ghost use Rattle.model_file.specs.Entries.{partition_in};
+
+    ghost read_as = { partition_in };
+
+    fn read(
+        alloc: Global,
+        reader: &mut Reader<'_>,
+        depth: usize,
+    ) -> Result<Option<Partition>, Stop> {
+        match row_of::<(u32, (u16, (u32, ())))>(alloc, reader, depth) {
+            Ok(Some((id, (typ, (count, ()))))) => Ok(Some(Partition { id, typ, count })),
+            Ok(None) => Ok(None),
+            Err(e) => Err(e),
+        }
+    }
+}
+
+impl Entry for Edge {
+    ghost use Rattle.model_file.specs.Entries.{edge_in};
+
+    ghost read_as = { edge_in };
+
+    fn read(alloc: Global, reader: &mut Reader<'_>, depth: usize) -> Result<Option<Edge>, Stop> {
+        match row_of::<(u32, (u32, (u32, ())))>(alloc, reader, depth) {
+            Ok(Some((from, (to, (count, ()))))) => Ok(Some(Edge { from, to, count })),
+            Ok(None) => Ok(None),
+            Err(e) => Err(e),
+        }
+    }
+}
+
+impl Entry for Merge {
+    ghost use Rattle.model_file.specs.Entries.{merge_in};
+
+    ghost read_as = { merge_in };
+
+    fn read(alloc: Global, reader: &mut Reader<'_>, depth: usize) -> Result<Option<Merge>, Stop> {
+        match row_of::<(u32, (u32, ()))>(alloc, reader, depth) {
+            Ok(Some((p, (q, ())))) => Ok(Some(Merge { p, q })),
+            Ok(None) => Ok(None),
+            Err(e) => Err(e),
+        }
+    }
 }
 
 impl Entry for Listed {
@@ -206,28 +272,15 @@ impl Entry for Listed {
 
     ghost read_as = { listed_in };
 
-    #[tactic(auto, unfolding(crate::specs::Entries::listed_in))]
-    fn read(alloc: Global, value: &Value) -> Result<Option<Listed>, AllocError> {
-        let Some((name, a, b, digits)) = four(value) else {
-            return Ok(None);
-        };
-        let Some(inv) = invariant_of(name, a, b) else {
-            return Ok(None);
-        };
-        let Some(labels) = labels_of(alloc, digits)? else {
-            return Ok(None);
-        };
-        Ok(Some(Listed { inv, labels }))
-    }
-}
-
-#[tactic(auto, unfolding(crate::specs::Entries::path_in))]
-fn path_of(alloc: Global, value: &Value) -> Result<Option<Seq<u32>>, AllocError>
-    ensures { IfOk result (λ found. found ≡ path_in (view value.now)) }
-{
-    match list(alloc, value)? {
-        Some(ids) => Ok(Some(Seq::from_vec(ids))),
-        None => Ok(None),
+    fn read(alloc: Global, reader: &mut Reader<'_>, depth: usize) -> Result<Option<Listed>, Stop> {
+        match row_of::<(Kind, (u16, (u16, (Labels, ()))))>(alloc, reader, depth) {
+            Ok(Some((kind, (a, (b, (found, ())))))) => Ok(Some(Listed {
+                inv: Invariant { kind, a, b },
+                labels: found.labels,
+            })),
+            Ok(None) => Ok(None),
+            Err(e) => Err(e),
+        }
     }
 }
 
@@ -236,21 +289,12 @@ impl Entry for Split {
 
     ghost read_as = { split_in };
 
-    #[tactic(auto, unfolding(crate::specs::Entries::split_in))]
-    fn read(alloc: Global, value: &Value) -> Result<Option<Split>, AllocError> {
-        let Some((inv, place, ids)) = three(value) else {
-            return Ok(None);
-        };
-        let Some(inv) = number(inv) else {
-            return Ok(None);
-        };
-        let Some(place) = number(place) else {
-            return Ok(None);
-        };
-        let Some(path) = path_of(alloc, ids)? else {
-            return Ok(None);
-        };
-        Ok(Some(Split { inv, place, path }))
+    fn read(alloc: Global, reader: &mut Reader<'_>, depth: usize) -> Result<Option<Split>, Stop> {
+        match row_of::<(u32, (u32, (Seq<u32>, ())))>(alloc, reader, depth) {
+            Ok(Some((inv, (place, (path, ()))))) => Ok(Some(Split { inv, place, path })),
+            Ok(None) => Ok(None),
+            Err(e) => Err(e),
+        }
     }
 }
 
@@ -259,23 +303,11 @@ impl Entry for Block {
 
     ghost read_as = { block_in };
 
-    #[tactic(auto, unfolding(crate::specs::Entries::block_in))]
-    fn read(alloc: Global, value: &Value) -> Result<Option<Block>, AllocError> {
-        let Some((p, q, inv, ids)) = four(value) else {
-            return Ok(None);
-        };
-        let Some(p) = number(p) else {
-            return Ok(None);
-        };
-        let Some(q) = number(q) else {
-            return Ok(None);
-        };
-        let Some(inv) = number(inv) else {
-            return Ok(None);
-        };
-        let Some(path) = path_of(alloc, ids)? else {
-            return Ok(None);
-        };
-        Ok(Some(Block { p, q, inv, path }))
+    fn read(alloc: Global, reader: &mut Reader<'_>, depth: usize) -> Result<Option<Block>, Stop> {
+        match row_of::<(u32, (u32, (u32, (Seq<u32>, ()))))>(alloc, reader, depth) {
+            Ok(Some((p, (q, (inv, (path, ())))))) => Ok(Some(Block { p, q, inv, path })),
+            Ok(None) => Ok(None),
+            Err(e) => Err(e),
+        }
     }
 }

@@ -8,13 +8,15 @@
 //! fewer types and fewer bytes, and their models ask for three kinds of invariants.
 #![tactic(auto)]
 
-mod arrays;
 mod entries;
+mod found;
 mod law;
+mod lists;
 mod parts;
 mod reading;
 mod refusal;
 mod shape;
+mod stream;
 mod table;
 mod version;
 mod writing;

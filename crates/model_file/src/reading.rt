@@ -1,79 +1,104 @@
 //! Reading a model file of version 2, or of version 1.
-ghost use Rattle.std.specs.Prelude.{◌≡◌, Some, Ok, IfOk, IfErr};
-ghost use Rattle.serde_json.specs.View.{view};
+ghost use Rattle.std.specs.Prelude.{◌≡◌, [], Ok, Some, IfOk, IfErr, OnOk, unwrap_or};
 ghost use Rattle.model_shape.specs.Shapes.{IsWellShaped, IsOfVersion1};
-ghost use Rattle.model_file.specs.Reading.{Gives, Fails, IsNoValue, parts_in, model_in, value_of, reads_as, reads, reads_version_1};
+ghost use Rattle.model_file.specs.Reading.{Gives, Fails, reads_as, reads, reads_version_1};
+ghost use Rattle.model_file.specs.Found.{nothing, kinds_from, model_from, parts_from};
 
+use crate::found::{Found, read_found};
 use crate::parts::{
     blocks_in, edges_in, invariants_in, kinds_in, merges_in, partitions_in, splits_in, test_head,
     types_in,
 };
-use crate::refusal::FileError;
+use crate::refusal::{Field, FileError};
 use crate::table::types_by_id;
 use crate::version::Version;
-use invariants::Model;
-use serde_json::Value;
+use invariants::{Kinds, Model, Seq};
 use std::alloc::Global;
 
-/// The model of the parts of a JSON value.
-fn parts_of(version: Version, alloc: Global, root: &Value) -> Result<Model, FileError>
-    ensures { Gives result (parts_in version (view root.now)) }
+/// Tests the parts one after the other.
+fn test_parts(version: Version, alloc: Global, found: &Found) -> Result<(), FileError>
+    ensures ok { OnOk result (parts_from version found.now ≡ Ok (model_from version found.now)) }
+    ensures err { IfErr result (λ e. Fails e (parts_from version found.now)) }
 {
-    let types = types_in(version, alloc, root)?;
-    let kinds = kinds_in(version, alloc, root)?;
-    let partitions = partitions_in(alloc, root, types.len())?;
-    let table = types_by_id(alloc, partitions.as_slice())?;
-    let edges = edges_in(alloc, root, &table)?;
-    let invariants = invariants_in(alloc, root, kinds, types.len() as u32, partitions.len())?;
-    let merges = merges_in(alloc, root)?;
-    let splits = splits_in(alloc, root, invariants.len())?;
-    let blocks = blocks_in(alloc, root, &table, invariants.len(), splits.as_slice())?;
-    Ok(Model {
-        types,
-        kinds,
-        partitions,
-        edges,
-        invariants,
-        splits,
-        merges,
-        blocks,
-    })
+    let types = types_in(version, found)?;
+    let kinds = kinds_in(version, found)?;
+    let partitions = partitions_in(found, types.len())?;
+    let table = types_by_id(alloc, partitions)?;
+    edges_in(found, &table)?;
+    let invariants = invariants_in(found, kinds, types.len() as u32, partitions.len())?;
+    merges_in(found)?;
+    let splits = splits_in(found, invariants.len())?;
+    blocks_in(found, &table, invariants.len(), splits)?;
+    Ok(())
 }
 
-/// The model of a JSON value.
-#[tactic(auto, unfolding(crate::specs::Reading::model_in))]
-fn model_of(version: Version, alloc: Global, root: &Value) -> Result<Model, FileError>
-    ensures { Gives result (model_in version (view root.now)) }
+/// The entries that were found.
+fn entries<T: Drop>(alloc: Global, found: Option<Seq<T>>) -> Seq<T>
+    ensures { result ≡ unwrap_or found [] }
 {
-    test_head(version, root)?;
-    parts_of(version, alloc, root)
-}
-
-/// The JSON value that the bytes are.
-fn value_of(alloc: Global, bytes: &[u8]) -> Result<Value, FileError>
-    ensures ok { IfOk result (λ value. value_of bytes.now ≡ Some (view value)) }
-    ensures err { IfErr result (λ e. IsNoValue e (value_of bytes.now)) }
-{
-    match Value::from_slice(alloc, bytes) {
-        Ok(value) => Ok(value),
-        Err(e) => {
-            if e.is_memory() {
-                return Err(FileError::Memory);
-            }
-            Err(FileError::NotJson)
-        }
+    match found {
+        Some(entries) => entries,
+        None => Seq::from_vec(Vec::new(alloc)),
     }
+}
+
+/// The kinds that are asked for.
+fn kinds_from(version: Version, found: Option<Kinds>) -> Kinds
+    ensures { result ≡ kinds_from version found }
+{
+    match (version, found) {
+        (Version::Two, Some(kinds)) => kinds,
+        _ => Kinds::Three,
+    }
+}
+
+/// The model of what was found.
+fn model_from(version: Version, alloc: Global, found: Found) -> Model
+    ensures { result ≡ model_from version found }
+{
+    Model {
+        types: entries(alloc, found.types),
+        kinds: kinds_from(version, found.kinds),
+        partitions: entries(alloc, found.partitions),
+        edges: entries(alloc, found.edges),
+        invariants: entries(alloc, found.invariants),
+        splits: entries(alloc, found.splits),
+        merges: entries(alloc, found.merges),
+        blocks: entries(alloc, found.blocks),
+    }
+}
+
+/// Reads and tests a whole file.
+fn read_all(
+    version: Version,
+    alloc: Global,
+    bytes: &[u8],
+    found: &mut Found,
+) -> Result<(), FileError>
+    requires { found.old ≡ nothing }
+    ensures ok { OnOk result (reads_as version bytes.now ≡ Ok (model_from version found.new)) }
+    ensures err { IfErr result (λ e. Fails e (reads_as version bytes.now)) }
+{
+    if bytes.len() > version.max_bytes() {
+        return Err(FileError::TooLong);
+    }
+    let is_object = read_found(version, alloc, bytes, found)?;
+    if !is_object {
+        return Err(FileError::Shape(Field::Root));
+    }
+    test_head(version, found)?;
+    test_parts(version, alloc, found)
 }
 
 /// The model of the bytes of a file of this version, or the first refusal.
 fn read_as(version: Version, alloc: Global, bytes: &[u8]) -> Result<Model, FileError>
     ensures { Gives result (reads_as version bytes.now) }
 {
-    if bytes.len() > version.max_bytes() {
-        return Err(FileError::TooLong);
+    let mut found = Found::nothing();
+    match read_all(version, alloc, bytes, &mut found) {
+        Ok(()) => Ok(model_from(version, alloc, found)),
+        Err(e) => Err(e),
     }
-    let root = value_of(alloc, bytes)?;
-    model_of(version, alloc, &root)
 }
 
 /// The model of the bytes of a file of version 2, or the first refusal.

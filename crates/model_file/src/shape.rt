@@ -180,7 +180,12 @@ fn place_of(kinds: Kinds, types: u32, inv: Invariant) -> Option<u32>
 fn labels_hold(labels: &[u8]) -> bool
     ensures { result ≡ list_all (λ label. nat_le label 7) labels.now }
 {
-    labels.iter().all(|label| *label <= 7)
+    // No way out before the last label, so that many are tested at once.
+    let mut all = true;
+    'labels: for label in labels {
+        all = all & (*label <= 7);
+    }
+    all
 }
 
 fn listed_holds(kinds: Kinds, types: u32, partitions: usize, listed: &Listed) -> bool

@@ -1,7 +1,0 @@
-use Rattle.std.proofs.Common.{arith}
-use Rattle.serde_json.specs.View.{view}
-use Rattle.model_file.proofs.Rows.{two-missed}
-use Rattle.model_file.proofs.arrays.two.Goals as goal
-
-pub returns-then-len-ne2 : goal.returns-then-len-ne2
-returns-then-len-ne2 c = two-missed (view c.args.value.now) c.in_ok-items.items.now.items c.in_ok-items.ensures (λ e. omega (arith, c.in_ok-items.items.now.ok.0, c.if-len-ne2.true, c.len.ensures, e))

@@ -1,0 +1,177 @@
+-- What a model file has under each of its keys.
+use Rattle.std.specs.Prelude.{◌≡◌, ◌||◌, ℕ, Bool, true, false, not, List, [], length, codes, Option, Some, None, Result, Ok, Err, unwrap_or}
+use Rattle.std.specs.List.{list_any}
+use Rattle.std.specs.Option.{option_and_then}
+use Rattle.std.specs.Str.{bytes_eq}
+use Rattle.serde_json.specs.Data.{Data, object, Members}
+use Rattle.serde_json.specs.Find.{get_member, as_str, as_object}
+use Rattle.invariants.specs.declared.Kinds.{Kinds}
+use Rattle.invariants.specs.declared.Kinds.TheVariants.{Three}
+use Rattle.invariants.specs.declared.records.Partition.{Partition}
+use Rattle.invariants.specs.declared.records.Edge.{Edge}
+use Rattle.invariants.specs.declared.records.Listed.{Listed}
+use Rattle.invariants.specs.declared.records.Merge.{Merge}
+use Rattle.invariants.specs.declared.records.Split.{Split}
+use Rattle.invariants.specs.declared.records.Block.{Block}
+use Rattle.invariants.specs.declared.records.Model.{Model}
+use Rattle.model_file.specs.declared.version.Version.{Version}
+use Rattle.model_file.specs.declared.version.Version.TheVariants.{One, Two}
+use Rattle.model_file.specs.Versions.{keys, max_types}
+use Rattle.model_file.specs.Rules.{types_hold, partitions_hold, type_of, edges_hold, invariants_hold, merges_hold, splits_hold, blocks_hold}
+use Rattle.model_file.specs.Entries.{list_in, kinds_named, partition_in, edge_in, listed_in, merge_in, split_in, block_in}
+use Rattle.model_file.specs.Streams.{whole_in}
+use Rattle.model_file.specs.Reading.{◌>>=◌, or_shape, tested, if_of, has_no_extra, Fails}
+use Rattle.model_file.specs.declared.refusal.Field.TheVariants as field
+use Rattle.model_file.specs.declared.refusal.FileError.{FileError}
+use Rattle.model_file.specs.declared.found.Found.{Found}
+use Rattle.model_file.specs.declared.found.Key.{Key}
+use Rattle.model_file.specs.declared.found.Key.TheVariants as key
+
+-- no key
+abbrev pub nothing : Found
+nothing = record {
+  has_extra = false;
+  version = None;
+  types = None;
+  kinds = None;
+  partitions = None;
+  edges = None;
+  invariants = None;
+  merges = None;
+  splits = None;
+  blocks = None;
+}
+
+-- what a look-up of keys finds, each value read in the form of its key
+abbrev pub found_by : Bool → (List ℕ → Option Data) → Found
+found_by has_extra get = record {
+  has_extra = has_extra;
+  version = option_and_then whole_in (get (codes "version"));
+  types = option_and_then (list_in as_str) (get (codes "types"));
+  kinds = option_and_then kinds_named (get (codes "kinds"));
+  partitions = option_and_then (list_in partition_in) (get (codes "partitions"));
+  edges = option_and_then (list_in edge_in) (get (codes "edges"));
+  invariants = option_and_then (list_in listed_in) (get (codes "invariants"));
+  merges = option_and_then (list_in merge_in) (get (codes "merges"));
+  splits = option_and_then (list_in split_in) (get (codes "splits"));
+  blocks = option_and_then (list_in block_in) (get (codes "blocks"));
+}
+
+-- what the members of a file of this version have
+unfoldable pub found_in : Version → Members → Found
+found_in version ms = found_by (not (has_no_extra version ms)) (λ k. get_member k ms)
+
+-- the value is an object with what was found
+abbrev pub HasMembers : Version → Found → Data → Type 0
+HasMembers version found d = (ms : Members) × (d ≡ object ms) × (found ≡ found_in version ms)
+
+-- whether the value is an object, with what was found
+abbrev pub IsRoot : Version → Data → Bool → Found → Type 0
+IsRoot version d true found = HasMembers version found d
+IsRoot version d false found = as_object d ≡ None
+
+-- the text of a key
+abbrev pub IsKey : Key → List ℕ → Type 0
+IsKey key.Blocks text = text ≡ codes "blocks"
+IsKey key.Edges text = text ≡ codes "edges"
+IsKey key.Invariants text = text ≡ codes "invariants"
+IsKey key.Kinds text = text ≡ codes "kinds"
+IsKey key.Merges text = text ≡ codes "merges"
+IsKey key.Partitions text = text ≡ codes "partitions"
+IsKey key.Splits text = text ≡ codes "splits"
+IsKey key.Types text = text ≡ codes "types"
+IsKey key.Version text = text ≡ codes "version"
+IsKey key.Other text = list_any (bytes_eq text) (keys Two) ≡ false
+
+-- what is found once the key has this value
+abbrev pub with_field : Key → Data → Found → Found
+with_field key.Blocks d f = record f { blocks = list_in block_in d }
+with_field key.Edges d f = record f { edges = list_in edge_in d }
+with_field key.Invariants d f = record f { invariants = list_in listed_in d }
+with_field key.Kinds d f = record f { kinds = kinds_named d }
+with_field key.Merges d f = record f { merges = list_in merge_in d }
+with_field key.Partitions d f = record f { partitions = list_in partition_in d }
+with_field key.Splits d f = record f { splits = list_in split_in d }
+with_field key.Types d f = record f { types = list_in as_str d }
+with_field key.Version d f = record f { version = whole_in d }
+with_field key.Other d f = f
+
+-- the kinds that are asked for: three in a file of version 1
+abbrev pub kinds_from : Version → Option Kinds → Kinds
+kinds_from One found = Three
+kinds_from Two found = unwrap_or found Three
+
+-- the model of what was found
+abbrev pub model_from : Version → Found → Model
+model_from version f = record {
+  types = unwrap_or f.types [];
+  kinds = kinds_from version f.kinds;
+  partitions = unwrap_or f.partitions [];
+  edges = unwrap_or f.edges [];
+  invariants = unwrap_or f.invariants [];
+  splits = unwrap_or f.splits [];
+  merges = unwrap_or f.merges [];
+  blocks = unwrap_or f.blocks [];
+}
+
+-- ---- the parts of what was found, each tested as `Reading` has it
+
+-- the version, and no key that no file of it has
+abbrev pub head_from : Version → Found → Result (Unit {0}) FileError
+head_from version f = if_of version f.version >>= λ v. tested field.Extra (not f.has_extra) tt
+
+-- the types
+abbrev pub types_from : Version → Found → Result (List (List ℕ)) FileError
+types_from version f = or_shape field.Types f.types >>= λ ts. tested field.Types (types_hold (max_types version) ts) ts
+
+-- the kinds of invariants
+abbrev pub kinds_tested : Version → Found → Result Kinds FileError
+kinds_tested One f = Ok Three
+kinds_tested Two f = or_shape field.Kinds f.kinds
+
+-- the partitions, of so many types
+abbrev pub partitions_from : ℕ → Found → Result (List Partition) FileError
+partitions_from types f = or_shape field.Partitions f.partitions >>= λ ps. tested field.Partitions (partitions_hold types ps) ps
+
+-- the edges
+abbrev pub edges_from : (ℕ → Option ℕ) → Found → Result (List Edge) FileError
+edges_from type f = or_shape field.Edges f.edges >>= λ es. tested field.Edges (edges_hold type es) es
+
+-- the invariants
+abbrev pub invariants_from : Kinds → ℕ → ℕ → Found → Result (List Listed) FileError
+invariants_from kinds types partitions f = or_shape field.Invariants f.invariants >>= λ ls. tested field.Invariants (invariants_hold kinds types partitions ls) ls
+
+-- the merges
+abbrev pub merges_from : Found → Result (List Merge) FileError
+merges_from f = or_shape field.Merges f.merges >>= λ ms. tested field.Merges (merges_hold ms) ms
+
+-- the splits
+abbrev pub splits_from : ℕ → Found → Result (List Split) FileError
+splits_from invariants f = or_shape field.Splits f.splits >>= λ ss. tested field.Splits (splits_hold invariants ss) ss
+
+-- the blocks
+abbrev pub blocks_from : (ℕ → Option ℕ) → ℕ → List Split → Found → Result (List Block) FileError
+blocks_from type invariants ss f = or_shape field.Blocks f.blocks >>= λ bs. tested field.Blocks (blocks_hold type invariants ss bs) bs
+
+-- the model of the parts
+abbrev pub parts_from : Version → Found → Result Model FileError
+parts_from version f =
+    types_from version f >>= λ ts. kinds_tested version f >>= λ kinds.
+    partitions_from (length ts) f >>= λ ps. edges_from (type_of ps) f >>= λ es.
+    invariants_from kinds (length ts) (length ps) f >>= λ ls. merges_from f >>= λ ms.
+    splits_from (length ls) f >>= λ ss. blocks_from (type_of ps) (length ls) ss f >>= λ bs.
+    Ok (record {
+      types = ts;
+      kinds = kinds;
+      partitions = ps;
+      edges = es;
+      invariants = ls;
+      splits = ss;
+      merges = ms;
+      blocks = bs;
+    })
+
+-- an answer, as a view shows it, is what was to be read
+abbrev pub GivesBy : {S A : Type 0} → (S → A) → Result S FileError → Result A FileError → Type 0
+GivesBy view (Ok x) read = read ≡ Ok (view x)
+GivesBy view (Err e) read = Fails e read

@@ -1,0 +1,193 @@
+//! Lists of entries and rows of fields, read from the tokens of a JSON text.
+ghost use Rattle.std.specs.Prelude.{◌≡◌, ◌<◌, ◌≤◌, ℕ, length, OnOk};
+ghost use Rattle.json.specs.Json.{parse_map};
+ghost use Rattle.model_file.specs.Entries.{list_in, each};
+ghost use Rattle.model_file.specs.Streams.{data_at, items_at, Answers};
+ghost use Rattle.model_file.specs.Lists.{both, gathered, appended, row_in};
+
+use crate::stream::{Stop, open, pass_items, pass_value};
+use invariants::Seq;
+use json::Reader;
+use std::alloc::{AllocError, Global};
+
+/// An entry that a JSON value may be.
+pub(crate) trait Entry: Sized {
+    ghost use Rattle.std.specs.Prelude.{Option};
+    ghost use Rattle.serde_json.specs.Data.{Data};
+
+    /// The entry that a value is.
+    ghost read_as: { Data → Option Self };
+
+    /// The entry that the next value is. Arrays and objects may nest `depth` deep.
+    fn read(alloc: Global, reader: &mut Reader<'_>, depth: usize) -> Result<Option<Self>, Stop>
+        ensures value { Answers result (parse_map read_as (data_at depth reader.old)) reader.new }
+        ensures shorter { OnOk result (length reader.new < length reader.old) };
+}
+
+/// The fields of a row, the first of them and the others.
+pub(crate) trait Row: Sized {
+    ghost use Rattle.std.specs.Prelude.{Option};
+    ghost use Rattle.serde_json.specs.Data.{Items};
+
+    /// The fields that items are.
+    ghost fields_as: { Items → Option Self };
+
+    /// The fields that the items up to the closing bracket are.
+    fn fields(alloc: Global, reader: &mut Reader<'_>, depth: usize) -> Result<Option<Self>, Stop>
+        ensures value { (n : ℕ) → length reader.old ≤ n
+            → Answers result (parse_map fields_as (items_at n depth reader.old)) reader.new }
+        ensures shorter { OnOk result (length reader.new < length reader.old) };
+}
+
+impl Row for () {
+    ghost use Rattle.model_file.specs.Lists.{no_fields};
+
+    ghost fields_as = { no_fields };
+
+    #[inline(always)]
+    fn fields(_alloc: Global, reader: &mut Reader<'_>, depth: usize) -> Result<Option<()>, Stop> {
+        if reader.take_end_array() {
+            return Ok(Some(()));
+        }
+        match pass_value(reader, depth) {
+            Ok(()) => {}
+            Err(_) => return Err(Stop::NotJson),
+        }
+        match pass_items(reader, depth) {
+            Ok(()) => Ok(None),
+            Err(_) => Err(Stop::NotJson),
+        }
+    }
+}
+
+/// Both, where both are there.
+#[inline(always)]
+fn both<A: Drop, B: Drop>(a: Option<A>, b: Option<B>) -> Option<(A, B)>
+    ensures { result ≡ both a b }
+{
+    match (a, b) {
+        (Some(a), Some(b)) => Some((a, b)),
+        _ => None,
+    }
+}
+
+impl<A: Entry + Drop, R: Row + Drop> Row for (A, R) {
+    ghost use Rattle.model_file.specs.Lists.{one_more};
+
+    ghost fields_as = { one_more A.read_as R.fields_as };
+
+    #[inline(always)]
+    fn fields(
+        alloc: Global,
+        reader: &mut Reader<'_>,
+        depth: usize,
+    ) -> Result<Option<(A, R)>, Stop> {
+        if reader.take_end_array() {
+            return Ok(None);
+        }
+        let first = match A::read(alloc, reader, depth) {
+            Ok(first) => first,
+            Err(e) => return Err(e),
+        };
+        match R::fields(alloc, reader, depth) {
+            Ok(others) => Ok(both(first, others)),
+            Err(e) => Err(e),
+        }
+    }
+}
+
+/// The row that the next value is.
+#[inline(always)]
+pub(crate) fn row_of<R: Row + Drop>(
+    alloc: Global,
+    reader: &mut Reader<'_>,
+    depth: usize,
+) -> Result<Option<R>, Stop>
+    ensures value { Answers result (parse_map (row_in R.fields_as) (data_at depth reader.old))
+        reader.new }
+    ensures shorter { OnOk result (length reader.new < length reader.old) }
+{
+    match open(reader, depth) {
+        Ok(true) => R::fields(alloc, reader, depth - 1),
+        Ok(false) => Ok(None),
+        Err(e) => Err(e),
+    }
+}
+
+/// The entries of a list, as long as each value was one.
+#[derive(Drop)]
+struct Gathered<T> {
+    entries: Vec<T>,
+    is_whole: bool,
+}
+
+impl<T: Drop> Gathered<T> {
+    /// Adds what the next value is.
+    #[inline(always)]
+    fn add(&mut self, entry: Option<T>) -> Result<(), AllocError>
+        ensures { OnOk result (gathered self.new ≡ appended (gathered self.old) entry) }
+    {
+        match entry {
+            Some(entry) => if self.is_whole {
+                self.entries.push(entry)?;
+            },
+            None => self.is_whole = false,
+        }
+        Ok(())
+    }
+
+    /// The list, where each value was an entry.
+    fn list(self) -> Option<Seq<T>>
+        ensures { result ≡ gathered self }
+    {
+        if self.is_whole {
+            Some(Seq::from_vec(self.entries))
+        } else {
+            None
+        }
+    }
+}
+
+/// The entries up to the bracket that closes an array.
+fn entries<T: Entry + Drop>(
+    alloc: Global,
+    reader: &mut Reader<'_>,
+    depth: usize,
+) -> Result<Option<Seq<T>>, Stop>
+    ensures value { Answers result
+        (parse_map (each T.read_as) (items_at (length reader.old) depth reader.old)) reader.new }
+    ensures shorter { OnOk result (length reader.new < length reader.old) }
+{
+    let mut found = Gathered {
+        entries: Vec::new(alloc),
+        is_whole: true,
+    };
+    'items: while !reader.take_end_array() {
+        let entry = match T::read(alloc, reader, depth) {
+            Ok(entry) => entry,
+            Err(e) => return Err(e),
+        };
+        match found.add(entry) {
+            Ok(()) => {}
+            Err(_) => return Err(Stop::Memory),
+        }
+    }
+    Ok(found.list())
+}
+
+/// The list of entries that the next value is.
+pub(crate) fn list<T: Entry + Drop>(
+    alloc: Global,
+    reader: &mut Reader<'_>,
+    depth: usize,
+) -> Result<Option<Seq<T>>, Stop>
+    ensures value { Answers result (parse_map (list_in T.read_as) (data_at depth reader.old))
+        reader.new }
+    ensures shorter { OnOk result (length reader.new < length reader.old) }
+{
+    match open(reader, depth) {
+        Ok(true) => entries(alloc, reader, depth - 1),
+        Ok(false) => Ok(None),
+        Err(e) => Err(e),
+    }
+}
