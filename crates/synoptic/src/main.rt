@@ -1,14 +1,14 @@
 //! The program: it makes the real inputs and sinks, does what the words ask, and ends with the status.
 #![tactic(auto)]
 
-use line_rules::RegexPatterns;
-use outside::{RealInputs, RealSink};
+use line_rules::{Patterns, RegexPatterns};
+use outside::{Inputs, RealInputs, RealSink, Sink};
 use std::alloc::Global;
 use std::env;
 use std::io::ErrorKind;
 use std::process::ExitCode;
 use std::rt::Env;
-use synoptic_cli::{Status, run, tell};
+use synoptic_cli::{ErrorStream, Status, run, tell};
 
 /// The words after the program's name. A word that is not UTF-8 is a faulty command line.
 fn words<R: Env + AllocGlobal>(rt: &R) -> Result<Vec<String>, Status> {
@@ -20,24 +20,36 @@ fn words<R: Env + AllocGlobal>(rt: &R) -> Result<Vec<String>, Status> {
     args.skip(1).collect(rt.alloc()).map_err(|_| Status::Memory)
 }
 
+/// Does what the words ask, if there are any that can be read, and gives the status.
+fn ended<I: Inputs, P: Patterns, O: Sink, E: ErrorStream>(
+    alloc: Global,
+    words: Result<Vec<String>, Status>,
+    inputs: &mut I,
+    patterns: &mut P,
+    out: &mut O,
+    err: &mut E,
+) -> Status {
+    match words {
+        Ok(words) => run(alloc, &words, inputs, patterns, out, err),
+        Err(status) => {
+            tell(None, status, err);
+            status
+        }
+    }
+}
+
 fn main(rt: HostRuntime) -> ExitCode {
     let mut inputs = RealInputs::new(&rt, rt.reader());
     let mut patterns = RegexPatterns::new(rt.alloc());
     let mut out = RealSink::standard_output(rt.stdout());
     let mut err = RealSink::standard_error(rt.stderr());
-    let status = match words(&rt) {
-        Ok(words) => run(
-            rt.alloc(),
-            &words,
-            &mut inputs,
-            &mut patterns,
-            &mut out,
-            &mut err,
-        ),
-        Err(status) => {
-            tell(None, status, &mut err);
-            status
-        }
-    };
+    let status = ended(
+        rt.alloc(),
+        words(&rt),
+        &mut inputs,
+        &mut patterns,
+        &mut out,
+        &mut err,
+    );
     ExitCode::from(status.code())
 }

@@ -3,6 +3,7 @@ use Rattle.std.proofs.Common.{◌≡◌, ◌∙◌, ◌⊎◌, ◌+◌, ◌≤�
 use Rattle.std.specs.Prelude.{IsSome}
 use Rattle.std.specs.Option.{IsSomeAnd}
 use Rattle.outside.specs.Inputs.{Files, InputState, Stays}
+use Rattle.outside.specs.Turns.{OpensFirst}
 use Rattle.limits.specs.declared.TheConstants.{MAX_INPUT_BYTES}
 use Rattle.line_rules.specs.Patterns.{PatternsState}
 use Rattle.log_reader.specs.Reading.{Setting}
@@ -13,14 +14,14 @@ use Rattle.command_line.specs.Task.{Task, task_of}
 use Rattle.synoptic_cli.specs.declared.status.Status.TheVariants.{Memory, ReadFault}
 use Rattle.synoptic_cli.specs.declared.status.Source.TheVariants as sources
 use Rattle.synoptic_cli.specs.declared.stages.SoFar as rust
-use Rattle.synoptic_cli.specs.Task.{LogFiles, Stage, input_count, log_stages, first_stages, rules_stages, stages_of, version_of}
+use Rattle.synoptic_cli.specs.Task.{LogFiles, Stage, input_count, input_names, log_stages, first_stages, model_stages, rules_stages, stages_of, version_of}
 use Rattle.synoptic_cli.specs.Stages.{SoFar, Stop, at_start, reads, setting_by, status_of, stop_after}
 use Rattle.synoptic_cli.specs.Endings.{EndsOver, IsFirstLacking, ReadAll, SomeBytes}
-use Rattle.synoptic_cli.specs.Causes.{World, FailsToRead, HasCause, LeavesOpen, Stops, world}
+use Rattle.synoptic_cli.specs.Causes.{World, FailsToRead, HasCause, LeavesOpen, StopsInLog, world}
 use Rattle.synoptic_cli.specs.Halts.{Ends, HasRead, IsHeld, LogHalts, Reads, ReadsTask, held_form, setting_of}
 use Rattle.synoptic_cli.proofs.Texts.{rose-since}
 use Rattle.synoptic_cli.proofs.Bytes.{bytes-map, input_count-append, later}
-use Rattle.synoptic_cli.proofs.Through.{StopsReading, open-through, read-faults, read-more, read-most, read-stop, stop-bytes, stops-through}
+use Rattle.synoptic_cli.proofs.Through.{StopsReading, open-through, read-faults, read-more, read-most, read-stop, stages-first, stages-more, stop-bytes, stops-through}
 use Rattle.synoptic_cli.proofs.Rules.{memory-ends}
 use Rattle.synoptic_cli.proofs.ModelStage.{first-lacking, stopped}
 use Rattle.synoptic_cli.proofs.LogStage.{AreReadAlike, ReadAlike, alike-forms, log-lacks, log-stage-is, log-stops}
@@ -41,9 +42,16 @@ pub record Before (task : Task) (s : Setting) (old mid : InputState) : Type 0 wh
   pub alike : AreReadAlike s (setting_by so_far task.ignore task.join)
   pub log : log_stages task ≡ LogFiles (inputs_of task.files) task.ignore task.join ∷ []
 
+-- the file at which reading stopped is open
+open-within : (o : Option (List ℕ)) (count number : ℕ) (old mid new : InputState) → ReadAll count old mid → Stays old mid → IsSomeAnd o (StopsWithin number mid new)
+    → IsSomeAnd o (LeavesOpen (count + number) MAX_INPUT_BYTES old new)
+open-within None count number old mid new read stays within = absurd within
+open-within (Some name) count number old mid new read stays within =
+    open-through count number MAX_INPUT_BYTES old mid new name read stays (record { opens = within.opens; mark = within.mark; left = within.left })
+
 -- the log is refused
 refuses : (task : Task) (s : Setting) (old new : World) (mid : InputState) (e : ReadError) → Before task s old.inputs mid → new.out ≡ old.out
-    → RefusesLog s (inputs_of task.files) mid new.inputs e → Stops (status_of e) old new task
+    → RefusesLog s (inputs_of task.files) mid new.inputs e → StopsInLog (status_of e) old new task
 refuses task s old new mid e before silent refusal =
     let stop = stop_after (refusal.number + 1) (status_of e) in
     let here = log-stops before.so_far s (inputs_of task.files) task.ignore task.join mid new.inputs e before.alike refusal in
@@ -51,11 +59,15 @@ refuses task s old new mid e before silent refusal =
     read-stop (first_stages task) (log_stages task) old.inputs mid new.inputs at_start before.so_far stop before.stays before.read
     (subst (λ (stages : List Stage). StopsReading stages mid new.inputs before.so_far stop) (sym before.log) here) in
     record {
-      stop = later (input_count (first_stages task)) stop;
-      answered = refl;
-      ends = bytes-map old.inputs.files (stages_of task) _ (λ filled. EndsOver task filled (Err (later (input_count (first_stages task)) stop))) (λ filled is. stopped task filled (later (input_count (first_stages task)) stop) is) there.bytes;
-      opened = there.opened;
-      silent = silent;
+      stops = record {
+        stop = later (input_count (first_stages task)) stop;
+        answered = refl;
+        ends = bytes-map old.inputs.files (stages_of task) _ (λ filled. EndsOver task filled (Err (later (input_count (first_stages task)) stop))) (λ filled is. stopped task filled (later (input_count (first_stages task)) stop) is) there.bytes;
+        opened = there.opened;
+        silent = silent;
+      };
+      number = refusal.number;
+      within = open-within (slice_get (inputs_of task.files) refusal.number) (input_count (first_stages task)) refusal.number old.inputs mid new.inputs before.read.inputs before.stays refusal.stops;
     }
 
 -- a file of the log is not there
@@ -72,13 +84,6 @@ lacks task s old mid number before lacking =
     first-lacking old.files task (sources.Log number) (input_count (first_stages task) + number) (subst (λ (files : Option Files). IsSome files) before.stays.files (lacks-told s mid.files (inputs_of task.files) number lacking))
     (stop-bytes old.files (first_stages task) (log_stages task) at_start before.so_far stop before.read.bytes
     (subst (λ (files : Option Files). SomeBytes files (log_stages task) (λ filled. reads before.so_far filled ≡ Err stop)) before.stays.files here))
-
--- the file that failed at a read is open
-open-within : (o : Option (List ℕ)) (count number : ℕ) (old mid new : InputState) → ReadAll count old mid → Stays old mid → IsSomeAnd o (StopsWithin number mid new)
-    → IsSomeAnd o (LeavesOpen (count + number) MAX_INPUT_BYTES old new)
-open-within None count number old mid new read stays within = absurd within
-open-within (Some name) count number old mid new read stays within =
-    open-through count number MAX_INPUT_BYTES old mid new name read stays (record { opens = within.opens; mark = within.mark; left = within.left })
 
 -- a file of the log could not be read
 fails : (task : Task) (s : Setting) (old new : World) (mid : InputState) (number : ℕ) → Before task s old.inputs mid → new.out ≡ old.out
@@ -121,6 +126,9 @@ log-ends task s words old new mid (refused.ReadFault number) before silent asks 
 log-ends task s words old new mid refused.Memory before silent asks few cause =
     let most = read-most (input_count (first_stages task)) old.inputs mid before.read.inputs in
     record { opens = (memory-ends task old.inputs new.inputs old.patterns old.patterns (omega (arith, few, most, inputs-are task s old.inputs mid before)) words old.out asks).opens; silent = silent }
+log-ends task s words old new mid (refused.TypeLimit at) before silent asks few cause = (task, asks, refuses task s old new mid (refused.TypeLimit at) before silent cause)
+log-ends task s words old new mid (refused.EventLimit at) before silent asks few cause = (task, asks, refuses task s old new mid (refused.EventLimit at) before silent cause)
+log-ends task s words old new mid refused.InputLimit before silent asks few cause = (task, asks, refuses task s old new mid refused.InputLimit before silent cause)
 log-ends task s words old new mid e before silent asks few cause = (task, asks, refuses task s old new mid e before silent cause)
 
 -- the same for what the program holds
@@ -144,3 +152,24 @@ stage-faults task start held old mid is first = read-faults (input_count (first_
 -- no fault was counted before the stage of the model
 pub rules-faults : (task : Task) (start held : rust.SoFar) (old mid : InputState) → IsHeld (version_of task.command) start at_start → Reads (version_of task.command) (rules_stages task) start old mid held → mid.faults ≡ old.faults
 rules-faults task start held old mid is first = read-faults (input_count (rules_stages task)) old mid (first at_start is).2.inputs
+
+-- ---- which inputs were opened
+
+-- where the run ends in the stage of the rules
+pub rules-turn : (task : Task) (old new : InputState) → OpensFirst (input_names (rules_stages task)) old new → OpensFirst (input_names (stages_of task)) old new
+rules-turn task old new first =
+    stages-more (first_stages task) (log_stages task) old new (stages-more (rules_stages task) (model_stages task) old new first)
+
+-- in the stage of the model
+pub model-turn : (task : Task) (start held : rust.SoFar) (old mid new : InputState) → IsHeld (version_of task.command) start at_start → Stays old mid
+    → Reads (version_of task.command) (rules_stages task) start old mid held → OpensFirst (input_names (model_stages task)) mid new → OpensFirst (input_names (stages_of task)) old new
+model-turn task start held old mid new is stays first second =
+    let read = (first at_start is).2 in
+    stages-more (first_stages task) (log_stages task) old new (stages-first (rules_stages task) (model_stages task) old mid new stays read.inputs read.turn second)
+
+-- in the stage of the log, or after it
+pub last-turn : (task : Task) (start held : rust.SoFar) (old mid new : InputState) → IsHeld (version_of task.command) start at_start → Stays old mid
+    → Reads (version_of task.command) (first_stages task) start old mid held → OpensFirst (input_names (log_stages task)) mid new → OpensFirst (input_names (stages_of task)) old new
+last-turn task start held old mid new is stays first second =
+    let read = (first at_start is).2 in
+    stages-first (first_stages task) (log_stages task) old mid new stays read.inputs read.turn second

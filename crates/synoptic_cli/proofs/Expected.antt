@@ -13,13 +13,15 @@ use Rattle.command_line.specs.Task.{Task, task_of}
 use Rattle.command_line.specs.declared.given.ParseError.{ParseError}
 use Rattle.command_line.specs.declared.given.ParseError.TheVariants as parse_error
 use Rattle.synoptic_cli.specs.declared.answer.Answer.{Answer}
+use Rattle.synoptic_cli.specs.declared.status.LimitKind.{LimitKind}
+use Rattle.synoptic_cli.specs.declared.status.LimitKind.TheVariants as limits
 use Rattle.synoptic_cli.specs.declared.status.Status.{Status}
 use Rattle.synoptic_cli.specs.declared.status.Status.TheVariants.{Done, NoCheck, NoReplay, Usage, Expressions, Log, Limit, ReadFault, WriteFault, Memory, ModelFile}
 use Rattle.synoptic_cli.specs.declared.status.Source.{Source}
 use Rattle.synoptic_cli.specs.Task.{file_stage, log_stages, model_stages, rules_name, RulesFile, Stage, stages_of}
 use Rattle.synoptic_cli.specs.Stages.{SoFar, Stop, and_then, at_start, reads, reads_rules, stop_after, with_rules}
 use Rattle.synoptic_cli.specs.Endings.{EndsAfter, EndsOver, EndsTold, HasStatus, IsFirstLacking, IsStatusOf, IsTold, SomeBytes, end_status, told_stages}
-use Rattle.synoptic_cli.specs.Causes.{World, FailsToRead, HasCause, IsExpected, IsTooDeep, IsUnread, IsMissing, RefusesRules, Stops, WritesAll}
+use Rattle.synoptic_cli.specs.Causes.{World, FailsToRead, HasCause, IsExpected, IsTooDeep, IsUnread, IsMissing, RefusesRules, Stops, StopsAtLimit, WritesAll}
 use Rattle.synoptic_cli.specs.Halts.{status_without_task}
 use Rattle.synoptic_cli.proofs.Bytes.{bytes-told}
 
@@ -105,6 +107,12 @@ there : {A B C : Type 0} → A ⊎ C → A ⊎ (B ⊎ C)
 there (inl a) = inl a
 there (inr c) = inr (inr c)
 
+-- at a limit the run stops
+limit-stops : (task : Task) (kind : LimitKind) (old new : World) → StopsAtLimit kind old new task → Stops (Limit kind) old new task
+limit-stops task limits.Partitions old new cause = cause.stops
+limit-stops task limits.Paths old new cause = cause.stops
+limit-stops task kind old new cause = cause.stops
+
 -- a status with its cause is the one that is expected of the words and the files
 pub cause-expected : (status : Status) (words : List (List ℕ)) (old new : World) → HasCause status words old new → IsExpected status words old new
 cause-expected Done words old new cause = if-some old.inputs.files _ (λ files some calm-in calm-patterns calm-out. inl (done-task words cause.0 files Done old new some cause.1 cause.2))
@@ -112,8 +120,8 @@ cause-expected (NoCheck part) words old new cause = if-some old.inputs.files _ (
 cause-expected (NoReplay part) words old new cause = if-some old.inputs.files _ (λ files some calm-in calm-patterns calm-out. inl (done-task words cause.0 files (NoReplay part) old new some cause.1 cause.2))
 cause-expected Usage words old new cause = if-some old.inputs.files _ (λ files some calm-in calm-patterns calm-out. inl (subst (λ (asked : Option Task). HasStatus asked files Usage) (sym cause.0) refl))
 cause-expected (Expressions e) words old new cause = if-some old.inputs.files _ (λ files some calm-in calm-patterns calm-out. there (rules-form words cause.0 (rules_name cause.0.form) files e old new some cause.1 refl calm-patterns cause.2))
-cause-expected (Log fault) words old new cause = if-some old.inputs.files _ (λ files some calm-in calm-patterns calm-out. inl (stops-task words cause.0 files (Log fault) old new some cause.1 cause.2))
-cause-expected (Limit kind) words old new cause = if-some old.inputs.files _ (λ files some calm-in calm-patterns calm-out. inl (stops-task words cause.0 files (Limit kind) old new some cause.1 cause.2))
+cause-expected (Log fault) words old new cause = if-some old.inputs.files _ (λ files some calm-in calm-patterns calm-out. inl (stops-task words cause.0 files (Log fault) old new some cause.1 cause.2.stops))
+cause-expected (Limit kind) words old new cause = if-some old.inputs.files _ (λ files some calm-in calm-patterns calm-out. inl (stops-task words cause.0 files (Limit kind) old new some cause.1 (limit-stops cause.0 kind old new cause.2)))
 cause-expected (ReadFault source) words old new cause = if-some old.inputs.files _ (λ files some calm-in calm-patterns calm-out. inl (read-fault words cause.0 files source old new some cause.1 calm-in cause.2))
 cause-expected WriteFault words old new cause = if-some old.inputs.files _ (λ files some calm-in calm-patterns calm-out. absurd (calm-out cause.2.rose))
 cause-expected Memory words old new cause = if-some old.inputs.files _ (λ files some calm-in calm-patterns calm-out. inr (inl refl))

@@ -1,10 +1,11 @@
 -- The stage of the log: what was read of it, and where its reading stops.
-use Rattle.std.proofs.Common.{◌≡◌, ℕ, suc, ◌+◌, ◌<◌, Bool, true, false, nat_lt, List, [], ◌∷◌, length, refl, sym, ap, ◌∙◌, subst, inl, arith, Option, Some, None, Result, Ok, Err}
+use Rattle.std.proofs.Common.{◌≡◌, ℕ, suc, ◌+◌, ◌<◌, Bool, true, false, nat_lt, List, [], ◌∷◌, ◌++◌, append-nil, length, refl, sym, ap, ◌∙◌, subst, inl, arith, Option, Some, None, Result, Ok, Err}
 use Rattle.std.specs.Prelude.{IsSome}
 use Rattle.std.proofs.lemmas.Bool.{cond-true, cond-false}
 use Rattle.std.proofs.lemmas.Bool.Decides.{nat_tests}
 use Rattle.std.proofs.lemmas.Option.{none-some, same_Some}
 use Rattle.outside.specs.Inputs.{Files, InputState, bytes_of}
+use Rattle.outside.specs.Turns.{OpensFirst, OpensInTurn}
 use Rattle.traces.specs.Words.{Log, log_of}
 use Rattle.line_rules.specs.Rules.{Rule, AreAlike}
 use Rattle.model_file.specs.declared.version.Version.{Version}
@@ -18,9 +19,9 @@ use Rattle.synoptic_cli.specs.declared.material.Material.{Material}
 use Rattle.synoptic_cli.specs.declared.status.Status.TheVariants.{ReadFault}
 use Rattle.synoptic_cli.specs.declared.status.Source.TheVariants as sources
 use Rattle.synoptic_cli.specs.declared.stages.SoFar as rust
-use Rattle.synoptic_cli.specs.Task.{LogFiles, Stage, log_stage, log_stages}
+use Rattle.synoptic_cli.specs.Task.{LogFiles, Stage, input_names, log_stage, log_stages}
 use Rattle.synoptic_cli.specs.Stages.{SoFar, Stop, and_then, reads, reads_log, setting_by, status_of, stop_after, stop_at, with_log}
-use Rattle.synoptic_cli.specs.Endings.{ReadAll, SomeBytes}
+use Rattle.synoptic_cli.specs.Endings.{OpensAll, ReadAll, SomeBytes}
 use Rattle.synoptic_cli.specs.Halts.{AreAlikeForms, HasRead, Reads, held_form, setting_of}
 use Rattle.synoptic_cli.proofs.Bytes.{contents-map}
 use Rattle.synoptic_cli.proofs.Through.{StopsReading}
@@ -60,6 +61,11 @@ log-value so_far s t count contents log alike many none value =
 log-read : (names : List (List ℕ)) (old new : InputState) (s : Setting) (log : Log) → 0 < length names → ReadsLog s names old new log → ReadAll (length names + 0) old new
 log-read names old new s log some read = inl (omega (arith, some), record { opens = omega (arith, read.opened.opens); faults = read.opened.faults }, read.at_end)
 
+-- and they were opened in turn
+log-turn : (names : List (List ℕ)) (old new : InputState) → 0 < length names → OpensInTurn names old new → OpensAll (names ++ []) old new
+log-turn [] old new some turn = absurd (omega (arith, some))
+log-turn (name ∷ names) old new some turn = subst (λ (all : List (List ℕ)). OpensAll all old new) (sym (append-nil (name ∷ names))) turn
+
 -- a log that was read whole takes what was read before it to the same with that log
 pub log-through : (so_far : SoFar) (s : Setting) (names : List (List ℕ)) (ignore join : Bool) (old new : InputState) (log : Log) → AreReadAlike s (setting_by so_far ignore join)
     → 0 < length names → ReadsLog s names old new log → HasRead (LogFiles names ignore join ∷ []) old new so_far (record { form = so_far.form; material = record { log = log; model = so_far.material.model } })
@@ -70,6 +76,7 @@ log-through so_far s names ignore join old new log alike some read =
           contents-map old.files names _ (λ contents. reads so_far ((LogFiles names ignore join, contents) ∷ []) ≡ Ok next)
           (λ contents p. ap (λ (r : Result SoFar Stop). and_then r (length names) (λ n. Ok n)) (log-value so_far s (setting_by so_far ignore join) (length names) contents log alike p.0 p.1 p.2)) read.words;
       inputs = log-read names old new s log some read;
+      turn = log-turn names old new some read.turn;
     }
 
 -- a task that reads a log has one stage of it, with its files
@@ -79,6 +86,12 @@ log-stage-is task some = stage-is task.form task.files task.ignore task.join som
     stage-is : (w : Option ask.LineForm) (files : List (List ℕ)) (ignore join : Bool) → IsSome w → log_stage w files ignore join ≡ LogFiles (inputs_of files) ignore join ∷ []
     stage-is None files ignore join some = cc
     stage-is (Some lines) files ignore join some = refl
+
+-- the first inputs of the log are those of its stage
+pub log-first : (task : Task) (old new : InputState) → IsSome task.form → OpensFirst (inputs_of task.files) old new → OpensFirst (input_names (log_stages task)) old new
+log-first task old new some first =
+    let names : input_names (log_stages task) ≡ inputs_of task.files = ap input_names (log-stage-is task some) ∙ append-nil (inputs_of task.files) in
+    subst (λ (all : List (List ℕ)). OpensFirst all old new) (sym names) first
 
 -- without any name, the log is that of standard input
 some-input : (files : List (List ℕ)) → 0 < length (inputs_of files)

@@ -76,6 +76,7 @@ model-read version old new name bytes model reads read shaped =
       read = found.2;
       shaped = shaped;
       opened = inl (omega arith, record { opens = reads.opens; faults = reads.faults }, reads.at_end (short-read version bytes model read));
+      turn = reads.turn;
     }
 
 -- a refusal that is not want of memory is that of the bytes
@@ -110,6 +111,7 @@ model-held version held old new name model read = λ so_far is. (
         contents-one old.files name read.bytes (λ contents. reads so_far ((ModelFile version name, contents) ∷ []) ≡ Ok (record { form = so_far.form; material = record { log = so_far.material.log; model = model } })) read.told
         (ap (λ (r : Result Model FileError). and_then (with_model so_far r) 1 (λ next. Ok next)) read.read);
     inputs = read.opened;
+    turn = read.turn;
   },
 )
 

@@ -26,15 +26,13 @@ use Rattle.command_line.specs.declared.table.Command.TheVariants.{Infer}
 use Rattle.synoptic_cli.specs.declared.answer.Answer.{Answer}
 use Rattle.synoptic_cli.specs.declared.material.Material.{Material}
 use Rattle.synoptic_cli.specs.declared.status.LimitKind.{LimitKind}
-use Rattle.synoptic_cli.specs.Task.{ModelFile, Stage, file_stage, log_stage, log_stages, rules_stages, stage_names, stages_of, kinds_of, version_of}
+use Rattle.synoptic_cli.specs.Task.{ModelFile, Stage, file_stage, log_stage, log_stages, rules_stages, stage_names, stages_of, version_of}
 use Rattle.synoptic_cli.specs.Stages.{Filled, SoFar, Stop, after, and_then, at_start, reads, reads_model, setting_by, with_log, with_model}
-use Rattle.synoptic_cli.specs.declared.status.Status.TheVariants.{Done}
 use Rattle.synoptic_cli.specs.Commands.{AnswersBy}
-use Rattle.synoptic_cli.specs.Commands.Inference.{PassesNone}
 use Rattle.synoptic_cli.specs.Commands.CheckModel.{Says, answer_of}
 use Rattle.synoptic_cli.specs.Commands.ReplayModel as replay_model
 use Rattle.synoptic_cli.specs.Endings.{EndsAfter, end_status, told_stages}
-use Rattle.synoptic_cli.specs.Rechecks.{HistoriesAreAccepted, InferIsDone, InferredAreAccepted, InferredAreReplayed, ModelsAreAccepted, checking, replaying}
+use Rattle.synoptic_cli.specs.Rechecks.{HistoriesAreAccepted, InferredAreAccepted, InferredAreReplayed, ModelsAreAccepted, checking, replaying}
 use Rattle.synoptic_cli.proofs.Bytes.{after-ok, filled_count, reads-append, reads-stop}
 
 -- the same with this model
@@ -190,18 +188,3 @@ inferred-replayed before after task name a status infers none alike wrote told e
     let same : EndsAfter task (reads at_start (told_stages after (stages_of task))) (Ok a) = subst (λ (filled : List Filled). EndsAfter task (reads at_start filled) (Ok a)) alike wrote in
     let yes : ended.end ≡ Ok (replay_model.answer_of outcomes.Yes) = replayed-after after task name a ended.end (reads at_start (told_stages after (stages_of task))) infers none refl same told ended.ends in
     (yes, sym ended.is ∙ ap end_status yes)
-
--- an inference that passes no limit is done
-done-after : (task : Task) (s : SoFar) (end : Result Answer Stop) → task.command ≡ Infer → PassesNone (typed_words (kinds_of task) s.material.log) → EndsAfter task (Ok s) end → end_status end ≡ Done
-done-after task s (Ok a) infers none ends =
-    let wrote : AnswersBy Infer task s.material (Ok a) = subst (λ (command : Command). AnswersBy command task s.material (Ok a)) infers ends in
-    ap (λ (x : Answer). x.status) wrote.1.value
-done-after task s (Err last) infers none ends =
-    let passes : AnswersBy Infer task s.material (Err ends.0) = subst (λ (command : Command). AnswersBy command task s.material (Err ends.0)) infers ends.1 in
-    absurd (none ends.0 passes)
-
--- an inference whose inputs are not refused, and which passes no limit, ends with Done
-pub infer-done : InferIsDone
-infer-done files task s status infers read none told =
-    sym told.is
-    ∙ done-after task s told.end infers none (subst (λ (r : Result SoFar Stop). EndsAfter task r told.end) read told.ends)

@@ -71,6 +71,7 @@ rules-read old new name bytes rules reads read =
       read = found.2;
       alike = read.2;
       opened = inl (omega arith, record { opens = reads.opens; faults = reads.faults }, reads.at_end (short-read bytes read.0 read.1));
+      turn = reads.turn;
     }
 
 -- a file that is too long has no other refusal
@@ -137,6 +138,7 @@ rules-through old new name rules so_far read = (
         contents-one old.files name read.bytes (λ contents. reads so_far ((RulesFile name, contents) ∷ []) ≡ Ok (record { form = form.Rules read.plain; material = so_far.material })) read.told
         (ap (λ (r : Result (List Rule) RuleError). and_then (with_rules so_far r) 1 (λ next. Ok next)) read.read);
     inputs = read.opened;
+    turn = read.turn;
   },
 )
 

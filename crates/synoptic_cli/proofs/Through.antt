@@ -1,14 +1,18 @@
 -- Stages that were read one after another.
-use Rattle.std.proofs.Common.{Bool, Some, ◌≡◌, ℕ, zero, suc, refl, ◌+◌, ◌-◌, ◌^◌, ◌<◌, ◌≤◌, min, List, ◌++◌, Option, Result, Ok, Err, sym, ap, ◌∙◌, subst, arith, inl, inr, ⊎_elim}
+use Rattle.std.proofs.Common.{Bool, Some, ◌≡◌, ℕ, zero, suc, refl, ◌+◌, ◌-◌, ◌^◌, ◌<◌, ◌≤◌, min, List, [], ◌∷◌, ◌++◌, append-nil, length, take, Option, Result, Ok, Err, sym, ap, ◌∙◌, subst, arith, inl, inr, ⊎_elim}
+use Rattle.std.proofs.Math.Seq.{take-append-add, take-append_seam}
+use Rattle.std.proofs.lemmas.List.{append_assoc, length-append, take-append-le, take_all}
 use Rattle.std.specs.Io.KnownBytes.{IsAtEnd}
 use Rattle.outside.specs.Inputs.{Files, InputState, Stays}
 use Rattle.outside.specs.Reading.{IfTold, LosesFront}
+use Rattle.outside.specs.Turns.{OpensFirst, OpensInTurn}
+use Rattle.outside.proofs.Turns.{turn-both}
 use Rattle.std.proofs.lemmas.Bool.{cases_lt}
 use Rattle.model_file.specs.declared.version.Version.{Version}
 use Rattle.log_reader.specs.Inputs.{Opened, StopsBefore, opens_after}
-use Rattle.synoptic_cli.specs.Task.{Stage, input_count}
+use Rattle.synoptic_cli.specs.Task.{Stage, input_count, input_names, stage_names}
 use Rattle.synoptic_cli.specs.Stages.{SoFar, Stop, after, reads}
-use Rattle.synoptic_cli.specs.Endings.{SomeBytes, OpenedAll, ReadAll}
+use Rattle.synoptic_cli.specs.Endings.{SomeBytes, OpenedAll, OpensAll, ReadAll}
 use Rattle.synoptic_cli.specs.declared.stages.SoFar as rust
 use Rattle.synoptic_cli.specs.Causes.{LeavesOpen}
 use Rattle.synoptic_cli.specs.Halts.{HasRead, Reads}
@@ -110,6 +114,104 @@ open-through a b limit old mid new name read stays within = record {
   left = subst (λ (files : Option Files). IfTold files name (λ content. LosesFront (Some content) new.rest limit)) stays.files within.left;
 }
 
+-- the names of stages and of more stages
+pub names-append : (a b : List Stage) → input_names (a ++ b) ≡ input_names a ++ input_names b
+names-append [] b = refl
+names-append (stage ∷ a) b =
+    ap (λ (names : List (List ℕ)). stage_names stage ++ names) (names-append a b) ∙ sym (append_assoc (stage_names stage) (input_names a) (input_names b))
+
+-- as many names as inputs
+pub names-count : (stages : List Stage) → length (input_names stages) ≡ input_count stages
+names-count [] = refl
+names-count (stage ∷ stages) =
+    length-append (stage_names stage) (input_names stages) ∙ ap (λ (n : ℕ). length (stage_names stage) + n) (names-count stages)
+
+-- what was read is at its end
+read-end : (count : ℕ) (old new : InputState) → 0 < count → ReadAll count old new → IsAtEnd new.rest
+read-end count old new some read =
+    ⊎_elim (λ (all : (0 < count) × Opened count old new × IsAtEnd new.rest). all.2) (λ (none : (count ≡ 0) × (new ≡ old)). absurd (omega (arith, some, none.0))) read
+
+-- and as many were opened
+read-count : (count : ℕ) (old new : InputState) → 0 < count → ReadAll count old new → new.opens ≡ opens_after old.opens count
+read-count count old new some read =
+    ⊎_elim (λ (all : (0 < count) × Opened count old new × IsAtEnd new.rest). all.1.opens ∙ sym (after-some old.opens count some)) (λ (none : (count ≡ 0) × (new ≡ old)). absurd (omega (arith, some, none.0))) read
+
+-- where all of some inputs were opened in turn and read, and then all of more, all of both were opened in turn
+pub all-both : (a b : List (List ℕ)) (old mid new : InputState) → Stays old mid → ReadAll (length a) old mid → OpensAll a old mid → OpensAll b mid new → OpensAll (a ++ b) old new
+all-both [] b old mid new stays read first second = subst (λ (s : InputState). OpensAll b s new) first second
+all-both (x ∷ a) [] old mid new stays read first second =
+    subst (λ (names : List (List ℕ)). OpensAll names old new) (sym (append-nil (x ∷ a))) (subst (λ (s : InputState). OpensInTurn (x ∷ a) old s) (sym second) first)
+all-both (x ∷ a) (y ∷ b) old mid new stays read first second =
+    turn-both (x ∷ a) (y ∷ b) old mid new stays (read-end (length (x ∷ a)) old mid (omega arith) read) first second
+
+-- where all of some inputs were opened in turn and read, and then the first of more, the first of both were opened in turn
+pub first-both : (a b : List (List ℕ)) (old mid new : InputState) → Stays old mid → ReadAll (length a) old mid → OpensAll a old mid → OpensFirst b mid new → OpensFirst (a ++ b) old new
+first-both [] b old mid new stays read first second = subst (λ (s : InputState). OpensFirst b s new) first second
+first-both (x ∷ a) b old mid new stays read first second =
+    let all : List (List ℕ) = x ∷ a in
+    let most : length (all ++ b) ≡ length all + length b = length-append all b in
+    ⊎_elim
+    (λ (same : new ≡ mid).
+    let here : OpensInTurn all old new = subst (λ (s : InputState). OpensInTurn all old s) (sym same) first in
+    inr (
+      length all,
+      omega (arith, most),
+      ap (λ (s : InputState). s.opens) same ∙ read-count (length all) old mid (omega arith) read,
+      subst (λ (names : List (List ℕ)). OpensInTurn names old new) (sym (take-append_seam all b)) here,
+    ))
+    (λ (some : (count : ℕ) × (count ≤ length b) × (new.opens ≡ opens_after mid.opens count) × OpensInTurn (take count b) mid new).
+    inr (
+      length all + some.0,
+      omega (arith, most, some.1),
+      opens-through (length all) some.0 new.opens old mid read some.2,
+      subst (λ (names : List (List ℕ)). OpensInTurn names old new) (sym (take-append-add all b some.0))
+          (turn-both all (take some.0 b) old mid new stays (read-end (length all) old mid (omega arith) read) first some.3),
+    ))
+    second
+
+-- the first of some inputs are the first of these and more
+pub first-more : (a b : List (List ℕ)) (old new : InputState) → OpensFirst a old new → OpensFirst (a ++ b) old new
+first-more a b old new first =
+    ⊎_elim (λ (same : new ≡ old). inl same)
+    (λ (some : (count : ℕ) × (count ≤ length a) × (new.opens ≡ opens_after old.opens count) × OpensInTurn (take count a) old new).
+    inr (
+      some.0,
+      omega (arith, length-append a b, some.1),
+      some.2,
+      subst (λ (names : List (List ℕ)). OpensInTurn names old new) (sym (take-append-le some.0 a b some.1)) some.3,
+    ))
+    first
+
+-- where all were opened in turn, the first of them were
+pub all-first : (names : List (List ℕ)) (old new : InputState) → ReadAll (length names) old new → OpensAll names old new → OpensFirst names old new
+all-first [] old new read all = inl all
+all-first (x ∷ names) old new read all =
+    inr (
+      length (x ∷ names),
+      omega arith,
+      read-count (length (x ∷ names)) old new (omega arith) read,
+      subst (λ (first : List (List ℕ)). OpensInTurn first old new) (sym (take_all (length (x ∷ names)) (x ∷ names) (omega arith))) all,
+    )
+
+-- the same for the inputs of stages
+named : (stages : List Stage) (old new : InputState) → ReadAll (input_count stages) old new → ReadAll (length (input_names stages)) old new
+named stages old new read = subst (λ (n : ℕ). ReadAll n old new) (sym (names-count stages)) read
+
+pub stages-all : (a b : List Stage) (old mid new : InputState) → Stays old mid → ReadAll (input_count a) old mid → OpensAll (input_names a) old mid → OpensAll (input_names b) mid new → OpensAll (input_names (a ++ b)) old new
+stages-all a b old mid new stays read first second =
+    subst (λ (names : List (List ℕ)). OpensAll names old new) (sym (names-append a b)) (all-both (input_names a) (input_names b) old mid new stays (named a old mid read) first second)
+
+pub stages-first : (a b : List Stage) (old mid new : InputState) → Stays old mid → ReadAll (input_count a) old mid → OpensAll (input_names a) old mid → OpensFirst (input_names b) mid new → OpensFirst (input_names (a ++ b)) old new
+stages-first a b old mid new stays read first second =
+    subst (λ (names : List (List ℕ)). OpensFirst names old new) (sym (names-append a b)) (first-both (input_names a) (input_names b) old mid new stays (named a old mid read) first second)
+
+pub stages-more : (a b : List Stage) (old new : InputState) → OpensFirst (input_names a) old new → OpensFirst (input_names (a ++ b)) old new
+stages-more a b old new first =
+    subst (λ (names : List (List ℕ)). OpensFirst names old new) (sym (names-append a b)) (first-more (input_names a) (input_names b) old new first)
+
+pub stages-opened : (stages : List Stage) (old new : InputState) → ReadAll (input_count stages) old new → OpensAll (input_names stages) old new → OpensFirst (input_names stages) old new
+stages-opened stages old new read all = all-first (input_names stages) old new (named stages old new read) all
+
 -- stages that were read, and then those after them, were read together
 pub read-more : (first second : List Stage) (old mid new : InputState) (a b c : SoFar) → Stays old mid → HasRead first old mid a b → HasRead second mid new b c
     → HasRead (first ++ second) old new a c
@@ -118,6 +220,7 @@ read-more first second old mid new a b c stays read more = record {
       bytes-both old.files first second (λ f. reads a f ≡ Ok b) (λ g. reads b g ≡ Ok c) (λ f. reads a f ≡ Ok c) (λ f g p q. reads-append f g a b p ∙ ap (after (filled_count f)) q) read.bytes
       (subst (λ (files : Option Files). SomeBytes files second (λ g. reads b g ≡ Ok c)) stays.files more.bytes);
   inputs = subst (λ (n : ℕ). ReadAll n old new) (sym (input_count-append first second)) (read-both (input_count first) (input_count second) old mid new read.inputs more.inputs);
+  turn = stages-all first second old mid new stays read.inputs read.turn more.turn;
 }
 
 -- over the bytes of stages that were read, and of those after them that stop, all together stop there

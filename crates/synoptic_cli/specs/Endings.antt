@@ -2,6 +2,7 @@
 use Rattle.std.specs.Prelude.{ℕ, ◌≡◌, ◌<◌, ◌⊎◌, List, [], ◌∷◌, map, Option, Some, None, ⊤, Result, Ok, Err}
 use Rattle.std.specs.Io.KnownBytes.{IsAtEnd}
 use Rattle.outside.specs.Inputs.{Files, InputState, bytes_of}
+use Rattle.outside.specs.Turns.{OpensInTurn}
 use Rattle.log_reader.specs.Inputs.{Opened, SomeContents, told_contents}
 use Rattle.command_line.specs.Task.{Task, task_of}
 use Rattle.synoptic_cli.specs.declared.answer.Answer.{Answer}
@@ -93,3 +94,9 @@ OpenedAll count old new = ((0 < count) × Opened count old new) ⊎ ((count ≡ 
 -- touched
 abbrev pub ReadAll : ℕ → InputState → InputState → Type 0
 ReadAll count old new = ((0 < count) × Opened count old new × IsAtEnd new.rest) ⊎ ((count ≡ 0) × (new ≡ old))
+
+-- the inputs of these names were opened in turn, each but the last was read to its end, and no others were opened; or
+-- there is none, and nothing was touched
+abbrev pub OpensAll : List (List ℕ) → InputState → InputState → Type 0
+OpensAll [] old new = new ≡ old
+OpensAll (name ∷ names) old new = OpensInTurn (name ∷ names) old new

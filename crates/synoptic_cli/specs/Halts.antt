@@ -1,8 +1,9 @@
 -- What the steps of a run leave before it writes.
-use Rattle.std.specs.Prelude.{ℕ, ◌≡◌, ◌≢◌, ◌≤◌, ◌⊎◌, List, ◌+◌, drop, length, IsTrue, Option, Some, None, IsSome, option_map, Result, Ok, Err, ⊤}
+use Rattle.std.specs.Prelude.{ℕ, ◌≡◌, ◌≢◌, ◌≤◌, ◌⊎◌, List, [], ◌∷◌, ◌+◌, drop, length, IsTrue, Option, Some, None, IsSome, option_map, Result, Ok, Err, ⊤}
 use Rattle.outside.specs.Counts.{Rose, next_call}
 use Rattle.outside.specs.Inputs.{InputState, Lacks}
 use Rattle.outside.specs.Reading.{IfTold, OpensNone, OpensNamed}
+use Rattle.outside.specs.Turns.{OpensInTurn}
 use Rattle.outside.specs.Sinks.{SinkState}
 use Rattle.line_rules.specs.Rules.{Rule, AreAlike}
 use Rattle.line_rules.specs.Patterns.{PatternsState}
@@ -36,9 +37,9 @@ use Rattle.synoptic_cli.specs.declared.status.Status.TheVariants.{Done, NoCheck,
 use Rattle.synoptic_cli.specs.declared.status.Source.TheVariants as sources
 use Rattle.synoptic_cli.specs.declared.model_stage.ModelHalt.{ModelHalt}
 use Rattle.synoptic_cli.specs.declared.model_stage.ModelHalt.TheVariants as halts
-use Rattle.synoptic_cli.specs.Task.{input_count, rules_name, Stage, stages_of, version_of}
+use Rattle.synoptic_cli.specs.Task.{input_count, input_names, rules_name, Stage, stages_of, version_of}
 use Rattle.synoptic_cli.specs.Stages.{SoFar, at_start, reads}
-use Rattle.synoptic_cli.specs.Endings.{IsTold, SomeBytes, ReadAll}
+use Rattle.synoptic_cli.specs.Endings.{IsTold, OpensAll, SomeBytes, ReadAll}
 use Rattle.synoptic_cli.specs.Causes.{HasCause, world}
 
 -- the status that a refusal of the file of rules is answered by: want of memory is no fault of the file
@@ -70,6 +71,7 @@ pub record ReadsRules (old new : InputState) (name : List ℕ) (rules : List Rul
   pub read : rules_of bytes ≡ Ok plain
   pub alike : AreAlike rules plain
   pub opened : ReadAll 1 old new
+  pub turn : OpensInTurn (name ∷ []) old new
 
 -- a model that a file of this version can say: it is well shaped, and of version 1 where the file is
 abbrev pub FitsVersion : Version → Model → Type 0
@@ -83,6 +85,7 @@ pub record ReadsModel (version : Version) (old new : InputState) (name : List �
   pub read : model_file.reads_as version bytes ≡ Ok model
   pub shaped : FitsVersion version model
   pub opened : ReadAll 1 old new
+  pub turn : OpensInTurn (name ∷ []) old new
 
 -- the named file was read to its end, or to one byte past the limit of this version, and is refused so
 pub record RefusesFile (version : Version) (old new : InputState) (name : List ℕ) (e : FileError) : Type 0 where
@@ -149,6 +152,7 @@ pub record IsHeld (version : Version) (held : rust.SoFar) (so_far : SoFar) : Typ
 pub record HasRead (stages : List Stage) (old new : InputState) (before now : SoFar) : Type 0 where
   pub bytes : SomeBytes old.files stages (λ filled. reads before filled ≡ Ok now)
   pub inputs : ReadAll (input_count stages) old new
+  pub turn : OpensAll (input_names stages) old new
 
 -- the stages were read, after what the program held, and gave what it holds now, for models of this version
 abbrev pub Reads : Version → List Stage → rust.SoFar → (old new : InputState) → rust.SoFar → Type 0

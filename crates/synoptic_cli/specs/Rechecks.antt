@@ -1,4 +1,4 @@
--- When an inference is done, and what a check and a replay say of what was inferred.
+-- What a check and a replay say of what was inferred.
 use Rattle.std.specs.Prelude.{ℕ, ◌≡◌, false, List, Some, None, Result, Ok}
 use Rattle.outside.specs.Inputs.{Files, bytes_of}
 use Rattle.invariants.specs.declared.records.Model.{Model}
@@ -13,10 +13,9 @@ use Rattle.command_line.specs.declared.table.Command.TheVariants as commands
 use Rattle.synoptic_cli.specs.declared.answer.Answer.{Answer}
 use Rattle.synoptic_cli.specs.declared.status.Status.{Status}
 use Rattle.synoptic_cli.specs.declared.status.Status.TheVariants.{Done}
-use Rattle.synoptic_cli.specs.Task.{kinds_of, stages_of}
+use Rattle.synoptic_cli.specs.Task.{stages_of}
 use Rattle.synoptic_cli.specs.Stages.{SoFar, Stop, at_start, reads}
 use Rattle.synoptic_cli.specs.Commands.CheckModel.{answer_of}
-use Rattle.synoptic_cli.specs.Commands.Inference.{PassesNone}
 use Rattle.synoptic_cli.specs.Commands.ReplayModel as replay_model
 use Rattle.synoptic_cli.specs.Endings.{EndsOver, EndsTold, told_stages}
 
@@ -78,10 +77,3 @@ InferredAreReplayed =
     → EndsOver task (told_stages before (stages_of task)) (Ok a) → bytes_of after name ≡ Some a.text
     → (told : EndsTold after (replaying task name) status)
     → (told.end ≡ Ok (replay_model.answer_of outcomes.Yes)) × (status ≡ Done)
-
--- where the inputs of an inference are read with no refusal, and it passes no limit, the status is this alone
-abbrev pub InferIsDone : Type 0
-InferIsDone =
-    (files : Files) (task : Task) (so_far : SoFar) (status : Status)
-    → task.command ≡ commands.Infer → reads at_start (told_stages files (stages_of task)) ≡ Ok so_far
-    → PassesNone (typed_words (kinds_of task) so_far.material.log) → EndsTold files task status → status ≡ Done

@@ -1,7 +1,8 @@
 //! Laws over the endings of runs.
 ghost use Rattle.synoptic_cli.specs.Endings.{EndsAreOne, StatusesAreOne};
 ghost use Rattle.synoptic_cli.specs.Migrations.{MigratedAreAlike, MigrationsEnd};
-ghost use Rattle.synoptic_cli.specs.Rechecks.{HistoriesAreAccepted, InferIsDone, InferredAreAccepted, InferredAreReplayed, ModelsAreAccepted};
+ghost use Rattle.synoptic_cli.specs.Outcomes.{OutcomesAreKnown};
+ghost use Rattle.synoptic_cli.specs.Rechecks.{HistoriesAreAccepted, InferredAreAccepted, InferredAreReplayed, ModelsAreAccepted};
 
 use infer_core::{ends_exclude, one_final};
 use models::one_model;
@@ -17,10 +18,15 @@ pub fn runs_end_alike()
     ends_exclude();
 }
 
-/// Over files that are told, where the log of an `infer` is read with no refusal and its inference passes no limit, the
-/// words and the files have the status `Done`.
-pub fn infer_is_done()
-    ensures { InferIsDone }
+/// Over files that are told, how a run ends whose words ask for a task and whose inputs are read without a refusal. The
+/// status that these words and files have is that of the command:
+///
+/// - `invariants`, `graph` and `migrate` end with `Done`;
+/// - `infer`, `paths` and `bench` end with `Done` where the inference passes no limit, and else with the limit that it passes;
+/// - `check` ends with `Done` where the model is valid for the log, and else with the first part in which it is not;
+/// - `replay` ends with `Done` where the model's history is justified by the log, and else with the first step that is not.
+pub fn outcomes_are_known()
+    ensures { OutcomesAreKnown }
 {}
 
 /// Over files that are told, where one of them says the very model of the log that a task reads, `check` of it

@@ -18,9 +18,9 @@ mod task;
 mod top;
 
 pub use law::{
-    histories_are_accepted, infer_is_done, migrations_keep_models, models_are_accepted,
+    histories_are_accepted, migrations_keep_models, models_are_accepted, outcomes_are_known,
     runs_end_alike,
 };
-pub use message::tell;
+pub use message::{ErrorStream, tell};
 pub use status::{LimitKind, LogFault, Source, Status};
 pub use top::run;

@@ -1,7 +1,8 @@
 //! Reads the file of a model.
-ghost use Rattle.std.specs.Prelude.{◌≡◌, Ok, Err, IfOk, IfErr};
+ghost use Rattle.std.specs.Prelude.{◌≡◌, [], ◌∷◌, Ok, Err, IfOk, IfErr};
 ghost use Rattle.outside.specs.Inputs.{Stays};
 ghost use Rattle.outside.specs.Reading.{InputGives};
+ghost use Rattle.outside.specs.Turns.{OpensFirst};
 ghost use Rattle.model_file.specs.Reading.{Fails, reads_as};
 ghost use Rattle.model_file.specs.Versions.{max_bytes};
 ghost use Rattle.synoptic_cli.specs.Halts.{FitsVersion, ModelHalts, ReadsModel, halt_of, halt_status};
@@ -57,6 +58,7 @@ fn read_bytes<I: Inputs>(
     ensures stays { Stays (I.state inputs.old) (I.state inputs.new) }
     ensures gives { InputGives (I.state inputs.old) name.now (max_bytes version) result
         (I.state inputs.new) }
+    ensures turn { OpensFirst (name.now ∷ []) (I.state inputs.old) (I.state inputs.new) }
 {
     read_input(alloc, inputs, name, version.max_bytes())
 }
@@ -73,6 +75,7 @@ pub fn read_model_file<I: Inputs>(
     ensures memory { result ≡ Err ModelHalt.Memory
         → (I.state inputs.new).faults ≡ (I.state inputs.old).faults }
     ensures err { IfErr result (ModelHalts version (I.state inputs.old) (I.state inputs.new) name.now) }
+    ensures turn { OpensFirst (name.now ∷ []) (I.state inputs.old) (I.state inputs.new) }
 {
     let bytes = match read_bytes(alloc, version, name, inputs) {
         Ok(bytes) => bytes,

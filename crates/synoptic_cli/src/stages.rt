@@ -1,8 +1,9 @@
 //! Reads what a task works on: stage after stage.
-ghost use Rattle.std.specs.Prelude.{◌≡◌, ◌<◌, ◌≤◌, ◌+◌, ◌^◌, Err, IfOk, IfErr, length, option_map};
+ghost use Rattle.std.specs.Prelude.{◌≡◌, ◌<◌, ◌≤◌, ◌+◌, ◌^◌, Err, IfOk, IfErr, OnOk, length, option_map};
 ghost use Rattle.model_file.specs.declared.version.Version.{Version};
 ghost use Rattle.std.specs.Option.{IsSomeAnd};
 ghost use Rattle.outside.specs.Inputs.{Stays};
+ghost use Rattle.outside.specs.Turns.{OpensFirst};
 ghost use Rattle.line_rules.specs.Patterns.{Stays as PatternsStay};
 ghost use Rattle.line_rules.specs.Views.{rules_in};
 ghost use Rattle.log_reader.specs.Inputs.{HasReadCause, ReadsLog, inputs_of};
@@ -10,7 +11,7 @@ ghost use Rattle.log_reader.specs.Views.{form_view};
 ghost use Rattle.command_line.specs.Task.{task_held};
 ghost use Rattle.model_shape.specs.Shapes.{end_of};
 ghost use Rattle.synoptic_cli.specs.Causes.{KeepsCounts};
-ghost use Rattle.synoptic_cli.specs.Task.{log_stages, model_stages, rules_stages, version_of};
+ghost use Rattle.synoptic_cli.specs.Task.{input_names, log_stages, model_stages, rules_stages, stages_of, version_of};
 ghost use Rattle.synoptic_cli.specs.Stages.{at_start, no_model};
 ghost use Rattle.synoptic_cli.specs.Halts.{Ends, IsHeld, LogHalts, ModelHalts, Reads, ReadsTask, form_with, held_form, setting_of};
 
@@ -84,10 +85,10 @@ fn start(alloc: Global) -> Result<SoFar, AllocError>
 fn read_rules_stage<I: Inputs, P: Patterns>(
     alloc: Global,
     task: &Task<'_>,
-    so_far: SoFar,
+    so_far: &mut SoFar,
     inputs: &mut I,
     patterns: &mut P,
-) -> Result<SoFar, Status>
+) -> Result<(), Status>
     ensures stays { Stays (I.state inputs.old) (I.state inputs.new) }
     ensures kept { PatternsStay (P.state patterns.old) (P.state patterns.new) }
 
@@ -97,31 +98,25 @@ fn read_rules_stage<I: Inputs, P: Patterns>(
     ensures count { KeepsCounts result (P.state patterns.old) (P.state patterns.new) }
 
     // What is read where the run goes on, and why it ends.
-    ensures ok { IfOk result
+    ensures ok { OnOk result
         (Reads (version_of (task_held task.now).command)
-        (rules_stages (task_held task.now)) so_far
-        (I.state inputs.old) (I.state inputs.new)) }
+        (rules_stages (task_held task.now)) so_far.old
+        (I.state inputs.old) (I.state inputs.new) so_far.new) }
     ensures err { IfErr result (λ status.
         Ends status (task_held task.now) (I.state inputs.old) (I.state inputs.new)
         (P.state patterns.old) (P.state patterns.new)) }
+    ensures turn { OpensFirst (input_names (rules_stages (task_held task.now)))
+        (I.state inputs.old) (I.state inputs.new) }
 {
     let Some(name) = rules_name(task.form) else {
-        return Ok(so_far);
+        return Ok(());
     };
-    let SoFar {
-        rules: empty,
-        material,
-    } = so_far;
-    drop(empty);
     match read_rules(alloc, name, inputs, patterns) {
-        Ok(rules) => Ok(SoFar {
-            rules: Some(rules),
-            material,
-        }),
-        Err(status) => {
-            drop(material);
-            Err(status)
+        Ok(rules) => {
+            so_far.rules = Some(rules);
+            Ok(())
         }
+        Err(status) => Err(status),
     }
 }
 
@@ -129,16 +124,16 @@ fn read_rules_stage<I: Inputs, P: Patterns>(
 fn read_model_stage<I: Inputs>(
     alloc: Global,
     task: &Task<'_>,
-    so_far: SoFar,
+    so_far: &mut SoFar,
     inputs: &mut I,
-) -> Result<SoFar, ModelHalt>
+) -> Result<(), ModelHalt>
     ensures stays { Stays (I.state inputs.old) (I.state inputs.new) }
 
     // What is read where the run goes on, and why it ends.
-    ensures ok { IfOk result
+    ensures ok { OnOk result
         (Reads (version_of (task_held task.now).command)
-        (model_stages (task_held task.now)) so_far
-        (I.state inputs.old) (I.state inputs.new)) }
+        (model_stages (task_held task.now)) so_far.old
+        (I.state inputs.old) (I.state inputs.new) so_far.new) }
     ensures err { IfErr result (λ halt. IsSomeAnd (task_held task.now).model
         (λ name. ModelHalts (version_of (task_held task.now).command)
         (I.state inputs.old) (I.state inputs.new) name halt)) }
@@ -146,23 +141,18 @@ fn read_model_stage<I: Inputs>(
     // Want of memory hides no fault.
     ensures memory { result ≡ Err ModelHalt.Memory
         → (I.state inputs.new).faults ≡ (I.state inputs.old).faults }
+    ensures turn { OpensFirst (input_names (model_stages (task_held task.now)))
+        (I.state inputs.old) (I.state inputs.new) }
 {
     let Some(name) = task.model else {
-        return Ok(so_far);
+        return Ok(());
     };
-    let SoFar { rules, material } = so_far;
-    let Material { log, model: empty } = material;
-    drop(empty);
     match read_model_file(alloc, version_of(task.command), name, inputs) {
-        Ok(model) => Ok(SoFar {
-            rules,
-            material: Material { log, model },
-        }),
-        Err(halt) => {
-            drop(rules);
-            drop(log);
-            Err(halt)
+        Ok(model) => {
+            so_far.material.model = model;
+            Ok(())
         }
+        Err(halt) => Err(halt),
     }
 }
 
@@ -198,6 +188,8 @@ fn read_files<I: Inputs>(
         → (I.state inputs.new).faults ≡ (I.state inputs.old).faults }
     ensures opens { (I.state inputs.new).opens
         ≤ (I.state inputs.old).opens + length (inputs_of (task_held task.now).files) }
+    ensures turn { OpensFirst (inputs_of (task_held task.now).files)
+        (I.state inputs.old) (I.state inputs.new) }
 {
     let Ok(names) = names_of(alloc, task) else {
         return Err(ReadError::Memory);
@@ -216,41 +208,77 @@ fn read_files<I: Inputs>(
 fn read_log_stage<I: Inputs>(
     alloc: Global,
     task: &Task<'_>,
-    so_far: SoFar,
+    so_far: &mut SoFar,
     inputs: &mut I,
-) -> Result<SoFar, ReadError>
+) -> Result<(), ReadError>
     ensures stays { Stays (I.state inputs.old) (I.state inputs.new) }
 
     // What is read where the run goes on, and why it ends.
-    ensures ok { IfOk result
+    ensures ok { OnOk result
         (Reads (version_of (task_held task.now).command)
-        (log_stages (task_held task.now)) so_far
-        (I.state inputs.old) (I.state inputs.new)) }
+        (log_stages (task_held task.now)) so_far.old
+        (I.state inputs.old) (I.state inputs.new) so_far.new) }
     ensures err { IfErr result
-        (LogHalts (task_held task.now) (held_form so_far)
+        (LogHalts (task_held task.now) (held_form so_far.old)
         (I.state inputs.old) (I.state inputs.new)) }
 
     // Want of memory hides no fault.
     ensures memory { result ≡ Err ReadError.Memory
         → (I.state inputs.new).faults ≡ (I.state inputs.old).faults }
+    ensures turn { OpensFirst (input_names (log_stages (task_held task.now)))
+        (I.state inputs.old) (I.state inputs.new) }
 {
     alike_rules_read_alike();
     let Some(_) = task.form else {
-        return Ok(so_far);
+        return Ok(());
     };
-    let SoFar { rules, material } = so_far;
-    let Material { log: empty, model } = material;
-    drop(empty);
-    match read_files(alloc, task, &rules, inputs) {
-        Ok(log) => Ok(SoFar {
-            rules,
-            material: Material { log, model },
-        }),
-        Err(error) => {
-            drop(rules);
-            drop(model);
-            Err(error)
+    match read_files(alloc, task, &so_far.rules, inputs) {
+        Ok(log) => {
+            so_far.material.log = log;
+            Ok(())
         }
+        Err(error) => Err(error),
+    }
+}
+
+/// Reads the inputs of the task, stage after stage, over what is there before the first.
+fn read_stages<I: Inputs, P: Patterns>(
+    alloc: Global,
+    task: &Task<'_>,
+    so_far: &mut SoFar,
+    inputs: &mut I,
+    patterns: &mut P,
+) -> Result<(), Status>
+    requires { IsHeld (version_of (task_held task.now).command) so_far.old at_start }
+    ensures stays { Stays (I.state inputs.old) (I.state inputs.new) }
+    ensures kept { PatternsStay (P.state patterns.old) (P.state patterns.new) }
+
+    // What is counted of faults and refused patterns.
+    ensures memory { result ≡ Err Status.Memory
+        → (I.state inputs.new).faults ≡ (I.state inputs.old).faults }
+    ensures count { KeepsCounts result (P.state patterns.old) (P.state patterns.new) }
+
+    // What is read for the command, and why the run ends before it.
+    ensures ok { OnOk result (ReadsTask (task_held task.now)
+        (I.state inputs.old) (I.state inputs.new) (so_far.new).material) }
+    ensures err { IfErr result (λ status.
+        Ends status (task_held task.now) (I.state inputs.old) (I.state inputs.new)
+        (P.state patterns.old) (P.state patterns.new)) }
+    ensures turn { OpensFirst (input_names (stages_of (task_held task.now)))
+        (I.state inputs.old) (I.state inputs.new) }
+{
+    alike_rules_read_alike();
+    match read_rules_stage(alloc, task, so_far, inputs, patterns) {
+        Ok(()) => (),
+        Err(status) => return Err(status),
+    }
+    match read_model_stage(alloc, task, so_far, inputs) {
+        Ok(()) => (),
+        Err(halt) => return Err(halt_status(halt)),
+    }
+    match read_log_stage(alloc, task, so_far, inputs) {
+        Ok(()) => Ok(()),
+        Err(error) => Err(status_of(error)),
     }
 }
 
@@ -275,18 +303,17 @@ pub fn read_material<I: Inputs, P: Patterns>(
     ensures err { IfErr result (λ status.
         Ends status (task_held task.now) (I.state inputs.old) (I.state inputs.new)
         (P.state patterns.old) (P.state patterns.new)) }
+    ensures turn { OpensFirst (input_names (stages_of (task_held task.now)))
+        (I.state inputs.old) (I.state inputs.new) }
 {
-    alike_rules_read_alike();
-    let Ok(start) = start(alloc) else {
+    let Ok(mut so_far) = start(alloc) else {
         return Err(Status::Memory);
     };
-    let so_far = read_rules_stage(alloc, task, start, inputs, patterns)?;
-    let so_far = match read_model_stage(alloc, task, so_far, inputs) {
-        Ok(so_far) => so_far,
-        Err(halt) => return Err(halt_status(halt)),
-    };
-    match read_log_stage(alloc, task, so_far, inputs) {
-        Ok(so_far) => Ok(so_far.material),
-        Err(error) => Err(status_of(error)),
+    match read_stages(alloc, task, &mut so_far, inputs, patterns) {
+        Ok(()) => Ok(so_far.material),
+        Err(status) => {
+            drop(so_far);
+            Err(status)
+        }
     }
 }

@@ -1,14 +1,16 @@
 //! The top call.
 ghost use Rattle.std.specs.Prelude.{◌≡◌, List, ℕ, Some, map};
 ghost use Rattle.std.specs.String.{string_bytes};
+ghost use Rattle.outside.specs.Turns.{OpensFirst};
 ghost use Rattle.command_line.specs.Task.{HasSessions, task_held, task_of};
-ghost use Rattle.synoptic_cli.specs.Causes.{HasCause, IsExpected, KeepsCount, Stays, world};
+ghost use Rattle.synoptic_cli.specs.Causes.{HasCause, IsExpected, KeepsCount, Stays, names_of, world};
 ghost use Rattle.synoptic_cli.specs.Messages.{Tells, message_of};
 ghost use Rattle.synoptic_cli.specs.Halts.{status_without_task};
+ghost use Rattle.synoptic_cli.specs.Task.{input_names, stages_of};
 
 use crate::answer::NoAnswer;
 use crate::commands;
-use crate::message::tell;
+use crate::message::{ErrorStream, tell};
 use crate::stages::read_material;
 use crate::status::Status;
 use command_line::{ParseError, Task, parse};
@@ -39,6 +41,10 @@ fn answer<I: Inputs, P: Patterns, O: Sink>(
     ensures stays { Stays
         (world (I.state inputs.old) (P.state patterns.old) (O.state out.old))
         (world (I.state inputs.new) (P.state patterns.new) (O.state out.new)) }
+
+    // Which inputs were opened.
+    ensures turn { OpensFirst (input_names (stages_of (task_held task.now)))
+        (I.state inputs.old) (I.state inputs.new) }
 {
     let material = match read_material(alloc, task, inputs, patterns) {
         Ok(material) => material,
@@ -86,9 +92,11 @@ fn status_without_task(error: ParseError) -> Status
 ///     to its end, or to one byte past its limit. A pattern that is too deep or too large is refused at the named line only
 ///     if no line before it is refused. Too large comes only if the patterns counted a refusal and may refuse this pattern.
 ///   - `Log`, and `Limit` of types, events or input: this is the first refusal of the log, in the order of its bytes. The
-///     inputs up to the one with that line, or with the byte past the limit, were opened without a fault.
-///   - `Limit` of partitions or paths: nothing in the inputs is refused, and all were opened without a fault. Refinement of
-///     the log wants one partition more than 1,024, or the paths of its splits and blocks have more than 4,000,000 numbers.
+///     inputs up to the one with that line, or with the byte past the limit, were opened without a fault. That one is open, and
+///     has left what stands behind some front of it.
+///   - `Limit` of partitions or paths: nothing in the inputs is refused. All were opened without a fault, and the last was
+///     read to its end. Refinement of the log wants one partition more than 1,024, or the paths of its splits and blocks have
+///     more than 4,000,000 numbers.
 ///   - `ModelFile`: the file of the model has this refusal, which is never want of memory: as a file of version 1 for
 ///     `migrate`, and as one of version 2 for all others. The inputs up to it were opened without a fault, and it was read
 ///     to its end, or to one byte past the limit of that version.
@@ -103,13 +111,16 @@ fn status_without_task(error: ParseError) -> Status
 ///
 ///   But for `Done`, `NoCheck`, `NoReplay` and `WriteFault`, `out` is untouched.
 /// - `expected`: where files are known and no fault or refusal was counted, the status is the one that the words and the
-///   files have (`runs_end_alike`: there is no other). The exceptions are want of memory, and a pattern that nests too deep,
-///   at the named line.
+///   files have (`runs_end_alike`: there is no other; `outcomes_are_known`: by command, where no input is refused). The
+///   exceptions are want of memory, and a pattern that nests too deep, at the named line.
 /// - `memory`: want of memory hides no fault of the inputs.
 /// - `count`: no pattern was refused for its size, unless that is the answer.
 /// - `stays`: the inputs' files, the names that they may fail and the patterns that may be refused stay as they were.
-/// - `told`: `err` has the status's message and counted no fault, or a front of it if it counted one.
-pub fn run<I: Inputs, P: Patterns, O: Sink, E: Sink>(
+/// - `turn`: the inputs that were opened are the first of those of the task, in this order, each but the last was read to its
+///   end, and no others were opened; or no call of the inputs was made. How many there were, `cause` says.
+/// - `told`: `err` has the status's message and counted no fault, or a front of it if it counted one. No call of `err` gives
+///   an answer, so no fault there changes the status or anything else.
+pub fn run<I: Inputs, P: Patterns, O: Sink, E: ErrorStream>(
     alloc: Global,
     words: &[String],
     inputs: &mut I,
@@ -132,9 +143,13 @@ pub fn run<I: Inputs, P: Patterns, O: Sink, E: Sink>(
         (world (I.state inputs.old) (P.state patterns.old) (O.state out.old))
         (world (I.state inputs.new) (P.state patterns.new) (O.state out.new)) }
 
+    // Which inputs were opened.
+    ensures turn { OpensFirst (names_of (map string_bytes words.now))
+        (I.state inputs.old) (I.state inputs.new) }
+
     // What is told of the status.
     ensures told { Tells (message_of (map string_bytes words.now) result)
-        (E.state err.old) (E.state err.new) }
+        (E.heard err.old) (E.heard err.new) }
 {
     let task = match parse(alloc, words) {
         Ok(task) => task,

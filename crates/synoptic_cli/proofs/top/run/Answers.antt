@@ -1,9 +1,12 @@
-use Rattle.std.proofs.Common.{Err, Option, ap, map, subst, sym}
+use Rattle.std.proofs.Common.{[], Err, Option, ap, map, subst, sym}
+use Rattle.std.specs.Option.{option_map_or}
+use Rattle.outside.specs.Turns.{OpensFirst}
 use Rattle.std.specs.String.{string_bytes}
 use Rattle.command_line.specs.Task.{Task}
 use Rattle.synoptic_cli.specs.declared.status.Status.{Status}
 use Rattle.synoptic_cli.specs.Causes.{HasCause, world}
 use Rattle.synoptic_cli.specs.Messages.{Tells, task_message}
+use Rattle.synoptic_cli.specs.Task.{input_names, stages_of}
 use Rattle.synoptic_cli.proofs.Expected.{cause-expected, no-task-ends}
 use Rattle.synoptic_cli.proofs.top.run.Goals as goal
 
@@ -37,4 +40,9 @@ returns-clause-expected g c = cause-expected c.answer-status.result (map string_
 
 pub returns-clause-told : goal.returns-clause-told
 returns-clause-told g c =
-    subst (λ (asked : Option Task). Tells (task_message asked c.answer-status.result) (g.E.Sink.state c.args.err.now) (g.E.Sink.state c.tell-2.new.err)) (sym c.in-Ok.ensures.ok) c.tell-2.ensures
+    subst (λ (asked : Option Task). Tells (task_message asked c.answer-status.result) (g.E.ErrorStream.heard c.args.err.now) (g.E.ErrorStream.heard c.tell-2.new.err)) (sym c.in-Ok.ensures.ok) c.tell-2.ensures
+
+pub returns-clause-turn : goal.returns-clause-turn
+returns-clause-turn g c =
+    subst (λ (asked : Option Task). OpensFirst (option_map_or (λ task. input_names (stages_of task)) asked []) (g.I.Inputs.state c.args.inputs.now) (g.I.Inputs.state c.answer-status.new.inputs)) (sym c.in-Ok.ensures.ok)
+    c.answer-status.ensures.turn
