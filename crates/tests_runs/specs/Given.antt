@@ -13,6 +13,7 @@ untold opens = record {
   faults = 0;
   may_fail = λ _. true;
   mark = true;
+  followed = None;
 }
 
 -- files in memory tell all, and endless inputs nothing
