@@ -1,6 +1,7 @@
 -- The first pair behind another, row by row.
-use Rattle.std.proofs.Common.{◌≡◌, ℕ, ◌+◌, ◌<◌, ◌≤◌, sym, subst, inl, inr, arith}
+use Rattle.std.proofs.Common.{◌≡◌, ℕ, ◌+◌, ◌-◌, ◌*◌, ◌<◌, ◌≤◌, sym, subst, inl, inr, arith}
 use Rattle.std.proofs.lemmas.Bool.{cases_lt}
+use Rattle.limits.specs.declared.TheConstants.{MAX_PARTITIONS}
 use Rattle.partition_model.specs.Graphs.{Graph}
 use Rattle.partition_model.specs.Coarsening.{IsPair, PairBefore}
 use Rattle.partition_bounds.specs.Laws.{IsBelow}
@@ -45,3 +46,9 @@ pub rows-end : (g : Graph) (p q b n : ℕ) → NoneBelow g p q b → IsBelow n g
 rows-end g p q b n f below l r s i k =
     let m : r < n = below r i.has_p in
     f r s i k (omega arith)
+
+-- fewer pairs come behind a later pair
+pub pair-smaller : (p q r s : ℕ) → PairBefore p q r s → s < MAX_PARTITIONS → q < MAX_PARTITIONS → r < s
+    → (MAX_PARTITIONS - r) * MAX_PARTITIONS + (MAX_PARTITIONS - s) < (MAX_PARTITIONS - p) * MAX_PARTITIONS + (MAX_PARTITIONS - q)
+pair-smaller p q r s (inl l) k h o = omega (arith, l, k, h, o)
+pair-smaller p q r s (inr e) k h o = omega (arith, e.0, e.1, k, h, o)

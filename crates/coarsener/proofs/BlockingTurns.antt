@@ -1,6 +1,6 @@
 -- What the pass over the blocks keeps.
-use Rattle.std.proofs.Common.{◌≡◌, ℕ, ◌+◌, ◌<◌, ◌≤◌, List, [], ◌∷◌, ◌++◌, length, map, get_or, slice_get, Option, None, Some, is_some, MatchOption, true, false, All, inl, inr, sym, ◌∙◌, refl, ap, ap₂, subst, subst₂, arith, length-append, append_assoc}
-use Rattle.std.proofs.lemmas.Bool.{cases_lt, true≢false}
+use Rattle.std.proofs.Common.{◌≡◌, ℕ, ◌+◌, ◌<◌, ◌≤◌, List, [], ◌∷◌, ◌++◌, length, map, get_or, slice_get, Option, None, Some, is_some, MatchOption, true, false, All, sym, ◌∙◌, refl, ap, ap₂, subst, subst₂, arith, length-append, append_assoc}
+use Rattle.std.proofs.lemmas.Bool.{true≢false}
 use Rattle.std.proofs.lemmas.List.{map-append, length-map}
 use Rattle.std.proofs.lemmas.List.Sums.{sum_by-cons}
 use Rattle.std.proofs.lemmas.List.Elements.{All-push, All-weaker, All-nil, All-head, All-tail}
@@ -30,7 +30,8 @@ use Rattle.cell_pool.specs.Numbers.{Numbers, KeepsLists, Pushes}
 use Rattle.cell_pool.specs.RunLists.{RunLists}
 use Rattle.cell_pool.specs.declared.spans.Span.{Span}
 use Rattle.cell_pool.specs.declared.run_log.BlockEntry.{BlockEntry}
-use Rattle.run_history.specs.Records.{block_of, blocks_of, IsWithin}
+use Rattle.cell_pool.specs.declared.run_log.SplitEntry.{SplitEntry}
+use Rattle.run_history.specs.Records.{block_of, blocks_of, HoldsPaths, IsWithin}
 use Rattle.coarsener.specs.declared.pairs.Pair.{Pair}
 use Rattle.coarsener.specs.Pairs.{HasIds, HasNoPairBehind, IsNextPair}
 use Rattle.coarsener.specs.Blocking.{pair_count, paths_of, EndsWithoutRoom}
@@ -174,6 +175,27 @@ blocks-few invs parts log0 log spans0 spans p q c =
     let d : length (blocks_of log spans) ≡ length log.blocks = length-map log.blocks (block_of spans.numbers) in
     omega (arith, ap (λ (ms : List Merge). length ms) c.pairs, pairs-count (blocks_of log spans))
 
+-- where a pair is left, there are fewer
+pub blocks-fewer : (invs : List Invariant) (parts : Parts) (log0 log : RunLists) (spans0 spans : Numbers) (p q r s : ℕ) → IsBlocking invs parts log0 log spans0 spans p q
+    → IsNextPair (G parts.traces) p q r s → length log.blocks < pair_count parts
+blocks-fewer invs parts log0 log spans0 spans p q r s c n =
+    let m : (more : List Merge) × (c.rest ≡ pair_of r s ∷ more) × Remain (G parts.traces) r s more = remain-next (G parts.traces) p q r s c.rest c.remain n in
+    let a : length (pairs_of (blocks_of log spans) ++ c.rest) ≡ length (pairs_of (blocks_of log spans)) + length c.rest = length-append (pairs_of (blocks_of log spans)) c.rest in
+    let d : length (blocks_of log spans) ≡ length log.blocks = length-map log.blocks (block_of spans.numbers) in
+    omega (arith, ap (λ (ms : List Merge). length ms) c.pairs, ap (λ (ms : List Merge). length ms) m.1, pairs-count (blocks_of log spans))
+
+-- the spans still hold all paths
+pub blocking-holds : (invs : List Invariant) (parts : Parts) (log0 log : RunLists) (spans0 spans : Numbers) (p q : ℕ) → IsBlocking invs parts log0 log spans0 spans p q
+    → HoldsPaths log0 spans0 → HoldsPaths log spans
+blocking-holds invs parts log0 log spans0 spans p q c h =
+    let long : length spans.numbers ≡ length spans0.numbers + length (paths_of (blocks_of log spans)) =
+    ap (λ (x : Numbers). length x.numbers) c.paths ∙ length-append spans0.numbers (paths_of (blocks_of log spans)) in
+    record {
+      splits = subst (λ (es : List SplitEntry). All (λ (e : SplitEntry). IsWithin spans.numbers e.path) es) (sym (ap (λ (x : RunLists). x.splits) c.others))
+          (All-weaker (λ (e : SplitEntry). IsWithin spans0.numbers e.path) (λ (e : SplitEntry). IsWithin spans.numbers e.path) (λ e w. omega (arith, w, long)) log0.splits h.splits);
+      blocks = c.held;
+    }
+
 -- behind the last pair the blocks are those of all pairs
 pub blocking-end : (invs : List Invariant) (parts : Parts) (log0 log : RunLists) (spans0 spans : Numbers) (p q : ℕ) → HasIds parts → IsBlocking invs parts log0 log spans0 spans p q
     → HasNoPairBehind (G parts.traces) p q → AreBlocks invs (G parts.traces) (blocks_of log spans)
@@ -183,6 +205,12 @@ blocking-end invs parts log0 log spans0 spans p q ids c n =
     let pairs : pairs_of (blocks_of log spans) ≡ pairs_below parts.used g =
     sym (append-none (pairs_of (blocks_of log spans))) ∙ ap (λ (ms : List Merge). pairs_of (blocks_of log spans) ++ ms) (sym e) ∙ c.pairs in
     pairs_give_blocks invs g parts.used (blocks_of log spans) (parts-below parts ids) pairs c.each
+
+-- where there is no pair, no block is the whole of them
+pub blocking-none : (invs : List Invariant) (parts : Parts) (log : RunLists) (spans : Numbers) (r : Option Pair) → HasIds parts → log.blocks ≡ [] → is_some r ≡ false
+    → MatchOption r (HasNoPairBehind (G parts.traces) 2 2) (λ (x : Pair). IsNextPair (G parts.traces) 2 2 x.p x.q) → AreBlocks invs (G parts.traces) (blocks_of log spans)
+blocking-none invs parts log spans None ids e n f = blocking-end invs parts log log spans spans 2 2 ids (blocking-start invs parts log spans ids e) f
+blocking-none invs parts log spans (Some x) ids e n f = absurd (true≢false n)
 
 -- where the next path has more numbers than there is room for, the blocks end there
 pub blocking-full : (invs : List Invariant) (parts : Parts) (log0 log : RunLists) (spans0 spans : Numbers) (p q r s k : ℕ) (path : List ℕ) → IsBlocking invs parts log0 log spans0 spans p q
@@ -265,13 +293,6 @@ pub pairs-some : (parts : Parts) (r : Option Pair) → HasIds parts → is_some 
 pairs-some parts None ids e n = absurd (true≢false (sym e))
 pairs-some parts (Some x) ids e n =
     remain-some (G parts.traces) 2 2 x.p x.q (pairs_below parts.used (G parts.traces)) (remain-start (G parts.traces) parts.used (parts-below parts ids)) n
-
--- where there is no pair, labels tell all that there is to tell
-pub no-labels : (planes : Labelling) (g : Graph) → HasNoPairBehind g 2 2 → TellByLabels planes g
-no-labels planes g n u v i =
-    let l : 2 ≤ u = i.low in
-    let o : u < v = i.order in
-    absurd (n u v i (elim (cases_lt 2 u) [ inl k ↦ inl k | inr k ↦ inr (omega arith, omega arith) ]))
 
 -- where there is a first pair, there is one at least
 pub some-pair : (parts : Parts) (p q : ℕ) → HasIds parts → IsNextPair (G parts.traces) 2 2 p q → 0 < pair_count parts

@@ -61,7 +61,7 @@ fn is_satisfied(bad: Option<usize>, k: usize) -> bool
 }
 
 /// What tells which invariants merges lose.
-#[derive(Clone, Copy, Debug)]
+#[derive(Clone, Copy)]
 pub(crate) enum Told {
     /// The labels, which are those of the graph after the merge of its only pair.
     Labels,

@@ -19,7 +19,7 @@ use std::sync::ledger::Ledger;
 use steps::Steps;
 
 /// Of which graph the marks are.
-#[derive(Clone, Copy, Debug)]
+#[derive(Clone, Copy)]
 pub(crate) enum Marked {
     /// Of none yet.
     Nothing,

@@ -8,7 +8,7 @@ use limits::{FIRST_TYPE, MAX_PARTITIONS};
 use partition_graph::PartGraph;
 
 /// Two ids.
-#[derive(Clone, Copy, Debug)]
+#[derive(Clone, Copy)]
 pub(crate) struct Pair {
     /// The lower one.
     pub p: u32,

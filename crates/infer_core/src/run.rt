@@ -1,5 +1,5 @@
 //! The run: refinement, coarsening, blocks and labels, on memory that is there.
-ghost use Rattle.std.specs.Prelude.{◌≡◌, ◌≤◌, ◌+◌, ℕ, OnErr, OnOk, length, min};
+ghost use Rattle.std.specs.Prelude.{◌≡◌, ◌≤◌, ◌+◌, ◌-◌, OnErr, OnOk, length, min};
 ghost use Rattle.models.specs.Models.{TypedWords};
 ghost use Rattle.partition_model.specs.Assignments.{G};
 ghost use Rattle.labelling.specs.Labelled.{SaysSatisfied};
@@ -31,8 +31,7 @@ fn tell_known<L: Ledger>(
     requires room { length flags.old ≡ length (planes.old).invs }
     ensures told { SaysSatisfied (G (graph.now).traces) (planes.new).invs flags.new }
     ensures same { (planes.new).invs ≡ (planes.old).invs }
-    ensures more { steps.old ≤ steps.new }
-    ensures few { steps.new ≤ steps.old + min 1 (length (planes.old).invs) }
+    ensures counted { steps.new ≡ steps.old + min 1 (length (planes.old).invs) }
 {
     if flags.is_empty() {
         return;
@@ -66,8 +65,9 @@ fn refine_broken<L: Ledger>(
 
     // When the limit comes, and what it leaves.
     ensures full { OnErr result (IsFull invs.now graph.new) }
-    ensures stands { OnErr result ((n : ℕ) × IsStopped invs.now graph.old graph.new
-        (splits_of tools.new.log tools.new.spans) n) }
+    ensures stands { OnErr result (IsStopped invs.now graph.old graph.new
+        (splits_of tools.new.log tools.new.spans)
+        (steps.new - (steps.old + min 1 (length invs.now)))) }
 {
     tell_known(graph, &mut tools.planes, flags, steps);
     refine_skipping(

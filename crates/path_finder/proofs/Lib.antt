@@ -3,3 +3,4 @@ pub mod Measuring
 pub mod Least
 pub mod Reaching
 pub mod Narrow
+pub mod Neighbours

@@ -1,13 +1,13 @@
 -- What is kept when an id is met.
 use Rattle.std.proofs.Common.{◌≡◌, ◌==◌, nat_lt, ℕ, zero, suc, ◌+◌, ◌<◌, ◌≤◌, true, false, not, Bool, List, [], ◌∷◌, ◌++◌, length, replicate, slice_get, set, get_or, count_by, Some, sym, ◌∙◌, ap, subst, inl, inr, arith, get_or-set_same, get_or-set_other, length-append, if◌then◌else◌, sum_by}
-use Rattle.std.proofs.lemmas.Bool.{cases_eq, cases_Bool, and_parts, ltb-true, eqb-true}
+use Rattle.std.proofs.lemmas.Bool.{cases_eq, cases_lt, cases_Bool, and_parts, ltb-true, eqb-true, true≢false}
 use Rattle.std.proofs.lemmas.List.{length-set, length-replicate}
 use Rattle.std.proofs.lemmas.List.Sums.{sum_by-set, count_by-le-length}
-use Rattle.std.proofs.lemmas.Option.{slice_get_within}
+use Rattle.std.proofs.lemmas.Option.{same_Some, slice_get_within}
 use Rattle.limits.specs.declared.TheConstants.{MAX_PARTITIONS}
 use Rattle.path_finder.specs.Nearness.{Met, is_met, is_of_type, IsClosed}
 use Rattle.partition_model.specs.Graphs.{Graph}
-use Rattle.path_finder.specs.Reaching.{meeting, IsCounted, IsSpreading, MeetsMore}
+use Rattle.path_finder.specs.Reaching.{meeting, HasNoneOn, IsCounted, IsSpreading, MeetsMore}
 use Rattle.path_finder.proofs.Entering.{slice_get_kept, slice_get_last, slice_get_push}
 
 -- the id is put behind those that are met
@@ -118,3 +118,23 @@ pub of_type_tells : (g : Graph) (ids typ p : ℕ) → is_of_type g ids typ p ≡
 of_type_tells g ids typ p e =
     let parts : (nat_lt p ids ≡ true) × ((g.typ p == typ) ≡ true) = and_parts (nat_lt p ids) (g.typ p == typ) e in
     (ltb-true p ids parts.0, eqb-true (g.typ p) typ parts.1)
+
+-- where all to which an edge leads from the next one of the list are met, its edges were followed too
+pub spreading_next : (edge : ℕ → ℕ → Bool) (next from id : ℕ) (m : Met) → IsSpreading edge next m → slice_get m.list next ≡ Some id
+    → ((q : ℕ) → q < from → edge id q ≡ true → is_met m q ≡ true) → HasNoneOn edge id from → IsSpreading edge (next + 1) m
+spreading_next edge next from id m s there followed none =
+    record {
+      counted = s.counted;
+      listed = s.listed;
+      done = λ i p q l at e. elim (cases_lt i next) [
+        | inl below ↦ s.done i p q below at e
+        | inr above ↦
+            let same : i ≡ next = omega arith in
+            let is : p ≡ id = same_Some p id (sym at ∙ ap (slice_get m.list) same ∙ there) in
+            let led : edge id q ≡ true = subst (λ (x : ℕ). edge x q ≡ true) is e in
+            elim (cases_lt q from) [
+              | inl old ↦ followed q old led
+              | inr new ↦ absurd (true≢false (sym led ∙ none q new))
+            ]
+      ];
+    }

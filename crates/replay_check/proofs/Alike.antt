@@ -1,7 +1,8 @@
 -- Two assignments with the same traces: what is right for the one is right for the other, before splits and after them.
-use Rattle.std.proofs.Common.{◌≡◌, ℕ, zero, suc, pred, ◌+◌, ◌<◌, ◌≤◌, true, List, [], ◌∷◌, length, refl, sym, ◌∙◌, ap, subst, inl, inr, arith}
+use Rattle.std.proofs.Common.{◌≡◌, ℕ, zero, suc, pred, ◌+◌, ◌<◌, ◌≤◌, true, List, [], ◌∷◌, Option, Some, None, length, refl, sym, ◌∙◌, ap, subst, inl, inr, arith}
 use Rattle.std.proofs.lemmas.Bool.{cases_lt, lt-ltb}
 use Rattle.std.specs.List.{AllByRecursion}
+use Rattle.std.specs.Prelude.{MatchOption}
 use Rattle.limits.specs.declared.TheConstants.{MAX_PARTITIONS}
 use Rattle.invariants.specs.declared.Invariant.{Invariant}
 use Rattle.invariants.specs.declared.records.Split.{Split}
@@ -139,6 +140,12 @@ alike-wrong m g h n [] k ids a w = absurd w
 alike-wrong m g h n (s ∷ ss) zero ids a w = λ j. w (justified-too m h g n s ids.0 (turned g h n a) j)
 alike-wrong m g h n (s ∷ ss) (suc k) ids a w =
     (justified-too m g h n s ids.0 a w.0, alike-wrong m (after_split n s g) (after_split n s h) (suc n) ss k ids.1 (alike-split g h n _ _ a) w.1)
+
+-- so what is found for the one is right for the other
+pub alike-found : (X Y : Type 0) (m : Model) (g h : Assignment) (n : ℕ) (ss : List Split) (found : Option ℕ) → HaveIds ss → AreAlike g h n
+    → MatchOption found (SplitInTurn m g n ss × X × Y) (IsFirstWrongSplit m g n ss) → MatchOption found (SplitInTurn m h n ss) (IsFirstWrongSplit m h n ss)
+alike-found X Y m g h n ss None ids a t = alike-all m g h n ss ids a t.0
+alike-found X Y m g h n ss (Some k) ids a w = alike-wrong m g h n ss k ids a w
 
 -- splits that are right in their turn have their new ids below the limit
 pub turns-below : (m : Model) (h : Assignment) (n : ℕ) (ss : List Split) → n ≤ MAX_PARTITIONS → SplitInTurn m h n ss → n + length ss ≤ MAX_PARTITIONS

@@ -71,16 +71,14 @@ pub fn wrong_split(
     let mut ids = lay_words(alloc, traces)?;
     let mut types = own_places(alloc)?;
     let mut edges = EdgeRows::make(alloc)?;
-    if let Some(k) = first_wrong_split(
+    let found = first_wrong_split(
         model,
         first,
         ids.as_mut_slice(),
         types.as_mut_slice(),
         &mut edges,
-    ) {
-        return Ok(Some(k));
-    }
-    Ok(None)
+    );
+    Ok(found)
 }
 
 /// Makes the splits, which are right in their turn, and then follows the merges from the assignment that the ids show, where the first new id is `first`, and compares the graph to which they lead.
@@ -101,6 +99,5 @@ pub fn follow(
 {
     make_splits(model, first, ids, types);
     let mut counts = EdgeCounts::make(alloc)?;
-    let answer = follow_merges(alloc, model, ids, types, &mut counts)?;
-    Ok(answer)
+    follow_merges(alloc, model, ids, types, &mut counts)
 }

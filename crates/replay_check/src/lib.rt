@@ -45,12 +45,11 @@ pub fn replay(alloc: Global, model: &Model, traces: &TraceSet) -> Result<Replay,
     }
     let mut ids = lay_ids(alloc, traces)?;
     let mut id_types = own_places(alloc)?;
-    let answer = follow(
+    follow(
         alloc,
         model,
         first_new,
         ids.as_mut_slice(),
         id_types.as_mut_slice(),
-    )?;
-    Ok(answer)
+    )
 }

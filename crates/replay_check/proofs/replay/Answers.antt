@@ -1,4 +1,5 @@
 use Rattle.std.proofs.Common.{◌≡◌, ◌≤◌, ◌+◌, ℕ, List, length, sym, ◌∙◌, ap, subst, arith}
+use Rattle.std.proofs.lemmas.Result.{IfOk-weaker}
 use Rattle.limits.specs.declared.TheConstants.{MAX_TYPES}
 use Rattle.partition_model.specs.Assignments.{by_type}
 use Rattle.models.specs.Models.{typed_words}
@@ -24,4 +25,6 @@ returns c =
     start-shows n ws c.as_mut_slice.result.now c.as_mut_slice-2.result.now (omega arith) (omega arith) (c.as_mut_slice.ensures.value ∙ c.in_ok-ids.ensures.laid) (subst (λ x. HaveIdsBelow x (by_type ws)) (sym e) c.in_ok-ids.ensures.below)
     (subst (λ (xs : List ℕ). AreOwnPlaces xs) (sym c.as_mut_slice-2.ensures.value) c.in_ok-id_types.ensures.places) in
     let turns : SplitInTurn c.args.model.now (by_type ws) n c.args.model.now.splits = rw c.in_default.is at c.in_ok-k.ensures in
-    replay-from c.args.model.now log c.in_ok-answer.answer t (subst (λ x. IsFollowed c.args.model.now (by_type ws) x c.in_ok-answer.answer) e (c.in_ok-answer.ensures (by_type ws) s turns))
+    IfOk-weaker c.follow.result _ _
+    (λ answer f. replay-from c.args.model.now log answer t (subst (λ x. IsFollowed c.args.model.now (by_type ws) x answer) e (f (by_type ws) s turns)))
+    c.follow.ensures

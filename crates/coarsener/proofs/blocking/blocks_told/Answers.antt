@@ -13,7 +13,8 @@ use Rattle.coarsener.specs.declared.pairs.Pair.{Pair}
 use Rattle.coarsener.specs.Pairs.{HasNoPairBehind, IsNextPair}
 use Rattle.coarsener.specs.Blocking.{EndsWithoutRoom, pair_count}
 use Rattle.coarsener.specs.Telling.{TellsLosses}
-use Rattle.coarsener.proofs.BlockingTurns.{IsBlocking, blocking-start, blocking-turn, blocking-end, blocking-full, blocking-limit, blocks-few, with_block, none-lost, is-broken, broken-within, pairs-some}
+use Rattle.coarsener.proofs.BlockingTurns.{IsBlocking, blocking-start, blocking-turn, blocking-end, blocking-full, blocking-limit, blocks-few, blocks-fewer, blocking-holds, blocking-none, with_block, none-lost, is-broken, broken-within, pairs-some}
+use Rattle.coarsener.proofs.Behind.{pair-smaller}
 use Rattle.coarsener.proofs.Deciding.{none}
 use Rattle.coarsener.proofs.blocking.blocks_told.Goals as goal
 
@@ -140,3 +141,67 @@ least_loss-requires-clause-known g c t =
     let inv : Invariant = get_or c.args.invs.now c.in-Some-first_lost.k none in
     c.is_known-known.ensures c.loop-pair.planes (G c.args.graph.now.traces) inv c.loop-pair.invariant.told
     (subst (λ (invs : List Invariant). slice_get invs c.in-Some-first_lost.k ≡ Some inv) (sym c.loop-pair.invariant.listed) (slice_get-get_or c.args.invs.now c.in-Some-first_lost.k none within)) t
+
+pub least_loss-requires-clause-pair : goal.least_loss-requires-clause-pair
+least_loss-requires-clause-pair g c = c.in-Some.ensures.next.pair
+
+pub add_block-requires : goal.add_block-requires
+add_block-requires g c =
+    omega (
+      arith,
+      blocks-fewer c.args.invs.now c.args.graph.now c.args.log.now c.loop-pair.log c.args.spans.now c.loop-pair.spans c.loop-pair.at.p c.loop-pair.at.q c.in-Some.pair.p c.in-Some.pair.q
+          c.loop-pair.invariant.run c.in-Some.ensures.next,
+      c.requires.room,
+      ap (λ (x : RunLists). x.block_room) c.loop-pair.invariant.run.others,
+    )
+
+pub loop-pair-smaller : goal.loop-pair-smaller
+loop-pair-smaller g c =
+    pair-smaller c.loop-pair.at.p c.loop-pair.at.q c.in-Some.pair.p c.in-Some.pair.q c.in-Some.ensures.next.behind c.in-Some.ensures.limit c.loop-pair.invariant.limit c.in-Some.ensures.next.pair.order
+
+pub returns-then-is_none-clause-ok : goal.returns-then-is_none-clause-ok
+returns-then-is_none-clause-ok g c =
+    blocking-none c.args.invs.now c.args.graph.now c.args.log.now c.args.spans.now c.next_pair.result c.next_pair.ensures.ids c.requires.begun c.if-is_none.ensures
+    (subst₂ (λ (p q : ℕ). MatchOption c.next_pair.result (HasNoPairBehind (G c.args.graph.now.traces) p q) (λ (x : Pair). IsNextPair (G c.args.graph.now.traces) p q x.p x.q))
+    c.start-at.ensures.p c.start-at.ensures.q c.next_pair.ensures.next)
+
+pub returns-then-is_none-clause-paths : goal.returns-then-is_none-clause-paths
+returns-then-is_none-clause-paths g c =
+    (blocking-start c.args.invs.now c.args.graph.now c.args.log.now c.args.spans.now c.next_pair.ensures.ids c.requires.begun).paths
+
+pub returns-in_default-push-clause-paths : goal.returns-in_default-push-clause-paths
+returns-in_default-push-clause-paths g c =
+    let run : IsBlocking c.args.invs.now c.args.graph.now c.args.log.now c.loop-pair.log c.args.spans.now c.push.new.self c.loop-pair.at.p c.loop-pair.at.q =
+    subst (λ (x : Numbers). IsBlocking c.args.invs.now c.args.graph.now c.args.log.now c.loop-pair.log c.args.spans.now x c.loop-pair.at.p c.loop-pair.at.q)
+    (sym c.in_default-push.ensures.push.1) c.loop-pair.invariant.run in
+    run.paths
+
+pub returns-in_default-push-clause-stays : goal.returns-in_default-push-clause-stays
+returns-in_default-push-clause-stays g c =
+    let run : IsBlocking c.args.invs.now c.args.graph.now c.args.log.now c.loop-pair.log c.args.spans.now c.push.new.self c.loop-pair.at.p c.loop-pair.at.q =
+    subst (λ (x : Numbers). IsBlocking c.args.invs.now c.args.graph.now c.args.log.now c.loop-pair.log c.args.spans.now x c.loop-pair.at.p c.loop-pair.at.q)
+    (sym c.in_default-push.ensures.push.1) c.loop-pair.invariant.run in
+    run.stays
+
+pub returns-in_default-push-clause-holds : goal.returns-in_default-push-clause-holds
+returns-in_default-push-clause-holds g c =
+    let run : IsBlocking c.args.invs.now c.args.graph.now c.args.log.now c.loop-pair.log c.args.spans.now c.push.new.self c.loop-pair.at.p c.loop-pair.at.q =
+    subst (λ (x : Numbers). IsBlocking c.args.invs.now c.args.graph.now c.args.log.now c.loop-pair.log c.args.spans.now x c.loop-pair.at.p c.loop-pair.at.q)
+    (sym c.in_default-push.ensures.push.1) c.loop-pair.invariant.run in
+    blocking-holds c.args.invs.now c.args.graph.now c.args.log.now c.loop-pair.log c.args.spans.now c.push.new.self c.loop-pair.at.p c.loop-pair.at.q run
+
+pub returns-in_default-push-clause-others : goal.returns-in_default-push-clause-others
+returns-in_default-push-clause-others g c = c.loop-pair.invariant.run.others
+
+pub returns-clause-paths : goal.returns-clause-paths
+returns-clause-paths g c = c.loop-pair.invariant.run.paths
+
+pub returns-clause-stays : goal.returns-clause-stays
+returns-clause-stays g c = c.loop-pair.invariant.run.stays
+
+pub returns-clause-others : goal.returns-clause-others
+returns-clause-others g c = c.loop-pair.invariant.run.others
+
+pub returns-clause-holds : goal.returns-clause-holds
+returns-clause-holds g c =
+    blocking-holds c.args.invs.now c.args.graph.now c.args.log.now c.loop-pair.log c.args.spans.now c.loop-pair.spans c.loop-pair.at.p c.loop-pair.at.q c.loop-pair.invariant.run

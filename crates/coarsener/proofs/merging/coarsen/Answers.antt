@@ -7,6 +7,7 @@ use Rattle.run_history.specs.Records.{merges_of}
 use Rattle.labelling.specs.Labelled.{Labelling}
 use Rattle.coarsener.specs.Pairs.{HasIds}
 use Rattle.coarsener.specs.Deciding.{IsDecided}
+use Rattle.coarsener.proofs.Behind.{pair-smaller}
 use Rattle.coarsener.proofs.MergingTurns.{IsCoarsening, IsCounted, coarsening-start, coarsening-turn, coarsening-few, coarsening-end, counting-start, counting-turn, others-turn, merge-count, none-left, owed-turn}
 use Rattle.coarsener.proofs.merging.coarsen.Goals as goal
 
@@ -83,3 +84,7 @@ returns-then-not-apart-clause-marks g c some =
       none-left c.args.graph.now c.loop-pair.graph c.loop-pair.at.p c.loop-pair.at.q (length c.loop-pair.log.merges) c.in_default.ensures.ids
           (subst (λ (b : Bool). IsCounted c.args.graph.now c.loop-pair.graph c.loop-pair.at.p c.loop-pair.at.q (length c.loop-pair.log.merges) b) c.if-not-apart.true c.loop-pair.invariant.counted) c.in_default.ensures.next,
     ))
+
+pub loop-pair-smaller : goal.loop-pair-smaller
+loop-pair-smaller g c =
+    pair-smaller c.loop-pair.at.p c.loop-pair.at.q c.in-Some.pair.p c.in-Some.pair.q c.in-Some.ensures.next.behind c.in-Some.ensures.limit c.loop-pair.invariant.limit c.in-Some.ensures.next.pair.order

@@ -10,7 +10,7 @@ use Rattle.infer_core.proofs.run.run.Goals as goal
 
 pub returns-in_default-clause-gives : goal.returns-in_default-clause-gives
 returns-in_default-clause-gives g c words b =
-    stopped-passes words c.args.invs.now c.args.graph.now c.refine_broken-refined.new.graph (splits_of c.refine_broken-refined.new.tools.log c.refine_broken-refined.new.tools.spans) _ b c.in_default.ensures.full c.in_default.ensures.stands.1
+    stopped-passes words c.args.invs.now c.args.graph.now c.refine_broken-refined.new.graph (splits_of c.refine_broken-refined.new.tools.log c.refine_broken-refined.new.tools.spans) _ b c.in_default.ensures.full c.in_default.ensures.stands
 
 pub coarsen-requires-clause-satisfied : goal.coarsen-requires-clause-satisfied
 coarsen-requires-clause-satisfied g c =

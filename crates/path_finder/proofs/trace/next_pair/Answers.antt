@@ -1,4 +1,4 @@
-use Rattle.std.proofs.Common.{◌≡◌, ◌<◌, ◌∙◌, ℕ, true, false, add-one, arith, subst, sym, inl, inr}
+use Rattle.std.proofs.Common.{◌≡◌, ◌<◌, ◌∙◌, ℕ, true, false, add-one, arith, subst, sym, inl, inr, rules}
 use Rattle.std.proofs.lemmas.Bool.{cases_lt}
 use Rattle.path_finder.specs.declared.pair.Pair.{Pair}
 use Rattle.path_finder.specs.Asking.{asked}
@@ -6,6 +6,9 @@ use Rattle.path_finder.specs.Walks.{Leads}
 use Rattle.path_finder.specs.Tables.{at, IsKnown}
 use Rattle.path_finder.proofs.Least.{has_next}
 use Rattle.path_finder.proofs.trace.next_pair.Goals as goal
+
+pub loop-id-init : goal.loop-id-init
+loop-id-init c = search rules
 
 pub unreachable-requires : goal.unreachable-requires
 unreachable-requires c =

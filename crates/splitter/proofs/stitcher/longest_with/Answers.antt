@@ -1,4 +1,4 @@
-use Rattle.std.proofs.Common.{◌+◌, ◌-◌, arith}
+use Rattle.std.proofs.Common.{◌+◌, ◌-◌, arith, rules}
 use Rattle.splitter.proofs.Following.{longest-left, longest-past, longest-end, event-there, first-le}
 use Rattle.splitter.proofs.stitcher.longest_with.Goals.{then-place-count-2-via-then-place-count-2, then-place-count-2-via-else-place-count-2+then-path-longest-ne-TERMINAL}
 use Rattle.splitter.proofs.stitcher.longest_with.Goals as goal
@@ -22,3 +22,6 @@ returns-then-place-count-2 c =
       | then-place-count-2-via-else-place-count-2+then-path-longest-ne-TERMINAL w ↦
           longest-end c.args.graph.now.traces c.args.path.now c.args.t c.args.first c.args.end c.args.longest c.requires.there c.requires.first c.requires.end (omega arith) c.requires.within w.if-path-longest-ne-TERMINAL.true
     ]
+
+pub returns : goal.returns
+returns c = search rules

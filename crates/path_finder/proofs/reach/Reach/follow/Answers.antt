@@ -5,7 +5,7 @@ use Rattle.limits.specs.declared.TheConstants.{MAX_PARTITIONS}
 use Rattle.partition_graph.specs.Seen.{seen}
 use Rattle.path_finder.specs.Nearness.{Met, is_met}
 use Rattle.path_finder.specs.Reaching.{edge_by, IsSpreading, MeetsMore}
-use Rattle.path_finder.proofs.Reaching.{meets_spreading}
+use Rattle.path_finder.proofs.Reaching.{meets_spreading, spreading_next}
 use Rattle.path_finder.proofs.reach.Reach.follow.Goals as goal
 
 pub loop-n-preserved : goal.loop-n-preserved
@@ -32,3 +32,8 @@ loop-n-preserved c =
         | inr at ↦ let same : q ≡ n = omega arith in ap (λ (x : ℕ). is_met c.meet.new.self x) same ∙ k.2
       ];
     }
+
+pub returns-clause-spreading : goal.returns-clause-spreading
+returns-clause-spreading c =
+    spreading_next (edge_by c.args.way (seen c.args.sight.now.view)) c.args.next c.loop-n.from c.index-id.result.now c.loop-n.self c.loop-n.invariant.spreading c.loop-n.invariant.there
+    c.loop-n.invariant.followed c.in_default.ensures.next
