@@ -95,7 +95,7 @@ def head_of(line, thick):
 
 
 def drawn_text(pieces):
-    """Pieces of a text as SVG; marks stand in spans of their own."""
+    """Pieces of a text as SVG; each mark is in a span of its own."""
     shown = ""
     for marked, piece in pieces:
         shown += f'<tspan class="mark">{escaped(piece)}</tspan>' if marked else escaped(piece)
@@ -158,7 +158,7 @@ def drawn_boxes(model, layout, differences):
 
 
 def description(model):
-    """The graph in a few words, for who does not see it."""
+    """The graph in a few words, for screen readers."""
     several = [typ for typ, ids in model.siblings.items() if len(ids) > 1]
     text = f"{plural(len(model.partitions), 'partition')} and {plural(len(model.edges), 'edge')}. "
     text += "Each trace of the log is a path from INITIAL to TERMINAL. "
@@ -178,7 +178,7 @@ def svg(model, differences):
     text = "\n".join(
         [f'<svg id="drawing" class="drawing" viewBox="{size}" role="group" aria-labelledby="graph-title" '
          f'aria-describedby="graph-text"><desc id="graph-text">{escaped(description(model))}</desc>']
-        + ['<g id="edges">'] + drawn_edges(model, layout, differences)
+        + ['<g id="edges" aria-hidden="true">'] + drawn_edges(model, layout, differences)
         + ['</g><g id="dashes"></g><g id="nodes">'] + drawn_boxes(model, layout, differences)
         + ['</g><g id="badges" aria-hidden="true"></g></svg>']
     )

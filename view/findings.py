@@ -95,7 +95,7 @@ def order_of(model, reasons):
 
 def sides_of(model):
     """For each block which of its two partitions is met in the critical state of the invariant: 0 for p, 1 for q, and
-    2 if the labels do not tell. From the other one a path goes on in the way that breaks the invariant."""
+    2 if the labels do not decide it. From the other one a path goes on in the way that breaks the invariant."""
     place_of = {row[0]: place for place, row in enumerate(model.partitions)}
     sides = []
     for p, q, inv, _ in model.blocks:

@@ -16,7 +16,7 @@ class Refused(Exception):
 
 
 class Model:
-    """A model: the parts of its file, with INITIAL and TERMINAL in front of the texts of types."""
+    """A model: the parts of its file, with INITIAL and TERMINAL before the texts of types."""
 
     def __init__(self, name, root):
         self.name = name

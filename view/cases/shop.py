@@ -1,5 +1,4 @@
 """The stored page of the shop, clicked through."""
-import base64
 import os
 import re
 import time
@@ -167,7 +166,7 @@ def check_why(page):
     same("shop: in another tab, the path keeps its marks and its caption", (
         page.count("#edges .on"), page.text("#caption")), (5, CAPTION))
     page.choose("least", "40")
-    same("shop: with hidden edges, the line of what the others carry stands below the caption", page.js(TALL), True)
+    same("shop: with hidden edges, the line of what the others carry is below the caption", page.js(TALL), True)
     page.choose("least", "0")
     same("shop: with all edges, it makes room for the caption", page.js(TALL), False)
     page.click("#clear")
@@ -287,39 +286,6 @@ def check_paths(page):
     same("shop: the caption of a path of traces", page.text("#caption"), "Marked: a path that 2 traces take.")
 
 
-def check_keyboard(page):
-    page.click("#clear")
-    page.js("document.getElementById('frame').focus()")
-    focused = page.browser.switch_to.active_element
-    focused.send_keys(Keys.ARROW_RIGHT)
-    page.browser.switch_to.active_element.send_keys(Keys.ARROW_RIGHT)
-    named = page.js("return document.activeElement.id")
-    same("shop: arrow keys go to a partition", named in ("p2", "p5"), True)
-    page.browser.switch_to.active_element.send_keys(Keys.ENTER)
-    same("shop: Enter shows it", page.text("#panel-partition h3"), {"p2": "login @2", "p5": "guest @5"}.get(named))
-    page.find("#tab-partition").send_keys(Keys.ARROW_RIGHT)
-    same("shop: arrow keys go through the tabs", page.js("return document.activeElement.id"), "tab-invariants")
-
-
-def check_everyone(page):
-    same("shop: each part of the drawing has a name", page.count("#drawing [role=button]:not([aria-label])"), 0)
-    same("shop: each control has a name", page.js(
-        "return [...document.querySelectorAll('input, select')].every(x => x.labels.length)"
-        "  && [...document.querySelectorAll('button')].every(x => x.textContent)"), True)
-    paper = "return getComputedStyle(document.body).backgroundColor"
-    light = page.js(paper)
-    dark = [{"name": "prefers-color-scheme", "value": "dark"}]
-    page.browser.execute_cdp_cmd("Emulation.setEmulatedMedia", {"features": dark})
-    same("shop: light and dark", (light, page.js(paper)), ("rgb(255, 255, 255)", "rgb(22, 23, 27)"))
-    page.browser.execute_cdp_cmd("Emulation.setEmulatedMedia", {"features": []})
-    page.click_drawn("#p6 rect")
-    page.after_walk()
-    sheet = page.browser.execute_cdp_cmd("Page.printToPDF", {"paperWidth": 8.27, "paperHeight": 11.69})
-    printed = base64.b64decode(sheet["data"])
-    same("shop: it prints on one page", len(re.findall(rb"/Type\s*/Page\b", printed)), 1)
-    same("shop: its foot says that it is not proved", "which is not proved" in page.text("footer"), True)
-
-
 def check_said(page):
     """Each change of the page is said."""
     def tells(what, text):
@@ -329,6 +295,8 @@ def check_said(page):
 
     page.click_drawn("#p3 rect")
     tells("a partition", "search: All 5 events of its type.")
+    page.click_drawn("#p10 rect")
+    tells("one of two partitions", "cart @10: 2 of the 7 events of its type (29 %). " + SENTENCE)
     page.click_drawn(".dash rect")
     tells("why two", SENTENCE + " " + AROUND)
     tells("whose path is marked", CAPTION)
@@ -409,7 +377,7 @@ def check_policy(page):
 def check_shop(page, room):
     page.open(os.path.abspath(os.path.join(SHOP, "shop.html")))
     for part in (check_first, check_titles, check_graph, check_view, check_search, check_slider, check_partition,
-                 check_why, check_invariants, check_steps, check_paths, check_keyboard, check_everyone, check_readers):
+                 check_why, check_invariants, check_steps, check_paths, check_readers):
         part(page)
     check_closed(page, "shop")
     check_policy(page)

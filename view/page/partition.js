@@ -126,7 +126,7 @@ function lists(typ) {
 
 function eventsText(p) {
   const typ = typeOf.get(p), count = countOf.get(p);
-  if (p < 2) return `${data.plain[typ]} stands ${p ? "after" : "before"} each of ${plural(count, "trace")}.`;
+  if (p < 2) return `${data.plain[typ]} comes ${p ? "after" : "before"} each of ${plural(count, "trace")}.`;
   const all = siblingsOf(p).reduce((total, q) => total + countOf.get(q), 0);
   if (siblingsOf(p).length > 1) return `${count} of the ${plural(all, "event")} of its type (${percent(count, all)}).`;
   return count === 1 ? "The one event of its type." : `All ${count} events of its type.`;
@@ -140,7 +140,8 @@ function showPartition(p) {
     make("div", { class: "columns" },
       edgeTable("Edges into it", entering.get(p), 0, p), edgeTable("Edges out of it", leaving.get(p), 1, p)),
     make("h4", {}, "Invariants of its type"), lists(typ));
-  tell(`${partitionName(p)}: ${eventsText(p)}`);
+  const why = byId("panel-partition").querySelector(".sentence");
+  tell(`${partitionName(p)}: ${eventsText(p)}${why ? " " + why.textContent : ""}`);
   if (found.length === 1) runBlock(blocks()[found[0]]);
 }
 

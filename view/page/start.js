@@ -110,6 +110,7 @@ function listen() {
   byId("clear").addEventListener("click", startAgain);
   byId("least").addEventListener("input", hideRare);
   byId("frame").addEventListener("keydown", key);
+  addEventListener("keydown", (event) => { if (event.key === "Escape") removeMarks(); });
   drawing.addEventListener("pointerdown", startDrag);
   drawing.addEventListener("pointerover", addTitle);
   addEventListener("pointermove", moveDrag);

@@ -144,7 +144,6 @@ function key(event) {
   else if (event.key === "+" || event.key === "=") askedZoom(0.8);
   else if (event.key === "-") askedZoom(1.25);
   else if (event.key === "0") askedWhole();
-  else if (event.key === "Escape") removeMarks();
   else if (event.key === "Enter" || event.key === " ") chosen(event.target);
   else return;
   event.preventDefault();
