@@ -30,8 +30,8 @@ def content_of(file):
 
 
 class Rules:
-    """The rules of a file: for each the word or the name of its type, its pattern, and whether the pattern tells letters
-    and digits apart."""
+    """The rules of a file: for each its first word, the name of its type, its pattern, and the test of a line that
+    `synoptic` and Python read alike by the pattern."""
 
     def __init__(self, file):
         self.rules = []
@@ -47,9 +47,9 @@ class Rules:
     def decide(self, piece):
         """As `plain`, or SEPARATOR."""
         text = piece.decode("utf-8", "replace")
-        for word, name, pattern, wide in self.rules:
-            if wide and not text.isascii():
-                raise Unread("a line has other characters than ASCII, and a pattern tells letters or digits apart")
+        for word, name, pattern, test in self.rules:
+            if test and not test(text):
+                raise Unread("a line has a character that a pattern may take for a letter in only one of the two programs")
             found = pattern.search(text)
             if not found:
                 continue
@@ -117,10 +117,12 @@ class Log:
         return f"{self.files[place >> 32]}:{place & 0xFFFFFFFF}"
 
     def shown(self, trace):
-        """The name of a trace with its first and its last line."""
-        first, last = min(trace.places), max(trace.places)
-        to = f" to {last & 0xFFFFFFFF if first >> 32 == last >> 32 else self.place(last)}" if first < last else ""
-        return f"{models.bare(trace.name)} ({self.place(first)}{to})"
+        """The name of a trace with its first and its last line in each file that has some of it."""
+        lines = {}
+        for place in trace.places:
+            lines.setdefault(place >> 32, []).append(place & 0xFFFFFFFF)
+        parts = [f"{self.files[file]}:{min(of)}" + f" to {max(of)}" * (min(of) < max(of)) for file, of in sorted(lines.items())]
+        return f"{models.bare(trace.name)} ({', '.join(parts)})"
 
     def first(self, typ):
         """The first line with a type, and its trace."""

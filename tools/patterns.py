@@ -3,13 +3,15 @@ read alike:
     characters, `.`, `^`, `$`, `|`, groups with a name, without one, or `(?:..)`;
     `\\d`, `\\w`, `\\s`, `\\b` and their opposites, `\\t` and `\\n`, `\\r`, `\\f`, `\\v`, `\\xHH`, a backslash before a sign;
     sets as `[a-z_]` and `[^"]`, without a set or `&&`, `--`, `~~` in them;
-    `*`, `+`, `?`, `{n}`, `{n,}`, `{n,m}`, also with `?` after it, if what is repeated is never empty.
-Any other is refused here, for example one with `(?i)` or `\\p{L}`. A line with other characters than ASCII is refused too
-if a rule has `\\d`, `\\w`, `\\b` or an opposite: what a letter is depends on the version of Unicode."""
+    `*`, `+`, `?`, `{n}`, `{n,}`, `{n,m}`, also with `?` after it, if what is repeated is never empty;
+    `(?i)` at the start of a pattern of ASCII, over lines of ASCII.
+Any other is refused here, for example one with `\\p{L}`. If a rule has `\\d`, `\\w`, `\\b` or an opposite, a line is refused
+too that has a character which the two may not both take for a letter or a digit (letters.py)."""
 import re
 
-# The characters that are white space in Unicode. Python's \s has four more.
-BLANKS = "\\t-\\r \\x85\\xa0\\u1680\\u2000-\\u200a\\u2028\\u2029\\u202f\\u205f\\u3000"
+import letters
+
+BLANKS = "\\t-\\r \\x85\\xa0\\u1680\\u2000-\\u200a\\u2028\\u2029\\u202f\\u205f\\u3000"  # of Unicode; Python's \\s has four more
 NAMED = re.compile(r"\?P?<([A-Za-z_][A-Za-z0-9_.\[\]]*)>")
 COUNT = re.compile(r"\{([0-9]+)(?:(,)([0-9]*))?\}")
 HELD = ("TYPE", "TRACE", "TIME")
@@ -137,9 +139,11 @@ class Translation:
 
 
 def compiled(pattern):
-    """The pattern as `re` reads it, and whether it tells letters or digits apart. Raises Unread."""
-    found = Translation(pattern)
+    """The pattern as `re` reads it, and the test of a line that both read alike, or None if each is. Raises Unread."""
+    fold = pattern.startswith("(?i)") and pattern.isascii()
+    found = Translation(pattern[4 * fold :])
     try:
-        return re.compile(found.text), found.wide
+        test = str.isascii if fold else letters.are_alike if found.wide else None
+        return re.compile(found.text, re.IGNORECASE * fold), test
     except (re.error, OverflowError, RecursionError):
         raise Unread

@@ -16,6 +16,17 @@ def is_pipe(file):
     return os.path.exists(file) and not os.path.isfile(file) and not os.path.isdir(file)
 
 
+def percent_of(words, option, usual, usage):
+    """Takes an option with a whole number of percent out of the words; if it is not there, the usual number."""
+    if option not in words[: words.index("--") if "--" in words else len(words)]:
+        return usual
+    at = words.index(option)
+    if not (len(words) > at + 1 and words[at + 1].isascii() and words[at + 1].isdigit() and len(words[at + 1]) < 4):
+        models.fail(usage)
+    del words[at]
+    return int(words.pop(at))
+
+
 class Arguments:
     """What follows the name of the script: options as `synoptic` takes them, and the files of a log. `flags` has the
     letters of options, `valued` of those with a value, and `given` the value of each that is given, or True."""
@@ -45,7 +56,7 @@ class Arguments:
         self.input = b"" if self.files else sys.stdin.buffer.read()
 
     def options(self, letters, words, flags, valued):
-        """Takes the letters after one `-`; the last may have its value behind it or in the next word."""
+        """Takes the letters after one `-`; the last may have its value after it or in the next word."""
         while letters:
             letter, letters = letters[0], letters[1:]
             if letter in self.given or letter not in flags + valued:
@@ -85,22 +96,3 @@ class Arguments:
             with open(file, "rb") as opened:
                 found.append(opened.read())
         return found
-
-    def first_line(self, number):
-        """The line that begins the trace with this number. With the lines up to it a log has more traces than that."""
-        def count(lines):
-            report = self.run("graph", "epi", b"".join(lines)).stdout
-            return int(report.split(b"\n")[0].rpartition(b" ")[2] or 0)
-
-        parts = [[(file, line, text + b"\n") for line, text in enumerate(content.split(b"\n"), 1)]
-                 for file, content in zip(self.files or ["standard input"], self.contents())]
-        for part in [sum(parts, [])] if "j" in self.given else parts:
-            lines = [text for _, _, text in part]
-            here = count(lines)
-            if number < here:
-                low, high = 0, len(lines)
-                while high - low > 1:
-                    middle = (low + high) // 2
-                    low, high = (low, middle) if count(lines[:middle]) > number else (middle, high)
-                return f"{models.bare(part[high - 1][0])}:{part[high - 1][1]}"
-            number -= here
