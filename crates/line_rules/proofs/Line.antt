@@ -1,13 +1,14 @@
 -- The rule of a line, from its spelling and what was built.
-use Rattle.std.proofs.Common.{◌≡◌, ◌<◌, ◌&&◌, ℕ, true, false, List, Option, Some, None, codes, is_none, is_some, refl, ap, ap₂, sym, ◌∙◌, nat_le, Ok, Err, length}
+use Rattle.std.proofs.Common.{◌≡◌, ◌<◌, ◌&&◌, ◌⊎◌, inl, inr, ℕ, true, false, List, Option, Some, None, codes, is_none, is_some, refl, ap, ap₂, sym, ◌∙◌, nat_le, Ok, Err, length}
 use Rattle.std.specs.Prelude.{IsSomeAnd}
 use Rattle.std.specs.Option.{option_map_or}
 use Rattle.std.proofs.lemmas.Bool.{lt-leb}
 use Rattle.limits.specs.declared.TheConstants.{MAX_RULES}
+use Rattle.line_rules.specs.Patterns.{IsNoPattern, NestsTooDeep}
 use Rattle.line_rules.specs.Rules as spec
 use Rattle.line_rules.specs.Rules.{rule_of, group_named, Alike}
 use Rattle.line_rules.specs.Files.{spelled_by, rule_at, rule_spelled, rule_read, lacks_type, takes_type, is_event, first_time, mixes_time, differ}
-use Rattle.line_rules.specs.Building.{IsRuleOf}
+use Rattle.line_rules.specs.Building.{IsRuleOf, Builds}
 use Rattle.line_rules.specs.declared.line_rules.RuleError.TheVariants as refused
 
 same-lacks : (r s : spec.Rule) → Alike r s → lacks_type r ≡ lacks_type s
@@ -25,6 +26,16 @@ pub spelled-few : (rules : List spec.Rule) (number : ℕ) (line : List ℕ) (for
 spelled-few rules number line form pattern spelled few =
     let below : nat_le MAX_RULES (length rules) ≡ false = lt-leb MAX_RULES (length rules) few in
     ap (rule_spelled rules number) (sym spelled) ∙ rw below refl
+
+-- a line that spells no rule
+pub line-bad : (rules : List spec.Rule) (number : ℕ) (line : List ℕ) → None ≡ spelled_by line → rule_at rules (number, line) ≡ Err (refused.BadLine number)
+line-bad rules number line none = ap (rule_spelled rules number) (sym none)
+
+-- a line whose pattern is none, or nests too deep
+pub line-unread : (rules : List spec.Rule) (number : ℕ) (line : List ℕ) (form : spec.RuleForm) (pattern : List ℕ) → Some (form, pattern) ≡ spelled_by line → length rules < MAX_RULES
+    → IsNoPattern pattern ⊎ NestsTooDeep pattern → (rule_at rules (number, line) ≡ Err (refused.Syntax number)) ⊎ Builds rules line NestsTooDeep
+line-unread rules number line form pattern spelled few (inl none) = inl (spelled-few rules number line form pattern spelled few ∙ rw none refl)
+line-unread rules number line form pattern spelled few (inr deep) = inr (record { few = few; form = form; pattern = pattern; spelled = sym spelled; holds = deep })
 
 -- what is built is the rule of the line
 pub line-rule : (rules : List spec.Rule) (number : ℕ) (line : List ℕ) (form : spec.RuleForm) (pattern : List ℕ) (r : spec.Rule) → Some (form, pattern) ≡ spelled_by line → length rules < MAX_RULES

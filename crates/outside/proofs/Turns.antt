@@ -1,11 +1,16 @@
 -- Inputs that were opened in turn.
-use Rattle.std.proofs.Common.{◌≡◌, ℕ, zero, suc, ◌+◌, ◌==◌, Bool, true, false, true≢false, if◌then◌else◌, List, [], ◌∷◌, ◌++◌, length, map, take, drop, Option, Some, None, refl, sym, ap, ◌∙◌, subst, ⊎_elim, arith}
+use Rattle.std.proofs.Common.{◌≡◌, ℕ, zero, suc, ◌+◌, ◌<◌, ◌==◌, Bool, true, false, true≢false, if◌then◌else◌, List, [], ◌∷◌, ◌++◌, length, get_or, map, take, drop, String, Vec, Option, Some, None, refl, sym, ap, ◌∙◌, subst, ⊎_elim, arith}
 use Rattle.std.proofs.lemmas.Bool.{cases_Bool}
 use Rattle.std.proofs.lemmas.Option.{none-some, same_Some}
 use Rattle.std.proofs.lemmas.Slice.Eq.{bytes_eq-Decides}
 use Rattle.std.specs.Io.KnownBytes.{IsAtEnd}
 use Rattle.std.specs.List.{slice_get}
+use Rattle.std.specs.Option.{option_map_or}
+use Rattle.std.specs.Str.{bytes_eq}
+use Rattle.std.specs.String.{string_bytes}
+use Rattle.std.specs.declared.alloc.Global.{Global}
 use Rattle.outside.specs.Inputs.{Files, InputState, Stays}
+use Rattle.outside.specs.Told.{told}
 use Rattle.outside.specs.Turns.{at_end, stands_at, if_so, in_turn, all_in_turn, followed_to_end, OpensInTurn}
 
 -- what is known to be at its end is
@@ -104,3 +109,18 @@ turn-from files n (name ∷ names) is =
     let all : n + 1 + length names ≡ n + length (name ∷ names) = omega arith in
     ap (λ (b : Bool). all_in_turn (Some files) (if b then Some (n + 1) else None) names) parts.0
     ∙ (turn-from files (n + 1) names (parts.1 ∙ ap (λ k. take (length names) (drop k (names_of files))) one) ∙ ap (λ (k : ℕ). Some k) all)
+
+-- a file in memory as it is told
+told-at : (files : List (String Global × Vec ℕ Global)) (n : ℕ) (file : String Global × Vec ℕ Global) → n < length files → file ≡ get_or files n file
+    → slice_get (told files) n ≡ Some (string_bytes file.0, file.1.items)
+told-at [] n file low is = absurd (omega arith)
+told-at (f ∷ fs) zero file low is = ap (λ (x : String Global × Vec ℕ Global). Some (string_bytes x.0, x.1.items)) (sym is)
+told-at (f ∷ fs) (suc n) file low is = told-at fs n file (omega arith) is
+
+-- a name is the next in turn exactly if it is that of the file at that place
+pub turn-next : (files : List (String Global × Vec ℕ Global)) (name : List ℕ) (followed : Option ℕ) (n : ℕ) (file : String Global × Vec ℕ Global) (same : Bool)
+    → followed ≡ Some n → n < length files → file ≡ get_or files n file → same ≡ bytes_eq (string_bytes file.0) name
+    → in_turn (Some (told files)) name followed ≡ (if same then Some (n + 1) else None)
+turn-next files name followed n file same at low is so =
+    ap (in_turn (Some (told files)) name) at
+    ∙ ap (λ b. if b then Some (n + 1) else None) (ap (λ o. option_map_or (λ f. bytes_eq f.0 name) o false) (told-at files n file low is) ∙ sym so)

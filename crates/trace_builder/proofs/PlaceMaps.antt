@@ -86,6 +86,13 @@ texts-placed-grow old new texts t placed none grown = record {
   apart = apart-push bytes_eq texts t other-text placed.apart none;
 }
 
+-- what is kept where the entries of the map stay
+pub texts-placed-stay : (old new : BTreeMap (String Global) ℕ) (texts : List (List ℕ)) → AreTextsPlaced old texts → new.entries ≡ old.entries → AreTextsPlaced new texts
+texts-placed-stay old new texts placed same = record {
+  found = λ text. rw same (placed.found text);
+  apart = placed.apart;
+}
+
 -- what is kept without the last text
 pub texts-placed-shrink : (old new : BTreeMap (String Global) ℕ) (texts : List (List ℕ)) (t : List ℕ) → AreTextsPlaced old (texts ++ t ∷ []) → list_any (bytes_eq t) texts ≡ false
     → ((cs : List ℕ) → get_by_text new cs ≡ cond (bytes_eq t cs) None (get_by_text old cs)) → AreTextsPlaced new texts

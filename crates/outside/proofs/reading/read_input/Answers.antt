@@ -21,3 +21,18 @@ returns-in-Err-Missing-clause-gives g c = search rules
 
 pub returns-in-Err-Failed-clause-gives : goal.returns-in-Err-Failed-clause-gives
 returns-in-Err-Failed-clause-gives g c = search rules
+
+pub returns-in_err-read_rest-in-Ok-clause-gives : goal.returns-in_err-read_rest-in-Ok-clause-gives
+returns-in_err-read_rest-in-Ok-clause-gives g c = search rules
+
+pub returns-in_ok-read_rest-in-Ok-clause-turn : goal.returns-in_ok-read_rest-in-Ok-clause-turn
+returns-in_ok-read_rest-in-Ok-clause-turn g c = search rules
+
+pub returns-in_err-read_rest-in-Ok-clause-turn : goal.returns-in_err-read_rest-in-Ok-clause-turn
+returns-in_err-read_rest-in-Ok-clause-turn g c = search rules
+
+pub returns-in-Err-Missing-clause-turn : goal.returns-in-Err-Missing-clause-turn
+returns-in-Err-Missing-clause-turn g c = search rules
+
+pub returns-in-Err-Failed-clause-turn : goal.returns-in-Err-Failed-clause-turn
+returns-in-Err-Failed-clause-turn g c = search rules

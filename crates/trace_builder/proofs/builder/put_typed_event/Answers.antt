@@ -1,4 +1,4 @@
-use Rattle.std.proofs.Common.{◌≡◌, ℕ, List, OnOk, arith, sym, subst, false}
+use Rattle.std.proofs.Common.{rules, ◌≡◌, ℕ, List, OnOk, arith, sym, subst, false}
 use Rattle.std.proofs.lemmas.Bool.{cond-false}
 use Rattle.std.specs.List.{list_any}
 use Rattle.std.specs.Str.{bytes_eq}
@@ -14,3 +14,6 @@ returns-clause-types c =
     let none : list_any (bytes_eq text) c.args.types.now ≡ false =
     c.requires.new.1 (omega (arith, c.requires.place, position-le (bytes_eq text) c.args.types.now, c.len.ensures)) in
     subst (λ (ts : List (List ℕ)). OnOk c.put_with_type.result (c.put_with_type.new.types ≡ ts)) (sym (cond-false _ _ _ none)) c.put_with_type.ensures.types
+
+pub returns-then-place-len-clause-traces : goal.returns-then-place-len-clause-traces
+returns-then-place-len-clause-traces c = search rules

@@ -1,4 +1,4 @@
-use Rattle.std.proofs.Common.{◌≡◌, ◌≤◌, ℕ, List, length, Some, sym, ap, ◌∙◌, subst, arith}
+use Rattle.std.proofs.Common.{rules, ◌≡◌, ◌≤◌, ℕ, List, length, Some, sym, ap, ◌∙◌, subst, arith}
 use Rattle.key_table.specs.Keys.{Key}
 use Rattle.key_table.specs.Signs.{sign_of}
 use Rattle.key_table.specs.declared.sign.Sign.{Sign}
@@ -16,3 +16,6 @@ returns c = λ _.
     let bytes : AreBytes text = subst (λ (xs : List ℕ). AreBytes xs) c.as_bytes.ensures.value c.are_bytes.ensures in
     let same : type_key text ≡ type_key told.0 = same-told (type_key text) (type_key told.0) bytes told.1.bytes short (sym signed ∙ told.1.sign) in
     told.1.stands ∙ ap (λ (k : Key). Some k.text) (sym same)
+
+pub returns-then-sign-gt-MAX_TOLD : goal.returns-then-sign-gt-MAX_TOLD
+returns-then-sign-gt-MAX_TOLD c = search rules

@@ -6,3 +6,9 @@ returns-clause-gives c = search rules
 
 pub returns-clause-exact : goal.returns-clause-exact
 returns-clause-exact c = search rules
+
+pub returns-then-fails-clause-gives : goal.returns-then-fails-clause-gives
+returns-then-fails-clause-gives c = search rules
+
+pub returns-then-fails-clause-exact : goal.returns-then-fails-clause-exact
+returns-then-fails-clause-exact c = search rules

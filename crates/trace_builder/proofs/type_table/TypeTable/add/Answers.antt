@@ -1,4 +1,4 @@
-use Rattle.std.proofs.Common.{◌≡◌, ℕ, List, ◌++◌, ◌∷◌, [], Some, slice_get, cond, false, length, arith, ap, sym, ◌∙◌, subst}
+use Rattle.std.proofs.Common.{rules, ◌≡◌, ℕ, List, ◌++◌, ◌∷◌, [], Some, slice_get, cond, false, length, refl, arith, ap, sym, ◌∙◌, subst}
 use Rattle.std.proofs.lemmas.Map.Text.{btree_map_updates_text}
 use Rattle.std.specs.BTreeMap.{get_by_text}
 use Rattle.std.specs.String.{string_bytes}
@@ -7,8 +7,23 @@ use Rattle.std.specs.Str.{bytes_eq}
 use Rattle.trace_builder.specs.PlaceMaps.{AreTextsPlaced}
 use Rattle.trace_builder.specs.Slots.{TellsText}
 use Rattle.trace_builder.proofs.PlaceMaps.{texts-placed-grow}
-use Rattle.trace_builder.proofs.TextsTold.{last-text, slots-tell}
+use Rattle.trace_builder.proofs.TextsTold.{last-text, slots-tell, all-stays}
 use Rattle.trace_builder.proofs.type_table.TypeTable.add.Goals as goal
+
+pub invariant_of-self : goal.invariant_of-self
+invariant_of-self c = all-stays c.self.inside.places c.self.inside.places c.self.inside.slots.items c.self.inside.texts.items c.reserve.new.self.items c.self.invariant refl c.reserve.ensures.items
+
+pub invariant_of-self-in_err-from_str : goal.invariant_of-self-in_err-from_str
+invariant_of-self-in_err-from_str c = all-stays c.self.inside.places c.self.inside.places c.self.inside.slots.items c.self.inside.texts.items c.reserve.new.self.items c.self.invariant refl c.reserve.ensures.items
+
+pub invariant_of-self-in_err-known : goal.invariant_of-self-in_err-known
+invariant_of-self-in_err-known c = all-stays c.self.inside.places c.self.inside.places c.self.inside.slots.items c.self.inside.texts.items c.reserve.new.self.items c.self.invariant refl c.reserve.ensures.items
+
+pub invariant_of-self-in_err-insert : goal.invariant_of-self-in_err-insert
+invariant_of-self-in_err-insert c = all-stays c.self.inside.places c.insert.new.self c.self.inside.slots.items c.self.inside.texts.items c.reserve.new.self.items c.self.invariant c.in_err-insert.ensures.err c.reserve.ensures.items
+
+pub push_reserved-requires : goal.push_reserved-requires
+push_reserved-requires c = omega (arith, c.in_ok-reserve.ensures.ok)
 
 pub invariant_of-self-2 : goal.invariant_of-self-2
 invariant_of-self-2 c =
@@ -29,3 +44,6 @@ invariant_of-self-2 c =
       subst (λ (ts : List (List ℕ)). All (TellsText ts) c.note.new.slots.items) (sym items)
           (c.note.ensures (texts ++ text ∷ []) stands (slots-tell texts text c.self.inside.slots.items c.self.invariant.1)),
     )
+
+pub returns-clause-ok : goal.returns-clause-ok
+returns-clause-ok c = search rules
