@@ -14,7 +14,8 @@ use Rattle.log_reader.specs.LogLines.{Line, lines_of, own_events, events_at, Are
 use Rattle.log_reader.specs.declared.refusal.At.{At}
 use Rattle.log_reader.specs.declared.refusal.ReadError.{ReadError}
 use Rattle.log_reader.specs.declared.refusal.ReadError.TheVariants as refused
-use Rattle.log_reader.proofs.LinesOfLog.{piece_lines, files_lines, met-lines}
+use Rattle.log_reader.specs.Taking.{files_lines, piece_lines}
+use Rattle.log_reader.proofs.LinesOfLog.{met-lines}
 use Rattle.log_reader.proofs.PieceByPiece.{some-pieces}
 
 -- the first refusal of lines, one behind the other, after these events

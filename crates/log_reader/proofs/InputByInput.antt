@@ -14,12 +14,14 @@ use Rattle.outside.specs.Turns.{in_turn, all_in_turn, followed_to_end, OpensInTu
 use Rattle.outside.proofs.Turns.{all_in_turn-append, closes}
 use Rattle.limits.specs.declared.TheConstants.{MAX_INPUT_BYTES}
 use Rattle.lines.specs.Lines.{pieces}
-use Rattle.traces.specs.Words.{Event as KeyedEvent, Log, gathered_of, in_order, log_of}
-use Rattle.log_reader.specs.Reading.{Setting, piece_events, section_at_end, key_file, next_section, file_events, events_of, first_of, files_refusal, first_refusal}
+use Rattle.traces.specs.Words.{Event as KeyedEvent, Gathering, Log, gathered_of, in_order, log_of}
+use Rattle.log_reader.specs.Reading.{Setting, piece_events, section_at_end, key_file, next_section, first_of, files_refusal, first_refusal}
 use Rattle.log_reader.specs.Inputs.{inputs_of, with_content, told_contents, lacking, first_lacking, SomeContents, ReadsLog, StopsWithin, file_past, opens_after}
-use Rattle.log_reader.specs.SoFar.{IsGatheredOf, IsReady, setting_of}
-use Rattle.log_reader.specs.Files.{HasContent, FileIsRead, OpensFile, OpensOne, ReadsFile}
-use Rattle.log_reader.specs.declared.reader.LogReader.{LogReader}
+use Rattle.log_reader.specs.SoFar.{IsGatheredOf}
+use Rattle.log_reader.specs.LogLines.{Line, events_at, lines_of}
+use Rattle.log_reader.specs.Taking.{Taker, files_lines, piece_lines}
+use Rattle.log_reader.proofs.LinesOfLog.{events-behind, events-own, met-lines}
+use Rattle.log_reader.specs.Files.{HasContent, FileIsRead, OpensFile, OpensOne, ReadsFile, ReadsInputs}
 use Rattle.log_reader.specs.declared.refusal.ReadError.{ReadError}
 
 -- where files are told, the first ones of the named have these bytes
@@ -29,7 +31,7 @@ HasContents (Some files) names count contents =
     (told_contents files names ≡ contents ++ told_contents files (drop count names)) × (first_lacking files names ≡ option_map (λ n. n + count) (first_lacking files (drop count names)))
 
 -- so many of the named inputs were read
-pub record IsUpTo (s : Setting) (names : List (List ℕ)) (count : ℕ) (old now : InputState) (reader : LogReader) (room : ℕ) : Type 0 where
+pub record IsUpTo (s : Setting) (names : List (List ℕ)) (count : ℕ) (old now : InputState) (reader : Taker) (room : ℕ) : Type 0 where
   pub stays : Stays old now
   pub faults : now.faults ≡ old.faults
   pub none : count ≡ 0 → now.opens ≡ old.opens
@@ -37,17 +39,17 @@ pub record IsUpTo (s : Setting) (names : List (List ℕ)) (count : ℕ) (old now
   pub at_end : 0 < count → IsAtEnd now.rest
   pub turn : followed_to_end now ≡ all_in_turn old.files (followed_to_end old) (take count names)
   pub last : 0 < count → IsSomeAnd (slice_get names (count - 1)) (StopsWithin (count - 1) old now)
-  pub ready : IsReady reader
-  pub setting : setting_of reader ≡ s
-  pub few : reader.log.section + room ≤ MAX_INPUT_BYTES
+  pub ready : reader.ready
+  pub setting : reader.setting ≡ s
+  pub few : reader.section + room ≤ MAX_INPUT_BYTES
   pub contents : List (List ℕ)
   pub many : length contents ≡ count
   pub told : HasContents old.files names count contents
-  pub events : List KeyedEvent
-  pub log : IsGatheredOf reader.log.builder events
+  pub lines : List Line
+  pub has : reader.has lines
   pub past : (rest : List (List ℕ)) → file_past MAX_INPUT_BYTES (contents ++ rest) ≡ option_map (λ n. n + count) (file_past room rest)
-  pub refusal : (rest : List (List ℕ)) → first_refusal s (contents ++ rest) ≡ files_refusal s count reader.log.section events room rest
-  pub parts : (rest : List (List ℕ)) → events_of s (contents ++ rest) ≡ events ++ file_events s count reader.log.section rest
+  pub refusal : (rest : List (List ℕ)) → first_refusal s (contents ++ rest) ≡ files_refusal s count reader.section (events_at s lines) room rest
+  pub parts : (rest : List (List ℕ)) → files_lines s 0 0 (contents ++ rest) ≡ lines ++ files_lines s count reader.section rest
 
 drop-at : (names : List (List ℕ)) (k : ℕ) (name : List ℕ) → slice_get names k ≡ Some name → drop k names ≡ name ∷ drop (suc k) names
 drop-at [] k name at = absurd (none-some name at)
@@ -71,9 +73,9 @@ contents-none None names = tt
 contents-none (Some files) names = (refl, sym (plus-zero (first_lacking files names)))
 
 -- before the first input none was read
-pub up-to-none : (s : Setting) (names : List (List ℕ)) (old : InputState) (reader : LogReader) → IsReady reader → setting_of reader ≡ s → reader.log.section ≡ 0 → reader.log.builder ≡ gathered_of []
+pub up-to-none : (s : Setting) (names : List (List ℕ)) (old : InputState) (reader : Taker) → reader.ready → reader.setting ≡ s → reader.section ≡ 0 → reader.has []
     → IsUpTo s names 0 old old reader MAX_INPUT_BYTES
-up-to-none s names old reader ready setting section log = record {
+up-to-none s names old reader ready setting section has = record {
   stays = record { files = refl; may_fail = refl; faults = omega arith };
   faults = refl;
   none = λ _. refl;
@@ -87,11 +89,11 @@ up-to-none s names old reader ready setting section log = record {
   contents = [];
   many = refl;
   told = contents-none old.files names;
-  events = [];
-  log = log;
+  lines = [];
+  has = has;
   past = λ rest. sym (plus-zero (file_past MAX_INPUT_BYTES rest));
   refusal = λ rest. ap (λ n. files_refusal s 0 n [] MAX_INPUT_BYTES rest) (sym section);
-  parts = λ rest. ap (λ n. file_events s 0 n rest) (sym section);
+  parts = λ rest. ap (λ n. files_lines s 0 n rest) (sym section);
 }
 
 plus-one : (k : ℕ) (o : Option ℕ) → option_map (λ n. n + k) (option_map (λ n. n + 1) o) ≡ option_map (λ n. n + (k + 1)) o
@@ -144,7 +146,7 @@ wider None name rest room limit le left = tt
 wider (Some files) name rest room limit le left = (left.0, left.1, (left.2.0, omega (arith, left.2.1), left.2.2))
 
 -- the input that is open, from the first input on
-pub stops-within : (s : Setting) (names : List (List ℕ)) (k : ℕ) (old before after : InputState) (reader : LogReader) (room : ℕ) (name : List ℕ)
+pub stops-within : (s : Setting) (names : List (List ℕ)) (k : ℕ) (old before after : InputState) (reader : Taker) (room : ℕ) (name : List ℕ)
     → IsUpTo s names k old before reader room → slice_get names k ≡ Some name → OpensNamed before after name room → IsSomeAnd (slice_get names k) (StopsWithin k old after)
 stops-within s names k old before after reader room name so_far at named =
     subst (λ o. IsSomeAnd o (StopsWithin k old after)) (sym at) (record {
@@ -160,7 +162,7 @@ take-at (x ∷ names) zero name at = ap (λ (n : List ℕ). n ∷ []) (same_Some
 take-at (x ∷ names) (suc k) name at = ap (λ (ns : List (List ℕ)). x ∷ ns) (take-at names k name at)
 
 -- one name more in turn
-turn-next : (s : Setting) (names : List (List ℕ)) (k : ℕ) (old before after : InputState) (reader : LogReader) (room : ℕ) (name : List ℕ)
+turn-next : (s : Setting) (names : List (List ℕ)) (k : ℕ) (old before after : InputState) (reader : Taker) (room : ℕ) (name : List ℕ)
     → IsUpTo s names k old before reader room → slice_get names k ≡ Some name → OpensInTurn (name ∷ []) before after → OpensInTurn (take (k + 1) names) old after
 turn-next s names k old before after reader room name so_far at turn =
     let one : suc k ≡ k + 1 = omega arith in
@@ -171,16 +173,17 @@ turn-next s names k old before after reader room name so_far at turn =
     ∙ ap (λ (ns : List (List ℕ)). all_in_turn old.files (followed_to_end old) ns) (sym (take-at names k name at) ∙ ap (λ n. take n names) one))))
 
 -- one input more was read
-pub up-to-more : (s : Setting) (names : List (List ℕ)) (k : ℕ) (old before after : InputState) (reader new : LogReader) (room left : ℕ) (name : List ℕ)
+pub up-to-more : (s : Setting) (names : List (List ℕ)) (k : ℕ) (old before after : InputState) (reader new : Taker) (room left : ℕ) (name : List ℕ)
     → IsUpTo s names k old before reader room → slice_get names k ≡ Some name → Stays before after → ReadsFile before after name k room left reader new
     → OpensOne name room before after → IsUpTo s names (k + 1) old after new left
 up-to-more s names k old before after reader new room left name so_far at stays reads one =
     let content = reads.content in
-    let section = reader.log.section in
-    let events = so_far.events in
-    let is_read : FileIsRead s k room section content events new.log.builder = subst (λ t. FileIsRead t k room section content events new.log.builder) so_far.setting (reads.log events so_far.log) in
-    let next : new.log.section ≡ next_section s (section_at_end s.form section (pieces content)) = subst (λ (t : Setting). new.log.section ≡ next_section t (section_at_end t.form section (pieces content))) so_far.setting reads.section in
-    let more = piece_events s.form (key_file s k) section (pieces content) in
+    let section = reader.section in
+    let lines = so_far.lines in
+    let is_read : FileIsRead s k room section content lines new.has = subst (λ t. FileIsRead t k room section content lines new.has) so_far.setting (reads.has lines so_far.has) in
+    let next : new.section ≡ next_section s (section_at_end s.form section (pieces content)) = subst (λ (t : Setting). new.section ≡ next_section t (section_at_end t.form section (pieces content))) so_far.setting reads.section in
+    let more = piece_lines s.form k section 1 (pieces content) in
+    let events : events_at s lines ++ piece_events s.form (key_file s k) section (pieces content) ≡ events_at s (lines ++ more) = sym (events-behind s k section lines (pieces content)) in
     let left_is : room - length content ≡ left = omega (arith, reads.room_left) in
     let within : length content ≤ room = omega (arith, reads.room_left) in
     let fits : nat_lt room (length content) ≡ false = not-past room (length content) within in
@@ -200,23 +203,23 @@ up-to-more s names k old before after reader new room left name so_far at stays 
       contents = so_far.contents ++ content ∷ [];
       many = omega (arith, length-append so_far.contents (content ∷ []), so_far.many);
       told = contents-more old.files names k so_far.contents name content at so_far.told (subst (λ f. HasContent f name content) so_far.stays.files reads.told);
-      events = events ++ more;
-      log = is_read.log;
+      lines = lines ++ more;
+      has = is_read.taken;
       past = λ rest.
           ap (file_past MAX_INPUT_BYTES) (append_assoc so_far.contents (content ∷ []) rest)
           ∙ (so_far.past (content ∷ rest)
           ∙ (ap (option_map (λ n. n + k)) (cond-false (nat_lt room (length content)) (Some 0) (option_map (λ n. n + 1) (file_past (room - length content) rest)) fits)
           ∙ (plus-one k (file_past (room - length content) rest) ∙ ap (λ r. option_map (λ n. n + (k + 1)) (file_past r rest)) left_is)));
       refusal = λ rest.
-          let later : ℕ → ℕ → Option ReadError = λ n r. files_refusal s (k + 1) n (events ++ more) r rest in
+          let later : ℕ → ℕ → List KeyedEvent → Option ReadError = λ n r es. files_refusal s (k + 1) n es r rest in
           ap (first_refusal s) (append_assoc so_far.contents (content ∷ []) rest)
           ∙ (so_far.refusal (content ∷ rest)
-          ∙ (ap (λ o. first_of o (later (next_section s (section_at_end s.form section (pieces content))) (room - length content))) is_read.refusal
-          ∙ ap₂ later (sym next) left_is));
+          ∙ (ap (λ o. first_of o (later (next_section s (section_at_end s.form section (pieces content))) (room - length content) (events_at s lines ++ piece_events s.form (key_file s k) section (pieces content)))) is_read.refusal
+          ∙ (ap₂ (λ n r. later n r (events_at s lines ++ piece_events s.form (key_file s k) section (pieces content))) (sym next) left_is ∙ ap (later new.section left) events)));
       parts = λ rest.
-          ap (events_of s) (append_assoc so_far.contents (content ∷ []) rest)
+          ap (files_lines s 0 0) (append_assoc so_far.contents (content ∷ []) rest)
           ∙ (so_far.parts (content ∷ rest)
-          ∙ (ap (λ n. events ++ (more ++ file_events s (k + 1) n rest)) (sym next) ∙ sym (append_assoc events more (file_events s (k + 1) new.log.section rest))));
+          ∙ (ap (λ n. lines ++ (more ++ files_lines s (k + 1) n rest)) (sym next) ∙ sym (append_assoc lines more (files_lines s (k + 1) new.section rest))));
     }
 
 some-all : (told : Option Files) (names contents : List (List ℕ)) (P : List (List ℕ) → Type 0) → length contents ≡ length names → HasContents told names (length names) contents → P contents → SomeContents told names P
@@ -228,13 +231,13 @@ all-names : (names : List (List ℕ)) → take (length names) names ≡ names
 all-names names = take_all (length names) names (omega arith)
 
 -- all inputs were opened in turn
-up-to-turn : (s : Setting) (names : List (List ℕ)) (k : ℕ) (old now : InputState) (reader : LogReader) (room : ℕ) → IsUpTo s names k old now reader room → k ≡ length names → 0 < k → OpensInTurn names old now
+up-to-turn : (s : Setting) (names : List (List ℕ)) (k : ℕ) (old now : InputState) (reader : Taker) (room : ℕ) → IsUpTo s names k old now reader room → k ≡ length names → 0 < k → OpensInTurn names old now
 up-to-turn s names k old now reader room so_far all some =
     sym (closes now (so_far.at_end some))
     ∙ (so_far.turn ∙ ap (λ (ns : List (List ℕ)). all_in_turn old.files (followed_to_end old) ns) (ap (λ n. take n names) all ∙ all-names names))
 
 -- the first so many were opened, and this one or no more
-pub up-to-opens : (s : Setting) (names : List (List ℕ)) (k : ℕ) (old before after : InputState) (reader : LogReader) (room : ℕ) (name : List ℕ)
+pub up-to-opens : (s : Setting) (names : List (List ℕ)) (k : ℕ) (old before after : InputState) (reader : Taker) (room : ℕ) (name : List ℕ)
     → IsUpTo s names k old before reader room → slice_get names k ≡ Some name → OpensFile name room before after → OpensFirst names old after
 up-to-opens s names k old before after reader room name so_far at file =
     let below : k < length names = slice_get_within names k name at in
@@ -246,24 +249,42 @@ up-to-opens s names k old before after reader room name so_far at file =
     file)
 
 -- all were
-pub up-to-all : (s : Setting) (names : List (List ℕ)) (k : ℕ) (old now : InputState) (reader : LogReader) (room : ℕ) → IsUpTo s names k old now reader room → k ≡ length names → 0 < k → OpensFirst names old now
+pub up-to-all : (s : Setting) (names : List (List ℕ)) (k : ℕ) (old now : InputState) (reader : Taker) (room : ℕ) → IsUpTo s names k old now reader room → k ≡ length names → 0 < k → OpensFirst names old now
 up-to-all s names k old now reader room so_far all some =
     inr (k, omega (arith, all), opened-so old.opens now.opens k so_far.none so_far.some, sym (closes now (so_far.at_end some)) ∙ so_far.turn)
 
 -- all inputs were read
-pub up-to-end : (s : Setting) (names : List (List ℕ)) (k : ℕ) (old now : InputState) (reader : LogReader) (room : ℕ) (log : Log) → IsUpTo s names k old now reader room → k ≡ length names → 0 < k → log ≡ in_order reader.log.builder
-    → ((events : List KeyedEvent) → in_order (gathered_of events) ≡ log_of events) → ReadsLog s names old now log
-up-to-end s names k old now reader room log so_far all some is ordered =
+pub up-to-end : (s : Setting) (names : List (List ℕ)) (k : ℕ) (old now : InputState) (reader : Taker) (room : ℕ) → IsUpTo s names k old now reader room → k ≡ length names → 0 < k
+    → ReadsInputs s names old now reader.has
+up-to-end s names k old now reader room so_far all some =
     let contents = so_far.contents in
     let nothing : first_refusal s contents ≡ None = ap (first_refusal s) (sym (append-nil contents)) ∙ so_far.refusal [] in
-    let events : events_of s contents ≡ so_far.events = ap (events_of s) (sym (append-nil contents)) ∙ (so_far.parts [] ∙ append-nil so_far.events) in
+    let lines : lines_of s contents ≡ so_far.lines = sym (met-lines s contents) ∙ (ap (files_lines s 0 0) (sym (append-nil contents)) ∙ (so_far.parts [] ∙ append-nil so_far.lines)) in
     record {
       words = some-all old.files names contents _ (so_far.many ∙ all) (subst (λ n. HasContents old.files names n contents) all so_far.told)
-          (so_far.many ∙ all, nothing, is ∙ (ap in_order so_far.log ∙ (ordered so_far.events ∙ ap log_of (sym events))));
+          (so_far.many ∙ all, nothing, subst reader.has (sym lines) so_far.has);
       opened = record { opens = subst (λ n. now.opens ≡ min (old.opens + n) (2 ^ 64 - 1)) all (so_far.some some); faults = so_far.faults };
       at_end = so_far.at_end some;
       turn = up-to-turn s names k old now reader room so_far all some;
+      last = inr (k - 1, so_far.last some);
     }
+
+-- what holds of the bytes of inputs, and says more of them
+some-more : (told : Option Files) (names : List (List ℕ)) (P Q : List (List ℕ) → Type 0) → ((contents : List (List ℕ)) → P contents → Q contents) → SomeContents told names P → SomeContents told names Q
+some-more None names P Q more some = (some.0, some.1, more some.0 some.2)
+some-more (Some files) names P Q more some = more (told_contents files names) some
+
+-- the log of the inputs is what was gathered of their lines, put in order
+pub gathered-log : (s : Setting) (names : List (List ℕ)) (old now : InputState) (gathering : Gathering) (log : Log)
+    → ReadsInputs s names old now (λ lines. IsGatheredOf gathering (events_at s lines)) → log ≡ in_order gathering
+    → ((events : List KeyedEvent) → in_order (gathered_of events) ≡ log_of events) → ReadsLog s names old now log
+gathered-log s names old now gathering log reads is ordered = record {
+  words = some-more old.files names _ _
+      (λ contents holds. (holds.0, holds.1, is ∙ (ap in_order holds.2 ∙ (ordered (events_at s (lines_of s contents)) ∙ ap log_of (sym (events-own s contents)))))) reads.words;
+  opened = reads.opened;
+  at_end = reads.at_end;
+  turn = reads.turn;
+}
 
 -- standard input alone, or the named inputs
 pub count-inputs : (names : List (List ℕ)) → length (inputs_of names) ≡ max (length names) 1

@@ -10,3 +10,4 @@ pub mod Deciding
 pub mod Feeds
 pub mod Buffered
 pub mod LineByLine
+pub mod TakesLines

@@ -12,19 +12,19 @@ use Rattle.outside.specs.Counts.{Rose}
 use Rattle.outside.specs.Inputs.{InputState, Stays}
 use Rattle.outside.specs.Reading.{LosesFront}
 use Rattle.lines.specs.Lines.{pieces, is_feed, line_of, with_feeds, HaveNoFeed}
-use Rattle.traces.specs.Words.{gathered_of}
-use Rattle.log_reader.specs.Reading.{decided_piece, line_events, section_after, key_file, first_of, line_refusal, at_line, pieces_refusal}
+use Rattle.log_reader.specs.Reading.{decided_piece, line_events, section_after, key_file, first_of, line_refusal, piece_refusal, at_line, pieces_refusal}
 use Rattle.log_reader.specs.LineReader.{SeenLines, TellsLine, GivesLine, GivesNone, RefusesPiece, FailsToRead, NextGives, feed_if, feed_bytes, first_piece_refusal, refusal_to_come}
 use Rattle.log_reader.specs.Files.{ReadsLines, RefusesLines, FailsWithin, known_rest}
-use Rattle.log_reader.specs.SoFar.{decided_line, setting_of, IsReady, IsRefusal, ReadsText, ReadsPiece, ReadsPieces, IsPiecesRefusal, refusal_in, piece_refusal_in}
+use Rattle.log_reader.specs.SoFar.{IsRefusal}
+use Rattle.log_reader.specs.LogLines.{Line, events_at}
+use Rattle.log_reader.specs.Taking.{IsPiecesRefusal, RefusesLineOf, Taker, TakesLineOf, TakesPieces, piece_lines}
 use Rattle.log_reader.specs.declared.line_reader.LineError.{LineError}
 use Rattle.log_reader.specs.declared.line_reader.LineError.TheVariants.{ReadFault, TooLong, InputLimit}
-use Rattle.log_reader.specs.declared.reader.LogReader.{LogReader}
 use Rattle.log_reader.specs.declared.refusal.At.{At}
 use Rattle.log_reader.specs.declared.refusal.ReadError.{ReadError}
 use Rattle.log_reader.specs.declared.refusal.ReadError.TheVariants as refused
 use Rattle.log_reader.proofs.Feeds.{piece-first, piece-alone}
-use Rattle.log_reader.proofs.PieceByPiece.{IsPartWay, way-more, way-refused, reads-piece, piece-in, few-more, some-pieces}
+use Rattle.log_reader.proofs.PieceByPiece.{IsPartWay, ReadsPiece, way-more, way-refused, reads-piece, piece-fits, few-more, some-pieces}
 
 -- pieces with their line feeds stand before those of what follows
 front-pieces : (front : List (List ℕ)) (rest : List ℕ) → HaveNoFeed front → pieces (with_feeds front ++ rest) ≡ front ++ pieces rest
@@ -57,7 +57,7 @@ more-left : (cut : Bool) (piece : List ℕ) (rest : List (List ℕ)) → (cut &&
 more-left cut piece rest = and-no cut (length (piece ∷ rest) == 0) (λ is. no-length (length (piece ∷ rest)) (omega arith))
 
 -- the lines before the next one were taken in
-pub record IsReading (number : ℕ) (start now : InputState) (first lines : SeenLines) (old reader : LogReader) : Type 0 where
+pub record IsReading (number : ℕ) (start now : InputState) (first lines : SeenLines) (old reader : Taker) : Type 0 where
   pub stays : Stays start now
   pub opens : now.opens ≡ start.opens
   pub turn : now.followed ≡ start.followed
@@ -69,27 +69,27 @@ pub record IsReading (number : ℕ) (start now : InputState) (first lines : Seen
   pub taken : lines.taken ≡ first.taken + length (with_feeds front)
   pub within : lines.taken ≤ MAX_INPUT_BYTES
   pub refused : lines.refused ≡ false
-  pub few : reader.log.section + (MAX_INPUT_BYTES - lines.taken) ≤ old.log.section + (MAX_INPUT_BYTES - first.taken)
+  pub few : reader.section + (MAX_INPUT_BYTES - lines.taken) ≤ old.section + (MAX_INPUT_BYTES - first.taken)
   pub way : (cut : Bool) (rest : List (List ℕ)) → (cut && length rest == 0) ≡ false → IsPartWay number cut (front ++ rest) old reader (lines.number + 1) rest
 
-way-begins : (number : ℕ) (old : LogReader) (line : ℕ) → line ≡ 0 → IsReady old → (cut : Bool) (rest : List (List ℕ)) → IsPartWay number cut rest old old (line + 1) rest
+way-begins : (number : ℕ) (old : Taker) (line : ℕ) → line ≡ 0 → old.ready → (cut : Bool) (rest : List (List ℕ)) → IsPartWay number cut rest old old (line + 1) rest
 way-begins number old line zero_is ready cut rest =
-    let s = setting_of old in
+    let s = old.setting in
     let first : line + 1 ≡ 1 = omega arith in
     record {
       ready = ready;
       setting = refl;
       section = refl;
-      log = λ events so_far. record {
+      has = λ lines so_far. record {
         more = [];
-        is = so_far ∙ ap gathered_of (sym (append-nil events));
-        refusal = ap₂ (λ es n. pieces_refusal s number cut old.log.section es n rest) (sym (append-nil events)) (sym first);
-        parts = refl;
+        is = subst old.has (sym (append-nil lines)) so_far;
+        refusal = ap₂ (λ ls n. pieces_refusal s number cut old.section (events_at s ls) n rest) (sym (append-nil lines)) (sym first);
+        parts = ap (λ n. piece_lines s.form number old.section n rest) (sym first);
       };
     }
 
 -- before the first line
-pub reading-begins : (number : ℕ) (start : InputState) (first : SeenLines) (old : LogReader) → IsReady old → first.buffered ≡ [] → first.number ≡ 0 → first.refused ≡ false → first.taken ≤ MAX_INPUT_BYTES
+pub reading-begins : (number : ℕ) (start : InputState) (first : SeenLines) (old : Taker) → old.ready → first.buffered ≡ [] → first.number ≡ 0 → first.refused ≡ false → first.taken ≤ MAX_INPUT_BYTES
     → IsReading number start start first first old old
 reading-begins number start first old ready nothing zero_is unrefused within = record {
   stays = record { files = refl; may_fail = refl; faults = omega arith };
@@ -108,13 +108,12 @@ reading-begins number start first old ready nothing zero_is unrefused within = r
 }
 
 -- a line that was read is a piece that was
-line-piece : (number line : ℕ) (piece bytes : List ℕ) (old new : LogReader) → bytes ≡ line_of piece → length piece ≤ MAX_LINE_BYTES
-    → ReadsText (at_line number line) (decided_line (setting_of old).form bytes) old new → ReadsPiece (at_line number line) piece old new
-line-piece number line piece bytes old new is short reads =
-    reads-piece (at_line number line) piece old new (decided_line (setting_of old).form bytes) short (ap (decided_line (setting_of old).form) is) reads
+line-piece : (number line : ℕ) (piece bytes : List ℕ) (old new : Taker) → bytes ≡ line_of piece → length piece ≤ MAX_LINE_BYTES
+    → TakesLineOf (at_line number line) bytes old new → ReadsPiece (at_line number line) piece old new
+line-piece number line piece bytes old new is short takes = reads-piece (at_line number line) piece old new short (takes piece (sym is))
 
 -- one piece more, with the line feed that ends it or without
-way-further : (number : ℕ) (front : List (List ℕ)) (old reader new : LogReader) (line next : ℕ) (piece : List ℕ) → next ≡ line + 1
+way-further : (number : ℕ) (front : List (List ℕ)) (old reader new : Taker) (line next : ℕ) (piece : List ℕ) → next ≡ line + 1
     → ((cut : Bool) (rest : List (List ℕ)) → (cut && length rest == 0) ≡ false → IsPartWay number cut (front ++ rest) old reader line rest)
     → ReadsPiece (at_line number line) piece reader new
     → (cut : Bool) (rest : List (List ℕ)) → (cut && length rest == 0) ≡ false → IsPartWay number cut ((front ++ piece ∷ []) ++ rest) old new next rest
@@ -141,16 +140,16 @@ feeds-length front piece =
     ap length (feeds-more front piece) ∙ (length-append (with_feeds front) (piece ++ 10 ∷ []) ∙ ap (λ n. length (with_feeds front) + n) (length-append piece (10 ∷ [])))
 
 -- a line with its line feed was taken in
-pub reading-more : (number : ℕ) (start before after : InputState) (first lines next : SeenLines) (old reader new : LogReader) (bytes : List ℕ)
+pub reading-more : (number : ℕ) (start before after : InputState) (first lines next : SeenLines) (old reader new : Taker) (bytes : List ℕ)
     → IsReading number start before first lines old reader → Stays before after → after.opens ≡ before.opens → after.followed ≡ before.followed → after.mark ≡ before.mark
     → GivesLine lines next before after → next.taken ≤ MAX_INPUT_BYTES → next.line ≡ Some bytes → next.fed ≡ true
-    → ReadsText (at_line number next.number) (decided_line (setting_of reader).form bytes) reader new
+    → TakesLineOf (at_line number next.number) bytes reader new
     → IsReading number start after first next old new
 reading-more number start before after first lines next old reader new bytes way stays opens turn mark gives within line fed reads =
     let piece = gives.piece in
     let is_line : bytes ≡ line_of piece = same_Some bytes (line_of piece) (sym line ∙ gives.line) in
-    let at : ReadsText (at_line number (lines.number + 1)) (decided_line (setting_of reader).form bytes) reader new =
-    subst (λ n. ReadsText (at_line number n) (decided_line (setting_of reader).form bytes) reader new) gives.number reads in
+    let at : TakesLineOf (at_line number (lines.number + 1)) bytes reader new =
+    subst (λ n. TakesLineOf (at_line number n) bytes reader new) gives.number reads in
     let as_piece : ReadsPiece (at_line number (lines.number + 1)) piece reader new = line-piece number (lines.number + 1) piece bytes reader new is_line gives.short at in
     let feed : feed_if next.fed ≡ 10 ∷ [] = ap feed_if fed in
     let one : feed_bytes next.fed ≡ 1 = ap feed_bytes fed in
@@ -170,32 +169,32 @@ reading-more number start before after first lines next old reader new bytes way
       few = omega (
         arith,
         way.few,
-        few-more reader new (at_line number (lines.number + 1)) piece as_piece (MAX_INPUT_BYTES - next.taken) (MAX_INPUT_BYTES - lines.taken) (old.log.section + (MAX_INPUT_BYTES - first.taken))
+        few-more reader new (at_line number (lines.number + 1)) piece as_piece (MAX_INPUT_BYTES - next.taken) (MAX_INPUT_BYTES - lines.taken) (old.section + (MAX_INPUT_BYTES - first.taken))
             (omega (arith, gives.taken, one, within)) way.few,
       );
       way = way-further number way.front old reader new (lines.number + 1) (next.number + 1) piece (ap (λ n. n + 1) gives.number) way.way as_piece;
     }
 
 -- all pieces were taken in
-all-read : (number : ℕ) (old new : LogReader) (line : ℕ) (all : List (List ℕ)) → IsPartWay number false (all ++ []) old new line [] → ReadsPieces number false all old new
+all-read : (number : ℕ) (old new : Taker) (line : ℕ) (all : List (List ℕ)) → IsPartWay number false (all ++ []) old new line [] → TakesPieces number false all old new
 all-read number old new line all way =
     let same : all ++ [] ≡ all = append-nil all in
     let at : IsPartWay number false all old new line [] = subst (λ ps. IsPartWay number false ps old new line []) same way in
-    let s = setting_of old in
+    let s = old.setting in
     record {
       ready = at.ready;
       setting = at.setting;
       section = sym at.section;
-      log = λ events so_far.
-          let part = at.log events so_far in
+      has = λ lines so_far.
+          let part = at.has lines so_far in
           record {
             refusal = part.refusal;
-            log = part.is ∙ ap (λ es. gathered_of (events ++ es)) (sym (part.parts ∙ append-nil part.more));
+            taken = subst (λ ls. new.has (lines ++ ls)) (sym (part.parts ∙ append-nil part.more)) part.is;
           };
     }
 
 -- the input ends behind a line feed, or has no byte
-pub reading-ends : (number : ℕ) (start before after : InputState) (first lines last : SeenLines) (old reader : LogReader)
+pub reading-ends : (number : ℕ) (start before after : InputState) (first lines last : SeenLines) (old reader : Taker)
     → IsReading number start before first lines old reader → GivesNone lines last before after
     → ReadsLines start after number first last old reader
 reading-ends number start before after first lines last old reader way none =
@@ -213,21 +212,21 @@ reading-ends number start before after first lines last old reader way none =
       taken = taken ∙ way.taken;
       within = omega (arith, taken, way.within);
       few = omega (arith, taken, way.few);
-      pieces = subst (λ ps. ReadsPieces number false ps old reader) (sym pieces_are) (all-read number old reader (lines.number + 1) way.front (way.way false [] refl));
+      pieces = subst (λ ps. TakesPieces number false ps old reader) (sym pieces_are) (all-read number old reader (lines.number + 1) way.front (way.way false [] refl));
     }
 
 -- the input ends behind a line that no line feed ends
-pub reading-ends-in-line : (number : ℕ) (start before after : InputState) (first lines next : SeenLines) (old reader new : LogReader) (bytes : List ℕ)
+pub reading-ends-in-line : (number : ℕ) (start before after : InputState) (first lines next : SeenLines) (old reader new : Taker) (bytes : List ℕ)
     → IsReading number start before first lines old reader
     → GivesLine lines next before after → next.taken ≤ MAX_INPUT_BYTES → next.line ≡ Some bytes → next.fed ≡ false
-    → ReadsText (at_line number next.number) (decided_line (setting_of reader).form bytes) reader new
+    → TakesLineOf (at_line number next.number) bytes reader new
     → ReadsLines start after number first next old new
 reading-ends-in-line number start before after first lines next old reader new bytes way gives within line unfed reads =
     let piece = gives.piece in
     let last = gives.last unfed in
     let is_line : bytes ≡ line_of piece = same_Some bytes (line_of piece) (sym line ∙ gives.line) in
-    let at : ReadsText (at_line number (lines.number + 1)) (decided_line (setting_of reader).form bytes) reader new =
-    subst (λ n. ReadsText (at_line number n) (decided_line (setting_of reader).form bytes) reader new) gives.number reads in
+    let at : TakesLineOf (at_line number (lines.number + 1)) bytes reader new =
+    subst (λ n. TakesLineOf (at_line number n) bytes reader new) gives.number reads in
     let as_piece : ReadsPiece (at_line number (lines.number + 1)) piece reader new = line-piece number (lines.number + 1) piece bytes reader new is_line gives.short at in
     let all = way.front ++ piece ∷ [] in
     let whole : lines.buffered ++ gives.got ≡ piece = gives.is ∙ (ap₂ (λ f b. piece ++ (f ++ b)) (ap feed_if unfed) last.1 ∙ append-nil piece) in
@@ -245,10 +244,10 @@ reading-ends-in-line number start before after first lines next old reader new b
       few = omega (
         arith,
         way.few,
-        few-more reader new (at_line number (lines.number + 1)) piece as_piece (MAX_INPUT_BYTES - next.taken) (MAX_INPUT_BYTES - lines.taken) (old.log.section + (MAX_INPUT_BYTES - first.taken))
+        few-more reader new (at_line number (lines.number + 1)) piece as_piece (MAX_INPUT_BYTES - next.taken) (MAX_INPUT_BYTES - lines.taken) (old.section + (MAX_INPUT_BYTES - first.taken))
             (omega (arith, gives.taken, none, within, last.0)) way.few,
       );
-      pieces = subst (λ ps. ReadsPieces number false ps old new) (sym pieces_are)
+      pieces = subst (λ ps. TakesPieces number false ps old new) (sym pieces_are)
           (all-read number old new (lines.number + 1 + 1) all (way-further number way.front old reader new (lines.number + 1) (lines.number + 1 + 1) piece refl way.way as_piece false [] refl));
     }
 
@@ -269,7 +268,7 @@ same-past front room left rest is =
     (cases_lt left (length rest))
 
 -- so a refusal behind the pieces that were taken in is one of the input
-refusal-behind : (number : ℕ) (front : List (List ℕ)) (room left : ℕ) (content rest : List ℕ) (old : LogReader) (e : ReadError) → HaveNoFeed front → length (with_feeds front) + left ≡ room
+refusal-behind : (number : ℕ) (front : List (List ℕ)) (room left : ℕ) (content rest : List ℕ) (old : Taker) (e : ReadError) → HaveNoFeed front → length (with_feeds front) + left ≡ room
     → content ≡ with_feeds front ++ rest → IsPiecesRefusal number (nat_lt left (length rest)) (front ++ pieces (take (left + 1) rest)) old e
     → IsPiecesRefusal number (nat_lt room (length content)) (pieces (take (room + 1) content)) old e
 refusal-behind number front room left content rest old e none is content_is refusal =
@@ -291,18 +290,18 @@ either-refused false true at why other next is = ap (λ w. Some (read_error at w
 either-refused false false at why other next is = absurd (none-some why is)
 
 -- the bytes to come are pieces of which the first is refused
-next-refused : (number : ℕ) (cut : Bool) (front ps : List (List ℕ)) (old reader : LogReader) (line : ℕ) (why : LineError) (e : ReadError)
+next-refused : (number : ℕ) (cut : Bool) (front ps : List (List ℕ)) (old reader : Taker) (line : ℕ) (why : LineError) (e : ReadError)
     → ((cut : Bool) (rest : List (List ℕ)) → (cut && length rest == 0) ≡ false → IsPartWay number cut (front ++ rest) old reader line rest)
     → first_piece_refusal cut ps ≡ Some why → e ≡ read_error (at_line number line) why
     → IsPiecesRefusal number cut (front ++ ps) old e
 next-refused number cut front [] old reader line why e way is e_is = absurd (none-some why is)
-next-refused number cut front (piece ∷ rest) old reader line why e way is e_is = λ events so_far.
-    let s = setting_of old in
+next-refused number cut front (piece ∷ rest) old reader line why e way is e_is = λ lines so_far.
+    let s = old.setting in
     let at = at_line number line in
     let d = decided_piece s.form piece in
-    let part = (way cut (piece ∷ rest) (more-left cut piece rest)).log events so_far in
-    let es = events ++ part.more in
-    let next : Option ReadError = pieces_refusal s number cut (section_after reader.log.section d) (es ++ line_events (key_file s number) reader.log.section d) (line + 1) rest in
+    let part = (way cut (piece ∷ rest) (more-left cut piece rest)).has lines so_far in
+    let es = events_at s (lines ++ part.more) in
+    let next : Option ReadError = pieces_refusal s number cut (section_after reader.section d) (es ++ line_events (key_file s number) reader.section d) (line + 1) rest in
     let here : Option ReadError = line_refusal s.ignore at es d in
     inr (part.refusal ∙ (either-refused (nat_lt MAX_LINE_BYTES (length piece)) (cut && length rest == 0) at why here next is ∙ ap (λ (x : ReadError). Some x) (sym e_is)))
 
@@ -315,7 +314,7 @@ room-left : (first taken front : ℕ) → taken ≡ first + front → taken ≤ 
 room-left first taken front is within = omega arith
 
 -- the next piece is refused
-pub reading-refused : (number : ℕ) (start before after : InputState) (first lines last : SeenLines) (old reader : LogReader) (why : LineError) (e : ReadError)
+pub reading-refused : (number : ℕ) (start before after : InputState) (first lines last : SeenLines) (old reader : Taker) (why : LineError) (e : ReadError)
     → IsReading number start before first lines old reader → RefusesPiece lines last before after why → e ≡ read_error (at_line number (lines.number + 1)) why
     → RefusesLines start after number first old e
 reading-refused number start before after first lines last old reader why e way refuses e_is =
@@ -373,9 +372,9 @@ stands-first left piece rest false none fits last =
     })
 
 -- a piece is refused, and what follows it does not matter
-refused-piece : (number left line : ℕ) (front : List (List ℕ)) (piece bytes : List ℕ) (old reader : LogReader) (e : ReadError) → StandsFirst left piece bytes
+refused-piece : (number left line : ℕ) (front : List (List ℕ)) (piece bytes : List ℕ) (old reader : Taker) (e : ReadError) → StandsFirst left piece bytes
     → ((cut : Bool) (rest : List (List ℕ)) → (cut && length rest == 0) ≡ false → IsPartWay number cut (front ++ rest) old reader line rest)
-    → IsRefusal (piece_refusal_in (setting_of reader) (at_line number line) reader.log.builder piece) e
+    → ((ls : List Line) → reader.has ls → IsRefusal (piece_refusal reader.setting (at_line number line) (events_at reader.setting ls) piece) e)
     → IsPiecesRefusal number (nat_lt left (length bytes)) (front ++ pieces (take (left + 1) bytes)) old e
 refused-piece number left line front piece bytes old reader e first way refusal =
     let cut = nat_lt left (length bytes) in
@@ -383,18 +382,18 @@ refused-piece number left line front piece bytes old reader e first way refusal 
     (way-refused number cut (front ++ piece ∷ first.after) old reader line piece (piece ∷ first.after) first.after e (way cut (piece ∷ first.after) (more-left cut piece first.after)) refl first.uncut refusal)
 
 -- the line that was given is refused, or memory was wanted
-pub reading-refused-at : (number : ℕ) (start before after : InputState) (first lines next : SeenLines) (old reader : LogReader) (bytes : List ℕ) (e : ReadError)
+pub reading-refused-at : (number : ℕ) (start before after : InputState) (first lines next : SeenLines) (old reader : Taker) (bytes : List ℕ) (e : ReadError)
     → IsReading number start before first lines old reader → GivesLine lines next before after → next.taken ≤ MAX_INPUT_BYTES → next.line ≡ Some bytes
-    → IsRefusal (refusal_in (setting_of reader).ignore (at_line number next.number) reader.log.builder (decided_line (setting_of reader).form bytes)) e
+    → RefusesLineOf (at_line number next.number) bytes reader e
     → RefusesLines start after number first old e
 reading-refused-at number start before after first lines next old reader bytes e way gives within line refusal =
     let piece = gives.piece in
-    let s = setting_of reader in
+    let s = reader.setting in
     let rest = next.buffered ++ known_rest after.rest in
     let is_line : bytes ≡ line_of piece = same_Some bytes (line_of piece) (sym line ∙ gives.line) in
-    let here : IsRefusal (piece_refusal_in s (at_line number (lines.number + 1)) reader.log.builder piece) e =
-    subst (λ n. IsRefusal (piece_refusal_in s (at_line number n) reader.log.builder piece) e) gives.number
-    (subst (λ o. IsRefusal o e) (piece-in s (at_line number next.number) reader.log.builder piece (decided_line s.form bytes) gives.short (ap (decided_line s.form) is_line)) refusal) in
+    let here : (ls : List Line) → reader.has ls → IsRefusal (piece_refusal s (at_line number (lines.number + 1)) (events_at s ls) piece) e = λ ls has.
+    subst (λ n. IsRefusal (piece_refusal s (at_line number n) (events_at s ls) piece) e) gives.number
+    (subst (λ o. IsRefusal o e) (sym (piece-fits s (at_line number next.number) (events_at s ls) piece gives.short)) (refusal piece (sym is_line) ls has)) in
     let to_come : (lines.buffered ++ gives.got) ++ known_rest after.rest ≡ piece ++ (feed_if next.fed ++ rest) =
     ap (λ bs. bs ++ known_rest after.rest) gives.is
     ∙ (append_assoc piece (feed_if next.fed ++ next.buffered) (known_rest after.rest) ∙ ap (λ bs. piece ++ bs) (append_assoc (feed_if next.fed) next.buffered (known_rest after.rest))) in
@@ -412,7 +411,7 @@ reading-refused-at number start before after first lines next old reader bytes e
     }
 
 -- a read failed
-pub reading-fails : (number : ℕ) (start before after : InputState) (first lines last : SeenLines) (old reader : LogReader) (e : ReadError)
+pub reading-fails : (number : ℕ) (start before after : InputState) (first lines last : SeenLines) (old reader : Taker) (e : ReadError)
     → IsReading number start before first lines old reader → FailsToRead lines last before after → e ≡ refused.ReadFault number
     → FailsWithin start after number first e
 reading-fails number start before after first lines last old reader e way fails e_is =
@@ -463,7 +462,7 @@ reads-some lines next before after (Err TooLong) within refuses = refused-some l
 reads-some lines next before after (Err InputLimit) within refuses = refused-some lines next before after InputLimit within refuses
 
 -- a front of the input is gone, from its first line on
-pub front-lost : (number : ℕ) (start before after : InputState) (first lines next : SeenLines) (old reader : LogReader) (result : Result Bool LineError)
+pub front-lost : (number : ℕ) (start before after : InputState) (first lines next : SeenLines) (old reader : Taker) (result : Result Bool LineError)
     → IsReading number start before first lines old reader → next.taken + length next.buffered ≤ MAX_INPUT_BYTES + 1 → NextGives lines before result next after
     → LosesFront start.rest after.rest (MAX_INPUT_BYTES - first.taken)
 front-lost number start before after first lines next old reader result way within gives =

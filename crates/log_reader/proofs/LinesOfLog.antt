@@ -1,5 +1,5 @@
 -- The lines of a log, one behind the other, as a reader meets them.
-use Rattle.std.proofs.Common.{◌≡◌, ℕ, ◌+◌, Bool, true, false, cond, List, [], ◌∷◌, ◌++◌, length, take, map, refl, sym, ap, ap₂, ◌∙◌, arith, append_assoc, length-append}
+use Rattle.std.proofs.Common.{◌≡◌, ℕ, ◌+◌, Bool, true, false, cond, List, [], ◌∷◌, ◌++◌, length, take, map, refl, sym, ap, ap₂, ◌∙◌, arith, append-nil, append_assoc, length-append}
 use Rattle.std.proofs.lemmas.Grind.{flat_map-append}
 use Rattle.std.proofs.lemmas.List.{take_at}
 use Rattle.std.proofs.lemmas.List.Sums.{sum_by-append, sum_by-cons}
@@ -8,19 +8,8 @@ use Rattle.lines.specs.Lines.{pieces}
 use Rattle.traces.specs.Words.{Event as KeyedEvent}
 use Rattle.log_reader.specs.Reading as spec
 use Rattle.log_reader.specs.Reading.{Form, Setting, Decided, decided_piece, section_after, section_at_end, next_section, piece_events, file_events, events_of, key_file, at_line, line_events}
+use Rattle.log_reader.specs.Taking.{files_lines, piece_lines}
 use Rattle.log_reader.specs.LogLines.{Line, is_separator, separators, separators_in, separators_before, file_lines, lines_of, own_events, events_at}
-
--- the lines of pieces, of which the first has this number and section
-abbrev pub piece_lines : Form → ℕ → ℕ → ℕ → List (List ℕ) → List Line
-piece_lines form number section line [] = []
-piece_lines form number section line (p ∷ ps) =
-    record { at = at_line number line; section = section; piece = p } ∷ piece_lines form number (section_after section (decided_piece form p)) (line + 1) ps
-
--- the lines of files, of which the first has this number and begins in this section
-abbrev pub files_lines : Setting → ℕ → ℕ → List (List ℕ) → List Line
-files_lines s number section [] = []
-files_lines s number section (bytes ∷ files) =
-    piece_lines s.form number section 1 (pieces bytes) ++ files_lines s (number + 1) (next_section s (section_at_end s.form section (pieces bytes))) files
 
 after-one : (section : ℕ) (d : Decided) → section_after section d ≡ section + cond (is_separator d) 1 0
 after-one section spec.Separator = refl
@@ -88,10 +77,20 @@ none-before false form = refl
 pub met-lines : (s : Setting) (files : List (List ℕ)) → files_lines s 0 0 files ≡ lines_of s files
 met-lines s files = all-files s files [] files 0 0 refl refl (none-before s.join s.form)
 
-piece-own : (s : Setting) (number section line : ℕ) (ps : List (List ℕ)) → piece_events s.form (key_file s number) section ps ≡ events_at s (piece_lines s.form number section line ps)
+pub piece-own : (s : Setting) (number section line : ℕ) (ps : List (List ℕ)) → piece_events s.form (key_file s number) section ps ≡ events_at s (piece_lines s.form number section line ps)
 piece-own s number section line [] = refl
 piece-own s number section line (p ∷ ps) =
     ap (λ es. line_events (key_file s number) section (decided_piece s.form p) ++ es) (piece-own s number (section_after section (decided_piece s.form p)) (line + 1) ps)
+
+-- the events of lines and of one more
+pub events-with : (s : Setting) (lines : List Line) (l : Line) → events_at s (lines ++ l ∷ []) ≡ events_at s lines ++ own_events s l
+events-with s lines l = flat_map-append (own_events s) lines (l ∷ []) ∙ ap (λ (es : List KeyedEvent). events_at s lines ++ es) (append-nil (own_events s l))
+
+-- the events of lines and of those of a file behind them
+pub events-behind : (s : Setting) (number section : ℕ) (lines : List Line) (ps : List (List ℕ))
+    → events_at s (lines ++ piece_lines s.form number section 1 ps) ≡ events_at s lines ++ piece_events s.form (key_file s number) section ps
+events-behind s number section lines ps =
+    flat_map-append (own_events s) lines (piece_lines s.form number section 1 ps) ∙ ap (λ (es : List KeyedEvent). events_at s lines ++ es) (sym (piece-own s number section 1 ps))
 
 file-own : (s : Setting) (number section : ℕ) (files : List (List ℕ)) → file_events s number section files ≡ events_at s (files_lines s number section files)
 file-own s number section [] = refl

@@ -15,10 +15,11 @@ use Rattle.log_reader.specs.Reading as spec
 use Rattle.log_reader.specs.Reading.{Setting, Decided, decided_piece, line_events, piece_events, section_after, section_at_end, key_file, next_section, at_line, first_of, event_refusal, line_refusal, piece_refusal, bytes_refusal, pieces_refusal, files_refusal, first_refusal}
 use Rattle.log_reader.specs.Inputs.{with_content, told_contents, lacking, first_lacking, file_past, SomeContents, refused_input, IsRefusedAt, RefusesLog, IsLacking, StopsAnywhere, StopsBefore, StopsWithin, Fails, IsMissing, HasReadCause}
 use Rattle.log_reader.specs.Files.{HasContent, RefusesFile, IsUnread, HasFileCause}
-use Rattle.log_reader.specs.declared.reader.LogReader.{LogReader}
 use Rattle.log_reader.specs.declared.refusal.At.{At}
 use Rattle.log_reader.specs.declared.refusal.ReadError.{ReadError}
 use Rattle.log_reader.specs.declared.refusal.ReadError.TheVariants as refused
+use Rattle.log_reader.specs.LogLines.{events_at}
+use Rattle.log_reader.specs.Taking.{Taker}
 use Rattle.log_reader.proofs.InputByInput.{HasContents, IsUpTo, next-name, opens-next, opened-so, stops-within}
 
 -- a refusal names a line of this file, or is the limit on all input, where that cuts the file
@@ -149,7 +150,7 @@ lacking-at s (Some files) names k contents name at has lacks none =
     )
 
 -- where the reading of this input stopped, from the first input on
-stopped : (s : Setting) (names : List (List ℕ)) (k : ℕ) (old before after : InputState) (reader : LogReader) (room : ℕ) (name : List ℕ)
+stopped : (s : Setting) (names : List (List ℕ)) (k : ℕ) (old before after : InputState) (reader : Taker) (room : ℕ) (name : List ℕ)
     → IsUpTo s names k old before reader room → slice_get names k ≡ Some name → OpensNone before after ⊎ OpensNamed before after name room
     → StopsBefore k old after ⊎ IsSomeAnd (slice_get names k) (StopsWithin k old after)
 stopped s names k old before after reader room name so_far at = ⊎_elim
@@ -157,7 +158,7 @@ stopped s names k old before after reader room name so_far at = ⊎_elim
     (λ (named : OpensNamed before after name room). inr (stops-within s names k old before after reader room name so_far at named))
 
 -- an input that could not be read is a cause of the log's answer
-unreadable : (s : Setting) (names : List (List ℕ)) (k : ℕ) (old before after : InputState) (reader : LogReader) (room : ℕ) (name : List ℕ) (e : ReadError)
+unreadable : (s : Setting) (names : List (List ℕ)) (k : ℕ) (old before after : InputState) (reader : Taker) (room : ℕ) (name : List ℕ) (e : ReadError)
     → IsUpTo s names k old before reader room → slice_get names k ≡ Some name → IsUnread before after name k room e → IsUnreadable s names old after e
 unfolding IsUnreadable
 unreadable s names k old before after reader room name e so_far at unread = (
@@ -194,13 +195,13 @@ some-refused (Some files) names k contents name content P at many has told each 
     subst P (sym (has.0 ∙ (ap (λ ns. contents ++ told_contents files ns) (next-name names k name at) ∙ ap (λ o. contents ++ with_content o (told_contents files later)) told))) (each (told_contents files later))
 
 -- the first refusal of an input is that of the log
-refused-log : (s : Setting) (names : List (List ℕ)) (k : ℕ) (old before after : InputState) (reader : LogReader) (room : ℕ) (name : List ℕ) (e : ReadError)
+refused-log : (s : Setting) (names : List (List ℕ)) (k : ℕ) (old before after : InputState) (reader : Taker) (room : ℕ) (name : List ℕ) (e : ReadError)
     → IsUpTo s names k old before reader room → slice_get names k ≡ Some name → RefusesFile before after name k room reader e → RefusesLog s names old after e
 refused-log s names k old before after reader room name e so_far at refuses =
-    let section = reader.log.section in
+    let section = reader.section in
     let content = refuses.content in
-    let events = so_far.events in
-    let here : bytes_refusal s k section events room content ≡ Some e = subst (λ t. bytes_refusal t k section events room content ≡ Some e) so_far.setting (refuses.refusal events so_far.log) in
+    let events = events_at s so_far.lines in
+    let here : bytes_refusal s k section events room content ≡ Some e = subst (λ t. bytes_refusal t k section (events_at t so_far.lines) room content ≡ Some e) so_far.setting (refuses.refusal so_far.lines so_far.has) in
     let next : List (List ℕ) → Option ReadError = λ rest.
     files_refusal s (k + 1) (next_section s (section_at_end s.form section (pieces content))) (events ++ piece_events s.form (key_file s k) section (pieces content)) (room - length content) rest in
     let none_more : 0 + k ≡ k = omega arith in
@@ -220,7 +221,7 @@ refused-log s names k old before after reader room name e so_far at refuses =
     }
 
 -- the cause of an input's answer is one of the log's
-pub up-to-cause : (s : Setting) (names : List (List ℕ)) (k : ℕ) (old before after : InputState) (reader : LogReader) (room : ℕ) (name : List ℕ) (e : ReadError)
+pub up-to-cause : (s : Setting) (names : List (List ℕ)) (k : ℕ) (old before after : InputState) (reader : Taker) (room : ℕ) (name : List ℕ) (e : ReadError)
     → IsUpTo s names k old before reader room → slice_get names k ≡ Some name → HasFileCause before after name k room reader e
     → HasReadCause s names old after e
 unfolding Causes

@@ -6,3 +6,4 @@ pub mod LineReader
 pub mod Buffers
 pub mod Files
 pub mod LogLines
+pub mod Taking

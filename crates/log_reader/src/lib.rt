@@ -9,6 +9,7 @@ mod reader;
 mod reading;
 mod refusal;
 mod so_far;
+mod take_lines;
 
 pub use form::Form;
 pub use law::{

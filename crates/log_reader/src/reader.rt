@@ -161,7 +161,7 @@ impl<'r> LogReader<'r> {
     }
 
     /// Ends a file: the sections of the next one are counted anew, unless files are joined.
-    pub fn end_file(&mut self)
+    pub fn start_file(&mut self)
         ensures section { self.new.log.section
             ≡ next_section (setting_of self.old) self.old.log.section }
         ensures few { self.new.log.section ≤ self.old.log.section }

@@ -1,19 +1,20 @@
 //! Reads the traces of a log.
-ghost use Rattle.std.specs.Prelude.{◌≡◌, ◌<◌, ◌≤◌, ◌+◌, ◌-◌, ◌^◌, length, slice_get, Some, Err, IfOk, IfErr, OnOk};
+ghost use Rattle.std.specs.Prelude.{◌≡◌, ◌<◌, ◌≤◌, ◌+◌, ◌-◌, ◌^◌, [], length, slice_get, Some, Err, IfOk, IfErr, OnOk};
 ghost use Rattle.limits.specs.declared.TheConstants.{MAX_INPUT_BYTES};
 ghost use Rattle.outside.specs.Inputs.{Stays};
 ghost use Rattle.outside.specs.Reading.{LosesFront};
 ghost use Rattle.outside.specs.Turns.{OpensFirst};
-ghost use Rattle.log_reader.specs.Files.{ReadsFile, ReadsLines, HasFileCause, HasLinesCause, IsBetween, OpensFile, OpensOne};
+ghost use Rattle.log_reader.specs.Files.{ReadsFile, ReadsInputs, ReadsLines, HasFileCause, HasLinesCause, IsBetween, IsNotOpened, IsOpened, OpensFile, OpensOne};
+ghost use Rattle.log_reader.specs.LineReader.{unused_lines};
 ghost use Rattle.log_reader.specs.Inputs.{ReadsLog, HasReadCause};
 ghost use Rattle.log_reader.specs.Reading.{setting};
-ghost use Rattle.log_reader.specs.SoFar.{IsReady};
 ghost use Rattle.log_reader.specs.Views.{form_view, names_in};
 
 use crate::form::Form;
 use crate::line_reader::{LineError, Lines};
 use crate::reader::LogReader;
 use crate::refusal::{At, ReadError};
+use crate::take_lines::TakeLines;
 use limits::MAX_INPUT_BYTES;
 use outside::{Inputs, OpenError};
 use std::alloc::Global;
@@ -39,17 +40,17 @@ fn count_of(names: &[String]) -> usize
 }
 
 /// Takes in the lines of the open input, which has this number.
-fn read_lines<I: Inputs>(
+fn read_lines<I: Inputs, T: TakeLines>(
     alloc: Global,
     inputs: &mut I,
     lines: &mut Lines,
-    reader: &mut LogReader<'_>,
+    reader: &mut T,
     number: u32,
 ) -> Result<(), ReadError>
-    requires ready { IsReady reader.old }
+    requires ready { (T.seen reader.old).ready }
     requires between { IsBetween lines.old }
     requires first { (lines.old).number ≡ 0 }
-    requires few { reader.old.log.section ≤ (lines.old).taken }
+    requires few { (T.seen reader.old).section ≤ (lines.old).taken }
 
     // What stays of the inputs.
     ensures stays { Stays (I.state inputs.old) (I.state inputs.new) }
@@ -61,9 +62,9 @@ fn read_lines<I: Inputs>(
 
     // The lines that are taken in, and each error with its cause.
     ensures ok { OnOk result (ReadsLines (I.state inputs.old) (I.state inputs.new) number
-        lines.old lines.new reader.old reader.new) }
+        lines.old lines.new (T.seen reader.old) (T.seen reader.new)) }
     ensures err { IfErr result
-        (HasLinesCause (I.state inputs.old) (I.state inputs.new) number lines.old reader.old) }
+        (HasLinesCause (I.state inputs.old) (I.state inputs.new) number lines.old (T.seen reader.old)) }
     ensures memory { result ≡ Err ReadError.Memory
         → (I.state inputs.new).faults ≡ (I.state inputs.old).faults }
 {
@@ -82,7 +83,7 @@ fn read_lines<I: Inputs>(
             file: number,
             line: lines.number(),
         };
-        reader.read_line(
+        reader.take_line(
             alloc,
             at,
             lines.line(),
@@ -95,30 +96,44 @@ fn read_lines<I: Inputs>(
     }
 }
 
+/// Opens the input with this number. Where that fails, or there is none of this name, the input could not be read.
+fn open_input<I: Inputs>(inputs: &mut I, name: &str, number: u32) -> Result<(), ReadError>
+    ensures stays { Stays (I.state inputs.old) (I.state inputs.new) }
+    ensures ok { OnOk result (IsOpened (I.state inputs.old) (I.state inputs.new) name.now) }
+    ensures err { IfErr result
+        (IsNotOpened (I.state inputs.old) (I.state inputs.new) name.now number) }
+{
+    match inputs.open(name) {
+        Ok(()) => Ok(()),
+        Err(OpenError::Missing) => Err(ReadError::ReadFault(number)),
+        Err(OpenError::Failed) => Err(ReadError::ReadFault(number)),
+    }
+}
+
 /// Takes in the lines of the input with this number, line by line. The bytes of all inputs so far
 /// count against the limit.
-fn read_file<I: Inputs>(
+fn read_file<I: Inputs, T: TakeLines>(
     alloc: Global,
     inputs: &mut I,
     lines: &mut Lines,
-    reader: &mut LogReader<'_>,
+    reader: &mut T,
     name: &str,
     number: u32,
 ) -> Result<(), ReadError>
-    requires ready { IsReady reader.old }
+    requires ready { (T.seen reader.old).ready }
     requires between { IsBetween lines.old }
-    requires few { reader.old.log.section ≤ (lines.old).taken }
+    requires few { (T.seen reader.old).section ≤ (lines.old).taken }
 
     // What stays of the inputs, and the lines that are taken in.
     ensures stays { Stays (I.state inputs.old) (I.state inputs.new) }
     ensures ok { OnOk result (ReadsFile (I.state inputs.old) (I.state inputs.new) name.now number
         (MAX_INPUT_BYTES - (lines.old).taken) (MAX_INPUT_BYTES - (lines.new).taken)
-        reader.old reader.new) }
+        (T.seen reader.old) (T.seen reader.new)) }
     ensures between { OnOk result (IsBetween lines.new) }
 
     // Each error has its cause, and one input is opened at most.
     ensures err { IfErr result (HasFileCause (I.state inputs.old) (I.state inputs.new) name.now
-        number (MAX_INPUT_BYTES - (lines.old).taken) reader.old) }
+        number (MAX_INPUT_BYTES - (lines.old).taken) (T.seen reader.old)) }
     ensures memory { result ≡ Err ReadError.Memory
         → (I.state inputs.new).faults ≡ (I.state inputs.old).faults }
     ensures opens { (I.state inputs.new).opens ≤ (I.state inputs.old).opens + 1 }
@@ -127,14 +142,56 @@ fn read_file<I: Inputs>(
     ensures turn { OpensFile name.now (MAX_INPUT_BYTES - (lines.old).taken)
         (I.state inputs.old) (I.state inputs.new) }
 {
-    match inputs.open(name) {
+    match open_input(inputs, name, number) {
         Ok(()) => {}
-        Err(OpenError::Missing) => return Err(ReadError::ReadFault(number)),
-        Err(OpenError::Failed) => return Err(ReadError::ReadFault(number)),
+        Err(error) => return Err(error),
     }
     lines.start();
-    read_lines(alloc, inputs, lines, reader, number)?;
+    match read_lines(alloc, inputs, lines, reader, number) {
+        Ok(()) => {}
+        Err(error) => return Err(error),
+    }
     reader.end_file();
+    Ok(())
+}
+
+/// Takes in the lines of all named inputs, in this order.
+fn read_inputs<I: Inputs, T: TakeLines>(
+    alloc: Global,
+    inputs: &mut I,
+    names: &[String],
+    lines: &mut Lines,
+    reader: &mut T,
+) -> Result<(), ReadError>
+    requires names { length names.now < 2 ^ 32 }
+    requires unused { lines.old ≡ unused_lines }
+    requires ready { (T.seen reader.old).ready }
+    requires section { (T.seen reader.old).section ≡ 0 }
+    requires nothing { (T.seen reader.old).has [] }
+    ensures stays { Stays (I.state inputs.old) (I.state inputs.new) }
+
+    // What is gathered, and the cause of each error.
+    ensures ok { OnOk result (ReadsInputs (T.seen reader.old).setting (names_in names.now)
+        (I.state inputs.old) (I.state inputs.new) (T.seen reader.new).has) }
+    ensures setting { OnOk result ((T.seen reader.new).setting ≡ (T.seen reader.old).setting) }
+    ensures err { IfErr result (HasReadCause (T.seen reader.old).setting (names_in names.now)
+        (I.state inputs.old) (I.state inputs.new)) }
+
+    // Want of memory hides no fault, and which inputs are opened.
+    ensures memory { result ≡ Err ReadError.Memory
+        → (I.state inputs.new).faults ≡ (I.state inputs.old).faults }
+    ensures opens { (I.state inputs.new).opens
+        ≤ (I.state inputs.old).opens + length (names_in names.now) }
+    ensures turn { OpensFirst (names_in names.now) (I.state inputs.old) (I.state inputs.new) }
+{
+    let count = count_of(names);
+    for number in 0..count {
+        let name = name_at(names, number);
+        match read_file(alloc, inputs, lines, reader, name, number as u32) {
+            Ok(()) => {}
+            Err(error) => return Err(error),
+        }
+    }
     Ok(())
 }
 
@@ -188,12 +245,15 @@ pub fn read_log<I: Inputs>(
     // The first so many inputs were opened, each but the last was read to its end, and no others were.
     ensures turn { OpensFirst (names_in names.now) (I.state inputs.old) (I.state inputs.new) }
 {
-    let mut reader = LogReader::make(alloc, form, ignore, join)?;
     let mut lines = Lines::make(alloc)?;
-    let count = count_of(names);
-    for number in 0..count {
-        let name = name_at(names, number);
-        read_file(alloc, inputs, &mut lines, &mut reader, name, number as u32)?;
+    let mut reader = LogReader::make(alloc, form, ignore, join)?;
+    match read_inputs(alloc, inputs, names, &mut lines, &mut reader) {
+        Ok(()) => drop(lines),
+        Err(error) => {
+            drop(lines);
+            drop(reader);
+            return Err(error);
+        }
     }
     gathering_in_order_is_the_log();
     Ok(reader.finish()?)

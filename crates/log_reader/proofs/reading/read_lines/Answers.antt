@@ -2,7 +2,7 @@ use Rattle.std.proofs.Common.{rules, ◌≡◌, ◌+◌, Bool, true, false, Resu
 use Rattle.std.proofs.lemmas.Result.{err_from_is_err_and}
 use Rattle.log_reader.specs.LineReader.{SeenLines, NextGives, GivesLine, GivesNone, FailsToRead, RefusesPiece}
 use Rattle.log_reader.specs.Reading.{at_line}
-use Rattle.log_reader.specs.SoFar.{decided_line, refusal_in, setting_of, IsRefusal, ReadsText}
+use Rattle.log_reader.specs.Taking.{RefusesLineOf, TakesLineOf}
 use Rattle.log_reader.specs.declared.line_reader.LineError.{LineError}
 use Rattle.log_reader.specs.declared.line_reader.LineError.TheVariants.{ReadFault, TooLong, InputLimit}
 use Rattle.log_reader.specs.declared.refusal.ReadError.{ReadError}
@@ -12,7 +12,7 @@ use Rattle.log_reader.proofs.reading.read_lines.Goals as goal
 
 pub lines-init : goal.lines-init
 lines-init g c =
-    reading-begins c.args.number (g.I.Inputs.state c.args.inputs.now) c.args.lines.now c.args.reader.now c.requires.ready c.requires.between.nothing c.requires.first c.requires.between.refused c.requires.between.taken
+    reading-begins c.args.number (g.I.Inputs.state c.args.inputs.now) c.args.lines.now (g.T.TakeLines.seen c.args.reader.now) c.requires.ready c.requires.between.nothing c.requires.first c.requires.between.refused c.requires.between.taken
 
 pub returns-in-Ok-false-clause-ok : goal.returns-in-Ok-false-clause-ok
 returns-in-Ok-false-clause-ok g c =
@@ -20,7 +20,7 @@ returns-in-Ok-false-clause-ok g c =
     let after = g.I.Inputs.state c.next.new.inputs in
     let is : ◌≡◌ {A = Result Bool LineError} c.next.result (Ok false) = cc (c.in-Ok-false.is) in
     let none : GivesNone c.lines.lines c.next.new.self before after = subst (λ r. NextGives c.lines.lines before r c.next.new.self after) is c.next.ensures.gives in
-    reading-ends c.args.number (g.I.Inputs.state c.args.inputs.now) before after c.args.lines.now c.lines.lines c.next.new.self c.args.reader.now c.lines.reader c.lines.invariant none
+    reading-ends c.args.number (g.I.Inputs.state c.args.inputs.now) before after c.args.lines.now c.lines.lines c.next.new.self (g.T.TakeLines.seen c.args.reader.now) (g.T.TakeLines.seen c.lines.reader) c.lines.invariant none
 
 pub returns-in-Err-ReadFault-clause-err : goal.returns-in-Err-ReadFault-clause-err
 returns-in-Err-ReadFault-clause-err g c =
@@ -28,7 +28,7 @@ returns-in-Err-ReadFault-clause-err g c =
     let after = g.I.Inputs.state c.next.new.inputs in
     let is : ◌≡◌ {A = Result Bool LineError} c.next.result (Err ReadFault) = cc (c.in-Err-ReadFault.is, c.in-Err-ReadFault.field-0-is) in
     let fails : FailsToRead c.lines.lines c.next.new.self before after = subst (λ r. NextGives c.lines.lines before r c.next.new.self after) is c.next.ensures.gives in
-    inl (reading-fails c.args.number (g.I.Inputs.state c.args.inputs.now) before after c.args.lines.now c.lines.lines c.next.new.self c.args.reader.now c.lines.reader (refused.ReadFault c.args.number) c.lines.invariant fails refl)
+    inl (reading-fails c.args.number (g.I.Inputs.state c.args.inputs.now) before after c.args.lines.now c.lines.lines c.next.new.self (g.T.TakeLines.seen c.args.reader.now) (g.T.TakeLines.seen c.lines.reader) (refused.ReadFault c.args.number) c.lines.invariant fails refl)
 
 pub returns-in-Err-ReadFault-clause-memory : goal.returns-in-Err-ReadFault-clause-memory
 returns-in-Err-ReadFault-clause-memory g c = search rules
@@ -40,7 +40,7 @@ returns-in-Err-TooLong-clause-err g c =
     let is : ◌≡◌ {A = Result Bool LineError} c.next.result (Err TooLong) = cc (c.in-Err-TooLong.is, c.in-Err-TooLong.field-0-is) in
     let refuses : RefusesPiece c.lines.lines c.next.new.self before after TooLong = subst (λ r. NextGives c.lines.lines before r c.next.new.self after) is c.next.ensures.gives in
     let number : c.number-line.result ≡ c.lines.lines.number = c.number-line.ensures ∙ ap (λ (s : SeenLines). s.number) refuses.leaves in
-    inr (reading-refused c.args.number (g.I.Inputs.state c.args.inputs.now) before after c.args.lines.now c.lines.lines c.next.new.self c.args.reader.now c.lines.reader TooLong _ c.lines.invariant refuses
+    inr (reading-refused c.args.number (g.I.Inputs.state c.args.inputs.now) before after c.args.lines.now c.lines.lines c.next.new.self (g.T.TakeLines.seen c.args.reader.now) (g.T.TakeLines.seen c.lines.reader) TooLong _ c.lines.invariant refuses
     (ap (λ k. refused.LineTooLong (at_line c.args.number (k + 1))) number))
 
 pub returns-in-Err-InputLimit-clause-err : goal.returns-in-Err-InputLimit-clause-err
@@ -49,74 +49,74 @@ returns-in-Err-InputLimit-clause-err g c =
     let after = g.I.Inputs.state c.next.new.inputs in
     let is : ◌≡◌ {A = Result Bool LineError} c.next.result (Err InputLimit) = cc (c.in-Err-InputLimit.is, c.in-Err-InputLimit.field-0-is) in
     let refuses : RefusesPiece c.lines.lines c.next.new.self before after InputLimit = subst (λ r. NextGives c.lines.lines before r c.next.new.self after) is c.next.ensures.gives in
-    inr (reading-refused c.args.number (g.I.Inputs.state c.args.inputs.now) before after c.args.lines.now c.lines.lines c.next.new.self c.args.reader.now c.lines.reader InputLimit refused.InputLimit c.lines.invariant refuses refl)
+    inr (reading-refused c.args.number (g.I.Inputs.state c.args.inputs.now) before after c.args.lines.now c.lines.lines c.next.new.self (g.T.TakeLines.seen c.args.reader.now) (g.T.TakeLines.seen c.lines.reader) InputLimit refused.InputLimit c.lines.invariant refuses refl)
 
-pub read_line-requires-clause-ready : goal.read_line-requires-clause-ready
-read_line-requires-clause-ready g c = (c.lines.invariant.way false [] refl).ready
+pub take_line-requires-clause-ready : goal.take_line-requires-clause-ready
+take_line-requires-clause-ready g c = (c.lines.invariant.way false [] refl).ready
 
-pub returns-in_err-read_line-clause-err : goal.returns-in_err-read_line-clause-err
-returns-in_err-read_line-clause-err g c =
+pub returns-in_err-take_line-clause-err : goal.returns-in_err-take_line-clause-err
+returns-in_err-take_line-clause-err g c =
     let before = g.I.Inputs.state c.lines.inputs in
     let after = g.I.Inputs.state c.next.new.inputs in
-    let reader = c.lines.reader in
+    let reader = (g.T.TakeLines.seen c.lines.reader) in
     let is : ◌≡◌ {A = Result Bool LineError} c.next.result (Ok true) = cc (c.in-Ok-true.is) in
     let gives : GivesLine c.lines.lines c.next.new.self before after = subst (λ r. NextGives c.lines.lines before r c.next.new.self after) is c.next.ensures.gives in
     let p = err_from_is_err_and c.from_residual.result c.from_residual.ensures.1 in
-    let at_number = λ (e : ReadError). subst (λ k. IsRefusal (refusal_in (setting_of reader).ignore (at_line c.args.number k) reader.log.builder (decided_line (setting_of reader).form c.line.result.now)) e) c.number.ensures in
-    rw (p.1, p.2) (inr (reading-refused-at c.args.number (g.I.Inputs.state c.args.inputs.now) before after c.args.lines.now c.lines.lines c.next.new.self c.args.reader.now reader c.line.result.now _ c.lines.invariant gives
+    let at_number = λ (e : ReadError). subst (λ k. RefusesLineOf (at_line c.args.number k) c.line.result.now reader e) c.number.ensures in
+    rw (p.1, p.2) (inr (reading-refused-at c.args.number (g.I.Inputs.state c.args.inputs.now) before after c.args.lines.now c.lines.lines c.next.new.self (g.T.TakeLines.seen c.args.reader.now) reader c.line.result.now _ c.lines.invariant gives
     c.next.ensures.taken c.line.ensures
-    (at_number _ c.in_err-read_line.ensures.err)))
+    (at_number _ c.in_err-take_line.ensures.err)))
 
 pub returns-then-not-ends_with_feed-clause-ok : goal.returns-then-not-ends_with_feed-clause-ok
 returns-then-not-ends_with_feed-clause-ok g c =
     let before = g.I.Inputs.state c.lines.inputs in
     let after = g.I.Inputs.state c.next.new.inputs in
-    let reader = c.lines.reader in
+    let reader = (g.T.TakeLines.seen c.lines.reader) in
     let is : ◌≡◌ {A = Result Bool LineError} c.next.result (Ok true) = cc (c.in-Ok-true.is) in
     let gives : GivesLine c.lines.lines c.next.new.self before after = subst (λ r. NextGives c.lines.lines before r c.next.new.self after) is c.next.ensures.gives in
     let unfed : c.next.new.self.fed ≡ false = sym c.ends_with_feed.ensures ∙ c.if-not-ends_with_feed.true in
-    reading-ends-in-line c.args.number (g.I.Inputs.state c.args.inputs.now) before after c.args.lines.now c.lines.lines c.next.new.self c.args.reader.now reader c.read_line.new.self c.line.result.now c.lines.invariant gives
+    reading-ends-in-line c.args.number (g.I.Inputs.state c.args.inputs.now) before after c.args.lines.now c.lines.lines c.next.new.self (g.T.TakeLines.seen c.args.reader.now) reader (g.T.TakeLines.seen c.take_line.new.self) c.line.result.now c.lines.invariant gives
     c.next.ensures.taken c.line.ensures unfed
-    (subst (λ k. ReadsText (at_line c.args.number k) (decided_line (setting_of reader).form c.line.result.now) reader c.read_line.new.self) c.number.ensures c.in_ok-read_line.ensures.ok)
+    (subst (λ k. TakesLineOf (at_line c.args.number k) c.line.result.now reader (g.T.TakeLines.seen c.take_line.new.self)) c.number.ensures c.in_ok-take_line.ensures.ok)
 
 pub lines-preserved : goal.lines-preserved
 lines-preserved g c =
     let before = g.I.Inputs.state c.lines.inputs in
     let after = g.I.Inputs.state c.next.new.inputs in
-    let reader = c.lines.reader in
+    let reader = (g.T.TakeLines.seen c.lines.reader) in
     let is : ◌≡◌ {A = Result Bool LineError} c.next.result (Ok true) = cc (c.in-Ok-true.is) in
     let gives : GivesLine c.lines.lines c.next.new.self before after = subst (λ r. NextGives c.lines.lines before r c.next.new.self after) is c.next.ensures.gives in
     let fed : c.next.new.self.fed ≡ true = sym c.ends_with_feed.ensures ∙ c.if-not-ends_with_feed.false in
-    reading-more c.args.number (g.I.Inputs.state c.args.inputs.now) before after c.args.lines.now c.lines.lines c.next.new.self c.args.reader.now reader c.read_line.new.self c.line.result.now c.lines.invariant
+    reading-more c.args.number (g.I.Inputs.state c.args.inputs.now) before after c.args.lines.now c.lines.lines c.next.new.self (g.T.TakeLines.seen c.args.reader.now) reader (g.T.TakeLines.seen c.take_line.new.self) c.line.result.now c.lines.invariant
     c.next.ensures.stays c.next.ensures.opens c.next.ensures.turn c.next.ensures.mark gives c.next.ensures.taken c.line.ensures fed
-    (subst (λ k. ReadsText (at_line c.args.number k) (decided_line (setting_of reader).form c.line.result.now) reader c.read_line.new.self) c.number.ensures c.in_ok-read_line.ensures.ok)
+    (subst (λ k. TakesLineOf (at_line c.args.number k) c.line.result.now reader (g.T.TakeLines.seen c.take_line.new.self)) c.number.ensures c.in_ok-take_line.ensures.ok)
 
 pub returns-in-Ok-false-clause-left : goal.returns-in-Ok-false-clause-left
 returns-in-Ok-false-clause-left g c =
-    front-lost c.args.number (g.I.Inputs.state c.args.inputs.now) (g.I.Inputs.state c.lines.inputs) (g.I.Inputs.state c.next.new.inputs) c.args.lines.now c.lines.lines c.next.new.self c.args.reader.now c.lines.reader c.next.result
+    front-lost c.args.number (g.I.Inputs.state c.args.inputs.now) (g.I.Inputs.state c.lines.inputs) (g.I.Inputs.state c.next.new.inputs) c.args.lines.now c.lines.lines c.next.new.self (g.T.TakeLines.seen c.args.reader.now) (g.T.TakeLines.seen c.lines.reader) c.next.result
     c.lines.invariant c.next.ensures.within c.next.ensures.gives
 
 pub returns-in-Err-ReadFault-clause-left : goal.returns-in-Err-ReadFault-clause-left
 returns-in-Err-ReadFault-clause-left g c =
-    front-lost c.args.number (g.I.Inputs.state c.args.inputs.now) (g.I.Inputs.state c.lines.inputs) (g.I.Inputs.state c.next.new.inputs) c.args.lines.now c.lines.lines c.next.new.self c.args.reader.now c.lines.reader c.next.result
+    front-lost c.args.number (g.I.Inputs.state c.args.inputs.now) (g.I.Inputs.state c.lines.inputs) (g.I.Inputs.state c.next.new.inputs) c.args.lines.now c.lines.lines c.next.new.self (g.T.TakeLines.seen c.args.reader.now) (g.T.TakeLines.seen c.lines.reader) c.next.result
     c.lines.invariant c.next.ensures.within c.next.ensures.gives
 
 pub returns-in-Err-TooLong-clause-left : goal.returns-in-Err-TooLong-clause-left
 returns-in-Err-TooLong-clause-left g c =
-    front-lost c.args.number (g.I.Inputs.state c.args.inputs.now) (g.I.Inputs.state c.lines.inputs) (g.I.Inputs.state c.next.new.inputs) c.args.lines.now c.lines.lines c.next.new.self c.args.reader.now c.lines.reader c.next.result
+    front-lost c.args.number (g.I.Inputs.state c.args.inputs.now) (g.I.Inputs.state c.lines.inputs) (g.I.Inputs.state c.next.new.inputs) c.args.lines.now c.lines.lines c.next.new.self (g.T.TakeLines.seen c.args.reader.now) (g.T.TakeLines.seen c.lines.reader) c.next.result
     c.lines.invariant c.next.ensures.within c.next.ensures.gives
 
 pub returns-in-Err-InputLimit-clause-left : goal.returns-in-Err-InputLimit-clause-left
 returns-in-Err-InputLimit-clause-left g c =
-    front-lost c.args.number (g.I.Inputs.state c.args.inputs.now) (g.I.Inputs.state c.lines.inputs) (g.I.Inputs.state c.next.new.inputs) c.args.lines.now c.lines.lines c.next.new.self c.args.reader.now c.lines.reader c.next.result
+    front-lost c.args.number (g.I.Inputs.state c.args.inputs.now) (g.I.Inputs.state c.lines.inputs) (g.I.Inputs.state c.next.new.inputs) c.args.lines.now c.lines.lines c.next.new.self (g.T.TakeLines.seen c.args.reader.now) (g.T.TakeLines.seen c.lines.reader) c.next.result
     c.lines.invariant c.next.ensures.within c.next.ensures.gives
 
-pub returns-in_err-read_line-clause-left : goal.returns-in_err-read_line-clause-left
-returns-in_err-read_line-clause-left g c =
-    front-lost c.args.number (g.I.Inputs.state c.args.inputs.now) (g.I.Inputs.state c.lines.inputs) (g.I.Inputs.state c.next.new.inputs) c.args.lines.now c.lines.lines c.next.new.self c.args.reader.now c.lines.reader c.next.result
+pub returns-in_err-take_line-clause-left : goal.returns-in_err-take_line-clause-left
+returns-in_err-take_line-clause-left g c =
+    front-lost c.args.number (g.I.Inputs.state c.args.inputs.now) (g.I.Inputs.state c.lines.inputs) (g.I.Inputs.state c.next.new.inputs) c.args.lines.now c.lines.lines c.next.new.self (g.T.TakeLines.seen c.args.reader.now) (g.T.TakeLines.seen c.lines.reader) c.next.result
     c.lines.invariant c.next.ensures.within c.next.ensures.gives
 
 pub returns-then-not-ends_with_feed-clause-left : goal.returns-then-not-ends_with_feed-clause-left
 returns-then-not-ends_with_feed-clause-left g c =
-    front-lost c.args.number (g.I.Inputs.state c.args.inputs.now) (g.I.Inputs.state c.lines.inputs) (g.I.Inputs.state c.next.new.inputs) c.args.lines.now c.lines.lines c.next.new.self c.args.reader.now c.lines.reader c.next.result
+    front-lost c.args.number (g.I.Inputs.state c.args.inputs.now) (g.I.Inputs.state c.lines.inputs) (g.I.Inputs.state c.next.new.inputs) c.args.lines.now c.lines.lines c.next.new.self (g.T.TakeLines.seen c.args.reader.now) (g.T.TakeLines.seen c.lines.reader) c.next.result
     c.lines.invariant c.next.ensures.within c.next.ensures.gives
