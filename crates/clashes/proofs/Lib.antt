@@ -8,3 +8,5 @@ pub mod Sound
 pub mod Passing
 pub mod Joining
 pub mod Telling
+pub mod Noting
+pub mod Masking

@@ -1,7 +1,9 @@
 //! The workbench: a log, the kinds of invariants that are asked for, and all that its inference needs.
-ghost use Rattle.std.specs.Prelude.{◌≡◌, ◌↔◌, IfOk, OnErr, OnOk, Err, length};
+ghost use Rattle.std.specs.Prelude.{◌≡◌, ◌≤◌, ◌↔◌, ℕ, [], IfOk, OnErr, OnOk, Err, Some, length, slice_get};
+ghost use Rattle.limits.specs.declared.TheConstants.{LAST_TYPE, MAX_INVARIANTS, MAX_PAIRS, MAX_PATH_NUMBERS, MAX_STEPS};
 ghost use Rattle.models.specs.Limits.{KeepsLimits};
 ghost use Rattle.models.specs.Models.{typed_words, IsModelOf};
+ghost use Rattle.partition_model.specs.Assignments.{events};
 ghost use Rattle.infer_core.specs.Runs.{AreFinal, CountsAtMost, PassesNumbers, PassesPartitions};
 
 use crate::law::log_is_typed;
@@ -75,6 +77,41 @@ fn no_flags(alloc: Global, invs: &[Invariant]) -> Result<Vec<bool>, AllocError>
     Vec::from_elem(alloc, false, invs.len())
 }
 
+/// The tools and the flags for a graph and invariants, where there was the memory for these.
+fn equip(
+    alloc: Global,
+    opened: &Result<((PartGraph, Vec<u32>), Seq<Invariant>), AllocError>,
+) -> Result<(Tools, Vec<bool>), AllocError>
+    requires few { IfOk opened.now (λ made. length made.1 ≤ MAX_INVARIANTS) }
+    requires named { IfOk opened.now (λ made. (k : ℕ) (inv : Invariant)
+        → slice_get made.1 k ≡ Some inv → (inv.a ≤ LAST_TYPE) × (inv.b ≤ LAST_TYPE)) }
+
+    // What the tools and the flags are made for.
+    ensures stitcher { IfOk result (λ pair. IfOk opened.now
+        (λ made. pair.0.stitcher ≡ length (events made.0.0.traces))) }
+    ensures planes { IfOk result (λ pair. IfOk opened.now (λ made. pair.0.planes.invs ≡ made.1)) }
+    ensures flags { IfOk result (λ pair. IfOk opened.now
+        (λ made. length pair.1.items ≡ length made.1)) }
+
+    // Nothing is written yet, and there is room for all that may be.
+    ensures spans { IfOk result
+        (λ pair. pair.0.spans ≡ record { numbers = []; room = MAX_PATH_NUMBERS }) }
+    ensures log { IfOk result (λ pair. pair.0.log ≡ record {
+      splits = [];
+      merges = [];
+      blocks = [];
+      split_room = MAX_STEPS;
+      merge_room = MAX_STEPS;
+      block_room = MAX_PAIRS;
+    }) }
+{
+    let Ok(((graph, _), invs)) = opened else {
+        return Err(AllocError);
+    };
+    let tools = Tools::make(alloc, graph, invs.as_slice());
+    both(tools, no_flags(alloc, invs.as_slice()))
+}
+
 impl Workbench {
     /// A workbench for these traces, with their mined invariants of these kinds and all memory that inference needs: the
     /// first graph of the log, and room for `MAX_STEPS` splits, as many merges, `MAX_PAIRS` blocks and `MAX_PATH_NUMBERS` numbers
@@ -90,10 +127,12 @@ impl Workbench {
         log_is_typed(&traces);
         let shared = PartGraph::open_shared(alloc, &traces);
         let mined = mine(alloc, kinds, &traces);
-        let ((graph, numbers), invs) = both(shared, mined)?;
-        let tools = Tools::make(alloc, &graph, invs.as_slice());
-        let flags = no_flags(alloc, invs.as_slice());
-        let (tools, flags) = both(tools, flags)?;
+        let opened = both(shared, mined);
+        let equipped = equip(alloc, &opened);
+        let ((traces, ((graph, numbers), invs)), (tools, flags)) = both(
+            both(Ok(traces), opened),
+            equipped,
+        )?;
         Ok(Workbench {
             kinds,
             traces,

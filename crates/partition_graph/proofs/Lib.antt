@@ -23,3 +23,6 @@ pub mod Dividing
 pub mod Copied
 pub mod Sharing
 pub mod Seeding
+pub mod Begun
+pub mod SetCounts
+pub mod CountSteps
