@@ -1,8 +1,7 @@
 -- Two assignments with the same traces: what is right for the one is right for the other, before splits and after them.
-use Rattle.std.proofs.Common.{◌≡◌, ℕ, zero, suc, pred, ◌+◌, ◌<◌, ◌≤◌, true, List, [], ◌∷◌, Option, Some, None, length, refl, sym, ◌∙◌, ap, subst, inl, inr, arith}
+use Rattle.std.proofs.Common.{◌≡◌, ℕ, zero, suc, pred, ◌+◌, ◌<◌, ◌≤◌, true, List, [], ◌∷◌, length, refl, sym, ◌∙◌, ap, subst, inl, inr, arith}
 use Rattle.std.proofs.lemmas.Bool.{cases_lt, lt-ltb}
 use Rattle.std.specs.List.{AllByRecursion}
-use Rattle.std.specs.Prelude.{MatchOption}
 use Rattle.limits.specs.declared.TheConstants.{MAX_PARTITIONS}
 use Rattle.invariants.specs.declared.Invariant.{Invariant}
 use Rattle.invariants.specs.declared.records.Split.{Split}
@@ -13,11 +12,11 @@ use Rattle.partition_model.specs.Refinement.{common, followed, stitch, split, sp
 use Rattle.partition_model.proofs.Lists.{In, In-map, map-In, all_in, all_from, In-events, events-In, edge-In, In-edge}
 use Rattle.partition_model.proofs.Listing.{Contains-In, In-Contains}
 use Rattle.partition_model.proofs.Forming.{graphs_are_formed}
-use Rattle.partition_model.proofs.Passes.{live-member}
+use Rattle.partition_model.proofs.Passes.{live-member, member-live}
 use Rattle.partition_model.proofs.Runs.{split-typed, split-In}
 use Rattle.partition_model.proofs.Stitching.{followed-in, followed-by, In-split}
 use Rattle.model_shape.specs.Shapes.{AreIds, IsShapedSplit, IsWellShaped}
-use Rattle.models.specs.Histories.{IsJustifiedSplit, SplitInTurn, IsFirstWrongSplit}
+use Rattle.models.specs.Histories.{IsJustifiedSplit, SplitInTurn, IsFirstWrongSplit, split_by}
 use Rattle.replay_check.specs.Laid.{HaveIdsBelow}
 use Rattle.replay_check.specs.Sharing.{HaveSame, AreIdsOf}
 use Rattle.replay_check.proofs.Showing.{breaks-to, fresh, split-below}
@@ -48,7 +47,7 @@ turned g h n a = record { one = a.other; other = a.one; forth = a.back; back = a
 edge-to : (g h : Assignment) → AreWithin g h → (p q : ℕ) → (G g).edge p q ≡ true → (G h).edge p q ≡ true
 edge-to g h w p q e = let o : (t : List Event) × In t g × (0 < Rattle.partition_model.specs.Assignments.pairs p q (id_list t)) = edge-In p q g e in In-edge p q o.0 h (w o.0 o.1) o.2
 
-type-same : (g h : Assignment) → IsTyped g → IsTyped h → AreWithin g h → (q : ℕ) → (G g).listed q ≡ true → type_of g q ≡ type_of h q
+pub type-same : (g h : Assignment) → IsTyped g → IsTyped h → AreWithin g h → (q : ℕ) → (G g).listed q ≡ true → type_of g q ≡ type_of h q
 type-same g h a b w q live =
     elim (cases_lt q 2) [
       | inl s ↦ rw (lt-ltb q 2 s) refl
@@ -58,6 +57,16 @@ type-same g h a b w q live =
           let x : (2 ≤ o.0.id) × (o.0.typ ≡ type_of g o.0.id) = all_in (λ e. (2 ≤ e.id) × (e.typ ≡ type_of g e.id)) o.0 (events g) a o.1 in
           let y : (2 ≤ o.0.id) × (o.0.typ ≡ type_of h o.0.id) = all_in (λ e. (2 ≤ e.id) × (e.typ ≡ type_of h e.id)) o.0 (events h) b (In-events o.0 u.0 h (w u.0 u.1) u.2) in
           sym (ap (λ z. type_of g z) o.2) ∙ sym x.1 ∙ y.1 ∙ ap (λ z. type_of h z) o.2
+    ]
+
+pub live-same : (g h : Assignment) → AreWithin g h → (q : ℕ) → (G g).listed q ≡ true → (G h).listed q ≡ true
+live-same g h w q live =
+    elim (cases_lt q 2) [
+      | inl s ↦ rw (lt-ltb q 2 s) refl
+      | inr s ↦
+          let o : (e : Event) × In e (events g) × (e.id ≡ q) = live-member g q s live in
+          let u : (t : List Event) × In t g × In o.0 t = events-In o.0 g o.1 in
+          member-live h q s o.0 (In-events o.0 u.0 h (w u.0 u.1) u.2) o.2
     ]
 
 breaks-too : (g h : Assignment) → IsTyped g → IsTyped h → AreWithin g h → (inv : Invariant) (path : List ℕ) → AreIds path → Breaks (G g) inv path → Breaks (G h) inv path
@@ -121,6 +130,14 @@ alike-split g h n p q a =
       back = within-split h g n p q a.back;
     }
 
+-- and so after any splits
+pub alike-by : (g h : Assignment) (n : ℕ) (ss : List Split) → AreAlike g h n → AreAlike (split_by n ss g) (split_by n ss h) (n + length ss)
+alike-by g h n [] a = let e : n ≡ n + 0 = omega arith in subst (λ k. AreAlike g h k) e a
+alike-by g h n (s ∷ ss) a =
+    let e : suc n + length ss ≡ n + suc (length ss) = omega arith in
+    subst (λ k. AreAlike (split_by (suc n) ss (after_split n s g)) (split_by (suc n) ss (after_split n s h)) k) e
+    (alike-by (after_split n s g) (after_split n s h) (suc n) ss (alike-split g h n _ _ a))
+
 -- the paths of some splits have ids that partitions may have
 abbrev pub HaveIds : List Split → Type 0
 HaveIds ss = AllByRecursion (λ (s : Split). AreIds s.path) ss
@@ -140,20 +157,6 @@ alike-wrong m g h n [] k ids a w = absurd w
 alike-wrong m g h n (s ∷ ss) zero ids a w = λ j. w (justified-too m h g n s ids.0 (turned g h n a) j)
 alike-wrong m g h n (s ∷ ss) (suc k) ids a w =
     (justified-too m g h n s ids.0 a w.0, alike-wrong m (after_split n s g) (after_split n s h) (suc n) ss k ids.1 (alike-split g h n _ _ a) w.1)
-
--- so what is found for the one is right for the other
-pub alike-found : (X Y : Type 0) (m : Model) (g h : Assignment) (n : ℕ) (ss : List Split) (found : Option ℕ) → HaveIds ss → AreAlike g h n
-    → MatchOption found (SplitInTurn m g n ss × X × Y) (IsFirstWrongSplit m g n ss) → MatchOption found (SplitInTurn m h n ss) (IsFirstWrongSplit m h n ss)
-alike-found X Y m g h n ss None ids a t = alike-all m g h n ss ids a t.0
-alike-found X Y m g h n ss (Some k) ids a w = alike-wrong m g h n ss k ids a w
-
--- splits that are right in their turn have their new ids below the limit
-pub turns-below : (m : Model) (h : Assignment) (n : ℕ) (ss : List Split) → n ≤ MAX_PARTITIONS → SplitInTurn m h n ss → n + length ss ≤ MAX_PARTITIONS
-turns-below m h n [] l t = omega arith
-turns-below m h n (s ∷ ss) l t =
-    let r : n < MAX_PARTITIONS = t.0.room in
-    let i : suc n + length ss ≤ MAX_PARTITIONS = turns-below m (after_split n s h) (suc n) ss (omega arith) t.1 in
-    omega arith
 
 -- ---- the start
 
@@ -181,5 +184,5 @@ start-alike n vs ws l s a =
     }
 
 -- the ids of the words of a log are those of an assignment that is like the first one of the log
-pub laid-alike : (n types : ℕ) (inner : List (List ℕ)) (ids : List ℕ) (o : AreIdsOf inner ids) → n ≡ types + 2 → HaveIdsBelow (types + 2) (by_type inner) → AreAlike (by_type o.words) (by_type inner) n
-laid-alike n types inner ids o e a = start-alike n o.words inner (omega arith) o.same (subst (λ k. HaveIdsBelow k (by_type inner)) (sym e) a)
+pub laid-alike : (n types : ℕ) (inner : List (List ℕ)) (ids places : List ℕ) (o : AreIdsOf inner ids places) → n ≡ types + 2 → HaveIdsBelow (types + 2) (by_type inner) → AreAlike (by_type o.words) (by_type inner) n
+laid-alike n types inner ids places o e a = start-alike n o.words inner (omega arith) o.same (subst (λ k. HaveIdsBelow k (by_type inner)) (sym e) a)

@@ -12,3 +12,5 @@ pub mod Known
 pub mod Following
 pub mod Alike
 pub mod Noting
+mod Placing
+mod Spreading

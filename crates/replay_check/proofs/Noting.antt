@@ -1,20 +1,21 @@
 -- The words that are laid, trace after trace.
-use Rattle.std.proofs.Common.{◌≡◌, ℕ, zero, suc, ◌+◌, ◌-◌, ◌<◌, ◌≤◌, List, [], ◌∷◌, ◌++◌, length, get_or, replicate, append_assoc, refl, sym, ◌∙◌, ap, subst, inl, inr, arith}
+use Rattle.std.proofs.Common.{◌≡◌, ℕ, zero, suc, ◌+◌, ◌-◌, ◌<◌, ◌≤◌, List, [], ◌∷◌, ◌++◌, length, take, take_all, get_or, replicate, append_assoc, refl, sym, ◌∙◌, ap, subst, subst₂, inl, inr, arith}
 use Rattle.std.proofs.lemmas.Bool.{cases_lt}
-use Rattle.std.proofs.lemmas.List.{get_or-replicate, get_or_past, length-replicate}
+use Rattle.std.proofs.lemmas.List.{get_or-replicate, get_or_past, length-replicate, get_or-take, length-take-le, take_more}
 use Rattle.partition_model.specs.Assignments.{by_type, with_ends}
-use Rattle.partition_model.proofs.Lists.{In, In-append, In-append_left, In-append_right}
+use Rattle.partition_model.proofs.Lists.{In, In-append}
 use Rattle.partition_model.proofs.Listing.{Contains-In, In-Contains}
 use Rattle.replay_check.specs.Laid.{laid}
-use Rattle.replay_check.specs.Sharing.{AreIdsOf, IsMet, IsAdded, IsNoted}
+use Rattle.replay_check.specs.Sharing.{AreIdsOf, IsPlaced, ArePlaced, IsMet, IsAdded, IsNoted}
+use Rattle.replay_check.proofs.Placing.{placed-more, placed-append, placed-count, placed-at, placed-In}
 use Rattle.replay_check.proofs.Starting.{laid-word}
 
 -- the ids are those of some words, which have those of the first t traces and no others than the log
-pub record IsLaying (inner : List (List ℕ)) (t : ℕ) (kept ids : List ℕ) : Type 0 where
+pub record IsLaying (inner : List (List ℕ)) (t : ℕ) (kept places ids : List ℕ) : Type 0 where
   pub words : List (List ℕ)
   pub ids_are : ids ≡ laid (by_type words)
   pub forth : (w : List ℕ) → In w words → In w inner
-  pub back : (k : ℕ) → k < t → In (get_or inner k []) words
+  pub placed : ArePlaced words (take t inner) places
   pub low : (s : ℕ) → get_or kept s 0 ≤ t - 1
 
 -- the ids of a word behind others, one part after another
@@ -41,36 +42,44 @@ kept-none n kept e = (
   ],
 )
 
-pub laying-first : (inner : List (List ℕ)) (kept : List ℕ) → ((s : ℕ) → get_or kept s 0 ≡ 0) → IsLaying inner 0 kept []
+pub laying-first : (inner : List (List ℕ)) (kept : List ℕ) → ((s : ℕ) → get_or kept s 0 ≡ 0) → IsLaying inner 0 kept [] []
 laying-first inner kept z =
     record {
       words = [];
       ids_are = refl;
       forth = λ w i. absurd i;
-      back = λ k l. absurd (omega (arith, l));
+      placed = tt;
       low = λ s. omega (arith, z s);
     }
 
-met-more : (inner : List (List ℕ)) (t : ℕ) (kept after ids more : List ℕ) → IsMet inner t kept → after ≡ kept → more ≡ ids → IsLaying inner t kept ids → IsLaying inner (t + 1) after more
-met-more inner t kept after ids more m a i l =
+-- there are as many places as traces
+pub laying-count : (inner : List (List ℕ)) (t : ℕ) (kept places ids : List ℕ) → t ≤ length inner → IsLaying inner t kept places ids → length places ≡ t
+laying-count inner t kept places ids b l = placed-count l.words (take t inner) places l.placed ∙ length-take-le t inner b
+
+met-more : (inner : List (List ℕ)) (t : ℕ) (kept after places now ids more : List ℕ) → t < length inner → IsMet inner t kept places now → after ≡ kept → more ≡ ids → IsLaying inner t kept places ids
+    → IsLaying inner (t + 1) after now more
+met-more inner t kept after places now ids more b m a i l =
     let later : 0 < t = m.later in
+    let k : ℕ = get_or kept m.slot 0 in
+    let before : k < t = omega (arith, l.low m.slot) in
+    let long : length (take t inner) ≡ t = length-take-le t inner (omega arith) in
+    let place : ℕ = get_or places k 0 in
+    let there : IsPlaced l.words (get_or (take t inner) k []) place = placed-at l.words (take t inner) places k (omega arith) l.placed in
+    let here : IsPlaced l.words (get_or inner t []) place = subst (λ (w : List ℕ). IsPlaced l.words w place) (get_or-take t inner k [] before ∙ sym m.same) there in
     record {
       words = l.words;
       ids_are = i ∙ l.ids_are;
       forth = l.forth;
-      back = λ k b. elim (cases_lt k t) [
-        | inl c ↦ l.back k c
-        | inr c ↦
-            let e : k ≡ t = omega (arith, b) in
-            let f : get_or inner (get_or kept m.slot 0) [] ≡ get_or inner k [] = sym m.same ∙ ap (λ z. get_or inner z []) (sym e) in
-            subst (λ (w : List ℕ). In w l.words) f (l.back (get_or kept m.slot 0) (omega (arith, l.low m.slot)))
-      ];
+      placed = subst₂ (λ (vs : List (List ℕ)) (ps : List ℕ). ArePlaced l.words vs ps) (sym (take_more inner t [] b)) (sym m.places_are)
+          (placed-append l.words (take t inner) places (get_or inner t []) place l.placed here);
       low = λ s. let e : get_or after s 0 ≡ get_or kept s 0 = ap (λ (xs : List ℕ). get_or xs s 0) a in omega (arith, l.low s);
     }
 
-added-more : (inner : List (List ℕ)) (t : ℕ) (kept after ids more : List ℕ) → t < length inner → IsAdded inner t kept after ids more → IsLaying inner t kept ids → IsLaying inner (t + 1) after more
-added-more inner t kept after ids more b a l =
+added-more : (inner : List (List ℕ)) (t : ℕ) (kept after places now ids more : List ℕ) → t < length inner → IsAdded inner t kept after places now ids more → IsLaying inner t kept places ids
+    → IsLaying inner (t + 1) after now more
+added-more inner t kept after places now ids more b a l =
     let w : List ℕ = get_or inner t [] in
+    let here : IsPlaced (l.words ++ w ∷ []) w (length ids) = record { before = l.words; after = []; words_are = refl; place_is = ap length l.ids_are } in
     record {
       words = l.words ++ w ∷ [];
       ids_are = a.ids_are ∙ ap (λ (xs : List ℕ). xs ++ with_ends w) l.ids_are ∙ laid-behind (laid (by_type l.words)) w ∙ sym (laid-word l.words w);
@@ -78,12 +87,8 @@ added-more inner t kept after ids more b a l =
         | inl j ↦ l.forth v j
         | inr j ↦ last v j
       ];
-      back = λ k c. elim (cases_lt k t) [
-        | inl d ↦ In-append_left (get_or inner k []) l.words (w ∷ []) (l.back k d)
-        | inr d ↦
-            let e : t ≡ k = omega (arith, c) in
-            In-append_right (get_or inner k []) l.words (w ∷ []) (inl (ap (λ z. get_or inner z []) e))
-      ];
+      placed = subst₂ (λ (vs : List (List ℕ)) (ps : List ℕ). ArePlaced (l.words ++ w ∷ []) vs ps) (sym (take_more inner t [] b)) (sym a.places_are)
+          (placed-append (l.words ++ w ∷ []) (take t inner) places w (length ids) (placed-more l.words w (take t inner) places l.placed) here);
       low = λ s. elim (a.kept_are s) [
         | inl e ↦ omega (arith, e)
         | inr e ↦ omega (arith, e, l.low s)
@@ -95,13 +100,15 @@ added-more inner t kept after ids more b a l =
     last v (inr j) = absurd j
 
 -- one trace more
-pub laying-more : (inner : List (List ℕ)) (t : ℕ) (kept after ids more : List ℕ) → t < length inner → IsNoted inner t kept after ids more → IsLaying inner t kept ids → IsLaying inner (t + 1) after more
-laying-more inner t kept after ids more b (inl m) l = met-more inner t kept after ids more m.0 m.1 m.2 l
-laying-more inner t kept after ids more b (inr a) l = added-more inner t kept after ids more b a l
+pub laying-more : (inner : List (List ℕ)) (t : ℕ) (kept after places now ids more : List ℕ) → t < length inner → IsNoted inner t kept after places now ids more → IsLaying inner t kept places ids
+    → IsLaying inner (t + 1) after now more
+laying-more inner t kept after places now ids more b (inl m) l = met-more inner t kept after places now ids more b m.0 m.1 m.2 l
+laying-more inner t kept after places now ids more b (inr a) l = added-more inner t kept after places now ids more b a l
 
 -- all traces
-pub laying-all : (inner : List (List ℕ)) (t : ℕ) (kept ids : List ℕ) → length inner ≤ t → IsLaying inner t kept ids → AreIdsOf inner ids
-laying-all inner t kept ids b l =
+pub laying-all : (inner : List (List ℕ)) (t : ℕ) (kept places ids : List ℕ) → length inner ≤ t → IsLaying inner t kept places ids → AreIdsOf inner ids places
+laying-all inner t kept places ids b l =
+    let placed : ArePlaced l.words inner places = subst (λ (vs : List (List ℕ)). ArePlaced l.words vs places) (take_all t inner b) l.placed in
     record {
       words = l.words;
       laid_are = l.ids_are;
@@ -109,6 +116,7 @@ laying-all inner t kept ids b l =
         forth = λ w c. Contains-In w inner (l.forth w (In-Contains l.words w c));
         back = λ w c.
             let o : (k : ℕ) × (k < length inner) × (get_or inner k [] ≡ w) = In-at w inner (In-Contains inner w c) in
-            Contains-In w l.words (subst (λ (v : List ℕ). In v l.words) o.2 (l.back o.0 (omega (arith, o.1))));
+            Contains-In w l.words (subst (λ (v : List ℕ). In v l.words) o.2 (placed-In l.words (get_or inner o.0 []) (get_or places o.0 0) (placed-at l.words inner places o.0 o.1 placed)));
       };
+      placed = placed;
     }

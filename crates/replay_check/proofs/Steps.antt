@@ -27,18 +27,6 @@ splitting-more m h n ss now id s rest k j i =
       end = i.end;
     }
 
--- from h, with n for the next id, these splits come to now, with id for the next, where rest is left and right in its turn
-pub record IsMaking (m : Model) (h : Assignment) (n : ℕ) (ss : List Split) (now : Assignment) (id : ℕ) (rest : List Split) : Type 0 where
-  pub turns : SplitInTurn m now id rest
-  pub end : split_by id rest now ≡ split_by n ss h
-
-pub making-first : (m : Model) (h : Assignment) (n : ℕ) (ss : List Split) → SplitInTurn m h n ss → IsMaking m h n ss h n ss
-making-first m h n ss t = record { turns = t; end = refl }
-
-pub making-more : (m : Model) (h : Assignment) (n : ℕ) (ss : List Split) (now : Assignment) (id : ℕ) (s : Split) (rest : List Split)
-    → IsMaking m h n ss now id (s ∷ rest) → IsMaking m h n ss (after_split id s now) (suc id) rest
-making-more m h n ss now id s rest i = record { turns = i.turns.1; end = i.end }
-
 -- from h these merges come to now, where rest is left and k are made
 pub record IsMerging (h : Assignment) (ms : List Merge) (now : Assignment) (rest : List Merge) (k : ℕ) : Type 0 where
   pub all : MergeInTurn now rest → MergeInTurn h ms

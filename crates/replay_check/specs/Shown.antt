@@ -33,6 +33,10 @@ count_at counts p q = slice_index counts (p * MAX_PARTITIONS + q)
 abbrev pub has_edge : List (List Bool) → ℕ → ℕ → Bool
 has_edge rows p q = is_set (row_at rows p) q
 
+-- no edge is marked
+abbrev pub AreBlank : List (List Bool) → Type 0
+AreBlank rows = (p q : ℕ) → p < MAX_PARTITIONS → has_edge rows p q ≡ false
+
 -- the graph that rows of edges and types of ids show
 abbrev pub graph_in : List (List Bool) → List ℕ → Graph
 graph_in rows types =

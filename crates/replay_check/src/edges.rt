@@ -1,14 +1,17 @@
 //! Which ids are followed at once by which.
-ghost use Rattle.std.specs.Prelude.{◌≡◌, ◌<◌, ◌||◌, ℕ, nat_lt, false, All};
+ghost use Rattle.std.specs.Prelude.{◌≡◌, ◌==◌, ◌<◌, ◌||◌, ◌&&◌, ℕ, nat_lt, false, All, IfOk};
 ghost use Rattle.limits.specs.declared.TheConstants.{MAX_PARTITIONS};
 ghost use Rattle.bit_rows.specs.Tables.{HasShape};
 ghost use Rattle.replay_check.specs.Laid.{edges_along, step_count};
-ghost use Rattle.replay_check.specs.Shown.{has_edge};
+ghost use Rattle.replay_check.specs.Shown.{has_edge, AreBlank};
 
 use crate::ids::IDS;
 use bit_rows::Rows;
 use limits::{INITIAL, TERMINAL};
 use std::alloc::{AllocError, Global};
+
+/// Up to how many ids it is faster to go along them than through all rows.
+const FEW_IDS: usize = 8_192;
 
 /// A row for each id, with a bit for each id that may follow it. It takes 128 KiB.
 #[derive(Drop)]
@@ -32,6 +35,21 @@ fn mark_step(rows: &mut Rows, before: usize, id: usize)
     rows.put(before, id, true);
 }
 
+/// Takes away the mark that `before` is followed by `id`, where no trace begins with it.
+fn unmark_step(rows: &mut Rows, before: usize, id: usize)
+    requires shape { HasShape rows.old MAX_PARTITIONS MAX_PARTITIONS }
+    requires from { before < MAX_PARTITIONS }
+    requires to { id < MAX_PARTITIONS }
+    ensures shape { HasShape rows.new MAX_PARTITIONS MAX_PARTITIONS }
+    ensures marks { (p q : ℕ) → has_edge rows.new p q
+        ≡ (has_edge rows.old p q && (step_count before id p q == 0)) }
+{
+    if id == INITIAL as usize {
+        return;
+    }
+    rows.put(before, id, false);
+}
+
 /// Takes all marks away.
 fn clear_all(rows: &mut Rows)
     requires { HasShape rows.old MAX_PARTITIONS MAX_PARTITIONS }
@@ -43,15 +61,15 @@ fn clear_all(rows: &mut Rows)
     }
 }
 
-/// Marks the edges along these ids, which begin with a trace. What was marked before does not matter.
+/// Marks the edges along these ids, which begin with a trace.
 fn mark_along(rows: &mut Rows, ids: &[u16])
     requires shape { HasShape rows.old MAX_PARTITIONS MAX_PARTITIONS }
+    requires blank { AreBlank rows.old }
     requires within { All (λ p. p < MAX_PARTITIONS) ids.now }
     ensures shape { HasShape rows.new MAX_PARTITIONS MAX_PARTITIONS }
     ensures marks { (p q : ℕ) → p < MAX_PARTITIONS
         → has_edge rows.new p q ≡ nat_lt 0 (edges_along p q ids.now) }
 {
-    clear_all(rows);
     let mut before = TERMINAL as usize;
     for id in ids {
         mark_step(rows, before, usize::from(*id));
@@ -59,9 +77,42 @@ fn mark_along(rows: &mut Rows, ids: &[u16])
     }
 }
 
+/// Takes away the marks of the edges along these ids, which begin with a trace, where no others are marked.
+fn unmark_along(rows: &mut Rows, ids: &[u16])
+    requires shape { HasShape rows.old MAX_PARTITIONS MAX_PARTITIONS }
+    requires marks { (p q : ℕ) → p < MAX_PARTITIONS
+        → has_edge rows.old p q ≡ nat_lt 0 (edges_along p q ids.now) }
+    requires within { All (λ p. p < MAX_PARTITIONS) ids.now }
+    ensures shape { HasShape rows.new MAX_PARTITIONS MAX_PARTITIONS }
+    ensures blank { AreBlank rows.new }
+{
+    let mut before = TERMINAL as usize;
+    for id in ids {
+        unmark_step(rows, before, usize::from(*id));
+        before = usize::from(*id);
+    }
+}
+
+/// Takes all marks away, where those of the edges along these ids, which begin with a trace, are marked: along the ids if they are few, else row by row.
+fn unmark_all(rows: &mut Rows, ids: &[u16])
+    requires shape { HasShape rows.old MAX_PARTITIONS MAX_PARTITIONS }
+    requires marks { (p q : ℕ) → p < MAX_PARTITIONS
+        → has_edge rows.old p q ≡ nat_lt 0 (edges_along p q ids.now) }
+    requires within { All (λ p. p < MAX_PARTITIONS) ids.now }
+    ensures shape { HasShape rows.new MAX_PARTITIONS MAX_PARTITIONS }
+    ensures blank { AreBlank rows.new }
+{
+    if ids.len() > FEW_IDS {
+        return clear_all(rows);
+    }
+    unmark_along(rows, ids)
+}
+
 impl EdgeRows {
     /// Rows in which nothing is marked yet.
-    pub fn make(alloc: Global) -> Result<EdgeRows, AllocError> {
+    pub fn make(alloc: Global) -> Result<EdgeRows, AllocError>
+        ensures { IfOk result (λ made. AreBlank made.rows) }
+    {
         let rows = Rows::make(alloc, IDS, IDS)?;
         Ok(EdgeRows { rows })
     }
@@ -75,12 +126,23 @@ impl EdgeRows {
         self.rows.get(p, q)
     }
 
-    /// Marks the edges along these ids, which begin with a trace. What was marked before does not matter.
+    /// Marks the edges along these ids, which begin with a trace.
     pub fn mark(&mut self, ids: &[u16])
-        requires { All (λ p. p < MAX_PARTITIONS) ids.now }
+        requires blank { AreBlank (self.old).rows }
+        requires within { All (λ p. p < MAX_PARTITIONS) ids.now }
         ensures { (p q : ℕ) → p < MAX_PARTITIONS
             → has_edge (self.new).rows p q ≡ nat_lt 0 (edges_along p q ids.now) }
     {
         mark_along(&mut self.rows, ids);
+    }
+
+    /// Takes away the marks of the edges along these ids, which begin with a trace, where no others are marked.
+    pub fn unmark(&mut self, ids: &[u16])
+        requires marks { (p q : ℕ) → p < MAX_PARTITIONS
+            → has_edge (self.old).rows p q ≡ nat_lt 0 (edges_along p q ids.now) }
+        requires within { All (λ p. p < MAX_PARTITIONS) ids.now }
+        ensures { AreBlank (self.new).rows }
+    {
+        unmark_all(&mut self.rows, ids);
     }
 }

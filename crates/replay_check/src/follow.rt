@@ -1,12 +1,12 @@
 //! The steps of a history, followed from the first assignment of a log.
-ghost use Rattle.std.specs.Prelude.{◌≡◌, ◌+◌, ◌<◌, ◌≤◌, ◌^◌, ℕ, length, IfOk, MatchOption, All};
+ghost use Rattle.std.specs.Prelude.{◌≡◌, ◌+◌, ◌<◌, ◌≤◌, ◌^◌, ℕ, [], length, slice_index, slice_index_or, IfOk, All};
 ghost use Rattle.limits.specs.declared.TheConstants.{FIRST_TYPE, MAX_PARTITIONS};
 ghost use Rattle.model_shape.specs.Shapes.{IsWellShaped};
-ghost use Rattle.models.specs.Histories.{SplitInTurn, IsFirstWrongSplit};
 ghost use Rattle.partition_model.specs.Assignments.{Assignment, by_type};
 ghost use Rattle.replay_check.specs.Answers.{IsMerged, IsFollowed};
-ghost use Rattle.replay_check.specs.Laid.{inner_words_of};
-ghost use Rattle.replay_check.specs.Shown.{Shows};
+ghost use Rattle.replay_check.specs.Laid.{inner_words_of, HaveIdsBelow};
+ghost use Rattle.replay_check.specs.Sharing.{gathered, AreIdsOf};
+ghost use Rattle.replay_check.specs.Shown.{AreOwnPlaces, Shows};
 
 use crate::answer::Replay;
 use crate::counts::EdgeCounts;
@@ -14,8 +14,8 @@ use crate::edges::EdgeRows;
 use crate::graph::{has_graph, live_ids};
 use crate::ids::{own_places, rename};
 use crate::merges::first_wrong_merge;
-use crate::splits::{first_wrong_split, make_splits};
-use crate::words::lay_words;
+use crate::splits::first_wrong_split;
+use crate::words::gather;
 use invariants::Model;
 use models::ReplayPart;
 use std::alloc::{AllocError, Global};
@@ -54,50 +54,53 @@ fn follow_merges(
     Ok(Replay::No(ReplayPart::Graph))
 }
 
-/// The number of the first split of the model that is not right in its turn, from the first assignment of the log, where the first new id is `first`. `None` where all are right.
-pub fn wrong_split(
+/// Gathers the ids of all traces from those of the words, follows the merges from the assignment that they show, and compares the graph to which they lead.
+fn follow_traces(
     alloc: Global,
     model: &Model,
-    first: u32,
     traces: &TraceSet,
-) -> Result<Option<u32>, AllocError>
+    ids: &[u16],
+    places: &[usize],
+    types: &[u16],
+) -> Result<Replay, AllocError>
     requires shaped { IsWellShaped model.now }
-    requires first { first ≡ length (traces.now).types + FIRST_TYPE }
-    requires few { first ≤ MAX_PARTITIONS }
-    ensures { IfOk result (λ found. MatchOption found
-        (SplitInTurn model.now (by_type (inner_words_of traces.now)) first (model.now).splits)
-        (IsFirstWrongSplit model.now (by_type (inner_words_of traces.now)) first (model.now).splits)) }
+    requires types_size { length types.now ≡ MAX_PARTITIONS }
+    requires count { length places.now ≡ length (traces.now).traces }
+    requires inside { (t : ℕ) → t < length (traces.now).traces
+        → slice_index places.now t + (length (slice_index_or (inner_words_of traces.now) t []) + 2)
+        ≤ length ids.now }
+    requires within { All (λ p. p < MAX_PARTITIONS) (gathered ids.now places.now (inner_words_of traces.now)) }
+    ensures { IfOk result (λ answer. (h : Assignment) (n : ℕ)
+        → Shows h n (gathered ids.now places.now (inner_words_of traces.now)) types.now
+        → n ≤ MAX_PARTITIONS → IsMerged model.now h answer) }
 {
-    let mut ids = lay_words(alloc, traces)?;
-    let mut types = own_places(alloc)?;
-    let mut edges = EdgeRows::make(alloc)?;
-    let found = first_wrong_split(
-        model,
-        first,
-        ids.as_mut_slice(),
-        types.as_mut_slice(),
-        &mut edges,
-    );
-    Ok(found)
+    let mut all = gather(alloc, traces, ids, places)?;
+    let mut counts = EdgeCounts::make(alloc)?;
+    follow_merges(alloc, model, all.as_mut_slice(), types, &mut counts)
 }
 
-/// Makes the splits, which are right in their turn, and then follows the merges from the assignment that the ids show, where the first new id is `first`, and compares the graph to which they lead.
+/// Follows the splits over the words of the log, from its first assignment, where the first new id is `first`, and then the merges over all traces.
 pub fn follow(
     alloc: Global,
     model: &Model,
     first: u32,
+    traces: &TraceSet,
     ids: &mut [u16],
+    places: &[usize],
     types: &mut [u16],
 ) -> Result<Replay, AllocError>
     requires shaped { IsWellShaped model.now }
-    requires first { first ≤ MAX_PARTITIONS }
+    requires first { first ≡ length (traces.now).types + FIRST_TYPE }
+    requires few { first ≤ MAX_PARTITIONS }
+    requires laid { AreIdsOf (inner_words_of traces.now) ids.old places.now }
+    requires below { HaveIdsBelow (length (traces.now).types + FIRST_TYPE) (by_type (inner_words_of traces.now)) }
     requires types_size { length types.old ≡ MAX_PARTITIONS }
-    requires within { All (λ p. p < MAX_PARTITIONS) ids.old }
-    requires few { length ids.old < 2 ^ 31 }
-    ensures { IfOk result (λ answer. (h : Assignment) → Shows h first ids.old types.old
-        → SplitInTurn model.now h first (model.now).splits → IsFollowed model.now h first answer) }
+    requires types_are { AreOwnPlaces types.old }
+    ensures { IfOk result (IsFollowed model.now (by_type (inner_words_of traces.now)) first) }
 {
-    make_splits(model, first, ids, types);
-    let mut counts = EdgeCounts::make(alloc)?;
-    follow_merges(alloc, model, ids, types, &mut counts)
+    let mut edges = EdgeRows::make(alloc)?;
+    if let Some(k) = first_wrong_split(model, first, ids, types, &mut edges) {
+        return Ok(Replay::No(ReplayPart::Split(k)));
+    }
+    follow_traces(alloc, model, traces, ids, places, types)
 }

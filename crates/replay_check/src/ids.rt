@@ -1,41 +1,15 @@
 //! The ids of all events, trace behind trace, each trace between INITIAL and TERMINAL.
-ghost use Rattle.std.specs.Prelude.{◌≡◌, ◌==◌, ◌&&◌, ◌+◌, ◌<◌, ◌^◌, ℕ, if◌then◌else◌, length, map, slice_index, IfOk, All};
-ghost use Rattle.limits.specs.declared.TheConstants.{FIRST_TYPE, MAX_PARTITIONS};
-ghost use Rattle.partition_model.specs.Assignments.{by_type};
+ghost use Rattle.std.specs.Prelude.{◌≡◌, ◌==◌, ◌&&◌, ◌<◌, ℕ, if◌then◌else◌, length, map, slice_index, IfOk, All};
+ghost use Rattle.limits.specs.declared.TheConstants.{MAX_PARTITIONS};
 ghost use Rattle.partition_model.specs.Coarsening.{onto};
-ghost use Rattle.replay_check.specs.Laid.{inner_words_of, laid, moved, HaveIdsBelow};
+ghost use Rattle.replay_check.specs.Laid.{moved};
 ghost use Rattle.replay_check.specs.Shown.{AreOwnPlaces};
 
-use limits::{FIRST_TYPE, INITIAL, MAX_PARTITIONS, TERMINAL};
+use limits::MAX_PARTITIONS;
 use std::alloc::{AllocError, Global};
-use traces::TraceSet;
 
 /// How many ids there are at most.
 pub(crate) const IDS: usize = MAX_PARTITIONS as usize;
-
-/// The ids of the first assignment: each event has its type's number.
-pub fn lay_ids(alloc: Global, traces: &TraceSet) -> Result<Vec<u16>, AllocError>
-    ensures laid { IfOk result (λ ids. ids.items ≡ laid (by_type (inner_words_of traces.now))) }
-    ensures few { IfOk result (λ ids. length ids.items < 2 ^ 31) }
-    ensures within { IfOk result (λ ids. All (λ p. p < MAX_PARTITIONS) ids.items) }
-
-    // What the first assignment is like.
-    ensures below { IfOk result (λ ids.
-        HaveIdsBelow (length (traces.now).types + FIRST_TYPE) (by_type (inner_words_of traces.now))) }
-{
-    // Called for its contract alone, which says how many events there are at most: so the ids are few.
-    let _events = traces.event_count();
-
-    // Called for its contract alone, which says how many types there are at most: so each id is in range.
-    let _types = traces.types();
-    let mut ids = Vec::new(alloc);
-    for t in 0..traces.trace_count() {
-        ids.push(INITIAL as u16)?;
-        ids.extend_from_slice(traces.events(t))?;
-        ids.push(TERMINAL as u16)?;
-    }
-    Ok(ids)
-}
 
 /// The numbers below `MAX_PARTITIONS`, each at its own place.
 pub fn own_places(alloc: Global) -> Result<Vec<u16>, AllocError>

@@ -1,6 +1,6 @@
 //! Whether the history of a model is justified: its splits and its merges, followed one after another from the first graph of a log, are each permitted in their turn and lead to the graph of the model.
 //!
-//! Nothing here infers. The ids of events stand in one list, trace behind trace. The splits are judged over the words of the log, where a word that many traces have stands seldom more than once: which edges there are is read from rows of bits, and a split gives some events a new id. Then the same splits are made over all traces, and the merges rename ids. At the end partitions and edges are counted once and compared with those of the model.
+//! Nothing here infers. The ids of events stand in one list, trace behind trace. The splits are judged and made over the words of the log, where a word that many traces have stands seldom more than once: which edges there are is read from rows of bits, and a split gives some events a new id. Then each trace gets the ids of its word, and the merges rename ids. At the end partitions and edges are counted once and compared with those of the model.
 #![tactic(auto)]
 
 ghost use Rattle.std.specs.Prelude.{IfOk};
@@ -21,14 +21,15 @@ mod stitch;
 mod words;
 
 pub use answer::Replay;
-use follow::{follow, wrong_split};
-use ids::{lay_ids, own_places};
+use follow::follow;
+use ids::own_places;
 use invariants::Model;
 use limits::FIRST_TYPE;
 use listing::are_same;
 pub use models::ReplayPart;
 use std::alloc::{AllocError, Global};
 use traces::TraceSet;
+use words::lay_words;
 
 /// Whether the history of the well-shaped model is justified by the log of these traces: `Yes`, or `No` with the first step that fails, in the order types, splits, merges, graph. Neither the model nor the traces change. `AllocError` comes where there is not enough memory for the ids of the events or for the tables of ids and edges.
 pub fn replay(alloc: Global, model: &Model, traces: &TraceSet) -> Result<Replay, AllocError>
@@ -40,16 +41,16 @@ pub fn replay(alloc: Global, model: &Model, traces: &TraceSet) -> Result<Replay,
         return Ok(Replay::No(ReplayPart::Types));
     }
     let first_new = types.len() as u32 + FIRST_TYPE;
-    if let Some(k) = wrong_split(alloc, model, first_new, traces)? {
-        return Ok(Replay::No(ReplayPart::Split(k)));
-    }
-    let mut ids = lay_ids(alloc, traces)?;
+    let mut places = Vec::new(alloc);
+    let mut ids = lay_words(alloc, traces, &mut places)?;
     let mut id_types = own_places(alloc)?;
     follow(
         alloc,
         model,
         first_new,
+        traces,
         ids.as_mut_slice(),
+        places.as_slice(),
         id_types.as_mut_slice(),
     )
 }

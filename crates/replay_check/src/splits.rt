@@ -7,7 +7,7 @@ ghost use Rattle.models.specs.Histories.{IsJustifiedSplit, IsFirstWrongSplit, Sp
 ghost use Rattle.partition_model.specs.Assignments.{Assignment};
 ghost use Rattle.partition_model.specs.Graphs.{Breaks};
 ghost use Rattle.partition_model.specs.Refinement.{after_split};
-ghost use Rattle.replay_check.specs.Shown.{graph_in, Shows};
+ghost use Rattle.replay_check.specs.Shown.{graph_in, AreBlank, Shows};
 
 use crate::edges::EdgeRows;
 use crate::ids::move_events;
@@ -36,7 +36,7 @@ fn breaks(edges: &EdgeRows, types: &[u16], inv: Invariant, path: &[u32]) -> bool
     before == TERMINAL && Monitor::bad(inv, state)
 }
 
-/// Whether the split, whose new id is `n`, is right at the assignment that the ids show. What is marked before does not matter.
+/// Whether the split, whose new id is `n`, is right at the assignment that the ids show. No edge is marked before, and none afterwards.
 fn is_justified(
     model: &Model,
     n: u32,
@@ -48,12 +48,14 @@ fn is_justified(
     requires shaped { IsShapedSplit (length (model.now).invariants) split.now }
     requires size { length types.now ≡ MAX_PARTITIONS }
     requires within { All (λ p. p < MAX_PARTITIONS) ids.now }
+    requires blank { AreBlank (edges.old).rows }
     ensures right { (h : Assignment) (m : ℕ) → Shows h m ids.now types.now
         → IsTrue result ↔ IsJustifiedSplit model.now h n split.now }
 
     // What a split has to be that is made.
     ensures room { IsTrue result → n < MAX_PARTITIONS }
     ensures inside { IsTrue result → (split.now).place + 1 < length (split.now).path }
+    ensures blank { AreBlank (edges.new).rows }
 {
     if n >= MAX_PARTITIONS {
         return false;
@@ -63,9 +65,11 @@ fn is_justified(
     if place + 1 >= path.len() {
         return false;
     }
-    edges.mark(ids);
     let inv = model.invariants.as_slice()[split.inv as usize].inv;
-    if !breaks(edges, types, inv, path) {
+    edges.mark(ids);
+    let broken = breaks(edges, types, inv, path);
+    edges.unmark(ids);
+    if !broken {
         return false;
     }
     followed(ids, path).saturating_sub(1) == place
@@ -96,7 +100,7 @@ fn divide(split: &Split, n: u32, ids: &mut [u16], types: &mut [u16])
     types[n as usize] = types[p as usize];
 }
 
-/// The number of the first split that is not right in its turn, from the assignment that the ids show, where the first new id is `first`. `None` where all are right: the ids and their types are then those after all splits. What is marked before does not matter.
+/// The number of the first split that is not right in its turn, from the assignment that the ids show, where the first new id is `first`. `None` where all are right: the ids and their types are then those after all splits. No edge is marked before.
 pub fn first_wrong_split(
     model: &Model,
     first: u32,
@@ -108,6 +112,7 @@ pub fn first_wrong_split(
     requires first { first ≤ MAX_PARTITIONS }
     requires size { length types.old ≡ MAX_PARTITIONS }
     requires within { All (λ p. p < MAX_PARTITIONS) ids.old }
+    requires blank { AreBlank (edges.old).rows }
 
     // The answer, and what the ids and the types show then.
     ensures first { (h : Assignment) → Shows h first ids.old types.old
@@ -130,29 +135,4 @@ pub fn first_wrong_split(
         divide(split, n, ids, types);
     }
     None
-}
-
-/// Makes the splits of the model one after another, from the assignment that the ids show, where the first new id is `first`. Where they are right in their turn, the ids and their types are then those after all splits.
-pub fn make_splits(model: &Model, first: u32, ids: &mut [u16], types: &mut [u16])
-    requires shaped { IsWellShaped model.now }
-    requires first { first ≤ MAX_PARTITIONS }
-    requires size { length types.old ≡ MAX_PARTITIONS }
-    requires within { All (λ p. p < MAX_PARTITIONS) ids.old }
-    ensures shows { (h : Assignment) → Shows h first ids.old types.old → SplitInTurn model.now h first (model.now).splits
-        → Shows (split_by first (model.now).splits h) (first + length (model.now).splits) ids.new types.new }
-    ensures size { length types.new ≡ MAX_PARTITIONS }
-    ensures count { length ids.new ≡ length ids.old }
-    ensures within { All (λ p. p < MAX_PARTITIONS) ids.new }
-{
-    let splits = model.splits.as_slice();
-    for k in 0..splits.len() {
-        let split = &splits[k];
-        let n = first + k as u32;
-
-        // No split that is right in its turn is refused here.
-        if n >= MAX_PARTITIONS || split.place as usize + 1 >= split.path.as_slice().len() {
-            return;
-        }
-        divide(split, n, ids, types);
-    }
 }

@@ -9,8 +9,8 @@ pub loop-id-init : goal.loop-id-init
 loop-id-init c =
     record {
       within = omega arith;
-      shape = c.clear_all.ensures.shape;
-      marked = marks-first c.clear_all.new.rows c.args.ids.now c.clear_all.ensures.marks;
+      shape = c.requires.shape;
+      marked = marks-first c.args.rows.now c.args.ids.now c.requires.blank;
     }
 
 pub loop-id-preserved : goal.loop-id-preserved

@@ -1,9 +1,25 @@
-use Rattle.std.proofs.Common.{◌≡◌, ◌<◌, ℕ, List, Bool, true, false, nat_lt, get_or, sym, ◌∙◌, ap, subst, arith}
-use Rattle.std.proofs.lemmas.List.{get_or-replicate, with_items_is}
+use Rattle.std.proofs.Common.{◌≡◌, ◌<◌, ℕ, List, Bool, true, false, nat_lt, length, get_or, sym, ◌∙◌, ap, subst, arith}
+use Rattle.std.proofs.lemmas.List.{get_or-replicate, length-replicate, with_items_is}
 use Rattle.limits.specs.declared.TheConstants.{MAX_PARTITIONS}
 use Rattle.replay_check.specs.Shown.{Knows}
 use Rattle.replay_check.proofs.Known.{knows-live}
 use Rattle.replay_check.proofs.graph.live_ids.Goals as goal
+use Rattle.replay_check.proofs.graph.live_ids.Goals.{In_ok-live}
+
+-- how long the list is at first
+long : (c : In_ok-live) → length c.in_ok-live.live.items ≡ MAX_PARTITIONS
+long c = ap length (c.in_ok-live.ensures.items_if_clones_equal (λ y same. same)) ∙ length-replicate {A = Bool} MAX_PARTITIONS true
+
+pub mark_live-requires-clause-live_size : goal.mark_live-requires-clause-live_size
+mark_live-requires-clause-live_size c = ap length c.as_mut_slice.ensures.value ∙ long (goal.at.mark_live-requires-clause-live_size c).In_ok-live
+
+pub mark_live-requires-clause-size : goal.mark_live-requires-clause-size
+mark_live-requires-clause-size c = ap length c.as_slice.ensures.value ∙ c.in_ok-sizes.ensures.size
+
+pub returns-clause-size : goal.returns-clause-size
+returns-clause-size c =
+    ap length (with_items_is c.in_ok-live.live c.mark_live.new.live (omega (arith, c.mark_live.auto.live, c.as_mut_slice.ensures.len)))
+    ∙ c.mark_live.ensures.size ∙ ap length c.as_mut_slice.ensures.value ∙ long (goal.at.returns-clause-size c).In_ok-live
 
 pub returns-clause-live : goal.returns-clause-live
 returns-clause-live c = λ h n types s l.

@@ -41,6 +41,7 @@ loop-k-init c =
       size = c.requires.size;
       count = refl;
       within = c.requires.within;
+      blank = c.requires.blank;
       made = λ h s. (
         h,
         subst (λ n. Shows h n c.args.ids.now c.args.types.now) e s,
@@ -86,6 +87,7 @@ loop-k-preserved c =
       size = c.divide.ensures.size;
       count = c.divide.ensures.count ∙ c.loop-k.invariant.count;
       within = c.divide.ensures.within;
+      blank = c.is_justified.ensures.blank;
       made = λ h s.
           let o = c.loop-k.invariant.made h s in
           let i : IsSplitting m h c.args.first m.splits o.0 (c.args.first + k) (c.index-splits-k.result ∷ drop (k + 1) m.splits) k =

@@ -2,7 +2,7 @@ use Rattle.std.proofs.Common.{◌≡◌, ◌+◌, ◌<◌, ◌≤◌, drop, leng
 use Rattle.std.specs.List.{All}
 use Rattle.limits.specs.declared.TheConstants.{MAX_PARTITIONS}
 use Rattle.partition_model.specs.Assignments.{Assignment}
-use Rattle.replay_check.specs.Shown.{Shows}
+use Rattle.replay_check.specs.Shown.{AreBlank, Shows}
 use Rattle.replay_check.proofs.Steps.{IsSplitting}
 use Rattle.replay_check.proofs.splits.first_wrong_split.Given as goal
 
@@ -13,6 +13,7 @@ invariant-loop-k l =
       size : length l.types ≡ MAX_PARTITIONS;
       count : length l.ids ≡ length l.initial.ids;
       within : All (λ p. p < MAX_PARTITIONS) l.ids;
+      blank : AreBlank l.edges.rows;
       made : (h : Assignment) → Shows h l.first l.initial.ids l.initial.types
           → (now : Assignment) × Shows now (l.first + l.k) l.ids l.types
           × IsSplitting l.model h l.first l.model.splits now (l.first + l.k) (drop l.k l.model.splits) l.k;

@@ -29,11 +29,11 @@ returns-then-place-path-clause-right c = λ h m s. (
   λ j. absurd (let r : c.args.split.now.place + 1 < length c.args.split.now.path = j.inside in omega (arith, c.if-place-path.true, ap length c.as_slice-path.ensures)),
 )
 
-pub breaks-requires-clause-within : goal.breaks-requires-clause-within
-breaks-requires-clause-within c = subst (λ (xs : List ℕ). All (λ p. p < MAX_PARTITIONS) xs) (sym c.as_slice-path.ensures) (All-from_recursion (λ p. p < MAX_PARTITIONS) c.args.split.now.path c.requires.shaped.path)
+pub breaks-broken-requires-clause-within : goal.breaks-broken-requires-clause-within
+breaks-broken-requires-clause-within c = subst (λ (xs : List ℕ). All (λ p. p < MAX_PARTITIONS) xs) (sym c.as_slice-path.ensures) (All-from_recursion (λ p. p < MAX_PARTITIONS) c.args.split.now.path c.requires.shaped.path)
 
-pub returns-then-not-breaks-clause-right : goal.returns-then-not-breaks-clause-right
-returns-then-not-breaks-clause-right c = λ h m s.
+pub returns-then-not-broken-clause-right : goal.returns-then-not-broken-clause-right
+returns-then-not-broken-clause-right c = λ h m s.
     let mo : Model = c.args.model.now in
     let sp : Split = c.args.split.now in
     let rows : List (List Bool) = c.mark.new.self.rows in
@@ -45,7 +45,7 @@ returns-then-not-breaks-clause-right c = λ h m s.
       λ j. absurd (
           let q : j.listed ≡ l = some-same j.listed l (sym j.names ∙ names) in
           let b : Breaks (G h) l.inv sp.path = subst (λ (x : Listed). Breaks (G h) x.inv sp.path) q j.breaks in
-          true≢false (sym (c.breaks.ensures.1 (subst (λ (xs : List ℕ). Breaks (graph_in rows c.args.types.now) l.inv xs) (sym c.as_slice-path.ensures) (same.1 b))) ∙ c.if-not-breaks.true)),
+          true≢false (sym (c.breaks-broken.ensures.1 (subst (λ (xs : List ℕ). Breaks (graph_in rows c.args.types.now) l.inv xs) (sym c.as_slice-path.ensures) (same.1 b))) ∙ c.if-not-broken.true)),
     )
 
 pred-is : (n : ℕ) → pred n ≡ n - 1
@@ -66,7 +66,7 @@ returns-clause-right c = λ h m s.
       λ t. record {
         listed = l;
         names = names;
-        breaks = same.0 (subst (λ (xs : List ℕ). Breaks (graph_in rows c.args.types.now) l.inv xs) c.as_slice-path.ensures (c.breaks.ensures.0 c.if-not-breaks.false));
+        breaks = same.0 (subst (λ (xs : List ℕ). Breaks (graph_in rows c.args.types.now) l.inv xs) c.as_slice-path.ensures (c.breaks-broken.ensures.0 c.if-not-broken.false));
         place = sym (eqb-true c.saturating_sub.result sp.place t) ∙ at;
         inside = omega (arith, c.if-place-path.false, ap length c.as_slice-path.ensures);
         room = omega (arith, c.if-n-ge-MAX_PARTITIONS.false);

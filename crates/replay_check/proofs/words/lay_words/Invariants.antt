@@ -9,6 +9,6 @@ abbrev pub invariant-loop-t : goal.invariant-loop-t
 invariant-loop-t l =
     record {
       size : length l.kept.items ≡ SLOTS;
-      laying : IsLaying (inner_words_of l.traces) l.t l.kept.items l.ids.items;
+      laying : IsLaying (inner_words_of l.traces) l.t l.kept.items l.places.items l.ids.items;
       ranged : AreRanged (length l.traces.types + 2) (take l.t (inner_words_of l.traces));
     }
