@@ -2,7 +2,7 @@
 use Rattle.std.proofs.Common.{◌≡◌, ◌≤◌, ℕ, length, Bool, true, false, not, List, [], Option, Some, None, unwrap_or, Result, Ok, Err, refl, sym, ap, ap₂, ◌∙◌}
 use Rattle.std.specs.Option.{option_and_then}
 use Rattle.serde_json.specs.Data.{Data, object, Members}
-use Rattle.serde_json.specs.Find.{get_member, as_object, as_number, as_u64}
+use Rattle.serde_json.specs.Find.{get_member, as_str, as_object, as_number, as_u64}
 use Rattle.std.specs.Prelude.{codes}
 use Rattle.invariants.specs.declared.Kinds.{Kinds}
 use Rattle.invariants.specs.declared.Kinds.TheVariants.{Three}
@@ -19,7 +19,10 @@ use Rattle.model_file.specs.declared.refusal.FileError.TheVariants.{Shape}
 use Rattle.model_file.specs.declared.refusal.Field.{Field}
 use Rattle.model_file.specs.declared.refusal.Field.TheVariants.{Root, Extra, Types, Kinds as KindsField, Partitions, Edges, Invariants, Merges, Splits, Blocks}
 use Rattle.model_file.specs.Versions.{max_types, max_bytes}
-use Rattle.model_file.specs.Rules.{types_hold, partitions_hold, edges_hold, invariants_hold, merges_hold, splits_hold, blocks_hold}
+use Rattle.model_file.specs.Rules.{type_of, types_hold, partitions_hold, edges_hold, invariants_hold, merges_hold, splits_hold, blocks_hold}
+use Rattle.model_file.specs.Entries.{listed_in, split_in, block_in}
+use Rattle.model_file.specs.Lists.{types_over, invariants_over, splits_over, blocks_over}
+use Rattle.model_file.proofs.Kept.{kept-tested, types-break, invariants-break, splits-break, blocks-break}
 use Rattle.model_file.proofs.Fails.{reads-value}
 use Rattle.model_file.proofs.Shapes.{tested-ok, ok-is}
 use Rattle.model_file.specs.declared.found.Found.{Found}
@@ -40,10 +43,66 @@ unfolding head_in root_in version_in keys_in found_in
 of-object version ms =
     ap₂ (λ n b. if_of version n >>= λ v. tested Extra b tt) (in-turn (get_member (codes "version") ms)) (not-not (has_no_extra version ms))
 
+-- the same steps after the same answer
+then-same : {A B : Type 0} (r s : Result A FileError) (f g : A → Result B FileError) → r ≡ s → ((x : A) → f x ≡ g x) → (r >>= f) ≡ (s >>= g)
+then-same {A} {B} r s f g e h = ap (λ t. t >>= f) e ∙ steps s
+  where
+    steps : (t : Result A FileError) → (t >>= f) ≡ (t >>= g)
+    steps (Ok x) = h x
+    steps (Err e) = refl
+
+module _ (version : Version) (ms : Members) where
+  -- the members' value, and what is found in it
+  abbrev Value : Data
+  Value = object ms
+
+  abbrev It : Found
+  It = found_in version ms
+
+  types-found : types_in version Value ≡ types_from version It
+  unfolding types_in part_in found_in
+  types-found = kept-tested types_over (types_hold (max_types version)) (types-break version) as_str Types (get_member (codes "types") ms)
+
+  invariants-found : (kinds : Kinds) (types partitions : ℕ) → invariants_in kinds types partitions Value ≡ invariants_from kinds types partitions It
+  unfolding invariants_in part_in found_in
+  invariants-found kinds types partitions = kept-tested invariants_over (invariants_hold kinds types partitions) (invariants-break kinds types partitions) listed_in Invariants (get_member (codes "invariants") ms)
+
+  splits-found : (invariants : ℕ) → splits_in invariants Value ≡ splits_from invariants It
+  unfolding splits_in part_in found_in
+  splits-found invariants = kept-tested splits_over (splits_hold invariants) (splits-break invariants) split_in Splits (get_member (codes "splits") ms)
+
+  blocks-found : (type : ℕ → Option ℕ) (invariants : ℕ) (ss : List Split) → blocks_in type invariants ss Value ≡ blocks_from type invariants ss It
+  unfolding blocks_in part_in found_in
+  blocks-found type invariants ss = kept-tested blocks_over (blocks_hold type invariants ss) (blocks-break type invariants ss) block_in Blocks (get_member (codes "blocks") ms)
+
+  partitions-found : (types : ℕ) → partitions_in types Value ≡ partitions_from types It
+  unfolding partitions_in part_in found_in
+  partitions-found types = refl
+
+  edges-found : (type : ℕ → Option ℕ) → edges_in type Value ≡ edges_from type It
+  unfolding edges_in part_in found_in
+  edges-found type = refl
+
+  merges-found : merges_in Value ≡ merges_from It
+  unfolding merges_in part_in found_in
+  merges-found = refl
+
+kinds-found : (version : Version) (ms : Members) → kinds_in version (object ms) ≡ kinds_tested version (found_in version ms)
+unfolding kinds_in found_in
+kinds-found One ms = refl
+kinds-found Two ms = refl
+
 of-parts : (version : Version) (ms : Members) → parts_in version (object ms) ≡ parts_from version (found_in version ms)
-unfolding parts_in types_in kinds_in partitions_in edges_in invariants_in merges_in splits_in blocks_in part_in found_in
-of-parts One ms = refl
-of-parts Two ms = refl
+unfolding parts_in
+of-parts version ms =
+    then-same _ _ _ _ (types-found version ms) (λ ts.
+    then-same _ _ _ _ (kinds-found version ms) (λ kinds.
+    then-same _ _ _ _ (partitions-found version ms (length ts)) (λ ps.
+    then-same _ _ _ _ (edges-found version ms (type_of ps)) (λ es.
+    then-same _ _ _ _ (invariants-found version ms kinds (length ts) (length ps)) (λ ls.
+    then-same _ _ _ _ (merges-found version ms) (λ ns.
+    then-same _ _ _ _ (splits-found version ms (length ls)) (λ ss.
+    ap (λ r. r >>= λ bs. Ok (record { types = ts; kinds = kinds; partitions = ps; edges = es; invariants = ls; splits = ss; merges = ns; blocks = bs })) (blocks-found version ms (type_of ps) (length ls) ss))))))))
 
 module _ (version : Version) (f : Found) (d : Data) (h : HasMembers version f d) where
   pub head-is : head_in version d ≡ head_from version f

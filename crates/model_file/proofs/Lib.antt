@@ -23,3 +23,5 @@ pub mod Listing
 pub mod Entering
 pub mod Finding
 pub mod FoundIs
+pub mod Rising
+pub mod Kept

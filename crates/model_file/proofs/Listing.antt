@@ -1,17 +1,16 @@
 -- Lists and rows that are read an item at a time.
-use Rattle.std.proofs.Common.{◌≡◌, ℕ, ◌-◌, ◌<◌, ◌≤◌, List, [], ◌∷◌, ◌++◌, length, Option, Some, None, Result, Ok, Err, refl, sym, ap, ap₂, ◌∙◌, subst, arith, append-nil, append_assoc}
+use Rattle.std.proofs.Common.{◌≡◌, ℕ, ◌-◌, ◌<◌, ◌≤◌, List, [], ◌∷◌, ◌++◌, length, Bool, Option, Some, None, option_map, Result, refl, sym, ap, ap₂, ◌∙◌, subst, arith, append-nil, append_assoc}
 use Rattle.json.specs.Token.{Token}
 use Rattle.json.specs.Json.{parse_map, after_end_array, value}
 use Rattle.json.proofs.Grammar.{left_some}
-use Rattle.serde_json.specs.Data.{Data, array, Items, no_items, item}
+use Rattle.serde_json.specs.Data.{Data, array, Items, item}
 use Rattle.serde_json.specs.Find.{as_array}
 use Rattle.model_file.specs.Entries.{◌>>=◌, each, list_in}
-use Rattle.model_file.specs.Lists.{no_fields, one_more, both, appended}
+use Rattle.model_file.specs.Lists.{no_fields, one_more, both, added, kept_after, kept, kept_each, kept_in, never_over}
 use Rattle.model_file.specs.declared.stream.Stop.{Stop}
 use Rattle.model_file.specs.declared.stream.Stop.TheVariants.{NotJson, Memory}
 use Rattle.model_file.specs.Streams.{data_at, items_at, after, IsStopped, Answers}
 use Rattle.model_file.proofs.Grammar.{item_read, item_refused, items_over}
-use Rattle.model_file.proofs.Streaming.{none-read}
 
 -- ---- readings under a map
 
@@ -71,54 +70,68 @@ module _ (depth n : ℕ) (ts r : List Token) (some : length ts ≤ n) (less : le
 -- ---- lists
 
 -- what was read before, and what is still to be read
-abbrev pub joined : {A : Type 0} → Option (List A) → Option (List A) → Option (List A)
-joined front rest = front >>= λ xs. rest >>= λ ys. Some (xs ++ ys)
+abbrev pub joined : {A : Type 0} → (List A → Bool) → Option (List A) → Option (List A) → Option (List A)
+joined over front rest = front >>= λ xs. rest >>= λ ys. Some (kept_after over xs ys)
 
-joined-first : {A : Type 0} (rest : Option (List A)) → rest ≡ joined (Some []) rest
-joined-first None = refl
-joined-first (Some ys) = refl
+joined-first : {A : Type 0} (over : List A → Bool) (rest : Option (List A)) → option_map (kept over) rest ≡ joined over (Some []) rest
+joined-first over None = refl
+joined-first over (Some ys) = refl
 
-joined-last : {A : Type 0} (front : Option (List A)) → joined front (Some []) ≡ front
-joined-last None = refl
-joined-last (Some xs) = ap Some (append-nil xs)
+joined-last : {A : Type 0} (over : List A → Bool) (front : Option (List A)) → joined over front (Some []) ≡ front
+joined-last over None = refl
+joined-last over (Some xs) = refl
 
-joined-next : {A : Type 0} (front : Option (List A)) (x : Option A) (rest : Option (List A)) → joined front (x >>= λ a. rest >>= λ ys. Some (a ∷ ys)) ≡ joined (appended front x) rest
-joined-next None x rest = refl
-joined-next (Some xs) None rest = refl
-joined-next (Some xs) (Some a) None = refl
-joined-next (Some xs) (Some a) (Some ys) = ap Some (sym (append_assoc xs (a ∷ []) ys))
+joined-next : {A : Type 0} (over : List A → Bool) (front : Option (List A)) (x : Option A) (rest : Option (List A)) → joined over front (x >>= λ a. rest >>= λ ys. Some (a ∷ ys)) ≡ joined over (added over front x) rest
+joined-next over None x rest = refl
+joined-next over (Some xs) None rest = refl
+joined-next over (Some xs) (Some a) None = refl
+joined-next over (Some xs) (Some a) (Some ys) = refl
 
-module _ {A : Type 0} (f : Data → Option A) where
-  pub list-begins : (o : Option (Items × List Token)) (front : Option (List A)) → front ≡ Some [] → parse_map (each f) o ≡ parse_map (λ ds. joined front (each f ds)) o
+-- a list that is never over is kept whole
+kept-all : {A : Type 0} (front xs : List A) → kept_after never_over front xs ≡ front ++ xs
+kept-all front [] = sym (append-nil front)
+kept-all front (x ∷ xs) = kept-all (front ++ x ∷ []) xs ∙ append_assoc front (x ∷ []) xs
+
+pub kept-whole : {A : Type 0} (o : Option (List A)) → option_map (kept never_over) o ≡ o
+kept-whole None = refl
+kept-whole (Some xs) = ap Some (kept-all [] xs)
+
+-- a reading of a list that is kept whole
+pub whole-list : {A : Type 0} (f : Data → Option A) (o : Option (Data × List Token)) → parse_map (kept_in never_over f) o ≡ parse_map (list_in f) o
+whole-list f None = refl
+whole-list f (Some p) = ap (λ x. Some (x, p.1)) (kept-whole (list_in f p.0))
+
+module _ {A : Type 0} (over : List A → Bool) (f : Data → Option A) where
+  pub list-begins : (o : Option (Items × List Token)) (front : Option (List A)) → front ≡ Some [] → parse_map (kept_each over f) o ≡ parse_map (λ ds. joined over front (each f ds)) o
   list-begins None front is = refl
-  list-begins (Some p) front is = ap (λ x. Some (x, p.1)) (joined-first (each f p.0) ∙ ap (λ b. joined b (each f p.0)) (sym is))
+  list-begins (Some p) front is = ap (λ x. Some (x, p.1)) (joined-first over (each f p.0) ∙ ap (λ b. joined over b (each f p.0)) (sym is))
 
-  inside : (d : Data) (front : Option (List A)) (o : Option (Items × List Token)) → parse_map (λ ds. joined front (each f ds)) (parse_map (item d) o) ≡ parse_map (λ ds. joined (appended front (f d)) (each f ds)) o
+  inside : (d : Data) (front : Option (List A)) (o : Option (Items × List Token)) → parse_map (λ ds. joined over front (each f ds)) (parse_map (item d) o) ≡ parse_map (λ ds. joined over (added over front (f d)) (each f ds)) o
   inside d front None = refl
-  inside d front (Some p) = ap (λ x. Some (x, p.1)) (joined-next front (f d) (each f p.0))
+  inside d front (Some p) = ap (λ x. Some (x, p.1)) (joined-next over front (f d) (each f p.0))
 
   module _ (depth n : ℕ) (ts : List Token) (some : length ts ≤ n) (front : Option (List A)) where
-    pub list-goes-on : (r : List Token) (x : Option A) (next : Option (List A)) → length r < length ts → after_end_array ts ≡ None → parse_map f (data_at depth ts) ≡ Some (x, r) → next ≡ appended front x
-        → parse_map (λ ds. joined front (each f ds)) (items_at n depth ts) ≡ parse_map (λ ds. joined next (each f ds)) (items_at (n - 1) depth r)
+    pub list-goes-on : (r : List Token) (x : Option A) (next : Option (List A)) → length r < length ts → after_end_array ts ≡ None → parse_map f (data_at depth ts) ≡ Some (x, r) → next ≡ added over front x
+        → parse_map (λ ds. joined over front (each f ds)) (items_at n depth ts) ≡ parse_map (λ ds. joined over next (each f ds)) (items_at (n - 1) depth r)
     list-goes-on r x next less going first is =
         let d = read-some f (data_at depth ts) x r first in
-        ap (parse_map (λ ds. joined front (each f ds))) (item_read (value depth) n ts r d.0 (omega (arith, some, less)) going d.1) ∙ inside d.0 front (items_at (n - 1) depth r)
-        ∙ ap (λ b. parse_map (λ ds. joined b (each f ds)) (items_at (n - 1) depth r)) (ap (appended front) d.2 ∙ sym is)
+        ap (parse_map (λ ds. joined over front (each f ds))) (item_read (value depth) n ts r d.0 (omega (arith, some, less)) going d.1) ∙ inside d.0 front (items_at (n - 1) depth r)
+        ∙ ap (λ b. parse_map (λ ds. joined over b (each f ds)) (items_at (n - 1) depth r)) (ap (added over front) d.2 ∙ sym is)
 
-    pub list-ends : (r : List Token) (all : Option (List A)) → after_end_array ts ≡ Some r → all ≡ front → parse_map (λ ds. joined front (each f ds)) (items_at n depth ts) ≡ Some (all, r)
-    list-ends r all over is = ap (parse_map (λ ds. joined front (each f ds))) (items_over (value depth) n ts r some over) ∙ ap (λ x. Some (x, r)) (joined-last front ∙ sym is)
+    pub list-ends : (r : List Token) (all : Option (List A)) → after_end_array ts ≡ Some r → all ≡ front → parse_map (λ ds. joined over front (each f ds)) (items_at n depth ts) ≡ Some (all, r)
+    list-ends r all end is = ap (parse_map (λ ds. joined over front (each f ds))) (items_over (value depth) n ts r some end) ∙ ap (λ x. Some (x, r)) (joined-last over front ∙ sym is)
 
-    pub list-stopped : (e : Stop) (whole : Option (Option (List A) × List Token)) → after_end_array ts ≡ None → IsStopped e (parse_map f (data_at depth ts)) → whole ≡ parse_map (λ ds. joined front (each f ds)) (items_at n depth ts) → IsStopped e whole
-    list-stopped e whole going h is = subst (IsStopped e) (sym is) (stopped-by f (data_at depth ts) (λ ds. joined front (each f ds)) (items_at n depth ts) e (item_refused (value depth) n ts going) h)
+    pub list-stopped : (e : Stop) (whole : Option (Option (List A) × List Token)) → after_end_array ts ≡ None → IsStopped e (parse_map f (data_at depth ts)) → whole ≡ parse_map (λ ds. joined over front (each f ds)) (items_at n depth ts) → IsStopped e whole
+    list-stopped e whole going h is = subst (IsStopped e) (sym is) (stopped-by f (data_at depth ts) (λ ds. joined over front (each f ds)) (items_at n depth ts) e (item_refused (value depth) n ts going) h)
 
-  in-array : (o : Option (Items × List Token)) → parse_map (each f) o ≡ parse_map (list_in f) (parse_map array o)
+  in-array : (o : Option (Items × List Token)) → parse_map (kept_each over f) o ≡ parse_map (kept_in over f) (parse_map array o)
   unfolding list_in
   in-array None = refl
   in-array (Some p) = refl
 
-  pub list-inside : (r : Result (Option (List A)) Stop) (o : Option (Items × List Token)) (whole : Option (Data × List Token)) (left : List Token) → whole ≡ parse_map array o → Answers r (parse_map (each f) o) left → Answers r (parse_map (list_in f) whole) left
-  list-inside r o whole left is h = subst (λ w. Answers r w left) (in-array o ∙ ap (parse_map (list_in f)) (sym is)) h
+  pub list-inside : (r : Result (Option (List A)) Stop) (o : Option (Items × List Token)) (whole : Option (Data × List Token)) (left : List Token) → whole ≡ parse_map array o → Answers r (parse_map (kept_each over f) o) left → Answers r (parse_map (kept_in over f) whole) left
+  list-inside r o whole left is h = subst (λ w. Answers r w left) (in-array o ∙ ap (parse_map (kept_in over f)) (sym is)) h
 
-  pub no-list : (whole : Option (Data × List Token)) (d : Data) (left : List Token) → whole ≡ Some (d, left) → as_array d ≡ None → parse_map (list_in f) whole ≡ Some (None, left)
+  pub no-list : (whole : Option (Data × List Token)) (d : Data) (left : List Token) → whole ≡ Some (d, left) → as_array d ≡ None → parse_map (kept_in over f) whole ≡ Some (None, left)
   unfolding list_in
-  no-list whole d left is none = ap (parse_map (list_in f)) is ∙ ap (λ o. Some (o >>= each f, left)) none
+  no-list whole d left is none = ap (parse_map (kept_in over f)) is ∙ ap (λ o. Some (option_map (kept over) (o >>= each f), left)) none

@@ -1,5 +1,5 @@
 -- The tokens of a text, a value at a time.
-use Rattle.std.proofs.Common.{◌≡◌, ℕ, zero, suc, ◌-◌, ◌<◌, ◌≤◌, ◌≢◌, List, [], ◌∷◌, length, Option, Some, None, option_map, Result, Ok, Err, refl, sym, ap, ◌∙◌, subst, arith, Bor}
+use Rattle.std.proofs.Common.{◌≡◌, ℕ, zero, suc, ◌-◌, ◌<◌, ◌≢◌, List, [], ◌∷◌, length, Option, Some, None, option_map, Result, Ok, Err, refl, sym, ap, ◌∙◌, subst, arith, Bor}
 use Rattle.std.specs.Prelude.{MatchResult}
 use Rattle.json.specs.Token.{Token}
 use Rattle.json.specs.Json as json
@@ -7,14 +7,13 @@ use Rattle.json.specs.Json.{Parse, parse_map, after_end_array, read_key, items, 
 use Rattle.json.specs.Reads.{token_of}
 use Rattle.json.specs.declared.token.Token.{Token as Read}
 use Rattle.json.specs.declared.token.Token.TheVariants as read
-use Rattle.json.proofs.Grammar.{left-parse_map, left_some, left_none, value_is, value-begin_array, value-begin_object}
-use Rattle.serde_json.specs.Data.{Num, Data, null, boolean, number, string, array, object, Items, no_items, item, Members, no_members, put}
-use Rattle.serde_json.specs.Find.{as_number, as_u64, as_str, as_array, as_object}
-use Rattle.serde_json.specs.Read.{number_of, of_json, of_items, of_members, converted}
+use Rattle.json.proofs.Grammar.{left-parse_map, left_some, value_is, value-begin_array, value-begin_object}
+use Rattle.serde_json.specs.Data.{Num, Data, null, boolean, number, string, array, object, Items, item, Members, no_members}
+use Rattle.serde_json.specs.Find.{as_str, as_array, as_object}
+use Rattle.serde_json.specs.Read.{number_of, of_json, of_items, converted}
 use Rattle.model_file.proofs.Grammar.{converted-array, converted-object, item_read}
 use Rattle.model_file.specs.declared.stream.Stop.{Stop}
-use Rattle.model_file.specs.declared.stream.Stop.TheVariants.{NotJson, Memory}
-use Rattle.model_file.specs.Streams.{data_at, items_at, members_at, after, whole_in, whole_from, IsStopped, Answers, Opens}
+use Rattle.model_file.specs.Streams.{data_at, items_at, members_at, after, whole_in, whole_from, Answers}
 
 -- ---- one value
 

@@ -147,7 +147,7 @@ listed-leads : (kinds : Kinds) (types : ℕ) (x : Listed) (xs : List Listed) →
 listed-leads kinds types x [] l = tt
 listed-leads kinds types x (y ∷ ys) l = l
 
-listed-ascends : (kinds : Kinds) (types : ℕ) (xs : List Listed) → Ascends (CandidateBefore kinds types) (map (λ (l : Listed). l.inv) xs) → Ascends (ListedBefore kinds types) xs
+pub listed-ascends : (kinds : Kinds) (types : ℕ) (xs : List Listed) → Ascends (CandidateBefore kinds types) (map (λ (l : Listed). l.inv) xs) → Ascends (ListedBefore kinds types) xs
 listed-ascends kinds types [] a = tt
 listed-ascends kinds types (x ∷ xs) a = (listed-leads kinds types x xs a.0, listed-ascends kinds types xs a.1)
 

@@ -1,5 +1,5 @@
 -- What a model file has under each of its keys.
-use Rattle.std.specs.Prelude.{◌≡◌, ◌||◌, ℕ, Bool, true, false, not, List, [], length, codes, Option, Some, None, Result, Ok, Err, unwrap_or}
+use Rattle.std.specs.Prelude.{◌≡◌, ℕ, Bool, true, false, not, List, [], length, codes, Option, None, Result, Ok, Err, unwrap_or}
 use Rattle.std.specs.List.{list_any}
 use Rattle.std.specs.Option.{option_and_then}
 use Rattle.std.specs.Str.{bytes_eq}
@@ -20,6 +20,7 @@ use Rattle.model_file.specs.Versions.{keys, max_types}
 use Rattle.model_file.specs.Rules.{types_hold, partitions_hold, type_of, edges_hold, invariants_hold, merges_hold, splits_hold, blocks_hold}
 use Rattle.model_file.specs.Entries.{list_in, kinds_named, partition_in, edge_in, listed_in, merge_in, split_in, block_in}
 use Rattle.model_file.specs.Streams.{whole_in}
+use Rattle.model_file.specs.Lists.{kept_in, types_over, invariants_over, splits_over, blocks_over}
 use Rattle.model_file.specs.Reading.{◌>>=◌, or_shape, tested, if_of, has_no_extra, Fails}
 use Rattle.model_file.specs.declared.refusal.Field.TheVariants as field
 use Rattle.model_file.specs.declared.refusal.FileError.{FileError}
@@ -42,19 +43,19 @@ nothing = record {
   blocks = None;
 }
 
--- what a look-up of keys finds, each value read in the form of its key
+-- what a look-up of keys finds, each value read in the form of its key; of a list that no model has, only the front is kept
 abbrev pub found_by : Bool → (List ℕ → Option Data) → Found
 found_by has_extra get = record {
   has_extra = has_extra;
   version = option_and_then whole_in (get (codes "version"));
-  types = option_and_then (list_in as_str) (get (codes "types"));
+  types = option_and_then (kept_in types_over as_str) (get (codes "types"));
   kinds = option_and_then kinds_named (get (codes "kinds"));
   partitions = option_and_then (list_in partition_in) (get (codes "partitions"));
   edges = option_and_then (list_in edge_in) (get (codes "edges"));
-  invariants = option_and_then (list_in listed_in) (get (codes "invariants"));
+  invariants = option_and_then (kept_in invariants_over listed_in) (get (codes "invariants"));
   merges = option_and_then (list_in merge_in) (get (codes "merges"));
-  splits = option_and_then (list_in split_in) (get (codes "splits"));
-  blocks = option_and_then (list_in block_in) (get (codes "blocks"));
+  splits = option_and_then (kept_in splits_over split_in) (get (codes "splits"));
+  blocks = option_and_then (kept_in blocks_over block_in) (get (codes "blocks"));
 }
 
 -- what the members of a file of this version have
@@ -85,14 +86,14 @@ IsKey key.Other text = list_any (bytes_eq text) (keys Two) ≡ false
 
 -- what is found once the key has this value
 abbrev pub with_field : Key → Data → Found → Found
-with_field key.Blocks d f = record f { blocks = list_in block_in d }
+with_field key.Blocks d f = record f { blocks = kept_in blocks_over block_in d }
 with_field key.Edges d f = record f { edges = list_in edge_in d }
-with_field key.Invariants d f = record f { invariants = list_in listed_in d }
+with_field key.Invariants d f = record f { invariants = kept_in invariants_over listed_in d }
 with_field key.Kinds d f = record f { kinds = kinds_named d }
 with_field key.Merges d f = record f { merges = list_in merge_in d }
 with_field key.Partitions d f = record f { partitions = list_in partition_in d }
-with_field key.Splits d f = record f { splits = list_in split_in d }
-with_field key.Types d f = record f { types = list_in as_str d }
+with_field key.Splits d f = record f { splits = kept_in splits_over split_in d }
+with_field key.Types d f = record f { types = kept_in types_over as_str d }
 with_field key.Version d f = record f { version = whole_in d }
 with_field key.Other d f = f
 

@@ -1,9 +1,17 @@
 -- Lists of entries and rows of fields.
-use Rattle.std.specs.Prelude.{List, [], ◌∷◌, ◌++◌, Option, Some, None, if◌then◌else◌}
+use Rattle.std.specs.Prelude.{ℕ, ◌*◌, ◌+◌, List, [], ◌∷◌, ◌++◌, length, Bool, false, not, nat_lt, Option, Some, None, option_map, if◌then◌else◌}
 use Rattle.serde_json.specs.Data.{Data, Items, no_items, item}
 use Rattle.serde_json.specs.Find.{as_array}
 use Rattle.model_file.specs.declared.lists.Gathered.{Gathered}
-use Rattle.model_file.specs.Entries.{◌>>=◌}
+use Rattle.limits.specs.declared.TheConstants.{MAX_TYPES, MAX_PARTITIONS, FIRST_TYPE}
+use Rattle.invariants.specs.declared.Kind.{Kind}
+use Rattle.invariants.specs.declared.Kind.TheVariants.{AF, NF, AP, IB}
+use Rattle.invariants.specs.declared.Invariant.{Invariant}
+use Rattle.invariants.specs.declared.records.Listed.{Listed}
+use Rattle.invariants.specs.declared.records.Split.{Split}
+use Rattle.invariants.specs.declared.records.Block.{Block}
+use Rattle.model_file.specs.Rules.{pair_less}
+use Rattle.model_file.specs.Entries.{◌>>=◌, each, list_in}
 
 -- no item
 abbrev pub no_fields : Items → Option (Unit {0})
@@ -27,6 +35,67 @@ row_in g d = as_array d >>= g
 abbrev pub gathered : {T : Type 0} → Gathered T → Option (List T)
 gathered g = if g.is_whole then Some g.entries.items else None
 
--- the list with an entry at its end, where both are there
-abbrev pub appended : {T : Type 0} → Option (List T) → Option T → Option (List T)
-appended list entry = list >>= λ xs. entry >>= λ x. Some (xs ++ x ∷ [])
+-- ---- lists of which no more is kept than can be those of a model
+
+-- the list with an entry at its end, unless it is over
+abbrev pub put : {T : Type 0} → (List T → Bool) → List T → T → List T
+put over xs x = if over xs then xs else xs ++ x ∷ []
+
+-- the same, where both are there
+abbrev pub added : {T : Type 0} → (List T → Bool) → Option (List T) → Option T → Option (List T)
+added over list entry = list >>= λ xs. entry >>= λ x. Some (put over xs x)
+
+-- the list with these entries at its end, up to where it is over
+abbrev pub kept_after : {T : Type 0} → (List T → Bool) → List T → List T → List T
+kept_after over front [] = front
+kept_after over front (x ∷ xs) = kept_after over (put over front x) xs
+
+-- the entries up to where the list is over
+abbrev pub kept : {T : Type 0} → (List T → Bool) → List T → List T
+kept over xs = kept_after over [] xs
+
+-- what f reads of each item, up to where the list is over; it reads each item
+abbrev pub kept_each : {T : Type 0} → (List T → Bool) → (Data → Option T) → Items → Option (List T)
+kept_each over f ds = option_map (kept over) (each f ds)
+
+-- the value as an array of what f reads, up to where the list is over
+abbrev pub kept_in : {T : Type 0} → (List T → Bool) → (Data → Option T) → Data → Option (List T)
+kept_in over f d = option_map (kept over) (list_in f d)
+
+-- a list that is kept whole
+abbrev pub never_over : {T : Type 0} → List T → Bool
+never_over xs = false
+
+-- whether the last entry does not come after the one before it
+abbrev pub falls : {T : Type 0} → (T → ℕ × ℕ) → List T → Bool
+falls key [] = false
+falls key (x ∷ []) = false
+falls key (x ∷ y ∷ []) = not (pair_less (key x) (key y))
+falls key (x ∷ y ∷ z ∷ zs) = falls key (y ∷ z ∷ zs)
+
+-- more types than a file of any version may have
+abbrev pub types_over : List (List ℕ) → Bool
+types_over ts = nat_lt MAX_TYPES (length ts)
+
+-- more splits than there are ids beside the two ends
+abbrev pub splits_over : List Split → Bool
+splits_over ss = nat_lt MAX_PARTITIONS (length ss + FIRST_TYPE)
+
+-- blocks that do not ascend
+abbrev pub blocks_over : List Block → Bool
+blocks_over bs = falls (λ b. (b.p, b.q)) bs
+
+-- the number of a kind in the order of the kinds
+abbrev pub kind_number : Kind → ℕ
+kind_number AF = 0
+kind_number NF = 1
+kind_number AP = 2
+kind_number IB = 3
+
+-- candidates ascend by their first type, and then by their second type and their kind
+abbrev pub invariant_key : Invariant → ℕ × ℕ
+invariant_key i = (i.a, 4 * i.b + kind_number i.kind)
+
+-- invariants that do not ascend
+abbrev pub invariants_over : List Listed → Bool
+invariants_over ls = falls (λ l. invariant_key l.inv) ls

@@ -2,9 +2,8 @@
 use Rattle.std.specs.Prelude.{◌≡◌, ◌<◌, ◌+◌, ◌-◌, ◌*◌, ◌&&◌, ℕ, Bool, true, false, if◌then◌else◌, nat_le, List, [], ◌∷◌, length, Option, Some, None, Result, Ok, Err, option_map, ⊤}
 use Rattle.std.specs.Option.{option_and_then}
 use Rattle.json.specs.Token.{Token}
-use Rattle.json.specs.Json as json
 use Rattle.json.specs.Json.{parse_map, value, items, members}
-use Rattle.serde_json.specs.Data.{Num, Data, array, Items, no_items, Members}
+use Rattle.serde_json.specs.Data.{Num, Data, array, Items, Members}
 use Rattle.serde_json.specs.Find.{as_number, as_u64, as_array}
 use Rattle.serde_json.specs.Read.{of_json, of_items, of_members, converted}
 use Rattle.model_file.specs.declared.stream.Stop.{Stop}

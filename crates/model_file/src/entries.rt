@@ -3,7 +3,7 @@ ghost use Rattle.std.specs.Prelude.{◌≡◌, ◌↔◌, ◌-◌, ◌^◌, map,
 ghost use Rattle.model_file.specs.Entries.{if_below, kind_named, kinds_from, labels_of};
 ghost use Rattle.model_file.specs.Labels.{IsLabelDigit};
 
-use crate::lists::{Entry, list, row_of};
+use crate::lists::{Entry, Whole, list, row_of};
 use crate::stream::{Stop, number, string};
 use invariants::{Block, Edge, Invariant, Kind, Kinds, Listed, Merge, Partition, Seq, Split, Text};
 use json::Reader;
@@ -81,7 +81,7 @@ impl<T: Entry + Drop> Entry for Seq<T> {
 
     #[inline(always)]
     fn read(alloc: Global, reader: &mut Reader<'_>, depth: usize) -> Result<Option<Seq<T>>, Stop> {
-        list(alloc, reader, depth)
+        list::<T, Whole>(alloc, reader, depth)
     }
 }
 
@@ -153,7 +153,7 @@ impl Entry for Kinds {
     ghost read_as = { kinds_named };
 
     fn read(alloc: Global, reader: &mut Reader<'_>, depth: usize) -> Result<Option<Kinds>, Stop> {
-        match list::<Kind>(alloc, reader, depth) {
+        match Seq::<Kind>::read(alloc, reader, depth) {
             Ok(Some(kinds)) => Ok(kinds_from(kinds.as_slice())),
             Ok(None) => Ok(None),
             Err(e) => Err(e),

@@ -6,9 +6,11 @@ ghost use Rattle.serde_json.specs.Data.{Data, Members, no_members, put};
 ghost use Rattle.serde_json.specs.Read.{read as read_text};
 ghost use Rattle.model_file.specs.Reading.{IsNoValue, value_of, is_key};
 ghost use Rattle.model_file.specs.Streams.{data_at, members_at, IsStopped};
+ghost use Rattle.model_file.specs.Lists.{kept_in};
 ghost use Rattle.model_file.specs.Found.{nothing, found_in, with_field, IsKey, HasMembers, IsRoot};
 
-use crate::lists::Entry;
+use crate::caps::{Blocks, Invariants, Splits, Types};
+use crate::lists::{Bound, Entry, list};
 use crate::parts::is_key;
 use crate::refusal::FileError;
 use crate::stream::{Stop, pass_rest, pass_value};
@@ -114,6 +116,28 @@ fn read_into<E: Entry + Drop>(
     }
 }
 
+/// Reads the next value as a list, in place of an earlier one, up to where it is over.
+fn read_list<T: Entry + Drop, B: Bound<T>>(
+    alloc: Global,
+    reader: &mut Reader<'_>,
+    place: &mut Option<Seq<T>>,
+) -> Result<(), Stop>
+    ensures ok { OnOk result
+        (parse_map (kept_in B.over T.read_as) (data_at FIELD_DEPTH reader.old)
+        ≡ Some (place.new, reader.new)) }
+    ensures err { IfErr result (λ e. IsStopped e (data_at FIELD_DEPTH reader.old)) }
+    ensures shorter { OnOk result (length reader.new < length reader.old) }
+{
+    drop(place.take());
+    match list::<T, B>(alloc, reader, FIELD_DEPTH) {
+        Ok(entries) => {
+            *place = entries;
+            Ok(())
+        }
+        Err(e) => Err(e),
+    }
+}
+
 /// Reads the value of a key.
 fn read_field(
     alloc: Global,
@@ -127,14 +151,14 @@ fn read_field(
     ensures shorter { OnOk result (length reader.new < length reader.old) }
 {
     match key {
-        Key::Blocks => read_into(alloc, reader, &mut found.blocks),
+        Key::Blocks => read_list::<Block, Blocks>(alloc, reader, &mut found.blocks),
         Key::Edges => read_into(alloc, reader, &mut found.edges),
-        Key::Invariants => read_into(alloc, reader, &mut found.invariants),
+        Key::Invariants => read_list::<Listed, Invariants>(alloc, reader, &mut found.invariants),
         Key::Kinds => read_into(alloc, reader, &mut found.kinds),
         Key::Merges => read_into(alloc, reader, &mut found.merges),
         Key::Partitions => read_into(alloc, reader, &mut found.partitions),
-        Key::Splits => read_into(alloc, reader, &mut found.splits),
-        Key::Types => read_into(alloc, reader, &mut found.types),
+        Key::Splits => read_list::<Split, Splits>(alloc, reader, &mut found.splits),
+        Key::Types => read_list::<Text, Types>(alloc, reader, &mut found.types),
         Key::Version => read_into(alloc, reader, &mut found.version),
         Key::Other => match pass_value(reader, FIELD_DEPTH) {
             Ok(()) => Ok(()),

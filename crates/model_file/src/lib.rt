@@ -8,6 +8,7 @@
 //! fewer types and fewer bytes, and their models ask for three kinds of invariants.
 #![tactic(auto)]
 
+mod caps;
 mod entries;
 mod found;
 mod law;

@@ -1,9 +1,8 @@
 //! Lists of entries and rows of fields, read from the tokens of a JSON text.
 ghost use Rattle.std.specs.Prelude.{◌≡◌, ◌<◌, ◌≤◌, ℕ, length, OnOk};
 ghost use Rattle.json.specs.Json.{parse_map};
-ghost use Rattle.model_file.specs.Entries.{list_in, each};
 ghost use Rattle.model_file.specs.Streams.{data_at, items_at, Answers};
-ghost use Rattle.model_file.specs.Lists.{both, gathered, appended, row_in};
+ghost use Rattle.model_file.specs.Lists.{both, gathered, added, kept_each, kept_in, row_in};
 
 use crate::stream::{Stop, open, pass_items, pass_value};
 use invariants::Seq;
@@ -114,7 +113,33 @@ pub(crate) fn row_of<R: Row + Drop>(
     }
 }
 
-/// The entries of a list, as long as each value was one.
+/// Which lists no model has, whatever comes after their entries: no more of such a list is kept.
+pub(crate) trait Bound<T> {
+    ghost use Rattle.std.specs.Prelude.{List, Bool};
+
+    /// Whether a list that begins with these entries is that of no model.
+    ghost over: { List T → Bool };
+
+    /// Whether a list that begins with these entries is that of no model.
+    fn is_over(entries: &[T]) -> bool
+        ensures { result ≡ over entries.now };
+}
+
+/// A list that is kept whole.
+pub(crate) struct Whole;
+
+impl<T> Bound<T> for Whole {
+    ghost use Rattle.model_file.specs.Lists.{never_over};
+
+    ghost over = { never_over };
+
+    #[inline(always)]
+    fn is_over(_entries: &[T]) -> bool {
+        false
+    }
+}
+
+/// The entries of a list, as long as each value was one. Those after which it is over are the last.
 #[derive(Drop)]
 struct Gathered<T> {
     entries: Vec<T>,
@@ -122,13 +147,13 @@ struct Gathered<T> {
 }
 
 impl<T: Drop> Gathered<T> {
-    /// Adds what the next value is.
+    /// Adds what the next value is, unless the list is over.
     #[inline(always)]
-    fn add(&mut self, entry: Option<T>) -> Result<(), AllocError>
-        ensures { OnOk result (gathered self.new ≡ appended (gathered self.old) entry) }
+    fn add<B: Bound<T>>(&mut self, entry: Option<T>) -> Result<(), AllocError>
+        ensures { OnOk result (gathered self.new ≡ added B.over (gathered self.old) entry) }
     {
         match entry {
-            Some(entry) => if self.is_whole {
+            Some(entry) => if self.is_whole && !B::is_over(&self.entries) {
                 self.entries.push(entry)?;
             },
             None => self.is_whole = false,
@@ -149,13 +174,13 @@ impl<T: Drop> Gathered<T> {
 }
 
 /// The entries up to the bracket that closes an array.
-fn entries<T: Entry + Drop>(
+fn entries<T: Entry + Drop, B: Bound<T>>(
     alloc: Global,
     reader: &mut Reader<'_>,
     depth: usize,
 ) -> Result<Option<Seq<T>>, Stop>
     ensures value { Answers result
-        (parse_map (each T.read_as) (items_at (length reader.old) depth reader.old)) reader.new }
+        (parse_map (kept_each B.over T.read_as) (items_at (length reader.old) depth reader.old)) reader.new }
     ensures shorter { OnOk result (length reader.new < length reader.old) }
 {
     let mut found = Gathered {
@@ -167,7 +192,7 @@ fn entries<T: Entry + Drop>(
             Ok(entry) => entry,
             Err(e) => return Err(e),
         };
-        match found.add(entry) {
+        match found.add::<B>(entry) {
             Ok(()) => {}
             Err(_) => return Err(Stop::Memory),
         }
@@ -175,18 +200,18 @@ fn entries<T: Entry + Drop>(
     Ok(found.list())
 }
 
-/// The list of entries that the next value is.
-pub(crate) fn list<T: Entry + Drop>(
+/// The list of entries that the next value is, up to where it is over.
+pub(crate) fn list<T: Entry + Drop, B: Bound<T>>(
     alloc: Global,
     reader: &mut Reader<'_>,
     depth: usize,
 ) -> Result<Option<Seq<T>>, Stop>
-    ensures value { Answers result (parse_map (list_in T.read_as) (data_at depth reader.old))
+    ensures value { Answers result (parse_map (kept_in B.over T.read_as) (data_at depth reader.old))
         reader.new }
     ensures shorter { OnOk result (length reader.new < length reader.old) }
 {
     match open(reader, depth) {
-        Ok(true) => entries(alloc, reader, depth - 1),
+        Ok(true) => entries::<T, B>(alloc, reader, depth - 1),
         Ok(false) => Ok(None),
         Err(e) => Err(e),
     }

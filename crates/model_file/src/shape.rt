@@ -135,7 +135,8 @@ fn edge_holds(table: &[Option<u16>], edge: Edge) -> bool
         && edge.count <= MAX_EDGE_COUNT
 }
 
-fn is_less(x: (u32, u32), y: (u32, u32)) -> bool
+#[inline]
+pub(crate) fn is_less(x: (u32, u32), y: (u32, u32)) -> bool
     ensures { result ≡ pair_less x y }
 {
     x.0 < y.0 || x.0 == y.0 && x.1 < y.1

@@ -1,4 +1,4 @@
-use Rattle.std.proofs.Common.{◌≡◌, ◌≤◌, ◌<◌, ℕ, List, Option, length, get_or, Ok, refl, sym, ap, ◌∙◌, arith}
+use Rattle.std.proofs.Common.{◌≡◌, ◌≤◌, ◌<◌, ℕ, List, Option, length, Ok, refl, sym, ap, ◌∙◌, arith}
 use Rattle.std.proofs.lemmas.Result.{err_from_is_err_and}
 use Rattle.std.proofs.lemmas.List.Elements.{All-from_recursion}
 use Rattle.limits.specs.declared.TheConstants.{MAX_TYPES, MAX_PARTITIONS}
@@ -8,7 +8,7 @@ use Rattle.model_file.specs.Rules.{types_hold, partitions_hold, type_of}
 use Rattle.model_file.specs.Table.{type_at}
 use Rattle.model_file.specs.Versions.{max_types}
 use Rattle.model_file.specs.Reading.{◌>>=◌, or_shape}
-use Rattle.model_file.specs.Found.{types_from, kinds_tested, partitions_from, edges_from, invariants_from, merges_from, splits_from, blocks_from, model_from}
+use Rattle.model_file.specs.Found.{types_from, kinds_tested, partitions_from, edges_from, invariants_from, merges_from, splits_from, blocks_from}
 use Rattle.model_file.proofs.Shapes.{rule-of}
 use Rattle.model_file.proofs.Bounds.{few-types, types-within, max_types-within, all-weaker, numbered, IsNumbered}
 use Rattle.model_file.proofs.Fails.{fails-at}

@@ -4,7 +4,6 @@ use Rattle.json.specs.Json.{after_end_array, read_key, value}
 use Rattle.json.specs.Reads.{token_of}
 use Rattle.json.proofs.Grammar.{left_none, left_some, value_is, read_key-shorter}
 use Rattle.serde_json.specs.Data.{array, object, no_members, put}
-use Rattle.serde_json.specs.Read.{of_json, converted}
 use Rattle.model_file.proofs.Grammar.{item_refused, items_over, member_read, member_refused, key_refused, members_over}
 use Rattle.model_file.specs.Streams.{after, data_at, items_at, members_at, whole_in}
 use Rattle.model_file.proofs.Streaming.{nothing-left, array-open, object-open, number-answers, number-refused, after-read, pass-item, by-parts}

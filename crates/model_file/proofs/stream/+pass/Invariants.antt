@@ -1,7 +1,7 @@
 use Rattle.std.proofs.Common.{◌≡◌, ℕ, ◌+◌, ◌*◌, ◌≤◌, length}
-use Rattle.json.specs.Json.{items, members, value}
+use Rattle.json.specs.Json.{members, value}
 use Rattle.serde_json.specs.Data.{Members, no_members}
-use Rattle.serde_json.specs.Read.{of_items, of_members, converted}
+use Rattle.serde_json.specs.Read.{of_members, converted}
 use Rattle.model_file.specs.Streams.{after, items_at, members_at}
 use Rattle.model_file.proofs.stream.+pass.Given as goal
 

@@ -1,4 +1,4 @@
-use Rattle.std.proofs.Common.{◌≡◌, ◌<◌, length, None, ap, ◌∙◌, arith}
+use Rattle.std.proofs.Common.{◌≡◌, ◌<◌, length, None, ap, arith}
 use Rattle.json.specs.Json.{parse_map, after_end_array, value}
 use Rattle.model_file.specs.Lists.{one_more}
 use Rattle.model_file.proofs.Grammar.{items_over}

@@ -1,4 +1,4 @@
-use Rattle.std.proofs.Common.{◌≡◌, ◌<◌, length, None, ap, ◌∙◌, arith}
+use Rattle.std.proofs.Common.{◌≡◌, ◌<◌, length, None, ap, arith}
 use Rattle.json.specs.Json.{parse_map, after_end_array, value}
 use Rattle.model_file.specs.Lists.{no_fields}
 use Rattle.model_file.proofs.Grammar.{item_refused, items_over}
