@@ -1,5 +1,5 @@
--- A task that asks for a made log has its number.
-use Rattle.std.proofs.Common.{◌≡◌, ℕ, Bool, true, false, ◌&&◌, Option, Some, None, refl, sym, ap, ◌∙◌, arith, nat_le, is_some, option_and_then, if◌then◌else◌}
+-- A task that asks for a made log has its number, and no task has too many files.
+use Rattle.std.proofs.Common.{◌≡◌, ◌<◌, ◌^◌, ℕ, length, Bool, true, false, ◌&&◌, Option, Some, None, refl, sym, ap, ◌∙◌, arith, nat_le, is_some, option_and_then, if◌then◌else◌}
 use Rattle.std.specs.Option.{IsSomeAnd}
 use Rattle.std.specs.Str.Parse.{digits_value}
 use Rattle.std.proofs.lemmas.Bool.{and_parts}
@@ -8,7 +8,7 @@ use Rattle.clap.specs.Words.{Text}
 use Rattle.limits.specs.declared.TheConstants.{MAX_SESSIONS}
 use Rattle.command_line.specs.Given.{Use}
 use Rattle.command_line.specs.Numbers.{are_digits, is_number, number_of}
-use Rattle.command_line.specs.Table.{fits, is_sound, option_is_number, passes}
+use Rattle.command_line.specs.Table.{are_few, fits, is_sound, option_is_number, passes}
 use Rattle.command_line.specs.Task.{HasSessions, IsSessions, Task, asked, task_of_use}
 use Rattle.command_line.specs.declared.table.Command.TheVariants as commands
 use Rattle.command_line.specs.declared.table.Row.{Row}
@@ -60,3 +60,34 @@ asked-has row u needs fit sound = λ bench.
 -- a task that asks for a made log has the number of its sessions
 pub has-sessions : (u : Use) (task : Task) → task_of_use u ≡ Some task → HasSessions task
 has-sessions u task is = of-task NeedsNumber HasSessions u rows-need (λ row. asked-has row u) task is
+
+-- what holds of each row
+abbrev AnyRow : Row → Type 0
+AnyRow row = Unit {0}
+
+any-row : OfRows AnyRow
+any-row = record {
+  invariants = tt;
+  graph = tt;
+  graph_of_model = tt;
+  infer = tt;
+  check = tt;
+  replay = tt;
+  paths = tt;
+  bench = tt;
+  migrate = tt;
+}
+
+-- the files are few
+abbrev pub HasFew : Task → Type 0
+HasFew task = length task.files < 2 ^ 32
+
+asked-few : (row : Row) (u : Use) → AnyRow row → passes row u ≡ true → is_sound u ≡ true → HasFew (asked row.command u)
+asked-few row u any fit sound =
+    let front = (and_parts _ (option_is_number u.number) sound).0 in
+    let few = (and_parts _ (are_few u.files) front).1 in
+    grind (arith, nat_tests, few)
+
+-- no task has too many files
+pub has-few : (u : Use) (task : Task) → task_of_use u ≡ Some task → HasFew task
+has-few u task is = of-task AnyRow HasFew u any-row (λ row. asked-few row u) task is

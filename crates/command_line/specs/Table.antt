@@ -1,5 +1,5 @@
 -- The table of the commands.
-use Rattle.std.specs.Prelude.{Bool, true, false, ◌&&◌, ◌||◌, not, List, length, nat_lt, Option, Some, None, codes, is_some, if◌then◌else◌}
+use Rattle.std.specs.Prelude.{◌^◌, Bool, true, false, ◌&&◌, ◌||◌, not, List, length, nat_lt, Option, Some, None, codes, is_some, if◌then◌else◌}
 use Rattle.std.specs.Option.{option_map_or}
 use Rattle.std.specs.List.{list_all}
 use Rattle.std.specs.Str.{bytes_eq}
@@ -127,7 +127,11 @@ option_is_word text = option_map_or is_word text true
 abbrev pub option_is_number : Option Text → Bool
 option_is_number text = option_map_or (λ t. is_some (number_of t)) text true
 
--- no name is empty, and the number is one
+-- so few files that a log may have them
+abbrev pub are_few : List Text → Bool
+are_few files = nat_lt (length files) (2 ^ 32)
+
+-- no name is empty, there are not too many files, and the number is one
 abbrev pub is_sound : Use → Bool
 is_sound u =
-    option_is_word u.rules && option_is_word u.model && are_words u.files && option_is_number u.number
+    option_is_word u.rules && option_is_word u.model && are_words u.files && are_few u.files && option_is_number u.number

@@ -2,7 +2,7 @@
 ghost use Rattle.std.specs.Prelude.{◌≡◌, map, option_map};
 ghost use Rattle.std.specs.List.{list_all};
 ghost use Rattle.command_line.specs.Given.{given_held};
-ghost use Rattle.command_line.specs.Table.{are_words, fits, fits_form, graph_row, has_model, is_sound, is_word, kinds_row, log_and_model_row, log_row, model_row, number_row, option_is_number, option_is_word, passes, row_of};
+ghost use Rattle.command_line.specs.Table.{are_few, are_words, fits, fits_form, graph_row, has_model, is_sound, is_word, kinds_row, log_and_model_row, log_row, model_row, number_row, option_is_number, option_is_word, passes, row_of};
 
 use crate::given::Given;
 use crate::number::number_of;
@@ -241,12 +241,23 @@ fn option_is_number(text: Option<&str>) -> bool
     }
 }
 
-/// Whether no name is empty, and the number is one.
+/// So many files are more than a log has.
+const TOO_MANY_FILES: usize = 4_294_967_296;
+
+/// Whether there are so few files that a log may have them.
+fn are_few(files: &[&str]) -> bool
+    ensures { result ≡ are_few (map (λ s. s.now) files.now) }
+{
+    files.len() < TOO_MANY_FILES
+}
+
+/// Whether no name is empty, there are not too many files, and the number is one.
 pub fn is_sound(given: &Given<'_>) -> bool
     ensures { result ≡ is_sound (given_held given.now) }
 {
     option_is_word(given.rules)
         && option_is_word(given.model)
         && are_words(&given.files)
+        && are_few(&given.files)
         && option_is_number(given.number)
 }

@@ -1,5 +1,5 @@
 //! What the words ask for.
-ghost use Rattle.std.specs.Prelude.{◌≡◌, IfOk, Err, Some, None, map, option_and_then, option_map, string_bytes};
+ghost use Rattle.std.specs.Prelude.{◌≡◌, ◌<◌, ◌^◌, IfOk, Err, Some, None, length, map, option_and_then, option_map, string_bytes};
 ghost use Rattle.command_line.specs.Given.{given_held};
 ghost use Rattle.command_line.specs.Numbers.{number_of};
 ghost use Rattle.command_line.specs.Task.{HasSessions, allowed, form_by, form_held, task_held, task_of, task_of_use};
@@ -91,11 +91,13 @@ fn by_table<'a>(given: Given<'a>) -> Option<Task<'a>>
 /// The task that the words of the command line, without the program's name, ask for.
 ///
 /// A task comes only where they ask for it, and `Usage` only where they ask for none. In the place of either `Memory` may
-/// come, where memory was wanted. A task that asks for a made log has the number of its sessions, from 1 to `MAX_SESSIONS`.
+/// come, where memory was wanted. A task that asks for a made log has the number of its sessions, from 1 to `MAX_SESSIONS`. It
+/// names fewer than 2^32 files: words that name more ask for none.
 pub fn parse<'a>(alloc: Global, words: &'a [String]) -> Result<Task<'a>, ParseError>
     ensures ok { IfOk result (λ t. task_of (map string_bytes words.entry.now)
         ≡ Some (task_held t)) }
     ensures sessions { IfOk result (λ t. HasSessions (task_held t)) }
+    ensures few { IfOk result (λ t. length (task_held t).files < 2 ^ 32) }
     ensures usage { result ≡ Err ParseError.Usage
         → task_of (map string_bytes words.entry.now) ≡ None }
 {
