@@ -7,7 +7,7 @@ use Rattle.outside.specs.Turns.{OpensFirst}
 use Rattle.limits.specs.declared.TheConstants.{MAX_INPUT_BYTES}
 use Rattle.line_rules.specs.Patterns.{PatternsState}
 use Rattle.log_reader.specs.Reading.{Setting}
-use Rattle.log_reader.specs.Inputs.{RefusesLog, Fails as LogFails, IsMissing as LogMissing, IsLacking, HasReadCause, StopsBefore, StopsWithin, inputs_of}
+use Rattle.log_reader.specs.Inputs.{StopsAnywhere as LogAnywhere, RefusesLog, Fails as LogFails, IsMissing as LogMissing, IsLacking, HasReadCause, StopsBefore, StopsWithin, inputs_of}
 use Rattle.log_reader.specs.declared.refusal.ReadError.{ReadError}
 use Rattle.log_reader.specs.declared.refusal.ReadError.TheVariants as refused
 use Rattle.command_line.specs.Task.{Task, task_of}
@@ -17,7 +17,7 @@ use Rattle.synoptic_cli.specs.declared.stages.SoFar as rust
 use Rattle.synoptic_cli.specs.Task.{LogFiles, Stage, input_count, input_names, log_stages, first_stages, model_stages, rules_stages, stages_of, version_of}
 use Rattle.synoptic_cli.specs.Stages.{SoFar, Stop, at_start, reads, setting_by, status_of, stop_after}
 use Rattle.synoptic_cli.specs.Endings.{EndsOver, IsFirstLacking, ReadAll, SomeBytes}
-use Rattle.synoptic_cli.specs.Causes.{World, FailsToRead, HasCause, LeavesOpen, StopsInLog, world}
+use Rattle.synoptic_cli.specs.Causes.{World, FailsToRead, HasCause, LeavesOpen, StopsAnywhere, StopsInLog, world}
 use Rattle.synoptic_cli.specs.Halts.{Ends, HasRead, IsHeld, LogHalts, Reads, ReadsTask, held_form, setting_of}
 use Rattle.synoptic_cli.proofs.Texts.{rose-since}
 use Rattle.synoptic_cli.proofs.Bytes.{bytes-map, input_count-append, later}
@@ -119,13 +119,25 @@ inputs-are task s old mid before =
     let log : input_count (log_stages task) ≡ length (inputs_of task.files) + 0 = ap input_count before.log in
     omega (arith, log, input_count-append (first_stages task) (log_stages task))
 
+-- memory was wanted in the log, or before its first input
+stops-anywhere : (task : Task) (s : Setting) (old mid new : InputState) → Before task s old mid → LogAnywhere (inputs_of task.files) mid new → StopsAnywhere task old new
+stops-anywhere task s old mid new before cause =
+    let count = input_count (first_stages task) in
+    ⊎_elim
+    (λ (same : new ≡ mid). inl (count, omega (arith, inputs-are task s old mid before), subst (λ (t : InputState). ReadAll count old t) (sym same) before.read.inputs))
+    (λ (within : (number : ℕ) × IsSomeAnd (slice_get (inputs_of task.files) number) (StopsWithin number mid new)).
+    inr (sources.Log within.0, open-within (slice_get (inputs_of task.files) within.0) count within.0 old mid new before.read.inputs before.stays within.1))
+    cause
+
 -- the run ends by the refusal of its log
 log-ends : (task : Task) (s : Setting) (words : List (List ℕ)) (old new : World) (mid : InputState) (e : ReadError) → Before task s old.inputs mid → new.out ≡ old.out → task_of words ≡ Some task
     → new.inputs.opens ≤ mid.opens + length (inputs_of task.files) → HasReadCause s (inputs_of task.files) mid new.inputs e → HasCause (status_of e) words old new
 log-ends task s words old new mid (refused.ReadFault number) before silent asks few cause = (task, asks, fails task s old new mid number before silent cause)
 log-ends task s words old new mid refused.Memory before silent asks few cause =
     let most = read-most (input_count (first_stages task)) old.inputs mid before.read.inputs in
-    record { opens = (memory-ends task old.inputs new.inputs old.patterns old.patterns (omega (arith, few, most, inputs-are task s old.inputs mid before)) words old.out asks).opens; silent = silent }
+    let wants =
+    memory-ends task old.inputs new.inputs old.patterns old.patterns (omega (arith, few, most, inputs-are task s old.inputs mid before)) (stops-anywhere task s old.inputs mid new.inputs before cause) words old.out asks in
+    record { opens = wants.opens; stops = wants.stops; silent = silent }
 log-ends task s words old new mid (refused.TypeLimit at) before silent asks few cause = (task, asks, refuses task s old new mid (refused.TypeLimit at) before silent cause)
 log-ends task s words old new mid (refused.EventLimit at) before silent asks few cause = (task, asks, refuses task s old new mid (refused.EventLimit at) before silent cause)
 log-ends task s words old new mid refused.InputLimit before silent asks few cause = (task, asks, refuses task s old new mid refused.InputLimit before silent cause)

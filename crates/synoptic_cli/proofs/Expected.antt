@@ -2,7 +2,7 @@
 use Rattle.std.proofs.Common.{◌≡◌, ◌⊎◌, ℕ, List, [], ◌∷◌, ◌++◌, sym, ap, ◌∙◌, subst, ⊎_elim, inl, inr, Option, None, Some, Result, Ok, Err, refl, IfSome, arith}
 use Rattle.std.specs.Option.{IsSomeAnd}
 use Rattle.outside.specs.Counts.{Rose}
-use Rattle.outside.specs.Inputs.{Files, bytes_of}
+use Rattle.outside.specs.Inputs.{Files, InputState, bytes_of}
 use Rattle.line_rules.specs.Rules.{Rule}
 use Rattle.line_rules.specs.Patterns.{NestsTooDeep}
 use Rattle.line_rules.specs.Files.{rules_of, IsBuilt}
@@ -21,7 +21,7 @@ use Rattle.synoptic_cli.specs.declared.status.Source.{Source}
 use Rattle.synoptic_cli.specs.Task.{file_stage, log_stages, model_stages, rules_name, RulesFile, Stage, stages_of}
 use Rattle.synoptic_cli.specs.Stages.{SoFar, Stop, and_then, at_start, reads, reads_rules, stop_after, with_rules}
 use Rattle.synoptic_cli.specs.Endings.{EndsAfter, EndsOver, EndsTold, HasStatus, IsFirstLacking, IsStatusOf, IsTold, SomeBytes, end_status, told_stages}
-use Rattle.synoptic_cli.specs.Causes.{World, FailsToRead, HasCause, IsExpected, IsTooDeep, IsUnread, IsMissing, RefusesRules, Stops, StopsAtLimit, WritesAll}
+use Rattle.synoptic_cli.specs.Causes.{World, FailsToRead, HasCause, IsExpected, IsTooDeep, IsUnread, IsMissing, RefusesRules, Stops, StopsAtLimit, StopsSomewhere, WritesAll}
 use Rattle.synoptic_cli.specs.Halts.{status_without_task}
 use Rattle.synoptic_cli.proofs.Bytes.{bytes-told}
 
@@ -127,7 +127,12 @@ cause-expected WriteFault words old new cause = if-some old.inputs.files _ (λ f
 cause-expected Memory words old new cause = if-some old.inputs.files _ (λ files some calm-in calm-patterns calm-out. inr (inl refl))
 cause-expected (ModelFile e) words old new cause = if-some old.inputs.files _ (λ files some calm-in calm-patterns calm-out. inl (stops-task words cause.0 files (ModelFile e) old new some cause.1 cause.2.stops))
 
+-- where no call was made, the first none of the inputs were opened
+none-opened : (asked : Option Task) (s : InputState) → StopsSomewhere asked s s
+none-opened None s = refl
+none-opened (Some task) s = inl (0, omega arith, inr (refl, refl))
+
 -- words that give no task end for that cause
 pub no-task-ends : (e : ParseError) (words : List (List ℕ)) (w : World) → (e ≡ parse_error.Usage → task_of words ≡ None) → HasCause (status_without_task e) words w w
 no-task-ends parse_error.Usage words w usage = (usage refl, refl)
-no-task-ends parse_error.Memory words w usage = record { opens = omega arith; silent = refl }
+no-task-ends parse_error.Memory words w usage = record { opens = omega arith; stops = none-opened (task_of words) w.inputs; silent = refl }

@@ -31,7 +31,7 @@ use Rattle.synoptic_cli.specs.Halts.{Ends, FitsVersion, HasRead, IsHeld, ModelHa
 use Rattle.synoptic_cli.proofs.Bytes.{bytes-first, bytes-map, bytes-told, contents-one, input_count-append, later, reads-stop}
 use Rattle.synoptic_cli.proofs.Through.{StopsReading, open-through, read-faults, read-most, read-stop, stop-bytes, stop-first, stops-through}
 use Rattle.synoptic_cli.proofs.Texts.{rose-since}
-use Rattle.synoptic_cli.proofs.Rules.{memory-ends, told-bytes, told-part, whole-or-long}
+use Rattle.synoptic_cli.proofs.Rules.{memory-ends, reads-open, told-bytes, told-part, whole-or-long}
 
 -- ---- the file
 
@@ -95,7 +95,7 @@ model-refused version old new name bytes e reads other fails =
 -- a refusal of what was read of a file is why the file gives no model
 pub model-halts : (version : Version) (old new : InputState) (name bytes : List ℕ) (e : FileError) → ReadsInput old new name (max_bytes version) bytes → Fails e (reads_as version bytes)
     → ModelHalts version old new name (halt_of e)
-model-halts version old new name bytes refused.Memory reads fails = reads.opens
+model-halts version old new name bytes refused.Memory reads fails = reads-open old new name (max_bytes version) bytes reads
 model-halts version old new name bytes e reads fails = model-refused version old new name bytes e reads (λ same. cc) fails
 
 -- ---- the stage
@@ -194,7 +194,7 @@ one-more task name named =
     let one : input_count (model_stages task) ≡ 1 = stage-named task name (λ (stages : List Stage). input_count stages ≡ 1) named (omega arith) in
     omega (arith, one, input_count-append (rules_stages task) (model_stages task), input_count-append (first_stages task) (log_stages task))
 
--- the model's file failed at a read, and is open
+-- the model's file is open
 stays-open : (task : Task) (name : List ℕ) (count : ℕ) (old mid new : InputState) → ReadAll count old mid → Stays old mid → task.model ≡ Some name → OpensNamed mid new name (max_bytes (version_of task.command))
     → IsSomeAnd task.model (LeavesOpen count (max_bytes (version_of task.command)) old new)
 stays-open task name count old mid new read stays named within =
@@ -249,7 +249,8 @@ model-ends task name old mid new before after (halts.Refused e) here cause = λ 
   },
 )
 model-ends task name old mid new before after halts.Memory here cause =
-    memory-ends task old new before after (omega (arith, cause, read-most (input_count (rules_stages task)) old mid here.read.inputs, one-more task name here.named))
+    memory-ends task old new before after (omega (arith, cause.opens, read-most (input_count (rules_stages task)) old mid here.read.inputs, one-more task name here.named))
+    (inr (sources.ModelFile, stays-open task name (input_count (rules_stages task)) old mid new here.read.inputs here.stays here.named cause))
 
 -- the same over what the task has
 model-ends-of : (task : Task) (w : Option (List ℕ)) (old mid new : InputState) (before after : PatternsState) (halt : ModelHalt) → task.model ≡ w → ((name : List ℕ) → task.model ≡ Some name → BeforeModel task name old mid)

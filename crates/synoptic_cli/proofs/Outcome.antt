@@ -21,7 +21,7 @@ use Rattle.synoptic_cli.specs.Commands.{AnswersBy}
 use Rattle.synoptic_cli.specs.Commands.CheckModel.{Says, answer_of}
 use Rattle.synoptic_cli.specs.Commands.ReplayModel as replay_model
 use Rattle.synoptic_cli.specs.Commands.RunBench.{AnswersOf}
-use Rattle.synoptic_cli.specs.Endings.{EndsAfter, HasStatus, end_status}
+use Rattle.synoptic_cli.specs.Endings.{EndsAfter, end_status}
 use Rattle.synoptic_cli.specs.Outcomes.{IsOfCheck, IsOfInference, IsOfReplay, IsOutcome, OutcomesAreKnown}
 
 -- two answers that are alike have one status
@@ -81,9 +81,8 @@ ended task s (Ok a) ends = answered task.command task s.material a ends
 ended task s (Err last) ends =
     subst (λ (stop : Stop). IsOutcome task.command task s.material stop.status) (sym ends.2) (stopped task.command task s.material ends.0 ends.1)
 
--- the status of the words and the files is that of the task's command
+-- the status of a run of the task is that of its command
 pub outcomes-known : OutcomesAreKnown
-outcomes-known words files task s status asks read is =
-    let told = subst (λ (asked : Option Task). HasStatus asked files status) asks is in
+outcomes-known files task s status read told =
     subst (λ (x : Status). IsOutcome task.command task s.material x) told.is
     (ended task s told.end (subst (λ (r : Result SoFar Stop). EndsAfter task r told.end) read told.ends))

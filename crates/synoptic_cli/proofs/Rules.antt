@@ -1,10 +1,13 @@
 -- The file of rules: what was read of it, and how a run ends by its refusal.
-use Rattle.std.proofs.Common.{◌≡◌, ◌≢◌, ℕ, ◌+◌, ◌<◌, ◌≤◌, ◌⊎◌, List, [], ◌∷◌, ◌++◌, length, take, nat_lt, true, sym, ap, ◌∙◌, subst, ⊎_elim, inl, inr, arith, Option, Some, None, Result, Ok, Err, take_all, length-take, refl}
+use Rattle.std.proofs.Common.{◌≡◌, ◌≢◌, ℕ, ◌+◌, ◌<◌, ◌≤◌, ◌⊎◌, List, [], ◌∷◌, ◌++◌, length, take, drop, take-append-drop, nat_lt, true, sym, ap, ◌∙◌, subst, ⊎_elim, inl, inr, arith, Option, Some, None, Result, Ok, Err, take_all, length-take, refl}
 use Rattle.std.proofs.lemmas.Bool.{cond-true, cases_lt}
 use Rattle.std.proofs.lemmas.Bool.Decides.{nat_tests}
 use Rattle.std.specs.Option.{IsSomeAnd, option_map_or}
 use Rattle.outside.specs.Inputs.{Files, InputState}
-use Rattle.outside.specs.Reading.{IfTold, ReadsInput}
+use Rattle.std.specs.Io.KnownBytes.{Consumes}
+use Rattle.outside.specs.Reading.{IfTold, InputGives, LosesFront, OpensNamed, ReadsInput}
+use Rattle.outside.specs.declared.reading.InputError.{InputError}
+use Rattle.outside.specs.declared.reading.InputError.TheVariants as input_error
 use Rattle.line_rules.specs.Rules.{Rule, AreAlike}
 use Rattle.line_rules.specs.Views.{rules_in}
 use Rattle.line_rules.specs.declared.line_rules.LineRules.{LineRules}
@@ -18,8 +21,9 @@ use Rattle.command_line.specs.Task.{Task}
 use Rattle.synoptic_cli.specs.Task.{file_stage, input_count, log_stages, model_stages, rules_name, RulesFile, stages_of}
 use Rattle.synoptic_cli.specs.Stages.{SoFar, and_then, reads, with_rules}
 use Rattle.synoptic_cli.specs.Endings.{IsTold}
-use Rattle.synoptic_cli.specs.Causes.{RefusesRules, world}
+use Rattle.synoptic_cli.specs.Causes.{LeavesOpen, RefusesRules, StopsAnywhere, StopsSomewhere, world}
 use Rattle.synoptic_cli.specs.declared.status.Status.TheVariants.{Expressions, Memory}
+use Rattle.synoptic_cli.specs.declared.status.Source.TheVariants as sources
 use Rattle.synoptic_cli.specs.declared.stages.SoFar as rust
 use Rattle.synoptic_cli.specs.Halts.{rules_answer, Ends, EndsByRules, HasRead, Reads, ReadsRules}
 use Rattle.synoptic_cli.proofs.Bytes.{contents-one}
@@ -103,26 +107,51 @@ rules-refused old new before after name bytes e reads other refusal =
           (record { bytes = found.0; told = found.1; refusal = found.2; not_memory = other; opened = record { opens = reads.opens; faults = reads.faults }; stops = told-part old.files name _ _ reads.told; silent = refl }),
     )
 
--- memory was wanted, with no more inputs opened than there are
-pub memory-ends : (task : Task) (old new : InputState) (before after : PatternsState) → new.opens ≤ old.opens + input_count (stages_of task) → Ends Memory task old new before after
-memory-ends task old new before after few = λ words out asks. record {
+-- memory was wanted, with no more inputs opened than there are, and the last of them known
+pub memory-ends : (task : Task) (old new : InputState) (before after : PatternsState) → new.opens ≤ old.opens + input_count (stages_of task) → StopsAnywhere task old new → Ends Memory task old new before after
+memory-ends task old new before after few stops = λ words out asks. record {
   opens = subst (λ (asked : Option Task). new.opens ≤ old.opens + option_map_or (λ t. input_count (stages_of t)) asked 0) (sym asks) few;
+  stops = subst (λ (asked : Option Task). StopsSomewhere asked old new) (sym asks) stops;
   silent = refl;
 }
+
+-- memory was wanted before any call of the inputs
+pub memory-first : (task : Task) (old : InputState) (before : PatternsState) → Ends Memory task old old before before
+memory-first task old before = memory-ends task old old before before (omega arith) (inl (0, omega arith, inr (refl, refl)))
+
+-- a file of which a front was read is open, and has left what stands behind it
+told-left : (files : Option Files) (name bytes : List ℕ) (limit : ℕ) (rest : Option (List ℕ)) → IfTold files name (λ content. (bytes ≡ take (limit + 1) content) × (rest ≡ Some (drop (limit + 1) content)))
+    → IfTold files name (λ content. LosesFront (Some content) rest limit)
+told-left None name bytes limit rest told = tt
+told-left (Some fs) name bytes limit rest told =
+    let content = told.0 in
+    let front = take (limit + 1) content in
+    (content, told.1, (front, omega (arith, length-take (limit + 1) content), subst (λ (r : Option (List ℕ)). Consumes (Some content) r front) (sym told.2.1) (sym (take-append-drop (limit + 1) content))))
+
+pub reads-open : (old new : InputState) (name : List ℕ) (limit : ℕ) (bytes : List ℕ) → ReadsInput old new name limit bytes → OpensNamed old new name limit
+reads-open old new name limit bytes reads = record { opens = reads.opens; mark = reads.mark; left = told-left old.files name bytes limit new.rest reads.told }
 
 -- the file of rules is one input of its task
 one-input : (task : Task) (name : List ℕ) → rules_name task.form ≡ Some name → 1 ≤ input_count (stages_of task)
 one-input task name is =
     subst (λ (w : Option (List ℕ)). 1 ≤ input_count ((file_stage RulesFile w ++ model_stages task) ++ log_stages task)) (sym is) (omega arith)
 
--- where memory was wanted and one input was opened at most, each task with this file of rules ends by that
-pub memory-by-rules : (old new : InputState) (before after : PatternsState) (name : List ℕ) → new.opens ≤ old.opens + 1 → EndsByRules Memory name old new before after
-memory-by-rules old new before after name few = λ task is. memory-ends task old new before after (omega (arith, few, one-input task name is))
+-- where memory was wanted at the file of rules, each task with this file ends by that
+pub memory-by-rules : (old new : InputState) (before after : PatternsState) (name : List ℕ) → OpensNamed old new name 65536 → EndsByRules Memory name old new before after
+memory-by-rules old new before after name named = λ task is.
+    let here : LeavesOpen 0 65536 old new name = record { opens = named.opens; mark = named.mark; left = named.left } in
+    memory-ends task old new before after (omega (arith, named.opens, one-input task name is)) (inr (sources.Expressions, subst (λ (w : Option (List ℕ)). IsSomeAnd w (LeavesOpen 0 65536 old new)) (sym is) here))
+
+-- the same by the answer of what read the file
+pub memory-given : (old new : InputState) (before after : PatternsState) (name : List ℕ) (e : InputError) → e ≡ input_error.Memory → InputGives old name 65536 (Err e) new → EndsByRules Memory name old new before after
+memory-given old new before after name e is gives =
+    let wants : InputGives old name 65536 (Err input_error.Memory) new = subst (λ (x : InputError). InputGives old name 65536 (Err x) new) is gives in
+    memory-by-rules old new before after name wants.0
 
 -- each task with this file of rules ends by its refusal, want of memory among the refusals
 pub rules-end : (old new : InputState) (before after : PatternsState) (name bytes : List ℕ) (e : RuleError) → ReadsInput old new name 65536 bytes → IsRefused bytes before after e
     → EndsByRules (rules_answer e) name old new before after
-rules-end old new before after name bytes refused.Memory reads refusal = memory-by-rules old new before after name (omega (arith, reads.opens))
+rules-end old new before after name bytes refused.Memory reads refusal = memory-by-rules old new before after name (reads-open old new name 65536 bytes reads)
 rules-end old new before after name bytes e reads refusal = rules-refused old new before after name bytes e reads (λ same. cc) refusal
 
 -- ---- the stage of the rules

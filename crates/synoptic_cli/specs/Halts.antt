@@ -1,6 +1,6 @@
 -- What the steps of a run leave before it writes.
 use Rattle.std.specs.Prelude.{ℕ, ◌≡◌, ◌≢◌, ◌≤◌, ◌⊎◌, List, [], ◌∷◌, ◌+◌, drop, length, IsTrue, Option, Some, None, IsSome, option_map, Result, Ok, Err, ⊤}
-use Rattle.outside.specs.Counts.{Rose, next_call}
+use Rattle.outside.specs.Counts.{Rose}
 use Rattle.outside.specs.Inputs.{InputState, Lacks}
 use Rattle.outside.specs.Reading.{IfTold, OpensNone, OpensNamed}
 use Rattle.outside.specs.Turns.{OpensInTurn}
@@ -103,7 +103,7 @@ ModelHalts version old new name halts.Fault =
     Rose old.faults new.faults × IsTrue (old.may_fail name)
     × (OpensNone old new ⊎ OpensNamed old new name (max_bytes version))
 ModelHalts version old new name (halts.Refused e) = RefusesFile version old new name e
-ModelHalts version old new name halts.Memory = new.opens ≡ next_call old.opens
+ModelHalts version old new name halts.Memory = OpensNamed old new name (max_bytes version)
 
 -- what a refusal of the file is: want of memory is no fault of the file
 abbrev pub halt_of : FileError → ModelHalt

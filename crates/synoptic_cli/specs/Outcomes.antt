@@ -1,5 +1,5 @@
 -- How each command ends where the inputs of its task are read without a refusal.
-use Rattle.std.specs.Prelude.{ℕ, ◌≡◌, ◌⊎◌, List, Some, Ok}
+use Rattle.std.specs.Prelude.{◌≡◌, ◌⊎◌, Ok}
 use Rattle.std.specs.Option.{IsSomeAnd}
 use Rattle.outside.specs.Inputs.{Files}
 use Rattle.invariants.specs.declared.Kinds.TheVariants.{Three}
@@ -10,7 +10,7 @@ use Rattle.models.specs.Histories.{IsJustified, IsFirstStep}
 use Rattle.models.specs.declared.parts.Part.{Part}
 use Rattle.models.specs.declared.parts.ReplayPart.{ReplayPart}
 use Rattle.made_logs.specs.MadeLogs.{made_log}
-use Rattle.command_line.specs.Task.{Task, task_of}
+use Rattle.command_line.specs.Task.{Task}
 use Rattle.command_line.specs.declared.table.Command.{Command}
 use Rattle.command_line.specs.declared.table.Command.TheVariants.{Invariants, Graph, GraphOfModel, Infer, Check, Replay, Paths, Bench, Migrate}
 use Rattle.synoptic_cli.specs.declared.material.Material.{Material}
@@ -20,7 +20,7 @@ use Rattle.synoptic_cli.specs.declared.status.Status.TheVariants.{Done, NoCheck,
 use Rattle.synoptic_cli.specs.Task.{kinds_of, stages_of}
 use Rattle.synoptic_cli.specs.Stages.{at_start, reads, SoFar}
 use Rattle.synoptic_cli.specs.Commands.Inference.{PassesLimit, PassesNone}
-use Rattle.synoptic_cli.specs.Endings.{IsStatusOf, told_stages}
+use Rattle.synoptic_cli.specs.Endings.{EndsTold, told_stages}
 
 -- the inference of the log passes no limit, and the status is Done; or it passes one, and the status names it
 abbrev pub IsOfInference : TypedWords → Status → Type 0
@@ -52,10 +52,10 @@ IsOutcome Paths task m status = IsOfInference (typed_words (kinds_of task) m.log
 IsOutcome Bench task m status = IsSomeAnd task.number (λ n. IsOfInference (typed_words Three (made_log n)) status)
 IsOutcome Migrate task m status = status ≡ Done
 
--- where the words ask for a task whose inputs are read without a refusal over the files, the status of the words and the
--- files is that of the task's command over what is read
+-- where the inputs of a task are read without a refusal over the files, a run of the task ends with the status of its
+-- command over what is read
 abbrev pub OutcomesAreKnown : Type 0
 OutcomesAreKnown =
-    (words : List (List ℕ)) (files : Files) (task : Task) (so_far : SoFar) (status : Status)
-    → task_of words ≡ Some task → reads at_start (told_stages files (stages_of task)) ≡ Ok so_far
-    → IsStatusOf words files status → IsOutcome task.command task so_far.material status
+    (files : Files) (task : Task) (so_far : SoFar) (status : Status)
+    → reads at_start (told_stages files (stages_of task)) ≡ Ok so_far
+    → EndsTold files task status → IsOutcome task.command task so_far.material status

@@ -18,8 +18,8 @@ pub fn runs_end_alike()
     ends_exclude();
 }
 
-/// Over files that are told, how a run ends whose words ask for a task and whose inputs are read without a refusal. The
-/// status that these words and files have is that of the command:
+/// Over files that are told, how a run of a task ends whose inputs are read without a refusal. Its status is that of the
+/// command:
 ///
 /// - `invariants`, `graph` and `migrate` end with `Done`;
 /// - `infer`, `paths` and `bench` end with `Done` where the inference passes no limit, and else with the limit that it passes;

@@ -173,6 +173,7 @@ fn read_files<I: Inputs>(
     rules: &Option<LineRules>,
     inputs: &mut I,
 ) -> Result<TraceSet, ReadError>
+    requires few { length (task_held task.now).files < 2 ^ 32 }
     ensures stays { Stays (I.state inputs.old) (I.state inputs.new) }
 
     // The log that is read, and the cause of each error.
@@ -211,6 +212,7 @@ fn read_log_stage<I: Inputs>(
     so_far: &mut SoFar,
     inputs: &mut I,
 ) -> Result<(), ReadError>
+    requires few { length (task_held task.now).files < 2 ^ 32 }
     ensures stays { Stays (I.state inputs.old) (I.state inputs.new) }
 
     // What is read where the run goes on, and why it ends.
@@ -249,7 +251,8 @@ fn read_stages<I: Inputs, P: Patterns>(
     inputs: &mut I,
     patterns: &mut P,
 ) -> Result<(), Status>
-    requires { IsHeld (version_of (task_held task.now).command) so_far.old at_start }
+    requires start { IsHeld (version_of (task_held task.now).command) so_far.old at_start }
+    requires few { length (task_held task.now).files < 2 ^ 32 }
     ensures stays { Stays (I.state inputs.old) (I.state inputs.new) }
     ensures kept { PatternsStay (P.state patterns.old) (P.state patterns.new) }
 
@@ -289,6 +292,7 @@ pub fn read_material<I: Inputs, P: Patterns>(
     inputs: &mut I,
     patterns: &mut P,
 ) -> Result<Material, Status>
+    requires few { length (task_held task.now).files < 2 ^ 32 }
     ensures stays { Stays (I.state inputs.old) (I.state inputs.new) }
     ensures kept { PatternsStay (P.state patterns.old) (P.state patterns.new) }
 

@@ -11,9 +11,6 @@ use invariants::Kinds;
 use model_file::Version;
 use std::alloc::{AllocError, Global};
 
-/// So many files are more than a log has.
-const TOO_MANY_FILES: usize = 4_294_967_296;
-
 /// The name of the file of rules, where lines are read by one.
 pub fn rules_name<'a>(form: Option<LineForm<'a>>) -> Option<&'a str>
     ensures { option_map (λ s. s.now) result ≡ rules_name (option_map form_held form.entry) }
@@ -81,12 +78,10 @@ fn owned(alloc: Global, files: &[&str]) -> Result<Vec<String>, AllocError>
 
 /// The names of the log's files, as its reader takes them: fewer than 2^32.
 pub fn names_of(alloc: Global, task: &Task<'_>) -> Result<Vec<String>, AllocError>
+    requires { length (task_held task.now).files < 2 ^ 32 }
     ensures names { IfOk result (λ names.
         map string_bytes names.items ≡ (task_held task.now).files) }
     ensures few { IfOk result (λ names. length names.items < 2 ^ 32) }
 {
-    if task.files.len() >= TOO_MANY_FILES {
-        return Err(AllocError);
-    }
     owned(alloc, &task.files)
 }

@@ -1,5 +1,5 @@
 //! The top call.
-ghost use Rattle.std.specs.Prelude.{◌≡◌, List, ℕ, Some, map};
+ghost use Rattle.std.specs.Prelude.{◌≡◌, ◌<◌, ◌^◌, List, ℕ, Some, length, map};
 ghost use Rattle.std.specs.String.{string_bytes};
 ghost use Rattle.outside.specs.Turns.{OpensFirst};
 ghost use Rattle.command_line.specs.Task.{HasSessions, task_held, task_of};
@@ -26,7 +26,8 @@ fn answer<I: Inputs, P: Patterns, O: Sink>(
     patterns: &mut P,
     out: &mut O,
 ) -> Status
-    requires { HasSessions (task_held task.now) }
+    requires sessions { HasSessions (task_held task.now) }
+    requires few { length (task_held task.now).files < 2 ^ 32 }
 
     // What the status says, for all words that ask for the task.
     ensures cause { (words : List (List ℕ)) → task_of words ≡ Some (task_held task.now)
@@ -106,8 +107,9 @@ fn status_without_task(error: ParseError) -> Status
 ///     otherwise nothing is open.
 ///   - `WriteFault`: the task has an answer, as for `Done`, `NoCheck` or `NoReplay`. `out` counted a fault, and has a front of
 ///     the answer.
-///   - `Memory`: memory was wanted, for the words, the inputs or the answer, or there are 2^32 files or more. No clause says
-///     when. No more inputs were opened than the task has.
+///   - `Memory`: memory was wanted, for the words, the inputs or the answer. No clause says when. No more inputs were opened
+///     than the task has, and none without a task. The last that was opened was read to its end; or it is open, and has left
+///     what stands behind some front of it.
 ///
 ///   But for `Done`, `NoCheck`, `NoReplay` and `WriteFault`, `out` is untouched.
 /// - `expected`: where files are known and no fault or refusal was counted, the status is the one that the words and the

@@ -15,15 +15,15 @@ use models::{models_are_shaped, models_pass, models_tell};
 use std::alloc::{AllocError, Global};
 
 /// The file of the model that is inferred, where memory is not wanted.
-pub fn write(alloc: Global, bench: &Workbench) -> Result<Answer, AllocError>
-    requires { (bench.now).stage ≡ Stage.Inferred }
-    ensures { IfOk result (WritesModel (typed_words (bench.now).kinds (bench.now).log)) }
+pub fn write(alloc: Global, workbench: &Workbench) -> Result<Answer, AllocError>
+    requires { (workbench.now).stage ≡ Stage.Inferred }
+    ensures { IfOk result (WritesModel (typed_words (workbench.now).kinds (workbench.now).log)) }
 {
     models_are_shaped();
     models_pass();
     models_tell();
-    log_is_typed(bench.traces());
-    let model = bench.model(alloc)?;
+    log_is_typed(workbench.traces());
+    let model = workbench.model(alloc)?;
     let written = write_model(alloc, &model);
     drop(model);
     let text = written?;
@@ -39,9 +39,9 @@ pub fn answer(alloc: Global, kinds: Kinds, material: Material) -> Result<Answer,
 {
     let Material { log, model } = material;
     drop(model);
-    let bench = inferred(alloc, kinds, log)?;
-    let written = write(alloc, &bench);
-    drop(bench);
+    let workbench = inferred(alloc, kinds, log)?;
+    let written = write(alloc, &workbench);
+    drop(workbench);
     match written {
         Ok(answer) => Ok(answer),
         Err(_) => Err(NoAnswer::Memory),

@@ -25,21 +25,21 @@ fn kind_of(limit: InferLimit) -> LimitKind
 
 /// Infers the model of the log of a workbench, or answers the limit that its inference passes. Nobody reads how
 /// many steps it takes.
-fn infer<L: Ledger>(bench: &mut Workbench, blank: Blank) -> Result<(), LimitKind>
+fn infer<L: Ledger>(workbench: &mut Workbench, blank: Blank) -> Result<(), LimitKind>
     requires name { blank.name ≡ L.name }
     requires parts { blank.parts ≡ L.parts }
     requires stands { 0 < blank.parts }
-    requires opened { (bench.old).stage ≡ Stage.Opened }
+    requires opened { (workbench.old).stage ≡ Stage.Opened }
 
     // The kinds that are asked for and the log stay. Its model is inferred, or the limit that its inference passes is answered.
-    ensures kinds { (bench.new).kinds ≡ (bench.old).kinds }
-    ensures log { (bench.new).log ≡ (bench.old).log }
-    ensures stage { OnOk result ((bench.new).stage ≡ Stage.Inferred) }
-    ensures none { OnOk result (PassesNone (typed_words (bench.old).kinds (bench.old).log)) }
-    ensures limit { IfErr result (λ kind. PassesLimit kind (typed_words (bench.old).kinds (bench.old).log)) }
+    ensures kinds { (workbench.new).kinds ≡ (workbench.old).kinds }
+    ensures log { (workbench.new).log ≡ (workbench.old).log }
+    ensures stage { OnOk result ((workbench.new).stage ≡ Stage.Inferred) }
+    ensures none { OnOk result (PassesNone (typed_words (workbench.old).kinds (workbench.old).log)) }
+    ensures limit { IfErr result (λ kind. PassesLimit kind (typed_words (workbench.old).kinds (workbench.old).log)) }
 {
     let mut steps = Steps::<L>::open(blank);
-    match bench.infer(&mut steps) {
+    match workbench.infer(&mut steps) {
         Ok(()) => Ok(()),
         Err(limit) => Err(kind_of(limit)),
     }
@@ -49,7 +49,7 @@ fn infer<L: Ledger>(bench: &mut Workbench, blank: Blank) -> Result<(), LimitKind
 ///
 /// `Limit(Partitions)` and `Limit(Paths)` come exactly where inference passes them, but for want of memory.
 pub fn inferred(alloc: Global, kinds: Kinds, traces: TraceSet) -> Result<Workbench, NoAnswer>
-    ensures bench { IfOk result (λ bench. bench ≡ record {
+    ensures workbench { IfOk result (λ workbench. workbench ≡ record {
       kinds = kinds;
       log = traces;
       stage = Stage.Inferred;
@@ -57,13 +57,13 @@ pub fn inferred(alloc: Global, kinds: Kinds, traces: TraceSet) -> Result<Workben
     ensures none { OnOk result (PassesNone (typed_words kinds traces)) }
     ensures err { IfErr result (NotInferred (typed_words kinds traces)) }
 {
-    let Ok(mut bench) = Workbench::open(alloc, kinds, traces) else {
+    let Ok(mut workbench) = Workbench::open(alloc, kinds, traces) else {
         return Err(NoAnswer::Memory);
     };
-    match infer::<Brand>(&mut bench, Blank::new(1)) {
-        Ok(()) => Ok(bench),
+    match infer::<Brand>(&mut workbench, Blank::new(1)) {
+        Ok(()) => Ok(workbench),
         Err(kind) => {
-            drop(bench);
+            drop(workbench);
             Err(NoAnswer::Limit(kind))
         }
     }

@@ -14,17 +14,17 @@ use reports::{path_report, paths_tell};
 use std::alloc::{AllocError, Global};
 
 /// The paths through the model that is inferred, where memory is not wanted.
-fn print(alloc: Global, bench: &Workbench) -> Result<Answer, AllocError>
-    requires { (bench.now).stage ≡ Stage.Inferred }
-    ensures { IfOk result (TellsPaths (bench.now).kinds (bench.now).log) }
+fn print(alloc: Global, workbench: &Workbench) -> Result<Answer, AllocError>
+    requires { (workbench.now).stage ≡ Stage.Inferred }
+    ensures { IfOk result (TellsPaths (workbench.now).kinds (workbench.now).log) }
 {
     refinement_keeps();
     coarsening_keeps();
     accepts_traces();
     paths_tell();
-    let traces = bench.traces();
+    let traces = workbench.traces();
     log_is_typed(traces);
-    let ids = bench.parts(alloc)?;
+    let ids = workbench.parts(alloc)?;
     let text = path_report(alloc, traces, ids.as_slice())?;
     Ok(Answer {
         status: Status::Done,
@@ -39,9 +39,9 @@ pub fn answer(alloc: Global, kinds: Kinds, material: Material) -> Result<Answer,
 {
     let Material { log, model } = material;
     drop(model);
-    let bench = inferred(alloc, kinds, log)?;
-    let printed = print(alloc, &bench);
-    drop(bench);
+    let workbench = inferred(alloc, kinds, log)?;
+    let printed = print(alloc, &workbench);
+    drop(workbench);
     match printed {
         Ok(answer) => Ok(answer),
         Err(_) => Err(NoAnswer::Memory),

@@ -91,14 +91,14 @@ fn read_and_check(alloc: Global, text: &[u8], traces: &TraceSet) -> Result<Check
 }
 
 /// How large the log and its model are, once the model was written, read back and checked, where memory is not wanted.
-fn tell(alloc: Global, bench: &Workbench) -> Result<Answer, AllocError>
-    requires kinds { (bench.now).kinds ≡ Kinds.Three }
-    requires stage { (bench.now).stage ≡ Stage.Inferred }
-    ensures { IfOk result (TellsRun (bench.now).log) }
+fn tell(alloc: Global, workbench: &Workbench) -> Result<Answer, AllocError>
+    requires kinds { (workbench.now).kinds ≡ Kinds.Three }
+    requires stage { (workbench.now).stage ≡ Stage.Inferred }
+    ensures { IfOk result (TellsRun (workbench.now).log) }
 {
     first_part_fails();
-    let traces = bench.traces();
-    let file = write(alloc, bench)?;
+    let traces = workbench.traces();
+    let file = write(alloc, workbench)?;
     let read = read_and_check(alloc, file.text.as_slice(), traces);
     drop(file);
     let checked = read?;
@@ -120,9 +120,9 @@ fn tell(alloc: Global, bench: &Workbench) -> Result<Answer, AllocError>
 fn tell_of(alloc: Global, traces: TraceSet) -> Result<Answer, NoAnswer>
     ensures { Gives (AnswersOf traces) result }
 {
-    let bench = inferred(alloc, Kinds::Three, traces)?;
-    let told = tell(alloc, &bench);
-    drop(bench);
+    let workbench = inferred(alloc, Kinds::Three, traces)?;
+    let told = tell(alloc, &workbench);
+    drop(workbench);
     match told {
         Ok(answer) => Ok(answer),
         Err(_) => Err(NoAnswer::Memory),

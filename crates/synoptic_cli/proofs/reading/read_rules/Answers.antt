@@ -3,7 +3,7 @@ use Rattle.line_rules.specs.Files.{AreRead, IsRefused}
 use Rattle.line_rules.specs.Views.{rules_in}
 use Rattle.synoptic_cli.specs.Halts.{EndsByRules}
 use Rattle.synoptic_cli.specs.declared.status.Status.{Status}
-use Rattle.synoptic_cli.proofs.Rules.{rules-read, rules-end}
+use Rattle.synoptic_cli.proofs.Rules.{memory-given, rules-read, rules-end}
 use Rattle.synoptic_cli.proofs.reading.read_rules.Goals as goal
 
 pub returns-in-Ok-read-clause-ok : goal.returns-in-Ok-read-clause-ok
@@ -26,3 +26,8 @@ returns-clause-err g c =
 
 pub returns-in-Err-Fault-clause-memory : goal.returns-in-Err-Fault-clause-memory
 returns-in-Err-Fault-clause-memory g c = λ is. cc
+
+pub returns-in-Err-Memory-clause-err : goal.returns-in-Err-Memory-clause-err
+returns-in-Err-Memory-clause-err g c =
+    memory-given (g.I.Inputs.state c.args.inputs.now) (g.I.Inputs.state c.read_input.new.inputs) (g.P.Patterns.state c.args.patterns.now) (g.P.Patterns.state c.args.patterns.now) c.args.name.now
+    c.in-Err-Memory.field-0 (assumption (c.in-Err-Memory.field-0-is, sym c.in-Err-Memory.field-0-is)) c.in-Err-Memory.ensures.gives

@@ -1,4 +1,4 @@
-use Rattle.std.proofs.Common.{List, ℕ, Err, ap, sym, subst}
+use Rattle.std.proofs.Common.{List, ℕ, Err, ap, arith, inl, sym, subst}
 use Rattle.std.specs.Io.KnownBytes.{Appends}
 use Rattle.outside.specs.Sinks.{AppendsFront}
 use Rattle.command_line.specs.Task.{task_held}
@@ -65,7 +65,7 @@ returns-in-Err-Memory-clause-cause g c = λ words asks.
     let old = g.I.Inputs.state c.args.inputs.now in
     let new = g.I.Inputs.state c.read_material.new.inputs in
     memory-ends task old new (g.P.Patterns.state c.args.patterns.now) (g.P.Patterns.state c.read_material.new.patterns) (read-most (input_count (stages_of task)) old new c.in-Ok.ensures.ok.read.inputs)
-    words (g.O.Sink.state c.args.out.now) asks
+    (inl (input_count (stages_of task), omega arith, c.in-Ok.ensures.ok.read.inputs)) words (g.O.Sink.state c.args.out.now) asks
 
 pub returns-in-Err-Memory-clause-memory : goal.returns-in-Err-Memory-clause-memory
 returns-in-Err-Memory-clause-memory g c = λ is.

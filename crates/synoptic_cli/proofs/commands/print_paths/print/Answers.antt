@@ -10,14 +10,14 @@ use Rattle.synoptic_cli.proofs.commands.print_paths.print.Goals as goal
 pub path_report-requires : goal.path_report-requires
 path_report-requires c =
     ap length c.as_slice.ensures
-    ∙ (final-count c.args.bench.now.kinds c.args.bench.now.log c.in_ok-ids.ids c.refinement_keeps.ensures c.coarsening_keeps.ensures
-    (subst (λ (log : Log). IsTypedLog (typed_words c.args.bench.now.kinds log)) c.traces-traces.ensures (c.log_is_typed.ensures.typed c.args.bench.now.kinds)) c.in_ok-ids.ensures
+    ∙ (final-count c.args.workbench.now.kinds c.args.workbench.now.log c.in_ok-ids.ids c.refinement_keeps.ensures c.coarsening_keeps.ensures
+    (subst (λ (log : Log). IsTypedLog (typed_words c.args.workbench.now.kinds log)) c.traces-traces.ensures (c.log_is_typed.ensures.typed c.args.workbench.now.kinds)) c.in_ok-ids.ensures
     ∙ ap (λ (log : Log). event_count_of log.traces) (sym c.traces-traces.ensures))
 
 pub returns : goal.returns
 returns c =
-    let log = c.args.bench.now.log in
-    let kinds = c.args.bench.now.kinds in
+    let log = c.args.workbench.now.log in
+    let kinds = c.args.workbench.now.kinds in
     let typed : IsTypedLog (typed_words kinds log) = subst (λ (log : Log). IsTypedLog (typed_words kinds log)) c.traces-traces.ensures (c.log_is_typed.ensures.typed kinds) in
     let text = c.in_ok-text.ensures ∙ ap₂ (λ (l : Log) (ids : List ℕ). path_report l ids) c.traces-traces.ensures c.as_slice.ensures in
     record {

@@ -15,7 +15,7 @@ read_and_check-read-requires c = (c.in_ok-file.ensures.model, ap reads c.as_slic
 
 pub returns : goal.returns
 returns c =
-    let log = c.args.bench.now.log in
+    let log = c.args.workbench.now.log in
     let file = c.in_ok-file.file in
     let read = c.in_ok-checked.checked.model in
     let of_file = subst (λ (t : List ℕ). IsChecked t (typed_words read.kinds c.traces-traces.result.now) read c.in_ok-checked.checked.verdict) c.as_slice.ensures c.in_ok-checked.ensures in
