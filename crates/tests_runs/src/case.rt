@@ -4,6 +4,7 @@ use crate::inputs::Given;
 use line_rules::{ListedPatterns, RegexPatterns};
 use outside::{MemInputs, MemSink};
 use std::alloc::{AllocError, Global};
+use std::fmt::Write;
 use std::{mem, str};
 use synoptic_cli::run;
 
@@ -43,8 +44,6 @@ pub struct Case {
     sought: Vec<u8>,
     /// What the run before wrote to its output.
     last: Vec<u8>,
-    /// What is told of the last step.
-    pub told: String,
     /// How many bytes a read gives and a write takes at most.
     piece: usize,
     /// How many bytes the output has room for.
@@ -112,7 +111,6 @@ impl Case {
             endless: Vec::new(alloc),
             sought: Vec::new(alloc),
             last: Vec::new(alloc),
-            told: String::new(alloc),
             piece: 0,
             room: 0,
             failing: NONE,
@@ -135,6 +133,7 @@ impl Case {
     /// Runs the program, and tells the status and what was opened.
     fn run(
         &mut self,
+        told: &mut String,
         alloc: Global,
         out: &mut MemSink,
         err: &mut MemSink,
@@ -145,44 +144,47 @@ impl Case {
         let mut inputs = self.inputs(alloc, failing);
         let status = run(alloc, &self.words, &mut inputs, &mut patterns, out, err);
         let (code, opened) = (status.code(), inputs.opened.as_str());
-        write!(&mut self.told, "{code} {status:?}\nopened {opened}\n")
+        write!(told, "{code} {status:?}\nopened {opened}\n")
     }
 
     /// Tells what stands in the output, which is kept, and the message.
     fn tell_written(
         &mut self,
+        told: &mut String,
         alloc: Global,
         out: &MemSink,
         err: &MemSink,
     ) -> Result<(), AllocError> {
         self.last.clear();
         self.last.extend_from_slice(out.bytes())?;
-        self.told.push_str("out ")?;
+        told.push_str("out ")?;
         if self.sought.is_empty() {
-            tell_bytes(&mut self.told, alloc, &self.last)?;
+            tell_bytes(told, alloc, &self.last)?;
         } else {
-            tell_count(&mut self.told, alloc, &self.last, &self.sought)?;
+            tell_count(told, alloc, &self.last, &self.sought)?;
         }
-        self.told.push_str("err ")?;
-        tell_bytes(&mut self.told, alloc, err.bytes())
+        told.push_str("err ")?;
+        tell_bytes(told, alloc, err.bytes())
     }
 
     /// Runs the program over these sinks, and tells how it ended and what it wrote.
     fn tell_run(
         &mut self,
+        told: &mut String,
         alloc: Global,
         out: &mut MemSink,
         err: &mut MemSink,
     ) -> Result<(), AllocError> {
-        self.run(alloc, out, err)?;
-        self.tell_written(alloc, out, err)
+        self.run(told, alloc, out, err)?;
+        self.tell_written(told, alloc, out, err)
     }
 
     /// Runs the program, and tells how it ended and what it wrote.
-    fn end(&mut self, alloc: Global) -> Result<(), AllocError> {
+    fn end(&mut self, told: &mut String, alloc: Global) -> Result<(), AllocError> {
         let mut out = sink(alloc, self.room, self.piece, self.failing.out)?;
         let mut err = sink(alloc, MESSAGE_ROOM, self.piece, self.failing.err)?;
-        self.tell_run(alloc, &mut out, &mut err)
+        self.tell_run(told, alloc, &mut out, &mut err)?;
+        told.push('\n')
     }
 
     /// Forgets what the steps have given, but for what the last run wrote.
@@ -236,12 +238,11 @@ impl Case {
         }
     }
 
-    /// Takes a step. What it has to tell, if anything, stands in `told` until the next one.
-    pub fn step(&mut self, alloc: Global, step: &str) -> Result<(), AllocError> {
-        self.told.clear();
+    /// Takes a step, and puts what it has to tell, if anything, at the end of the text.
+    pub fn step(&mut self, alloc: Global, step: &str, told: &mut String) -> Result<(), AllocError> {
         let (word, text) = step.split_once(' ').unwrap_or((step, ""));
         match word {
-            "name" => self.told.push_str(text),
+            "name" => writeln!(told, "{text}"),
             "endless" => {
                 mem::swap(&mut self.endless, &mut self.text);
                 Ok(())
@@ -251,7 +252,7 @@ impl Case {
                 Ok(())
             }
             "run" => {
-                let ended = self.end(alloc);
+                let ended = self.end(told, alloc);
                 self.reset();
                 ended
             }

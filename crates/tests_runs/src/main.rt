@@ -1,26 +1,47 @@
-//! Runs of the program over inputs and sinks in memory. Each line of standard input is a step of a case, and how a case
-//! ends is printed. `cases/README.md` says how the steps and what has to be printed are made.
+//! Prints what comes of cases: of command lines, then, from the line `== formats` on, of keys, events, rules, logs and models,
+//! and from the line `== runs` on, of runs of the program over inputs and sinks in memory. `make` makes standard input and what
+//! has to be printed from files of cases, and never runs the program.
 #![tactic(auto)]
 
+mod arguments;
 mod case;
+mod formats;
 mod inputs;
 
 use case::Case;
+use std::alloc::{AllocError, Global};
 use std::io;
 
-/// Takes each step of standard input, and prints what it has to tell.
-fn take_steps(rt: &HostRuntime, case: &mut Case) -> io::Result<()> {
-    let alloc = rt.alloc();
-    for line in rt.lines(alloc) {
-        case.step(alloc, line?.as_str())?;
-        if !case.told.is_empty() {
-            println!(rt; "{}", case.told)?;
-        }
+/// Takes the steps of all runs, one a line, and puts what they tell at the end of the text.
+fn take_steps(
+    alloc: Global,
+    case: &mut Case,
+    steps: &str,
+    out: &mut String,
+) -> Result<(), AllocError> {
+    for step in steps.lines() {
+        case.step(alloc, step, out)?;
     }
     Ok(())
 }
 
+/// What comes of the cases of all parts.
+fn told(alloc: Global, cases: &str) -> Result<String, AllocError> {
+    let (lines, rest) = cases.split_once("\n== formats\n").unwrap_or((cases, ""));
+    let (formats, steps) = rest.split_once("\n== runs\n").unwrap_or((rest, ""));
+    let mut out = String::new(alloc);
+    arguments::tell(alloc, lines, &mut out)?;
+    formats::tell(alloc, formats, &mut out)?;
+    let mut case = Case::new(alloc);
+    let end = take_steps(alloc, &mut case, steps, &mut out);
+    drop(case);
+    end?;
+    Ok(out)
+}
+
 fn main(rt: HostRuntime) -> io::Result<()> {
-    let mut case = Case::new(rt.alloc());
-    take_steps(&rt, &mut case)
+    let cases = io::read_to_string(rt.alloc(), rt.reader())?;
+    let told = told(rt.alloc(), &cases);
+    drop(cases);
+    print!(rt; "{}", told?)
 }

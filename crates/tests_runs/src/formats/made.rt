@@ -1,7 +1,7 @@
 //! The log of a made text.
 
-use crate::notation::number_of;
-use crate::said::write_log;
+use crate::formats::notation::number_of;
+use crate::formats::said::write_log;
 use limits::MAX_SESSIONS;
 use made_logs::read_made_log;
 use std::alloc::{AllocError, Global};

@@ -1,6 +1,6 @@
 //! Keys in a table: where each is put or found, and then all keys.
 
-use crate::notation::{number_of, write_bytes};
+use crate::formats::notation::{number_of, write_bytes};
 use key_table::{KeyParts, KeyTable, Worded};
 use std::alloc::{AllocError, Global};
 use std::fmt::Write;

@@ -1,8 +1,8 @@
 //! Texts of models that are read, and written again.
 
-use crate::changes::changed;
-use crate::notation::{bytes_of, write_bytes};
-use crate::said::write_types;
+use crate::formats::changes::changed;
+use crate::formats::notation::{bytes_of, write_bytes};
+use crate::formats::said::write_types;
 use invariants::Model;
 use model_file::{FileError, is_well_shaped, read_model, read_version_1, write_model};
 use std::alloc::{AllocError, Global};

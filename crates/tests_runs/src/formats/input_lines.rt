@@ -1,7 +1,7 @@
 //! The lines of an input.
 ghost use Rattle.std.specs.Prelude.{◌≡◌, false};
 
-use crate::notation::{bytes_of, number_of, write_bytes};
+use crate::formats::notation::{bytes_of, number_of, write_bytes};
 use log_reader::Lines;
 use outside::{Inputs, MemInputs};
 use std::alloc::{AllocError, Global};

@@ -1,7 +1,7 @@
 //! Logs of several inputs.
 
-use crate::notation::{bytes_of, number_of, write_bytes};
-use crate::said::write_log;
+use crate::formats::notation::{bytes_of, number_of, write_bytes};
+use crate::formats::said::write_log;
 use line_rules::{LineRules, RegexPatterns};
 use log_reader::{Form, read_log};
 use outside::{Inputs, MemInputs};

@@ -1,9 +1,7 @@
-//! Reads cases of logs, rules and models from standard input, and prints what comes of them.
+//! Cases of keys, events, rules, logs and models.
 //!
 //! A case ends at an empty line. Its first line is its kind, perhaps with words, and the lines after it are its steps. The
-//! first line is printed again, and then what comes of the steps. `../make` makes both standard input and the output that
-//! is wanted from the files in `../cases`, and never runs the program.
-#![tactic(auto)]
+//! first line is printed again, and then what comes of the steps.
 
 mod changes;
 mod events;
@@ -18,7 +16,7 @@ mod text;
 mod verdict;
 
 use std::alloc::{AllocError, Global};
-use std::io;
+use std::fmt::Write;
 
 /// Takes the steps of a case of this kind, and says what comes of them.
 fn take_steps(
@@ -44,20 +42,13 @@ fn take_steps(
     }
 }
 
-/// What comes of a case.
-fn told(alloc: Global, case: &str) -> Result<String, AllocError> {
-    let (heading, steps) = case.split_once('\n').unwrap_or((case, ""));
-    let mut out = format!(in alloc; "{heading}\n")?;
-    take_steps(alloc, heading, steps, &mut out)?;
-    Ok(out)
-}
-
-fn main(rt: HostRuntime) -> io::Result<()> {
-    let alloc = rt.alloc();
-    let cases = io::read_to_string(alloc, rt.reader())?;
+/// Puts what comes of the cases at the end of the text.
+pub fn tell(alloc: Global, cases: &str, out: &mut String) -> Result<(), AllocError> {
     for case in cases.split("\n\n") {
         if !case.is_empty() {
-            print!(rt; "{}", told(alloc, case)?)?;
+            let (heading, steps) = case.split_once('\n').unwrap_or((case, ""));
+            writeln!(out, "{heading}")?;
+            take_steps(alloc, heading, steps, out)?;
         }
     }
     Ok(())

@@ -1,6 +1,6 @@
 //! What a log and a model say, part by part.
 
-use crate::notation::{bytes_of, write_bytes};
+use crate::formats::notation::{bytes_of, write_bytes};
 use invariants::{Block, Listed, Model, Split, Text};
 use model_file::read_model;
 use std::alloc::{AllocError, Global};

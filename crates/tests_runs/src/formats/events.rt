@@ -1,7 +1,7 @@
 //! Events that are gathered in traces.
 
-use crate::notation::number_of;
-use crate::said::write_log;
+use crate::formats::notation::number_of;
+use crate::formats::said::write_log;
 use limits::{MAX_TRACE_BYTES, MAX_TYPE_BYTES};
 use std::alloc::{AllocError, Global};
 use std::fmt::Write;

@@ -1,6 +1,6 @@
 //! Files of rules, and what their rules decide of lines.
 
-use crate::notation::{bytes_of, text_of, write_bytes};
+use crate::formats::notation::{bytes_of, text_of, write_bytes};
 use line_rules::{Decision, LineRules, ListedPatterns, Named, Patterns, RegexPatterns};
 use std::alloc::{AllocError, Global};
 use std::fmt::Write;

@@ -1,17 +1,12 @@
-#!/usr/bin/env python3
-"""Makes stdin and stdout beside it from the cases in cases/*.txt (cases/README.md says how they are written), and never
-runs the program; and cases/COUNTS.md, which says how many cases each group has, and had when they were tests in code.
-
-    make            writes the three files
-    make --check    says whether the three files are what it makes
-    make --where N  prints where the case of line N of stdout stands
+"""Makes the part `formats` of stdin and stdout from the cases in cases/formats/*.txt (the README there says how they are
+written), and never runs the program; and COUNTS.md there, which says how many cases each group has, and had when they were
+tests in code. `make` writes all of it.
 """
 
 import functools
 import json
 import os
 import re
-import sys
 
 HERE = os.path.dirname(os.path.abspath(__file__))
 SUBJECTS = ["rules", "keys", "events", "lines", "logs", "texts", "drawn", "verdicts"]
@@ -633,7 +628,7 @@ def take_lines(lines, groups, subject):
 
 def groups_of(subject):
     """The groups of a file, each case with the line at which it stands."""
-    path = os.path.join(HERE, "cases", subject + ".txt")
+    path = os.path.join(HERE, "cases", "formats", subject + ".txt")
     with open(path, encoding="utf-8", newline="\n") as file:
         lines = file.read().split("\n") + [""]
     groups, block, start = [], [], 1
@@ -649,7 +644,7 @@ def groups_of(subject):
         except (Fault, LookupError, ValueError, AttributeError) as fault:
             raise SystemExit("make: %s.txt, line %d: %r" % (subject, start, fault))
         for case in groups[-1].cases if groups else []:
-            case.place = getattr(case, "place", "cases/%s.txt, line %d" % (subject, start))
+            case.place = getattr(case, "place", "cases/formats/%s.txt, line %d" % (subject, start))
         block = []
     return groups
 
@@ -676,28 +671,7 @@ def counted(groups):
     return "\n".join(lines).encode() + b"\n"
 
 
-def is_same(name, data):
-    with open(os.path.join(HERE, name), "rb") as file:
-        return file.read() == data
-
-
-def main(words):
+def made():
+    """The part of stdin, that of stdout, where the case of each line of stdout stands, and COUNTS.md."""
     groups = [group for subject in SUBJECTS for group in groups_of(subject)]
-    given, output, places = written(groups)
-    files = {"stdin": given, "stdout": output, "cases/COUNTS.md": counted(groups)}
-    if len(words) == 2 and words[0] == "--where":
-        print(places[int(words[1]) - 1])
-    elif words == ["--check"]:
-        for name, data in files.items():
-            if not is_same(name, data):
-                raise SystemExit("make: %s is not what the cases make" % name)
-    elif not words:
-        for name, data in files.items():
-            with open(os.path.join(HERE, name), "wb") as file:
-                file.write(data)
-    else:
-        raise SystemExit(__doc__)
-
-
-if __name__ == "__main__":
-    main(sys.argv[1:])
+    return (*written(groups), counted(groups))

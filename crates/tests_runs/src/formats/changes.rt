@@ -1,6 +1,6 @@
 //! Changes of a text.
 
-use crate::notation::{bytes_of, number_of};
+use crate::formats::notation::{bytes_of, number_of};
 use std::alloc::{AllocError, Global};
 
 /// The bytes with others in the place of some: `5 2 abc` takes out two after the first five, and puts in `abc`.

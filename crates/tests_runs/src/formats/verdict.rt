@@ -1,8 +1,8 @@
 //! Models that are read from a file and checked against a log.
 
-use crate::changes::changed;
-use crate::events::add;
-use crate::notation::bytes_of;
+use crate::formats::changes::changed;
+use crate::formats::events::add;
+use crate::formats::notation::bytes_of;
 use model_check::check;
 use model_file::read_model;
 use std::alloc::{AllocError, Global};
