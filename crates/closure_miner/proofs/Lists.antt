@@ -9,7 +9,8 @@ use Rattle.invariants.specs.declared.Kinds.{Kinds}
 use Rattle.invariants.specs.declared.Kinds.TheVariants.{Three, Four}
 use Rattle.invariants.specs.declared.Kind.{Kind}
 use Rattle.invariants.specs.declared.Invariant.{Invariant}
-use Rattle.invariants.specs.Candidates.{invariant, types, of_pair}
+use Rattle.invariants.specs.Candidates.{invariant, types, of_first, of_pair}
+use Rattle.invariants.specs.Mined.{holds_of_all, mined_for}
 use Rattle.closure_miner.specs.Standing.{of_interrupted}
 
 -- numbers in a row, and the next one
@@ -62,3 +63,12 @@ one-added p kind a b x y stands rest old mid new first second is before then =
 pub pair-parts : (kinds : Kinds) (a b : ℕ) → of_pair kinds a b ≡ invariant AF a b ∷ invariant NF a b ∷ invariant AP a b ∷ of_interrupted kinds a b
 pair-parts Three a b = refl
 pair-parts Four a b = refl
+
+-- the candidates of both forms that stand are all that are mined
+pub all-mined : (words : List (List ℕ)) (kinds : Kinds) (count : ℕ) (start firsts all : List Invariant) → firsts ≡ start ++ filter (holds_of_all words) (map (invariant AF 0) (types count))
+    → all ≡ firsts ++ filter (holds_of_all words) (flat_map (of_first kinds count) (types count)) → all ≡ start ++ mined_for kinds count words
+all-mined words kinds count start firsts all first second =
+    let p : Invariant → Bool = holds_of_all words in
+    let ones : List Invariant = map (invariant AF 0) (types count) in
+    let pairs : List Invariant = flat_map (of_first kinds count) (types count) in
+    added start (filter p ones) (filter p pairs) firsts all first second ∙ ap (λ xs. start ++ xs) (sym (filter-append p ones pairs))

@@ -63,8 +63,9 @@ fn mine_by<S: TypeSet>(
 {
     let standing: Standing<S> = standing_after(alloc, kinds, traces, types)?;
     let mut mined = Vec::new(alloc);
-    standing.push_firsts(&mut mined)?;
-    standing.push_pairs(&mut mined)?;
+    let pushed = standing.push_all(&mut mined);
+    drop(standing);
+    pushed?;
     Ok(Seq::from_vec(mined))
 }
 

@@ -215,7 +215,7 @@ impl<S: TypeSet> Standing<S> {
     ghost use Rattle.std.specs.List.{flat_map};
     ghost use Rattle.invariants.specs.declared.Kind.TheVariants.{AF};
     ghost use Rattle.invariants.specs.Candidates.{invariant, types, of_pair, of_first};
-    ghost use Rattle.invariants.specs.Mined.{holds_of_all};
+    ghost use Rattle.invariants.specs.Mined.{holds_of_all, mined_for};
     ghost use Rattle.closure_miner.specs.Standing.{word_with, of_interrupted, Stands};
 
     /// Before any trace was read: all candidates of these kinds stand.
@@ -256,7 +256,7 @@ impl<S: TypeSet> Standing<S> {
     }
 
     /// Adds the candidates that each trace has a type, of those that still stand.
-    pub fn push_firsts(&self, list: &mut Vec<Invariant>) -> Result<(), AllocError>
+    fn push_firsts(&self, list: &mut Vec<Invariant>) -> Result<(), AllocError>
         requires room { (self.now).types ≤ S.room }
         ensures { (words : List (List ℕ)) → Stands S.has self.now words → IfOk result (λ _. list.new.items
             ≡ list.old.items ++ filter (holds_of_all words) (map (invariant AF INITIAL) (types (self.now).types))) }
@@ -322,7 +322,7 @@ impl<S: TypeSet> Standing<S> {
     }
 
     /// Adds the candidates between any two types, of those that still stand.
-    pub fn push_pairs(&self, list: &mut Vec<Invariant>) -> Result<(), AllocError>
+    fn push_pairs(&self, list: &mut Vec<Invariant>) -> Result<(), AllocError>
         requires room { (self.now).types ≤ S.room }
         ensures { (words : List (List ℕ)) → Stands S.has self.now words → IfOk result (λ _. list.new.items
             ≡ list.old.items ++ filter (holds_of_all words) (flat_map (of_first (self.now).kinds (self.now).types) (types (self.now).types))) }
@@ -331,5 +331,15 @@ impl<S: TypeSet> Standing<S> {
             self.push_row(list, a)?;
         }
         Ok(())
+    }
+
+    /// Adds all candidates that still stand, in their order.
+    pub fn push_all(&self, list: &mut Vec<Invariant>) -> Result<(), AllocError>
+        requires room { (self.now).types ≤ S.room }
+        ensures { (words : List (List ℕ)) → Stands S.has self.now words → IfOk result (λ _. list.new.items
+            ≡ list.old.items ++ mined_for (self.now).kinds (self.now).types words) }
+    {
+        self.push_firsts(list)?;
+        self.push_pairs(list)
     }
 }

@@ -1,5 +1,5 @@
 -- Counts at the places of types.
-use Rattle.std.proofs.Common.{◌≡◌, ◌≢◌, ℕ, ◌+◌, ◌<◌, true, ◌&&◌, List, length, get_or, set, cond, eqb, sym, ap, ◌∙◌, ⊎_elim, arith}
+use Rattle.std.proofs.Common.{◌≡◌, ◌≢◌, ℕ, ◌+◌, ◌-◌, ◌<◌, true, false, ◌&&◌, Bool, List, length, get_or, set, cond, eqb, sym, ap, ◌∙◌, ⊎_elim, arith}
 use Rattle.std.proofs.lemmas.Bool.{and_from, and_left, cases_eq, ne_eqb}
 use Rattle.std.proofs.lemmas.Bool.Decides.{Decides-eqb}
 use Rattle.std.proofs.lemmas.List.{get_or-set_same, get_or-set_other}
@@ -45,3 +45,30 @@ first-only b r n left all equal = ⊎_elim
     let miss = ne_eqb b r other in
     ap (λ t. cond t n 0) (miss ∙ sym (and_left _ _ miss)))
     (cases_eq b r)
+
+abbrev one-if : Bool → ℕ
+one-if t = cond t 1 0
+
+-- one event less is left at its place
+pub one-less : (left : List ℕ) (x place a n : ℕ) → x ≡ place + 2 → place < length left → get_or left a 0 ≡ cond (eqb x (a + 2)) 1 0 + n → get_or (set left place (get_or left place 0 - 1)) a 0 ≡ n
+one-less left x place a n is inside counted = set-at left place (get_or left place 0 - 1) a inside ∙ ⊎_elim
+    (λ (here : place ≡ a).
+    let hit : eqb x (a + 2) ≡ true = (Decides-eqb x (a + 2)).1 (omega arith) in
+    ap (λ t. cond t (get_or left place 0 - 1) (get_or left a 0)) ((Decides-eqb place a).1 here)
+    ∙ omega (arith, counted, ap one-if hit, ap (λ k. get_or left k 0) here))
+    (λ (other : place ≢ a).
+    let miss : eqb x (a + 2) ≡ false = ne_eqb x (a + 2) (λ same. other (omega arith)) in
+    ap (λ t. cond t (get_or left place 0 - 1) (get_or left a 0)) (ne_eqb place a other) ∙ omega (arith, counted, ap one-if miss))
+    (cases_eq place a)
+
+-- where the counts of its place differ, an event is not the first of its type
+pub not-first : (b x place n m : ℕ) (left all : List ℕ) → x ≡ place + 2 → get_or left place 0 ≢ get_or all place 0 → n ≡ n + cond (eqb x (b + 2) && eqb (get_or left b 0) (get_or all b 0)) m 0
+not-first b x place n m left all is differ = ⊎_elim
+    (λ (here : b ≡ place).
+    let miss : eqb (get_or left b 0) (get_or all b 0) ≡ false = ne_eqb (get_or left b 0) (get_or all b 0) (λ same. differ (ap (λ k. get_or left k 0) (sym here) ∙ (same ∙ ap (λ k. get_or all k 0) here))) in
+    let hit : eqb x (b + 2) ≡ true = (Decides-eqb x (b + 2)).1 (omega arith) in
+    omega arith ∙ (ap (λ t. n + cond t m 0) (sym miss) ∙ ap (λ t. n + cond (t && eqb (get_or left b 0) (get_or all b 0)) m 0) (sym hit)))
+    (λ (other : b ≢ place).
+    let miss : eqb x (b + 2) ≡ false = ne_eqb x (b + 2) (λ same. other (omega arith)) in
+    omega arith ∙ ap (λ t. n + cond (t && eqb (get_or left b 0) (get_or all b 0)) m 0) (sym miss))
+    (cases_eq b place)

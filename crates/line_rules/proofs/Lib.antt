@@ -7,3 +7,4 @@ pub mod Line
 pub mod Lines
 pub mod Alike
 pub mod Read
+pub mod Scans

@@ -117,7 +117,7 @@ impl LineRules {
     {
         let mut matchers = Vec::new(self.alloc);
         for rule in &self.rules {
-            matchers.push(RuleMatcher::make(self.alloc, rule)?)?;
+            RuleMatcher::add(self.alloc, rule, &mut matchers)?;
         }
         Ok(Matchers { rules: matchers })
     }

@@ -1,5 +1,5 @@
 //! What searches lines for the rules.
-ghost use Rattle.std.specs.Prelude.{◌≡◌, ◌≤◌, List, Some, IfOk, IfSome, vec_len, slice_get};
+ghost use Rattle.std.specs.Prelude.{◌≡◌, ◌≤◌, ◌+◌, ◌++◌, ◌∷◌, [], List, Some, IfOk, IfSome, OnOk, vec_len, slice_get};
 ghost use Rattle.limits.specs.declared.TheConstants.{MAX_RULES};
 ghost use Rattle.regex.specs.Strings.{regex_pattern, matcher_pattern};
 ghost use Rattle.line_rules.specs.Rules as spec;
@@ -21,6 +21,7 @@ pub struct RuleMatcher<'r> {
 
 impl<'r> RuleMatcher<'r> {
     ghost use Rattle.line_rules.specs.Views.{rule_view};
+    ghost use Rattle.line_rules.specs.declared.matchers.RuleMatcher.{RuleMatcher};
 
     /// What searches for the rule's pattern.
     pub(crate) fn make(alloc: Global, rule: &'r Rule) -> Result<RuleMatcher<'r>, AllocError>
@@ -28,6 +29,22 @@ impl<'r> RuleMatcher<'r> {
     {
         let matcher = rule.regex.matcher(alloc)?;
         Ok(RuleMatcher { rule, matcher })
+    }
+
+    /// Adds what searches for the pattern of the rule.
+    pub(crate) fn add(
+        alloc: Global,
+        rule: &'r Rule,
+        matchers: &mut Vec<RuleMatcher<'r>>,
+    ) -> Result<(), AllocError>
+        ensures len { OnOk result (vec_len matchers.new ≡ vec_len matchers.old + 1) }
+        ensures added { OnOk result ((m : RuleMatcher)
+            × (matchers.new.items ≡ matchers.old.items ++ m ∷ [])
+            × (m.rule.now ≡ rule.now)) }
+    {
+        let matcher = RuleMatcher::make(alloc, rule)?;
+        matchers.push(matcher)?;
+        Ok(())
     }
 
     /// What the rule, which has this number, decides of the line, if it does.

@@ -45,16 +45,12 @@ fn form_word(word: &str) -> Option<Word<'_>>
     ensures form { option_map word_view result ≡ form_of_word word.now }
     ensures short { IfSome result HasShortName }
 {
-    if word == "skip" {
-        return Some(Word::Skip);
+    match word {
+        "skip" => Some(Word::Skip),
+        "separator" => Some(Word::Separator),
+        "event" => Some(Word::Event),
+        _ => named(word),
     }
-    if word == "separator" {
-        return Some(Word::Separator);
-    }
-    if word == "event" {
-        return Some(Word::Event);
-    }
-    named(word)
 }
 
 /// What stands before the first space and after it, where something stands after it.

@@ -11,7 +11,7 @@ use Rattle.invariants.specs.declared.records.Listed.{Listed}
 use Rattle.invariants.specs.declared.records.Merge.{Merge}
 use Rattle.invariants.specs.declared.records.Split.{Split}
 use Rattle.invariants.specs.declared.records.Block.{Block}
-use Rattle.model_file.specs.declared.entries.Labels.{Labels}
+use Rattle.model_file.specs.declared.labels.Labels.{Labels}
 use Rattle.model_file.specs.Entries.{◌>>=◌, if_below, number_below, two, three, four, two_in, three_in, four_in, list_in, number_in, type_in, kind_in, kind_named, kinds_named, kinds_from, labels_of, labels_in, path_in, invariant_in, partition_in, edge_in, listed_in, merge_in, split_in, block_in}
 use Rattle.model_file.specs.Rows.{labels_as}
 use Rattle.model_file.specs.Streams.{whole_in}

@@ -22,6 +22,14 @@ pub fails-at : {A B C : Type 0} (e refusal : FileError) (answer : Result C FileE
     → answer ≡ Err refusal → refusal ≡ e → whole ≡ (r >>= f) → Fails e r → IfErr answer (λ x. Fails x whole)
 fails-at e refusal answer whole r f failed same is h = subst (λ x. IfErr x (λ y. Fails y whole)) (sym (failed ∙ ap Err same)) (Fails-at e whole r f is h)
 
+-- the same steps after the same answer
+pub then-same : {A B : Type 0} (r s : Result A FileError) (f g : A → Result B FileError) → r ≡ s → ((x : A) → f x ≡ g x) → (r >>= f) ≡ (s >>= g)
+then-same {A} {B} r s f g e h = ap (λ t. t >>= f) e ∙ steps s
+  where
+    steps : (t : Result A FileError) → (t >>= f) ≡ (t >>= g)
+    steps (Ok x) = h x
+    steps (Err e) = refl
+
 -- an answer that is a model is what was to be read
 pub Gives-ok : {A : Type 0} (r read : Result A FileError) → Gives r read → IfOk r (λ x. read ≡ Ok x)
 Gives-ok (Ok x) read h = h

@@ -9,14 +9,17 @@ use Rattle.std.proofs.lemmas.Map.Text.{is_eq-slice_cmp}
 use Rattle.serde_json.specs.Data.{Data, Members, no_members, member, put}
 use Rattle.serde_json.specs.Find.{get_member}
 use Rattle.model_file.specs.declared.version.Version.{Version}
+use Rattle.model_file.specs.declared.version.Version.TheVariants.{One, Two}
 use Rattle.model_file.specs.Reading.{is_key, has_no_extra}
 use Rattle.model_file.specs.declared.found.Found.{Found}
-use Rattle.model_file.specs.declared.found.Key.{Key}
-use Rattle.model_file.specs.declared.found.Key.TheVariants as key
+use Rattle.model_file.specs.declared.keys.Key.{Key}
+use Rattle.model_file.specs.declared.keys.Key.TheVariants as key
+use Rattle.model_file.specs.declared.keys.BoundedKey.TheVariants as bounded
+use Rattle.model_file.specs.declared.keys.WholeKey.TheVariants as whole
 use Rattle.model_file.specs.declared.stream.Stop.{Stop}
 use Rattle.model_file.specs.declared.stream.Stop.TheVariants.{NotJson, Memory}
 use Rattle.model_file.specs.Streams.{IsStopped}
-use Rattle.model_file.specs.Found.{nothing, found_by, found_in, with_field, IsKey}
+use Rattle.model_file.specs.Found.{nothing, found_by, found_in, with_field, has_key, IsKey}
 
 -- ---- the members of an object, of which one is put in
 
@@ -135,17 +138,41 @@ flipped a b e = is_eq-slice_cmp b a ∙ turned (bytes_eq b a) refl
     turned true is = absurd (false≢true (sym e ∙ (bytes_eq-Decides a b).1 (sym ((bytes_eq-Decides b a).0 is))))
     turned false is = refl
 
+-- a file of the version has the key exactly if its text is one of the keys
+key-known : (version : Version) (k : Key) (text : List ℕ) → IsKey k text → has_key version k ≡ is_key version text
+unfolding is_key
+key-known One (key.Bounded bounded.Blocks) text e = subst (λ t. has_key One (key.Bounded bounded.Blocks) ≡ is_key One t) (sym e) refl
+key-known Two (key.Bounded bounded.Blocks) text e = subst (λ t. has_key Two (key.Bounded bounded.Blocks) ≡ is_key Two t) (sym e) refl
+key-known One (key.Bounded bounded.Invariants) text e = subst (λ t. has_key One (key.Bounded bounded.Invariants) ≡ is_key One t) (sym e) refl
+key-known Two (key.Bounded bounded.Invariants) text e = subst (λ t. has_key Two (key.Bounded bounded.Invariants) ≡ is_key Two t) (sym e) refl
+key-known One (key.Bounded bounded.Splits) text e = subst (λ t. has_key One (key.Bounded bounded.Splits) ≡ is_key One t) (sym e) refl
+key-known Two (key.Bounded bounded.Splits) text e = subst (λ t. has_key Two (key.Bounded bounded.Splits) ≡ is_key Two t) (sym e) refl
+key-known One (key.Bounded bounded.Types) text e = subst (λ t. has_key One (key.Bounded bounded.Types) ≡ is_key One t) (sym e) refl
+key-known Two (key.Bounded bounded.Types) text e = subst (λ t. has_key Two (key.Bounded bounded.Types) ≡ is_key Two t) (sym e) refl
+key-known One (key.Whole whole.Edges) text e = subst (λ t. has_key One (key.Whole whole.Edges) ≡ is_key One t) (sym e) refl
+key-known Two (key.Whole whole.Edges) text e = subst (λ t. has_key Two (key.Whole whole.Edges) ≡ is_key Two t) (sym e) refl
+key-known One (key.Whole whole.Merges) text e = subst (λ t. has_key One (key.Whole whole.Merges) ≡ is_key One t) (sym e) refl
+key-known Two (key.Whole whole.Merges) text e = subst (λ t. has_key Two (key.Whole whole.Merges) ≡ is_key Two t) (sym e) refl
+key-known One (key.Whole whole.Partitions) text e = subst (λ t. has_key One (key.Whole whole.Partitions) ≡ is_key One t) (sym e) refl
+key-known Two (key.Whole whole.Partitions) text e = subst (λ t. has_key Two (key.Whole whole.Partitions) ≡ is_key Two t) (sym e) refl
+key-known One key.Kinds text e = subst (λ t. has_key One key.Kinds ≡ is_key One t) (sym e) refl
+key-known Two key.Kinds text e = subst (λ t. has_key Two key.Kinds ≡ is_key Two t) (sym e) refl
+key-known One key.Version text e = subst (λ t. has_key One key.Version ≡ is_key One t) (sym e) refl
+key-known Two key.Version text e = subst (λ t. has_key Two key.Version ≡ is_key Two t) (sym e) refl
+key-known One key.Other text e = sym (either (bytes_eq text (codes "kinds")) _ e).1
+key-known Two key.Other text e = sym e
+
 module _ (version : Version) (d : Data) (ms : Members) where
   by-key : (k : Key) (text : List ℕ) → IsKey k text → with_field k d (Noted version text d ms) ≡ Next version text d ms
   unfolding found_in
-  by-key key.Blocks text e = subst (λ t. with_field key.Blocks d (Noted version t d ms) ≡ Next version t d ms) (sym e) refl
-  by-key key.Edges text e = subst (λ t. with_field key.Edges d (Noted version t d ms) ≡ Next version t d ms) (sym e) refl
-  by-key key.Invariants text e = subst (λ t. with_field key.Invariants d (Noted version t d ms) ≡ Next version t d ms) (sym e) refl
+  by-key (key.Bounded bounded.Blocks) text e = subst (λ t. with_field (key.Bounded bounded.Blocks) d (Noted version t d ms) ≡ Next version t d ms) (sym e) refl
+  by-key (key.Bounded bounded.Invariants) text e = subst (λ t. with_field (key.Bounded bounded.Invariants) d (Noted version t d ms) ≡ Next version t d ms) (sym e) refl
+  by-key (key.Bounded bounded.Splits) text e = subst (λ t. with_field (key.Bounded bounded.Splits) d (Noted version t d ms) ≡ Next version t d ms) (sym e) refl
+  by-key (key.Bounded bounded.Types) text e = subst (λ t. with_field (key.Bounded bounded.Types) d (Noted version t d ms) ≡ Next version t d ms) (sym e) refl
+  by-key (key.Whole whole.Edges) text e = subst (λ t. with_field (key.Whole whole.Edges) d (Noted version t d ms) ≡ Next version t d ms) (sym e) refl
+  by-key (key.Whole whole.Merges) text e = subst (λ t. with_field (key.Whole whole.Merges) d (Noted version t d ms) ≡ Next version t d ms) (sym e) refl
+  by-key (key.Whole whole.Partitions) text e = subst (λ t. with_field (key.Whole whole.Partitions) d (Noted version t d ms) ≡ Next version t d ms) (sym e) refl
   by-key key.Kinds text e = subst (λ t. with_field key.Kinds d (Noted version t d ms) ≡ Next version t d ms) (sym e) refl
-  by-key key.Merges text e = subst (λ t. with_field key.Merges d (Noted version t d ms) ≡ Next version t d ms) (sym e) refl
-  by-key key.Partitions text e = subst (λ t. with_field key.Partitions d (Noted version t d ms) ≡ Next version t d ms) (sym e) refl
-  by-key key.Splits text e = subst (λ t. with_field key.Splits d (Noted version t d ms) ≡ Next version t d ms) (sym e) refl
-  by-key key.Types text e = subst (λ t. with_field key.Types d (Noted version t d ms) ≡ Next version t d ms) (sym e) refl
   by-key key.Version text e = subst (λ t. with_field key.Version d (Noted version t d ms) ≡ Next version t d ms) (sym e) refl
   by-key key.Other text e =
       let h1 = either (bytes_eq text (codes "kinds")) _ e in
@@ -162,6 +189,6 @@ module _ (version : Version) (d : Data) (ms : Members) where
       rw (same (codes "version") h9.0, same (codes "types") h8.0, same (codes "kinds") h1.0, same (codes "partitions") h6.0, same (codes "edges") h3.0, same (codes "invariants") h4.0, same (codes "merges") h5.0, same (codes "splits") h7.0, same (codes "blocks") h2.0) refl
 
   -- what is found once a key and its value were read
-  pub member-found : (k : Key) (text : List ℕ) (found : Found) (known : Bool) → IsKey k text → known ≡ is_key version text → found ≡ found_in version ms → with_field k d (record found { has_extra = found.has_extra || not known }) ≡ found_in version (put text d ms)
+  pub member-found : (k : Key) (text : List ℕ) (found : Found) (known : Bool) → IsKey k text → known ≡ has_key version k → found ≡ found_in version ms → with_field k d (record found { has_extra = found.has_extra || not known }) ≡ found_in version (put text d ms)
   member-found k text found known is known-is found-is =
-      ap₂ (λ b f. with_field k d (record f { has_extra = f.has_extra || not b })) known-is found-is ∙ by-key k text is ∙ next-is version text d ms
+      ap₂ (λ b f. with_field k d (record f { has_extra = f.has_extra || not b })) (known-is ∙ key-known version k text is) found-is ∙ by-key k text is ∙ next-is version text d ms

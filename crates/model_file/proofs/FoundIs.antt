@@ -23,12 +23,12 @@ use Rattle.model_file.specs.Rules.{type_of, types_hold, partitions_hold, edges_h
 use Rattle.model_file.specs.Entries.{listed_in, split_in, block_in}
 use Rattle.model_file.specs.Lists.{types_over, invariants_over, splits_over, blocks_over}
 use Rattle.model_file.proofs.Kept.{kept-tested, types-break, invariants-break, splits-break, blocks-break}
-use Rattle.model_file.proofs.Fails.{reads-value}
+use Rattle.model_file.proofs.Fails.{then-same, reads-value}
 use Rattle.model_file.proofs.Shapes.{tested-ok, ok-is}
 use Rattle.model_file.specs.declared.found.Found.{Found}
 use Rattle.model_file.specs.Streams.{whole_in}
 use Rattle.model_file.specs.Reading.{◌>>=◌, or_shape, tested, if_of, has_no_extra, root_in, version_in, keys_in, head_in, part_in, types_in, kinds_in, partitions_in, edges_in, invariants_in, merges_in, splits_in, blocks_in, parts_in, model_in, value_of, reads_as}
-use Rattle.model_file.specs.Found.{found_in, HasMembers, head_from, types_from, kinds_tested, partitions_from, edges_from, invariants_from, merges_from, splits_from, blocks_from, parts_from, kinds_from, model_from}
+use Rattle.model_file.specs.Found.{found_in, HasMembers, head_from, types_from, kinds_tested, partitions_from, edges_from, invariants_from, merges_from, splits_from, blocks_from, after_partitions, parts_from, kinds_from, model_from, with_others}
 
 in-turn : (o : Option Data) → option_and_then as_u64 (option_and_then as_number o) ≡ option_and_then whole_in o
 in-turn None = refl
@@ -42,14 +42,6 @@ of-object : (version : Version) (ms : Members) → head_in version (object ms) �
 unfolding head_in root_in version_in keys_in found_in
 of-object version ms =
     ap₂ (λ n b. if_of version n >>= λ v. tested Extra b tt) (in-turn (get_member (codes "version") ms)) (not-not (has_no_extra version ms))
-
--- the same steps after the same answer
-then-same : {A B : Type 0} (r s : Result A FileError) (f g : A → Result B FileError) → r ≡ s → ((x : A) → f x ≡ g x) → (r >>= f) ≡ (s >>= g)
-then-same {A} {B} r s f g e h = ap (λ t. t >>= f) e ∙ steps s
-  where
-    steps : (t : Result A FileError) → (t >>= f) ≡ (t >>= g)
-    steps (Ok x) = h x
-    steps (Err e) = refl
 
 module _ (version : Version) (ms : Members) where
   -- the members' value, and what is found in it
@@ -126,20 +118,28 @@ kinds-took Two f kinds e = named f.kinds e
     named None e = absurd cc
     named (Some k) e = ok-is k kinds e
 
--- where each part is read, the model is that of the parts
-pub model-is : (version : Version) (f : Found) (ts : List (List ℕ)) (kinds : Kinds) (n : ℕ) (ps : List Partition) (type : ℕ → Option ℕ) (es : List Edge) (k m : ℕ) (ls : List Listed) (ms : List Merge) (i : ℕ) (ss : List Split) (again : ℕ → Option ℕ) (j : ℕ) (bs : List Block)
-    → types_from version f ≡ Ok ts → kinds_tested version f ≡ Ok kinds → partitions_from n f ≡ Ok ps → edges_from type f ≡ Ok es → invariants_from kinds k m f ≡ Ok ls → merges_from f ≡ Ok ms → splits_from i f ≡ Ok ss → blocks_from again j ss f ≡ Ok bs
-    → model_from version f ≡ record { types = ts; kinds = kinds; partitions = ps; edges = es; invariants = ls; splits = ss; merges = ms; blocks = bs }
-model-is version f ts kinds n ps type es k m ls ms i ss again j bs types named partitions edges invariants merges splits blocks =
+-- where the types, the kinds and the partitions are read, the model of what was found has these
+pub model-is : (version : Version) (f : Found) (ts : List (List ℕ)) (kinds : Kinds) (n : ℕ) (ps : List Partition)
+    → types_from version f ≡ Ok ts → kinds_tested version f ≡ Ok kinds → partitions_from n f ≡ Ok ps
+    → model_from version f ≡ with_others ts kinds ps f
+model-is version f ts kinds n ps types named partitions =
     rw (
       took Types (types_hold (max_types version)) f.types ts types,
       kinds-took version f kinds named,
       took Partitions (partitions_hold n) f.partitions ps partitions,
+    ) refl
+
+-- where the other parts are read, it has these too
+pub others-are : (type : ℕ → Option ℕ) (ts : List (List ℕ)) (kinds : Kinds) (ps : List Partition) (f : Found) (es : List Edge) (k m : ℕ) (ls : List Listed) (ms : List Merge) (i : ℕ) (ss : List Split) (j : ℕ) (bs : List Block)
+    → edges_from type f ≡ Ok es → invariants_from kinds k m f ≡ Ok ls → merges_from f ≡ Ok ms → splits_from i f ≡ Ok ss → blocks_from type j ss f ≡ Ok bs
+    → with_others ts kinds ps f ≡ record { types = ts; kinds = kinds; partitions = ps; edges = es; invariants = ls; splits = ss; merges = ms; blocks = bs }
+others-are type ts kinds ps f es k m ls ms i ss j bs edges invariants merges splits blocks =
+    rw (
       took Edges (edges_hold type) f.edges es edges,
       took Invariants (invariants_hold kinds k m) f.invariants ls invariants,
       took Merges merges_hold f.merges ms merges,
       took Splits (splits_hold i) f.splits ss splits,
-      took Blocks (blocks_hold again j ss) f.blocks bs blocks,
+      took Blocks (blocks_hold type j ss) f.blocks bs blocks,
     ) refl
 
 -- ---- the whole

@@ -16,7 +16,8 @@ use Rattle.model_file.specs.declared.refusal.FileError.{FileError}
 use Rattle.model_file.specs.Rules.{type_of, edge_holds, edges_hold, block_holds, blocks_hold}
 use Rattle.model_file.specs.Reading.{◌>>=◌, or_shape, tested}
 use Rattle.model_file.specs.declared.found.Found.{Found}
-use Rattle.model_file.specs.Found.{types_from, kinds_tested, partitions_from, edges_from, invariants_from, merges_from, splits_from, blocks_from, parts_from}
+use Rattle.model_file.specs.Found.{types_from, kinds_tested, partitions_from, edges_from, invariants_from, merges_from, splits_from, blocks_from, after_partitions, parts_from}
+use Rattle.model_file.proofs.Fails.{then-same}
 
 -- two look-ups give the same at each id
 abbrev Agree : (ℕ → Option ℕ) → (ℕ → Option ℕ) → Type 0
@@ -52,79 +53,75 @@ blocks-rule-same f g h n ss bs = rw (all-same (block_holds f n) (block_holds g n
 blocks-same : (f g : ℕ → Option ℕ) → Agree f g → (n : ℕ) (ss : List Split) (found : Found) → blocks_from f n ss found ≡ blocks_from g n ss found
 blocks-same f g h n ss found = tested-same Blocks (blocks_hold f n ss) (blocks_hold g n ss) (blocks-rule-same f g h n ss) (or_shape Blocks found.blocks)
 
--- what is still to be read after the splits
-abbrev pub after_splits : List (List ℕ) → Kinds → List Partition → List Edge → List Listed → List Merge → List Split → Found → Result Model FileError
-after_splits ts kinds ps es ls ms ss found = blocks_from (type_of ps) (length ls) ss found >>= λ bs. Ok (record { types = ts; kinds = kinds; partitions = ps; edges = es; invariants = ls; splits = ss; merges = ms; blocks = bs })
-
--- what is still to be read after the merges
-abbrev pub after_merges : List (List ℕ) → Kinds → List Partition → List Edge → List Listed → List Merge → Found → Result Model FileError
-after_merges ts kinds ps es ls ms found = splits_from (length ls) found >>= λ ss. after_splits ts kinds ps es ls ms ss found
-
--- what is still to be read after the invariants
-abbrev pub after_invariants : List (List ℕ) → Kinds → List Partition → List Edge → List Listed → Found → Result Model FileError
-after_invariants ts kinds ps es ls found = merges_from found >>= λ ms. after_merges ts kinds ps es ls ms found
-
--- what is still to be read after the edges
-abbrev pub after_edges : List (List ℕ) → Kinds → List Partition → List Edge → Found → Result Model FileError
-after_edges ts kinds ps es found = invariants_from kinds (length ts) (length ps) found >>= λ ls. after_invariants ts kinds ps es ls found
-
--- what is still to be read after the partitions
-abbrev pub after_partitions : List (List ℕ) → Kinds → List Partition → Found → Result Model FileError
-after_partitions ts kinds ps found = edges_from (type_of ps) found >>= λ es. after_edges ts kinds ps es found
+-- by look-ups that agree the same is read after the partitions
+pub others-same : (f g : ℕ → Option ℕ) → Agree f g → (ts : List (List ℕ)) (kinds : Kinds) (ps : List Partition) (found : Found) → after_partitions f ts kinds ps found ≡ after_partitions g ts kinds ps found
+others-same f g h ts kinds ps found =
+    then-same _ _ _ _ (edges-same f g h found) (λ es.
+    then-same (invariants_from kinds (length ts) (length ps) found) _ _ _ refl (λ ls.
+    then-same (merges_from found) _ _ _ refl (λ ms.
+    then-same (splits_from (length ls) found) _ _ _ refl (λ ss.
+    ap (λ r. r >>= λ bs. Ok (record { types = ts; kinds = kinds; partitions = ps; edges = es; invariants = ls; splits = ss; merges = ms; blocks = bs })) (blocks-same f g h (length ls) ss found)))))
 
 -- what is still to be read after the kinds
-abbrev pub after_kinds : List (List ℕ) → Kinds → Found → Result Model FileError
-after_kinds ts kinds found = partitions_from (length ts) found >>= λ ps. after_partitions ts kinds ps found
+abbrev after_kinds : List (List ℕ) → Kinds → Found → Result Model FileError
+after_kinds ts kinds found = partitions_from (length ts) found >>= λ ps. after_partitions (type_of ps) ts kinds ps found
 
 -- what is still to be read after the types
 abbrev pub after_types : Version → List (List ℕ) → Found → Result Model FileError
 after_types version ts found = kinds_tested version found >>= λ kinds. after_kinds ts kinds found
 
--- the parts are the types, and what is read after them
-pub from-types : (version : Version) (found : Found) → parts_from version found ≡ (types_from version found >>= λ ts. after_types version ts found)
-from-types version found = refl
+module _ (version : Version) (found : Found) (ts : List (List ℕ)) (types : types_from version found ≡ Ok ts) where
+  -- where the types are read, the parts come down to what is read after them
+  pub from-kinds : parts_from version found ≡ after_types version ts found
+  from-kinds = ap (λ r. r >>= λ xs. after_types version xs found) types
 
--- where the types are read, the parts come down to what is read after them
-pub from-kinds : (version : Version) (found : Found) (ts : List (List ℕ)) → types_from version found ≡ Ok ts → parts_from version found ≡ after_types version ts found
-from-kinds version found ts types = from-types version found ∙ ap (λ r. r >>= λ xs. after_types version xs found) types
+  module _ (kinds : Kinds) (named : kinds_tested version found ≡ Ok kinds) where
+    -- where the kinds are read, the parts come down to what is read after them
+    pub from-partitions : parts_from version found ≡ after_kinds ts kinds found
+    from-partitions = from-kinds ∙ ap (λ r. r >>= λ k. after_kinds ts k found) named
 
-module _ (version : Version) (found : Found) (ts : List (List ℕ)) (types : types_from version found ≡ Ok ts) (kinds : Kinds) (named : kinds_tested version found ≡ Ok kinds) where
-  -- where the kinds are read, the parts come down to what is read after them
-  pub from-partitions : parts_from version found ≡ after_kinds ts kinds found
-  from-partitions = from-kinds version found ts types ∙ ap (λ r. r >>= λ k. after_kinds ts k found) named
+    -- where the partitions are read, the parts come down to what is read after them, by a look-up that agrees
+    pub from-others : (ps : List Partition) (type : ℕ → Option ℕ) → Agree type (type_of ps) → partitions_from (length ts) found ≡ Ok ps → parts_from version found ≡ after_partitions type ts kinds ps found
+    from-others ps type agree partitions =
+        from-partitions ∙ ap (λ r. r >>= λ xs. after_partitions (type_of xs) ts kinds xs found) partitions ∙ sym (others-same type (type_of ps) agree ts kinds ps found)
 
-  module _ (ps : List Partition) (n : ℕ) (count : n ≡ length ts) (partitions : partitions_from n found ≡ Ok ps) where
-    -- where the partitions are read, the parts come down to what is read after them
-    pub from-edges : parts_from version found ≡ after_partitions ts kinds ps found
-    from-edges = from-partitions ∙ ap (λ r. r >>= λ xs. after_partitions ts kinds xs found) (ap (λ k. partitions_from k found) (sym count) ∙ partitions)
+-- ---- after the partitions
 
-    -- the same, with the edges read by a look-up that agrees
-    pub table-edges : (type : ℕ → Option ℕ) → Agree type (type_of ps) → parts_from version found ≡ (edges_from type found >>= λ es. after_edges ts kinds ps es found)
-    table-edges type agree = from-edges ∙ ap (λ r. r >>= λ es. after_edges ts kinds ps es found) (sym (edges-same type (type_of ps) agree found))
+module _ (type : ℕ → Option ℕ) (ts : List (List ℕ)) (kinds : Kinds) (ps : List Partition) (found : Found) where
+  abbrev Whole : Result Model FileError
+  Whole = after_partitions type ts kinds ps found
 
-    module _ (type : ℕ → Option ℕ) (agree : Agree type (type_of ps)) (es : List Edge) (edges : edges_from type found ≡ Ok es) where
-      -- where the edges are read, the parts come down to what is read after them
-      pub from-invariants : parts_from version found ≡ after_edges ts kinds ps es found
-      from-invariants = table-edges type agree ∙ ap (λ r. r >>= λ xs. after_edges ts kinds ps xs found) edges
+  abbrev After_splits : List Edge → List Listed → List Merge → List Split → Result Model FileError
+  After_splits es ls ms ss = blocks_from type (length ls) ss found >>= λ bs. Ok (record { types = ts; kinds = kinds; partitions = ps; edges = es; invariants = ls; splits = ss; merges = ms; blocks = bs })
 
-      -- the same, with the numbers of types and partitions given
-      pub counted-invariants : (k m : ℕ) → k ≡ length ts → m ≡ length ps → parts_from version found ≡ (invariants_from kinds k m found >>= λ ls. after_invariants ts kinds ps es ls found)
-      counted-invariants k m is_k is_m = from-invariants ∙ ap₂ (λ a b. invariants_from kinds a b found >>= λ ls. after_invariants ts kinds ps es ls found) (sym is_k) (sym is_m)
+  abbrev After_merges : List Edge → List Listed → List Merge → Result Model FileError
+  After_merges es ls ms = splits_from (length ls) found >>= λ ss. After_splits es ls ms ss
 
-      module _ (ls : List Listed) (k m : ℕ) (is_k : k ≡ length ts) (is_m : m ≡ length ps) (invariants : invariants_from kinds k m found ≡ Ok ls) where
-        -- where the invariants are read, the parts come down to what is read after them
-        pub from-merges : parts_from version found ≡ after_invariants ts kinds ps es ls found
-        from-merges = counted-invariants k m is_k is_m ∙ ap (λ r. r >>= λ xs. after_invariants ts kinds ps es xs found) invariants
+  abbrev After_invariants : List Edge → List Listed → Result Model FileError
+  After_invariants es ls = merges_from found >>= λ ms. After_merges es ls ms
 
-        module _ (ms : List Merge) (merges : merges_from found ≡ Ok ms) where
-          -- where the merges are read, the splits and the blocks are left
-          pub from-splits : (i : ℕ) → i ≡ length ls → parts_from version found ≡ (splits_from i found >>= λ ss. after_splits ts kinds ps es ls ms ss found)
-          from-splits i is_i = from-merges ∙ ap (λ r. r >>= λ xs. after_merges ts kinds ps es ls xs found) merges ∙ ap (λ a. splits_from a found >>= λ ss. after_splits ts kinds ps es ls ms ss found) (sym is_i)
+  abbrev After_edges : List Edge → Result Model FileError
+  After_edges es = invariants_from kinds (length ts) (length ps) found >>= λ ls. After_invariants es ls
 
-          -- where the splits are read, the blocks are left
-          pub from-blocks : (i : ℕ) → i ≡ length ls → (ss : List Split) → splits_from i found ≡ Ok ss → (again : ℕ → Option ℕ) → Agree again (type_of ps) → (j : ℕ) → j ≡ length ls
-              → parts_from version found ≡ (blocks_from again j ss found >>= λ bs. Ok (record { types = ts; kinds = kinds; partitions = ps; edges = es; invariants = ls; splits = ss; merges = ms; blocks = bs }))
-          from-blocks i is_i ss splits again agreed j is_j =
-              from-splits i is_i ∙ ap (λ r. r >>= λ xs. after_splits ts kinds ps es ls ms xs found) splits
-              ∙ ap (λ a. blocks_from (type_of ps) a ss found >>= λ bs. Ok (record { types = ts; kinds = kinds; partitions = ps; edges = es; invariants = ls; splits = ss; merges = ms; blocks = bs })) (sym is_j)
-              ∙ ap (λ r. r >>= λ bs. Ok (record { types = ts; kinds = kinds; partitions = ps; edges = es; invariants = ls; splits = ss; merges = ms; blocks = bs })) (sym (blocks-same again (type_of ps) agreed j ss found))
+  -- the edges come first
+  pub from-edges : Whole ≡ (edges_from type found >>= λ es. After_edges es)
+  from-edges = refl
+
+  module _ (es : List Edge) (edges : edges_from type found ≡ Ok es) where
+    -- where the edges are read, it comes down to what is read after them
+    pub from-invariants : Whole ≡ After_edges es
+    from-invariants = ap (λ r. r >>= λ xs. After_edges xs) edges
+
+    module _ (ls : List Listed) (invariants : invariants_from kinds (length ts) (length ps) found ≡ Ok ls) where
+      -- where the invariants are read, it comes down to what is read after them
+      pub from-merges : Whole ≡ After_invariants es ls
+      from-merges = from-invariants ∙ ap (λ r. r >>= λ xs. After_invariants es xs) invariants
+
+      module _ (ms : List Merge) (merges : merges_from found ≡ Ok ms) where
+        -- where the merges are read, the splits and the blocks are left
+        pub from-splits : Whole ≡ After_merges es ls ms
+        from-splits = from-merges ∙ ap (λ r. r >>= λ xs. After_merges es ls xs) merges
+
+        -- where the splits are read, the blocks are left
+        pub from-blocks : (ss : List Split) → splits_from (length ls) found ≡ Ok ss → Whole ≡ After_splits es ls ms ss
+        from-blocks ss splits = from-splits ∙ ap (λ r. r >>= λ xs. After_splits es ls ms xs) splits

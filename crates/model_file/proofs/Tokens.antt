@@ -2,16 +2,18 @@
 use Rattle.std.proofs.Common.{◌≡◌, List, [], ◌∷◌, ◌++◌, map, refl, sym, ap, ◌∙◌, append_assoc, append-nil}
 use Rattle.std.specs.List.{flat_map}
 use Rattle.std.proofs.lemmas.Grind.{flat_map-append}
-use Rattle.json.specs.Token.{Token, begin_array, end_array}
+use Rattle.std.specs.Prelude.{codes}
+use Rattle.json.specs.Token.{Token, begin_array, end_array, begin_object, end_object, key}
 use Rattle.json.specs.Tree.{items_tokens}
-use Rattle.serde_json.specs.Data.{Data}
+use Rattle.serde_json.specs.Data.{Data, string}
 use Rattle.serde_json.specs.View.{items_of}
 use Rattle.serde_json.specs.Written.{items_outline}
-use Rattle.model_file.specs.Tree.{array_of}
+use Rattle.invariants.specs.declared.records.Model.{Model}
+use Rattle.model_file.specs.Tree.{array_of, block_data, edge_data, listed_data, kinds_data, merge_data, partition_data, split_data, tree_of}
 use Rattle.std.proofs.lemmas.Result.{on_ok_weaker}
 use Rattle.std.specs.Prelude.{Result, OnOk}
 use Rattle.json.specs.Written.{Written, Writes}
-use Rattle.model_file.specs.Writing.{tokens_of, Appends}
+use Rattle.model_file.specs.Writing.{tokens_of, first_members, last_members, Appends}
 
 -- the tokens of some values in a row
 abbrev pub tokens_by : {A : Type 0} → (A → Data) → List A → List Token
@@ -55,3 +57,21 @@ appends-token r old new t w = record { ok = w.ok; before = w.room.0 }
 -- what is written before something
 pub joined : (a b c xs ys : List Token) → b ≡ a ++ xs → c ≡ b ++ ys → c ≡ a ++ (xs ++ ys)
 joined a b c xs ys first second = second ∙ ap (λ ts. ts ++ ys) first ∙ append_assoc a xs ys
+
+-- more after a key and its value
+more-after : (t : Token) (xs ys zs whole : List Token) → ys ++ zs ≡ whole → (t ∷ (xs ++ ys)) ++ zs ≡ t ∷ (xs ++ whole)
+more-after t xs ys zs whole e = ap (λ ts. t ∷ ts) (append_assoc xs ys zs ∙ ap (λ ts. xs ++ ts) e)
+
+-- the object of a model, where its first keys and its last ones are written
+pub object-tokens : (m : Model) → begin_object ∷ (first_members m ++ (last_members m ++ end_object ∷ [])) ≡ tokens_of (tree_of m)
+unfolding tokens_of tree_of
+object-tokens m =
+    let last = more-after _ (tokens_of (array_of (map merge_data m.merges))) _ (end_object ∷ []) _
+    (more-after _ (tokens_of (array_of (map partition_data m.partitions))) _ (end_object ∷ []) _
+    (more-after _ (tokens_of (array_of (map split_data m.splits))) _ (end_object ∷ []) _
+    (more-after _ (tokens_of (array_of (map string m.types))) _ (end_object ∷ []) _ refl))) in
+    ap (λ ts. begin_object ∷ ts)
+    (more-after _ (tokens_of (array_of (map block_data m.blocks))) _ (last_members m ++ end_object ∷ []) _
+    (more-after _ (tokens_of (array_of (map edge_data m.edges))) _ (last_members m ++ end_object ∷ []) _
+    (more-after _ (tokens_of (array_of (map listed_data m.invariants))) _ (last_members m ++ end_object ∷ []) _
+    (ap (λ ts. key (codes "kinds") ∷ (tokens_of (kinds_data m.kinds) ++ ts)) last))))

@@ -25,8 +25,12 @@ use Rattle.model_file.specs.Reading.{◌>>=◌, or_shape, tested, if_of, has_no_
 use Rattle.model_file.specs.declared.refusal.Field.TheVariants as field
 use Rattle.model_file.specs.declared.refusal.FileError.{FileError}
 use Rattle.model_file.specs.declared.found.Found.{Found}
-use Rattle.model_file.specs.declared.found.Key.{Key}
-use Rattle.model_file.specs.declared.found.Key.TheVariants as key
+use Rattle.model_file.specs.declared.keys.Key.{Key}
+use Rattle.model_file.specs.declared.keys.Key.TheVariants as key
+use Rattle.model_file.specs.declared.keys.BoundedKey.{BoundedKey}
+use Rattle.model_file.specs.declared.keys.BoundedKey.TheVariants as bounded
+use Rattle.model_file.specs.declared.keys.WholeKey.{WholeKey}
+use Rattle.model_file.specs.declared.keys.WholeKey.TheVariants as whole
 
 -- no key
 abbrev pub nothing : Found
@@ -71,29 +75,58 @@ abbrev pub IsRoot : Version → Data → Bool → Found → Type 0
 IsRoot version d true found = HasMembers version found d
 IsRoot version d false found = as_object d ≡ None
 
+-- the text of the key of a bounded list
+abbrev pub IsBoundedKey : BoundedKey → List ℕ → Type 0
+IsBoundedKey bounded.Blocks text = text ≡ codes "blocks"
+IsBoundedKey bounded.Invariants text = text ≡ codes "invariants"
+IsBoundedKey bounded.Splits text = text ≡ codes "splits"
+IsBoundedKey bounded.Types text = text ≡ codes "types"
+
+-- the text of the key of a list that is kept whole
+abbrev pub IsWholeKey : WholeKey → List ℕ → Type 0
+IsWholeKey whole.Edges text = text ≡ codes "edges"
+IsWholeKey whole.Merges text = text ≡ codes "merges"
+IsWholeKey whole.Partitions text = text ≡ codes "partitions"
+
 -- the text of a key
 abbrev pub IsKey : Key → List ℕ → Type 0
-IsKey key.Blocks text = text ≡ codes "blocks"
-IsKey key.Edges text = text ≡ codes "edges"
-IsKey key.Invariants text = text ≡ codes "invariants"
+IsKey (key.Bounded k) text = IsBoundedKey k text
+IsKey (key.Whole k) text = IsWholeKey k text
 IsKey key.Kinds text = text ≡ codes "kinds"
-IsKey key.Merges text = text ≡ codes "merges"
-IsKey key.Partitions text = text ≡ codes "partitions"
-IsKey key.Splits text = text ≡ codes "splits"
-IsKey key.Types text = text ≡ codes "types"
 IsKey key.Version text = text ≡ codes "version"
 IsKey key.Other text = list_any (bytes_eq text) (keys Two) ≡ false
 
+-- whether files of the version name the kinds
+abbrev pub names_kinds : Version → Bool
+names_kinds One = false
+names_kinds Two = true
+
+-- whether files of the version have the key
+abbrev pub has_key : Version → Key → Bool
+has_key version (key.Bounded k) = true
+has_key version (key.Whole k) = true
+has_key version key.Kinds = names_kinds version
+has_key version key.Version = true
+has_key version key.Other = false
+
+-- what is found once the key of a bounded list has this value
+abbrev pub with_bounded : BoundedKey → Data → Found → Found
+with_bounded bounded.Blocks d f = record f { blocks = kept_in blocks_over block_in d }
+with_bounded bounded.Invariants d f = record f { invariants = kept_in invariants_over listed_in d }
+with_bounded bounded.Splits d f = record f { splits = kept_in splits_over split_in d }
+with_bounded bounded.Types d f = record f { types = kept_in types_over as_str d }
+
+-- what is found once the key of a list that is kept whole has this value
+abbrev pub with_whole : WholeKey → Data → Found → Found
+with_whole whole.Edges d f = record f { edges = list_in edge_in d }
+with_whole whole.Merges d f = record f { merges = list_in merge_in d }
+with_whole whole.Partitions d f = record f { partitions = list_in partition_in d }
+
 -- what is found once the key has this value
 abbrev pub with_field : Key → Data → Found → Found
-with_field key.Blocks d f = record f { blocks = kept_in blocks_over block_in d }
-with_field key.Edges d f = record f { edges = list_in edge_in d }
-with_field key.Invariants d f = record f { invariants = kept_in invariants_over listed_in d }
+with_field (key.Bounded k) d f = with_bounded k d f
+with_field (key.Whole k) d f = with_whole k d f
 with_field key.Kinds d f = record f { kinds = kinds_named d }
-with_field key.Merges d f = record f { merges = list_in merge_in d }
-with_field key.Partitions d f = record f { partitions = list_in partition_in d }
-with_field key.Splits d f = record f { splits = kept_in splits_over split_in d }
-with_field key.Types d f = record f { types = kept_in types_over as_str d }
 with_field key.Version d f = record f { version = whole_in d }
 with_field key.Other d f = f
 
@@ -108,6 +141,19 @@ model_from version f = record {
   types = unwrap_or f.types [];
   kinds = kinds_from version f.kinds;
   partitions = unwrap_or f.partitions [];
+  edges = unwrap_or f.edges [];
+  invariants = unwrap_or f.invariants [];
+  splits = unwrap_or f.splits [];
+  merges = unwrap_or f.merges [];
+  blocks = unwrap_or f.blocks [];
+}
+
+-- the model of these types, kinds and partitions, and of what else was found
+abbrev pub with_others : List (List ℕ) → Kinds → List Partition → Found → Model
+with_others ts kinds ps f = record {
+  types = ts;
+  kinds = kinds;
+  partitions = ps;
   edges = unwrap_or f.edges [];
   invariants = unwrap_or f.invariants [];
   splits = unwrap_or f.splits [];
@@ -154,13 +200,12 @@ splits_from invariants f = or_shape field.Splits f.splits >>= λ ss. tested fiel
 abbrev pub blocks_from : (ℕ → Option ℕ) → ℕ → List Split → Found → Result (List Block) FileError
 blocks_from type invariants ss f = or_shape field.Blocks f.blocks >>= λ bs. tested field.Blocks (blocks_hold type invariants ss bs) bs
 
--- the model of the parts
-abbrev pub parts_from : Version → Found → Result Model FileError
-parts_from version f =
-    types_from version f >>= λ ts. kinds_tested version f >>= λ kinds.
-    partitions_from (length ts) f >>= λ ps. edges_from (type_of ps) f >>= λ es.
+-- what comes after the partitions, with a type for the id of each; the model of all parts
+abbrev pub after_partitions : (ℕ → Option ℕ) → List (List ℕ) → Kinds → List Partition → Found → Result Model FileError
+after_partitions type ts kinds ps f =
+    edges_from type f >>= λ es.
     invariants_from kinds (length ts) (length ps) f >>= λ ls. merges_from f >>= λ ms.
-    splits_from (length ls) f >>= λ ss. blocks_from (type_of ps) (length ls) ss f >>= λ bs.
+    splits_from (length ls) f >>= λ ss. blocks_from type (length ls) ss f >>= λ bs.
     Ok (record {
       types = ts;
       kinds = kinds;
@@ -171,6 +216,12 @@ parts_from version f =
       merges = ms;
       blocks = bs;
     })
+
+-- the model of the parts
+abbrev pub parts_from : Version → Found → Result Model FileError
+parts_from version f =
+    types_from version f >>= λ ts. kinds_tested version f >>= λ kinds.
+    partitions_from (length ts) f >>= λ ps. after_partitions (type_of ps) ts kinds ps f
 
 -- an answer, as a view shows it, is what was to be read
 abbrev pub GivesBy : {S A : Type 0} → (S → A) → Result S FileError → Result A FileError → Type 0

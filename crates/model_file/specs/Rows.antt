@@ -1,7 +1,7 @@
 -- The labels of an invariant, as a field of its row.
 use Rattle.std.specs.Prelude.{Option, Some}
 use Rattle.serde_json.specs.Data.{Data}
-use Rattle.model_file.specs.declared.entries.Labels.{Labels}
+use Rattle.model_file.specs.declared.labels.Labels.{Labels}
 use Rattle.model_file.specs.Entries.{◌>>=◌, labels_in}
 
 -- the labels of a string of such digits

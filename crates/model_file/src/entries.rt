@@ -1,13 +1,13 @@
 //! The entries of a model's lists, read from the tokens of a JSON text.
-ghost use Rattle.std.specs.Prelude.{◌≡◌, ◌↔◌, ◌-◌, ◌^◌, map, IfOk, IsTrue, All, option_and_then};
-ghost use Rattle.model_file.specs.Entries.{if_below, kind_named, kinds_from, labels_of};
-ghost use Rattle.model_file.specs.Labels.{IsLabelDigit};
+ghost use Rattle.std.specs.Prelude.{◌≡◌, ◌^◌, option_and_then};
+ghost use Rattle.model_file.specs.Entries.{if_below, kind_named, kinds_from};
 
+use crate::labels::Labels;
 use crate::lists::{Entry, Whole, list, row_of};
 use crate::stream::{Stop, number, string};
 use invariants::{Block, Edge, Invariant, Kind, Kinds, Listed, Merge, Partition, Seq, Split, Text};
 use json::Reader;
-use std::alloc::{AllocError, Global};
+use std::alloc::Global;
 
 /// The number, where it is below 2^32.
 #[inline(always)]
@@ -107,19 +107,13 @@ impl Entry for Text {
 fn kind_named(text: &str) -> Option<Kind>
     ensures { result ≡ kind_named text.now }
 {
-    if text == "AF" {
-        return Some(Kind::AF);
+    match text {
+        "AF" => Some(Kind::AF),
+        "NF" => Some(Kind::NF),
+        "AP" => Some(Kind::AP),
+        "IB" => Some(Kind::IB),
+        _ => None,
     }
-    if text == "NF" {
-        return Some(Kind::NF);
-    }
-    if text == "AP" {
-        return Some(Kind::AP);
-    }
-    if text == "IB" {
-        return Some(Kind::IB);
-    }
-    None
 }
 
 impl Entry for Kind {
@@ -157,66 +151,6 @@ impl Entry for Kinds {
             Ok(Some(kinds)) => Ok(kinds_from(kinds.as_slice())),
             Ok(None) => Ok(None),
             Err(e) => Err(e),
-        }
-    }
-}
-
-/// Whether all bytes are digits from `0` to `7`.
-fn are_labels(bytes: &[u8]) -> bool
-    ensures { IsTrue result ↔ All IsLabelDigit bytes.now }
-{
-    // No way out before the last byte, so that many are tested at once.
-    let mut all = true;
-    for byte in bytes {
-        all = all & (*byte >= b'0') & (*byte <= b'7');
-    }
-    all
-}
-
-/// Puts the number of each digit in its place.
-fn digits_to_numbers(bytes: &mut [u8])
-    requires { All IsLabelDigit bytes.old }
-    ensures { bytes.new ≡ map (λ byte. byte - 48) bytes.old }
-{
-    for k in 0..bytes.len() {
-        bytes[k] = bytes[k] - b'0';
-    }
-}
-
-/// The labels of digits from `0` to `7`.
-fn labels_of(alloc: Global, digits: &[u8]) -> Result<Option<Seq<u8>>, AllocError>
-    ensures { IfOk result (λ found. found ≡ labels_of digits.now) }
-{
-    if !are_labels(digits) {
-        return Ok(None);
-    }
-    let mut labels = Vec::with_capacity(alloc, digits.len())?;
-    labels.extend_from_slice(digits)?;
-    digits_to_numbers(labels.as_mut_slice());
-    Ok(Some(Seq::from_vec(labels)))
-}
-
-/// The labels of an invariant.
-#[derive(Drop)]
-struct Labels {
-    labels: Seq<u8>,
-}
-
-impl Entry for Labels {
-    ghost use Rattle.model_file.specs.Rows.{labels_as};
-
-    ghost read_as = { labels_as };
-
-    fn read(alloc: Global, reader: &mut Reader<'_>, depth: usize) -> Result<Option<Labels>, Stop> {
-        let digits = match string(reader, depth) {
-            Ok(Some(digits)) => digits,
-            Ok(None) => return Ok(None),
-            Err(e) => return Err(e),
-        };
-        match labels_of(alloc, digits.as_bytes()) {
-            Ok(Some(labels)) => Ok(Some(Labels { labels })),
-            Ok(None) => Ok(None),
-            Err(_) => Err(Stop::Memory),
         }
     }
 }

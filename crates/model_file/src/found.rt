@@ -4,14 +4,14 @@ ghost use Rattle.json.specs.Json.{parse_map};
 ghost use Rattle.json.specs.Lex.{tokens};
 ghost use Rattle.serde_json.specs.Data.{Data, Members, no_members, put};
 ghost use Rattle.serde_json.specs.Read.{read as read_text};
-ghost use Rattle.model_file.specs.Reading.{IsNoValue, value_of, is_key};
+ghost use Rattle.model_file.specs.Reading.{IsNoValue, value_of};
 ghost use Rattle.model_file.specs.Streams.{data_at, members_at, IsStopped};
 ghost use Rattle.model_file.specs.Lists.{kept_in};
-ghost use Rattle.model_file.specs.Found.{nothing, found_in, with_field, IsKey, HasMembers, IsRoot};
+ghost use Rattle.model_file.specs.Found.{nothing, found_in, with_bounded, with_whole, with_field, HasMembers, IsRoot};
 
 use crate::caps::{Blocks, Invariants, Splits, Types};
+use crate::keys::{BoundedKey, Key, WholeKey, has_key, key_of};
 use crate::lists::{Bound, Entry, list};
-use crate::parts::is_key;
 use crate::refusal::FileError;
 use crate::stream::{Stop, pass_rest, pass_value};
 use crate::version::Version;
@@ -61,40 +61,6 @@ impl Found {
     }
 }
 
-/// The keys of model files.
-#[derive(Clone, Copy, Debug, PartialEq, Eq)]
-enum Key {
-    Blocks,
-    Edges,
-    Invariants,
-    Kinds,
-    Merges,
-    Partitions,
-    Splits,
-    Types,
-    Version,
-    /// Any other key.
-    Other,
-}
-
-/// The key with this text.
-fn key_of(text: &str) -> Key
-    ensures { IsKey result text.now }
-{
-    match text {
-        "blocks" => Key::Blocks,
-        "edges" => Key::Edges,
-        "invariants" => Key::Invariants,
-        "kinds" => Key::Kinds,
-        "merges" => Key::Merges,
-        "partitions" => Key::Partitions,
-        "splits" => Key::Splits,
-        "types" => Key::Types,
-        "version" => Key::Version,
-        _ => Key::Other,
-    }
-}
-
 /// Reads the next value, in place of an earlier one, which is dropped first.
 fn read_into<E: Entry + Drop>(
     alloc: Global,
@@ -120,21 +86,74 @@ fn read_into<E: Entry + Drop>(
 fn read_list<T: Entry + Drop, B: Bound<T>>(
     alloc: Global,
     reader: &mut Reader<'_>,
-    place: &mut Option<Seq<T>>,
+    entries: &mut Option<Seq<T>>,
 ) -> Result<(), Stop>
     ensures ok { OnOk result
         (parse_map (kept_in B.over T.read_as) (data_at FIELD_DEPTH reader.old)
-        ≡ Some (place.new, reader.new)) }
+        ≡ Some (entries.new, reader.new)) }
     ensures err { IfErr result (λ e. IsStopped e (data_at FIELD_DEPTH reader.old)) }
     ensures shorter { OnOk result (length reader.new < length reader.old) }
 {
-    drop(place.take());
+    *entries = None;
     match list::<T, B>(alloc, reader, FIELD_DEPTH) {
-        Ok(entries) => {
-            *place = entries;
+        Ok(read) => {
+            *entries = read;
             Ok(())
         }
         Err(e) => Err(e),
+    }
+}
+
+/// Reads the value of the key of a bounded list.
+fn read_bounded(
+    alloc: Global,
+    reader: &mut Reader<'_>,
+    key: BoundedKey,
+    found: &mut Found,
+) -> Result<(), Stop>
+    ensures ok { OnOk result ((d : Data) × (data_at FIELD_DEPTH reader.old ≡ Some (d, reader.new))
+        × (found.new ≡ with_bounded key d found.old)) }
+    ensures err { IfErr result (λ e. IsStopped e (data_at FIELD_DEPTH reader.old)) }
+    ensures shorter { OnOk result (length reader.new < length reader.old) }
+{
+    match key {
+        BoundedKey::Blocks => read_list::<Block, Blocks>(alloc, reader, &mut found.blocks),
+        BoundedKey::Invariants => {
+            read_list::<Listed, Invariants>(alloc, reader, &mut found.invariants)
+        }
+        BoundedKey::Splits => read_list::<Split, Splits>(alloc, reader, &mut found.splits),
+        BoundedKey::Types => read_list::<Text, Types>(alloc, reader, &mut found.types),
+    }
+}
+
+/// Reads the value of the key of a list that is kept whole.
+fn read_whole_list(
+    alloc: Global,
+    reader: &mut Reader<'_>,
+    key: WholeKey,
+    found: &mut Found,
+) -> Result<(), Stop>
+    ensures ok { OnOk result ((d : Data) × (data_at FIELD_DEPTH reader.old ≡ Some (d, reader.new))
+        × (found.new ≡ with_whole key d found.old)) }
+    ensures err { IfErr result (λ e. IsStopped e (data_at FIELD_DEPTH reader.old)) }
+    ensures shorter { OnOk result (length reader.new < length reader.old) }
+{
+    match key {
+        WholeKey::Edges => read_into(alloc, reader, &mut found.edges),
+        WholeKey::Merges => read_into(alloc, reader, &mut found.merges),
+        WholeKey::Partitions => read_into(alloc, reader, &mut found.partitions),
+    }
+}
+
+/// Passes the value of a key that files do not have.
+fn pass_other(reader: &mut Reader<'_>) -> Result<(), Stop>
+    ensures ok { OnOk result ((d : Data) × (data_at FIELD_DEPTH reader.old ≡ Some (d, reader.new))) }
+    ensures err { IfErr result (λ e. IsStopped e (data_at FIELD_DEPTH reader.old)) }
+    ensures shorter { OnOk result (length reader.new < length reader.old) }
+{
+    match pass_value(reader, FIELD_DEPTH) {
+        Ok(()) => Ok(()),
+        Err(_) => Err(Stop::NotJson),
     }
 }
 
@@ -151,19 +170,11 @@ fn read_field(
     ensures shorter { OnOk result (length reader.new < length reader.old) }
 {
     match key {
-        Key::Blocks => read_list::<Block, Blocks>(alloc, reader, &mut found.blocks),
-        Key::Edges => read_into(alloc, reader, &mut found.edges),
-        Key::Invariants => read_list::<Listed, Invariants>(alloc, reader, &mut found.invariants),
+        Key::Bounded(key) => read_bounded(alloc, reader, key, found),
+        Key::Whole(key) => read_whole_list(alloc, reader, key, found),
         Key::Kinds => read_into(alloc, reader, &mut found.kinds),
-        Key::Merges => read_into(alloc, reader, &mut found.merges),
-        Key::Partitions => read_into(alloc, reader, &mut found.partitions),
-        Key::Splits => read_list::<Split, Splits>(alloc, reader, &mut found.splits),
-        Key::Types => read_list::<Text, Types>(alloc, reader, &mut found.types),
         Key::Version => read_into(alloc, reader, &mut found.version),
-        Key::Other => match pass_value(reader, FIELD_DEPTH) {
-            Ok(()) => Ok(()),
-            Err(_) => Err(Stop::NotJson),
-        },
+        Key::Other => pass_other(reader),
     }
 }
 
@@ -181,8 +192,9 @@ fn read_member(
     ensures err { IfErr result (λ e. IsStopped e (data_at FIELD_DEPTH reader.old)) }
     ensures shorter { OnOk result (length reader.new < length reader.old) }
 {
-    found.has_extra = found.has_extra | !is_key(version, key);
-    read_field(alloc, reader, key_of(key), found)
+    let key = key_of(key);
+    found.has_extra = found.has_extra | !has_key(version, key);
+    read_field(alloc, reader, key, found)
 }
 
 /// Reads the members up to the brace that closes the object.

@@ -11,6 +11,9 @@
 mod caps;
 mod entries;
 mod found;
+mod history;
+mod keys;
+mod labels;
 mod law;
 mod lists;
 mod parts;

@@ -1,45 +1,16 @@
 //! The parts of a model file, each read and tested.
 ghost use Rattle.std.specs.Prelude.{◌≡◌, ◌≤◌};
-ghost use Rattle.std.specs.List.{list_any};
-ghost use Rattle.std.specs.Str.{bytes_eq};
 ghost use Rattle.limits.specs.declared.TheConstants.{MAX_TYPES};
-ghost use Rattle.model_file.specs.Versions.{first_keys};
 ghost use Rattle.model_file.specs.Table.{type_at};
-ghost use Rattle.model_file.specs.Reading.{Gives, or_shape, is_key};
+ghost use Rattle.model_file.specs.Reading.{Gives, or_shape};
 ghost use Rattle.model_file.specs.Found.{GivesBy, head_from, types_from, kinds_tested, partitions_from, edges_from, invariants_from, merges_from, splits_from, blocks_from};
 
 use crate::found::Found;
+use crate::history::{blocks_hold, merges_hold, splits_hold};
 use crate::refusal::{Field, FileError};
-use crate::shape::{
-    blocks_hold, edges_hold, invariants_hold, merges_hold, partitions_hold, splits_hold, types_hold,
-};
+use crate::shape::{edges_hold, invariants_hold, partitions_hold, types_hold};
 use crate::version::Version;
 use invariants::{Block, Edge, Kinds, Listed, Merge, Partition, Seq, Split, Text};
-
-/// The keys that a file of either version has.
-fn is_first_key(key: &str) -> bool
-    ensures { result ≡ list_any (bytes_eq key.now) first_keys }
-{
-    key == "blocks"
-        || key == "edges"
-        || key == "invariants"
-        || key == "merges"
-        || key == "partitions"
-        || key == "splits"
-        || key == "types"
-        || key == "version"
-}
-
-/// The keys of a file of the version.
-#[tactic(auto, unfolding(crate::specs::Reading::is_key))]
-pub(crate) fn is_key(version: Version, key: &str) -> bool
-    ensures { result ≡ is_key version key.now }
-{
-    match version {
-        Version::One => is_first_key(key),
-        Version::Two => key == "kinds" || is_first_key(key),
-    }
-}
 
 /// Refuses any version but this one, and then a key that no file of it has.
 pub(crate) fn test_head(version: Version, found: &Found) -> Result<(), FileError>

@@ -1,8 +1,10 @@
 //! Reading a model file of version 2, or of version 1.
-ghost use Rattle.std.specs.Prelude.{◌≡◌, [], Ok, Some, IfOk, IfErr, OnOk, unwrap_or};
+ghost use Rattle.std.specs.Prelude.{◌≡◌, ◌≤◌, [], length, Ok, Some, IfOk, IfErr, OnOk, unwrap_or};
+ghost use Rattle.limits.specs.declared.TheConstants.{MAX_TYPES};
 ghost use Rattle.model_shape.specs.Shapes.{IsWellShaped, IsOfVersion1};
 ghost use Rattle.model_file.specs.Reading.{Gives, Fails, reads_as, reads, reads_version_1};
-ghost use Rattle.model_file.specs.Found.{nothing, kinds_from, model_from, parts_from};
+ghost use Rattle.model_file.specs.Table.{type_at};
+ghost use Rattle.model_file.specs.Found.{nothing, kinds_from, model_from, with_others, after_partitions, parts_from};
 
 use crate::found::{Found, read_found};
 use crate::parts::{
@@ -12,8 +14,30 @@ use crate::parts::{
 use crate::refusal::{Field, FileError};
 use crate::table::types_by_id;
 use crate::version::Version;
-use invariants::{Kinds, Model, Seq};
+use invariants::{Kinds, Model, Partition, Seq, Text};
 use std::alloc::Global;
+
+/// Tests the parts that come after the partitions, one after the other. The table has the types of the partitions.
+fn test_others(
+    found: &Found,
+    table: &[Option<u16>],
+    types: &[Text],
+    kinds: Kinds,
+    partitions: &[Partition],
+) -> Result<(), FileError>
+    requires { length types.now ≤ MAX_TYPES }
+    ensures ok { OnOk result (after_partitions (type_at table.now) types.now kinds partitions.now found.now
+        ≡ Ok (with_others types.now kinds partitions.now found.now)) }
+    ensures err { IfErr result (λ e.
+        Fails e (after_partitions (type_at table.now) types.now kinds partitions.now found.now)) }
+{
+    edges_in(found, table)?;
+    let invariants = invariants_in(found, kinds, types.len() as u32, partitions.len())?;
+    merges_in(found)?;
+    let splits = splits_in(found, invariants.len())?;
+    blocks_in(found, table, invariants.len(), splits)?;
+    Ok(())
+}
 
 /// Tests the parts one after the other.
 fn test_parts(version: Version, alloc: Global, found: &Found) -> Result<(), FileError>
@@ -24,12 +48,7 @@ fn test_parts(version: Version, alloc: Global, found: &Found) -> Result<(), File
     let kinds = kinds_in(version, found)?;
     let partitions = partitions_in(found, types.len())?;
     let table = types_by_id(alloc, partitions)?;
-    edges_in(found, &table)?;
-    let invariants = invariants_in(found, kinds, types.len() as u32, partitions.len())?;
-    merges_in(found)?;
-    let splits = splits_in(found, invariants.len())?;
-    blocks_in(found, &table, invariants.len(), splits)?;
-    Ok(())
+    test_others(found, &table, types, kinds, partitions)
 }
 
 /// The entries that were found.

@@ -12,7 +12,7 @@ use fast_float::Numeral;
 use json::{Invalid, Reader, Token};
 
 /// Why a text is read no further.
-#[derive(Clone, Copy, Debug, PartialEq, Eq)]
+#[derive(Clone, Copy)]
 pub(crate) enum Stop {
     /// The text is no JSON.
     NotJson,

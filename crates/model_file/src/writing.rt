@@ -5,7 +5,7 @@ ghost use Rattle.serde_json.specs.Data.{string};
 ghost use Rattle.model_file.specs.Tree.{digit_of, kind_text, kind_data, kinds_data, number_data, array_of, path_data, tree_of, file_text};
 ghost use Rattle.model_shape.specs.Shapes.{IsWellShaped};
 ghost use Rattle.model_file.specs.Reading.{reads};
-ghost use Rattle.model_file.specs.Writing.{tokens_of, Appends};
+ghost use Rattle.model_file.specs.Writing.{tokens_of, first_members, last_members, Appends};
 
 use invariants::{Block, Edge, Kind, Kinds, Listed, Merge, Model, Partition, Seq, Split, Text};
 use json::Writer;
@@ -245,23 +245,38 @@ fn write_part<T: Written>(
     write_list(alloc, entries.as_slice(), out)
 }
 
+/// Writes the keys from `blocks` to `kinds` with their values.
+fn write_first_members(alloc: Global, model: &Model, out: &mut Writer) -> Result<(), AllocError>
+    requires { All (λ l. All (λ label. label ≤ 7) l.labels) model.now.invariants }
+    ensures { Appends result out.old out.new (first_members model.now) }
+{
+    write_part(alloc, "blocks", &model.blocks, out)?;
+    write_part(alloc, "edges", &model.edges, out)?;
+    write_part(alloc, "invariants", &model.invariants, out)?;
+    out.key("kinds")?;
+    write_kinds(alloc, model.kinds, out)
+}
+
+/// Writes the keys from `merges` to `version` with their values.
+fn write_last_members(alloc: Global, model: &Model, out: &mut Writer) -> Result<(), AllocError>
+    ensures { Appends result out.old out.new (last_members model.now) }
+{
+    write_part(alloc, "merges", &model.merges, out)?;
+    write_part(alloc, "partitions", &model.partitions, out)?;
+    write_part(alloc, "splits", &model.splits, out)?;
+    write_part(alloc, "types", &model.types, out)?;
+    out.key("version")?;
+    write_number(2, out)
+}
+
 /// Writes the object.
 fn write_tree(alloc: Global, model: &Model, out: &mut Writer) -> Result<(), AllocError>
     requires { All (λ l. All (λ label. label ≤ 7) l.labels) model.now.invariants }
     ensures { Appends result out.old out.new (tokens_of (tree_of model.now)) }
 {
     out.begin_object()?;
-    write_part(alloc, "blocks", &model.blocks, out)?;
-    write_part(alloc, "edges", &model.edges, out)?;
-    write_part(alloc, "invariants", &model.invariants, out)?;
-    out.key("kinds")?;
-    write_kinds(alloc, model.kinds, out)?;
-    write_part(alloc, "merges", &model.merges, out)?;
-    write_part(alloc, "partitions", &model.partitions, out)?;
-    write_part(alloc, "splits", &model.splits, out)?;
-    write_part(alloc, "types", &model.types, out)?;
-    out.key("version")?;
-    write_number(2, out)?;
+    write_first_members(alloc, model, out)?;
+    write_last_members(alloc, model, out)?;
     out.end_object()
 }
 

@@ -77,9 +77,9 @@ fn key_of(inv: Invariant) -> u16
 impl Finder {
     /// A finder with all the memory that its asks need. `AllocError` comes where there is not as much.
     pub fn make(alloc: Global) -> Result<Finder, AllocError> {
+        let path = Vec::with_capacity(alloc, MAX_ENTRIES + 1)?;
         let table = Table::make(alloc)?;
         let around = Around::make(alloc)?;
-        let path = Vec::with_capacity(alloc, MAX_ENTRIES + 1)?;
         Ok(Finder {
             table,
             around,

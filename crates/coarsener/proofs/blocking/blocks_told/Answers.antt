@@ -205,3 +205,52 @@ returns-clause-others g c = c.loop-pair.invariant.run.others
 pub returns-clause-holds : goal.returns-clause-holds
 returns-clause-holds g c =
     blocking-holds c.args.invs.now c.args.graph.now c.args.log.now c.loop-pair.log c.args.spans.now c.loop-pair.spans c.loop-pair.at.p c.loop-pair.at.q c.loop-pair.invariant.run
+
+pub next_pair-requires-in-loop-pair-clause-low : goal.next_pair-requires-in-loop-pair-clause-low
+next_pair-requires-in-loop-pair-clause-low g c = c.loop-pair.invariant.low
+
+pub next_pair-requires-in-loop-pair-clause-order : goal.next_pair-requires-in-loop-pair-clause-order
+next_pair-requires-in-loop-pair-clause-order g c = c.loop-pair.invariant.order
+
+pub next_pair-requires-in-loop-pair-clause-limit : goal.next_pair-requires-in-loop-pair-clause-limit
+next_pair-requires-in-loop-pair-clause-limit g c = c.loop-pair.invariant.limit
+
+pub first_lost-requires-clause-order : goal.first_lost-requires-clause-order
+first_lost-requires-clause-order g c = c.in-Some.ensures.next.pair.order
+
+pub first_lost-requires-clause-limit : goal.first_lost-requires-clause-limit
+first_lost-requires-clause-limit g c = c.in-Some.ensures.limit
+
+pub returns-then-is_none-clause-stays : goal.returns-then-is_none-clause-stays
+returns-then-is_none-clause-stays g c =
+    (blocking-start c.args.invs.now c.args.graph.now c.args.log.now c.args.spans.now c.next_pair.ensures.ids c.requires.begun).stays
+
+pub returns-then-is_none-clause-holds : goal.returns-then-is_none-clause-holds
+returns-then-is_none-clause-holds g c = λ holds. holds
+
+pub returns-then-is_none-clause-others : goal.returns-then-is_none-clause-others
+returns-then-is_none-clause-others g c = refl
+
+pub returns-then-is_none-clause-list : goal.returns-then-is_none-clause-list
+returns-then-is_none-clause-list g c = refl
+
+pub returns-in_default-push-clause-list : goal.returns-in_default-push-clause-list
+returns-in_default-push-clause-list g c = ap (λ (planes : Labelling). planes.invs) c.first_lost.ensures.same ∙ c.loop-pair.invariant.list
+
+pub returns-in_default-push-clause-few : goal.returns-in_default-push-clause-few
+returns-in_default-push-clause-few g c =
+    let fewer = blocks-fewer c.args.invs.now c.args.graph.now c.args.log.now c.loop-pair.log c.args.spans.now c.loop-pair.spans c.loop-pair.at.p c.loop-pair.at.q c.in-Some.pair.p c.in-Some.pair.q
+    c.loop-pair.invariant.run c.in-Some.ensures.next in
+    omega (arith, c.in-Some-least_loss.ensures.counted, c.loop-pair.invariant.counted, fewer)
+
+pub returns-in_default-push-clause-more : goal.returns-in_default-push-clause-more
+returns-in_default-push-clause-more g c = omega (arith, c.in-Some-least_loss.ensures.counted, c.loop-pair.invariant.counted)
+
+pub returns-clause-list : goal.returns-clause-list
+returns-clause-list g c = c.loop-pair.invariant.list
+
+pub returns-clause-within : goal.returns-clause-within
+returns-clause-within g c = c.loop-pair.invariant.within
+
+pub returns-clause-more : goal.returns-clause-more
+returns-clause-more g c = omega (arith, c.loop-pair.invariant.counted)

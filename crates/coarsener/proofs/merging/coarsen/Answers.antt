@@ -88,3 +88,39 @@ returns-then-not-apart-clause-marks g c some =
 pub loop-pair-smaller : goal.loop-pair-smaller
 loop-pair-smaller g c =
     pair-smaller c.loop-pair.at.p c.loop-pair.at.q c.in-Some.pair.p c.in-Some.pair.q c.in-Some.ensures.next.behind c.in-Some.ensures.limit c.loop-pair.invariant.limit c.in-Some.ensures.next.pair.order
+
+pub merge_unless_lost-marked-requires-clause-typed : goal.merge_unless_lost-marked-requires-clause-typed
+merge_unless_lost-marked-requires-clause-typed g c = c.in-Some.ensures.ids.typed
+
+pub merge_unless_lost-marked-requires-clause-pair : goal.merge_unless_lost-marked-requires-clause-pair
+merge_unless_lost-marked-requires-clause-pair g c = c.in-Some.ensures.next.pair
+
+pub merge_unless_lost-marked-requires-clause-limit : goal.merge_unless_lost-marked-requires-clause-limit
+merge_unless_lost-marked-requires-clause-limit g c = c.in-Some.ensures.limit
+
+pub merge_unless_lost-marked-requires-clause-listed : goal.merge_unless_lost-marked-requires-clause-listed
+merge_unless_lost-marked-requires-clause-listed g c = c.mark.ensures.listed
+
+pub merge_unless_lost-marked-requires-clause-marks : goal.merge_unless_lost-marked-requires-clause-marks
+merge_unless_lost-marked-requires-clause-marks g c = c.mark.ensures.marks
+
+pub mark-requires : goal.mark-requires
+mark-requires g c = c.loop-pair.invariant.marked
+
+pub mark-requires-2 : goal.mark-requires-2
+mark-requires-2 g c = c.loop-pair.invariant.marked
+
+pub returns-then-not-apart-clause-others : goal.returns-then-not-apart-clause-others
+returns-then-not-apart-clause-others g c = c.loop-pair.invariant.others
+
+pub returns-then-not-apart-clause-list : goal.returns-then-not-apart-clause-list
+returns-then-not-apart-clause-list g c = c.loop-pair.invariant.list
+
+pub returns-clause-others : goal.returns-clause-others
+returns-clause-others g c = c.loop-pair.invariant.others
+
+pub returns-clause-list : goal.returns-clause-list
+returns-clause-list g c = c.mark-2.ensures.list ∙ c.loop-pair.invariant.list
+
+pub returns-clause-marks : goal.returns-clause-marks
+returns-clause-marks g c = λ some. record { marks = c.mark-2.ensures.marks; listed = c.mark-2.ensures.listed }

@@ -1,8 +1,8 @@
 use Rattle.std.proofs.Common.{◌≡◌, ℕ, ◌+◌, ◌-◌, ◌*◌, ◌<◌, ◌∙◌, ◌&&◌, ap, arith, cond, drop, eqb, get_or, length, length-drop, length-take}
-use Rattle.std.proofs.lemmas.Grind.{common_steps}
 use Rattle.std.proofs.Math.Nat.{mul-le-mul_right}
+use Rattle.std.proofs.Math.Seq.{get_or-take, get_or-drop}
 use Rattle.count_miner.specs.Counts.{cell, type_count}
-use Rattle.count_miner.proofs.Places.{first-only, same-test}
+use Rattle.count_miner.proofs.Places.{first-only, not-first, one-less, same-test}
 use Rattle.count_miner.proofs.Rows.{cell-row}
 use Rattle.count_miner.proofs.counting.read_event.Goals as goal
 
@@ -28,4 +28,31 @@ returns-then-is_first-clause-counted c = λ b a in_b in_a.
     ∙ ap (λ t. cell table types b a + cond (t && eqb (get_or c.args.left.now b 0) (get_or c.args.all.now b 0)) (added a) 0) (same-test b c.args.x r (omega (arith, c.requires.number.0))))
 
 pub add_unread-requires-clause-room : goal.add_unread-requires-clause-room
-add_unread-requires-clause-room c = grind (arith, common_steps)
+add_unread-requires-clause-room c = λ a in_a.
+    let types : ℕ = length c.args.all.now in
+    let r = c.args.x - 2 in
+    let size = (r + 1) * types - r * types in
+    let row = drop (r * types) c.args.table.now in
+    let is : c.args.x ≡ r + 2 = omega (arith, c.requires.number.0) in
+    let wide : a < types = omega (arith, in_a, length-take size row) in
+    omega (arith, c.requires.room r a is wide c.if-is_first.true, get_or-take size row a 0 (omega (arith, wide)), get_or-drop (r * types) c.args.table.now a 0)
+
+pub add_unread-requires-clause-left : goal.add_unread-requires-clause-left
+add_unread-requires-clause-left c = λ a in_a.
+    let types : ℕ = length c.args.all.now in
+    let r = c.args.x - 2 in
+    let size = (r + 1) * types - r * types in
+    let wide : a < types = omega (arith, in_a, length-take size (drop (r * types) c.args.table.now)) in
+    one-less c.args.left.now c.args.x r a (type_count (a + 2) c.args.unread.now) (omega (arith, c.requires.number.0)) (omega (arith, c.requires.number.0, c.requires.number.1, c.requires.beside)) (c.requires.left a wide)
+
+pub returns-then-is_first-clause-left : goal.returns-then-is_first-clause-left
+returns-then-is_first-clause-left c = λ a in_a.
+    one-less c.args.left.now c.args.x (c.args.x - 2) a (type_count (a + 2) c.args.unread.now) (omega (arith, c.requires.number.0)) (omega (arith, c.requires.number.0, c.requires.number.1, c.requires.beside)) (c.requires.left a in_a)
+
+pub returns-else-is_first-clause-left : goal.returns-else-is_first-clause-left
+returns-else-is_first-clause-left c = λ a in_a.
+    one-less c.args.left.now c.args.x (c.args.x - 2) a (type_count (a + 2) c.args.unread.now) (omega (arith, c.requires.number.0)) (omega (arith, c.requires.number.0, c.requires.number.1, c.requires.beside)) (c.requires.left a in_a)
+
+pub returns-else-is_first-clause-counted : goal.returns-else-is_first-clause-counted
+returns-else-is_first-clause-counted c = λ b a in_b in_a.
+    not-first b c.args.x (c.args.x - 2) (cell c.args.table.now (length c.args.all.now) b a) (type_count (a + 2) c.args.unread.now) c.args.left.now c.args.all.now (omega (arith, c.requires.number.0)) c.if-is_first.false

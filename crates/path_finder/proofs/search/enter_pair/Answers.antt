@@ -1,9 +1,10 @@
-use Rattle.std.proofs.Common.{◌<◌, sym, ◌∙◌, subst, rules}
+use Rattle.std.proofs.Common.{◌<◌, sym, ◌∙◌, refl, subst, arith, rules}
 use Rattle.path_finder.specs.declared.table.TheConstants.{OPEN}
 use Rattle.path_finder.specs.Asking.{asked}
 use Rattle.path_finder.specs.Tables.{Entries, at, Grows}
 use Rattle.path_finder.specs.Turns.{IsTurn}
-use Rattle.path_finder.proofs.Entering.{turn_keeps, grows_pair, entered_now}
+use Rattle.path_finder.proofs.Entering.{place_within, turn_keeps, grows_pair, entered_now}
+use Rattle.path_finder.proofs.Measuring.{turn_pair}
 use Rattle.path_finder.proofs.search.enter_pair.Goals as goal
 
 pub returns-clause-turn : goal.returns-clause-turn
@@ -23,3 +24,38 @@ returns-clause-entered c l =
 
 pub returns-then-distance-clause-entered : goal.returns-then-distance-clause-entered
 returns-then-distance-clause-entered c = search rules
+
+pub returns-then-distance-clause-turn : goal.returns-then-distance-clause-turn
+returns-then-distance-clause-turn c = c.requires.turn
+
+pub returns-then-distance-clause-grows : goal.returns-then-distance-clause-grows
+returns-then-distance-clause-grows c = record { known = λ r k. refl; listed = λ i r q. q }
+
+pub returns-then-state_at-turn-clause-turn : goal.returns-then-state_at-turn-clause-turn
+returns-then-state_at-turn-clause-turn c = c.requires.turn
+
+pub returns-then-state_at-turn-clause-grows : goal.returns-then-state_at-turn-clause-grows
+returns-then-state_at-turn-clause-grows c = record { known = λ r k. refl; listed = λ i r q. q }
+
+pub returns-then-state_at-turn-clause-entered : goal.returns-then-state_at-turn-clause-entered
+returns-then-state_at-turn-clause-entered c = λ leads. absurd (c.if-state_at-turn.true (c.state_at.ensures.value ∙ leads.step))
+
+pub distance-requires : goal.distance-requires
+distance-requires c = omega (arith, place_within (asked c.args.question.now) c.args.pair c.requires.pair, c.requires.turn.searched.size)
+
+pub state_at-requires : goal.state_at-requires
+state_at-requires c = c.requires.pair.state
+
+pub enter-requires-clause-within : goal.enter-requires-clause-within
+enter-requires-clause-within c = omega (arith, place_within (asked c.args.question.now) c.args.pair c.requires.pair, c.requires.turn.searched.size)
+
+pub enter-requires-clause-stands_open : goal.enter-requires-clause-stands_open
+enter-requires-clause-stands_open c = sym c.distance.ensures ∙ c.if-distance.false
+
+pub enter-requires-clause-closes : goal.enter-requires-clause-closes
+enter-requires-clause-closes c =
+    let turn = turn_pair (asked c.args.question.now) c.args.turn.next c.args.table.now c.args.turn.pair c.requires.turn.searched c.requires.turn.pair in
+    omega (arith, turn.1, turn.2, c.requires.turn.distance, c.args.question.now.few)
+
+pub enter-requires-clause-room : goal.enter-requires-clause-room
+enter-requires-clause-room c = omega (arith, c.requires.turn.searched.count, c.args.question.now.few)

@@ -10,8 +10,9 @@ returns c = c.loop-rule.invariant.made ∙ whole-view c.args.self.now.rules.item
 pub loop-rule-preserved : goal.loop-rule-preserved
 loop-rule-preserved c =
     let l = c.loop-rule in
+    let added = c.in_ok-add.ensures.added in
     record {
-      count = omega (arith, c.in_ok-push.ensures.len, l.invariant.count);
-      made = one-more l.matchers.items c.push.new.self.items c.deref-rule-items.result.now l.rule-index c.in_ok-make.field-0 c.rule-item.result l.invariant.made (omega arith) c.rule-item.is
-          c.in_ok-make.ensures c.in_ok-push.ensures.items;
+      count = omega (arith, c.in_ok-add.ensures.len, l.invariant.count);
+      made = one-more l.matchers.items c.add.new.matchers.items c.deref-rule-items.result.now l.rule-index added.0 c.rule-item.result l.invariant.made (omega arith) c.rule-item.is
+          added.2 added.1;
     }

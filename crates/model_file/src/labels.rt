@@ -1,0 +1,70 @@
+//! The labels of an invariant, a digit for each.
+ghost use Rattle.std.specs.Prelude.{◌≡◌, ◌↔◌, ◌-◌, map, IfOk, IsTrue, All};
+ghost use Rattle.model_file.specs.Entries.{labels_of};
+ghost use Rattle.model_file.specs.Labels.{IsLabelDigit};
+
+use crate::lists::Entry;
+use crate::stream::{Stop, string};
+use invariants::Seq;
+use json::Reader;
+use std::alloc::{AllocError, Global};
+
+/// Whether all bytes are digits from `0` to `7`.
+fn are_labels(bytes: &[u8]) -> bool
+    ensures { IsTrue result ↔ All IsLabelDigit bytes.now }
+{
+    // No way out before the last byte, so that many are tested at once.
+    let mut all = true;
+    for byte in bytes {
+        all = all & (*byte >= b'0') & (*byte <= b'7');
+    }
+    all
+}
+
+/// Puts the number of each digit in its place.
+fn digits_to_numbers(bytes: &mut [u8])
+    requires { All IsLabelDigit bytes.old }
+    ensures { bytes.new ≡ map (λ byte. byte - 48) bytes.old }
+{
+    for k in 0..bytes.len() {
+        bytes[k] = bytes[k] - b'0';
+    }
+}
+
+/// The labels of digits from `0` to `7`.
+fn labels_of(alloc: Global, digits: &[u8]) -> Result<Option<Seq<u8>>, AllocError>
+    ensures { IfOk result (λ found. found ≡ labels_of digits.now) }
+{
+    if !are_labels(digits) {
+        return Ok(None);
+    }
+    let mut labels = Vec::with_capacity(alloc, digits.len())?;
+    labels.extend_from_slice(digits)?;
+    digits_to_numbers(labels.as_mut_slice());
+    Ok(Some(Seq::from_vec(labels)))
+}
+
+/// The labels of an invariant.
+#[derive(Drop)]
+pub(crate) struct Labels {
+    pub(crate) labels: Seq<u8>,
+}
+
+impl Entry for Labels {
+    ghost use Rattle.model_file.specs.Rows.{labels_as};
+
+    ghost read_as = { labels_as };
+
+    fn read(alloc: Global, reader: &mut Reader<'_>, depth: usize) -> Result<Option<Labels>, Stop> {
+        let digits = match string(reader, depth) {
+            Ok(Some(digits)) => digits,
+            Ok(None) => return Ok(None),
+            Err(e) => return Err(e),
+        };
+        match labels_of(alloc, digits.as_bytes()) {
+            Ok(Some(labels)) => Ok(Some(Labels { labels })),
+            Ok(None) => Ok(None),
+            Err(_) => Err(Stop::Memory),
+        }
+    }
+}
