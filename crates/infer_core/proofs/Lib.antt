@@ -9,3 +9,4 @@ pub mod Sharing
 pub mod Distinct
 pub mod Spreading
 pub mod FirstPair
+pub mod Windows

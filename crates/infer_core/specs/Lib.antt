@@ -2,3 +2,4 @@ pub mod Runs
 pub mod Ends
 pub mod Benches
 pub mod Laws
+pub mod Windows

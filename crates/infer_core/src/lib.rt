@@ -2,6 +2,7 @@
 //! before it begins.
 #![tactic(auto)]
 
+mod labels;
 mod law;
 mod model;
 mod run;

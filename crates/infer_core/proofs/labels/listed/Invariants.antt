@@ -4,7 +4,8 @@ use Rattle.partition_model.specs.Assignments.{Assignment, G}
 use Rattle.partition_model.specs.Listings.{ArePartitions}
 use Rattle.models.specs.Models.{AreReached}
 use Rattle.labelling.specs.Labelled.{AreLabelsOf}
-use Rattle.infer_core.proofs.model.listed.Given as goal
+use Rattle.infer_core.specs.Windows.{IsWindowOf}
+use Rattle.infer_core.proofs.labels.listed.Given as goal
 
 abbrev pub invariant-loop-number : goal.invariant-loop-number
 invariant-loop-number l =
@@ -12,6 +13,7 @@ invariant-loop-number l =
       listing : map (λ x. x.inv) l.list.items ≡ take l.number l.invs;
       labels : (h : Assignment) → ArePartitions l.partitions h → AreLabelsOf l.planes (G h)
           → AllByRecursion (λ x. AreReached x.inv h l.partitions x.labels) l.list.items;
+      window : IsWindowOf l.planes l.partitions l.window;
       count : vec_len l.list ≡ l.number;
       room : length l.invs ≤ vec_capacity l.list;
     }

@@ -7,7 +7,7 @@ use Rattle.invariants.specs.declared.records.Listed.{Listed}
 use Rattle.models.specs.Models.{AreReached}
 use Rattle.coarsener.proofs.BlockingTurns.{all-push}
 use Rattle.infer_core.proofs.Telling.{labels-reached, listing-more}
-use Rattle.infer_core.proofs.model.listed.Goals as goal
+use Rattle.infer_core.proofs.labels.listed.Goals as goal
 
 -- what stands where there is no invariant
 none : Invariant
@@ -27,8 +27,9 @@ loop-number-preserved c =
           subst (λ (ls : List Listed). AllByRecursion (λ x. AreReached x.inv h c.args.partitions.now x.labels) ls) (sym c.push_reserved.ensures.items)
           (all-push (λ (x : Listed). AreReached x.inv h c.args.partitions.now x.labels) c.loop-number.list.items (record { inv = get_or invs number none; labels = c.in_ok-labels_of.field-0 })
           (c.loop-number.invariant.labels h a l)
-          (subst (λ (ds : List ℕ). AreReached (get_or invs number none) h c.args.partitions.now ds) (sym c.in_ok-labels_of.ensures)
+          (subst (λ (ds : List ℕ). AreReached (get_or invs number none) h c.args.partitions.now ds) (sym c.in_ok-labels_of.ensures.labels)
           (labels-reached c.args.planes.now h c.args.partitions.now number (get_or invs number none) a l at c.requires.ids)));
+      window = c.labels_of.ensures.window;
       count = omega (arith, c.push_reserved.ensures.len, c.loop-number.invariant.count);
       room = omega (arith, c.push_reserved.ensures.capacity, c.loop-number.invariant.room);
     }

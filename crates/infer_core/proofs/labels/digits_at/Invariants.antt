@@ -1,0 +1,11 @@
+use Rattle.std.proofs.Common.{◌≡◌, ◌+◌, ◌<◌, ℕ, length, slice_index}
+use Rattle.labelling.specs.Labelled.{digit}
+use Rattle.infer_core.specs.declared.labels.TheConstants.{TOGETHER}
+use Rattle.infer_core.proofs.labels.digits_at.Given as goal
+
+abbrev pub invariant-loop-k : goal.invariant-loop-k
+invariant-loop-k l =
+    record {
+      size : length l.digits ≡ TOGETHER;
+      labels : (i : ℕ) → i < l.k → slice_index l.digits i ≡ digit l.planes (l.first + i) l.p;
+    }

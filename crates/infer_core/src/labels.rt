@@ -1,0 +1,159 @@
+//! The labels of the listed invariants.
+//!
+//! In memory the labels of all invariants at one partition lie together, and in the model those of one invariant at all
+//! partitions. So they are read for many invariants at once, one partition after another.
+ghost use Rattle.std.specs.Prelude.{◌≡◌, ◌<◌, ◌≤◌, ◌+◌, ◌^◌, ℕ, IfOk, Some, length, map, slice_get, slice_index};
+ghost use Rattle.std.specs.List.{AllByRecursion};
+ghost use Rattle.limits.specs.declared.TheConstants.{MAX_PARTITIONS};
+ghost use Rattle.invariants.specs.declared.records.Partition.{Partition};
+ghost use Rattle.partition_model.specs.Assignments.{Assignment, G};
+ghost use Rattle.partition_model.specs.Listings.{ArePartitions};
+ghost use Rattle.models.specs.Models.{AreReached};
+ghost use Rattle.labelling.specs.Labelled.{digit, AreLabelsOf};
+ghost use Rattle.infer_core.specs.declared.labels.TheConstants.{TOGETHER};
+ghost use Rattle.infer_core.specs.Windows.{IsWindowOf};
+
+use invariants::{Invariant, Listed, Partition, Seq};
+use labelling::Planes;
+use limits::MAX_PARTITIONS;
+use std::alloc::{AllocError, Global};
+
+/// The labels of how many invariants are read at once: a word of memory has a bit of each.
+pub(crate) const TOGETHER: usize = 64;
+
+/// The labels of some invariants, whose numbers follow one another, at each of some partitions.
+#[derive(Drop)]
+pub struct Window {
+    /// The number of the first of these invariants.
+    first: usize,
+    /// How many they are.
+    len: usize,
+    /// Their labels, for each partition in turn.
+    digits: Vec<[u8; TOGETHER]>,
+}
+
+/// The labels at p of this many invariants, from the one with this number on.
+fn digits_at(planes: &Planes, first: usize, len: usize, p: u32) -> [u8; TOGETHER]
+    requires numbers { first + len ≤ length (planes.now).invs }
+    requires fits { first + len < 2 ^ 64 }
+    requires few { len ≤ TOGETHER }
+    requires id { p < MAX_PARTITIONS }
+    ensures { (k : ℕ) → k < len → slice_index result k ≡ digit planes.now (first + k) p }
+{
+    let mut digits = [0; TOGETHER];
+    for k in 0..len {
+        digits[k] = planes.states(first + k, p);
+    }
+    digits
+}
+
+impl Window {
+    /// The labels of no invariants, at this many partitions.
+    fn make(alloc: Global, partitions: usize) -> Result<Window, AllocError>
+        ensures none { IfOk result (λ window. window.len ≡ 0) }
+        ensures size { IfOk result (λ window. length window.digits.items ≡ partitions) }
+    {
+        Ok(Window {
+            first: 0,
+            len: 0,
+            digits: vec![in alloc; [0; TOGETHER]; partitions]?,
+        })
+    }
+
+    /// Reads the labels at these partitions of the invariants from this number on, as many as there is room for.
+    fn read(&mut self, planes: &Planes, first: usize, count: usize, partitions: &[Partition])
+        requires count { count ≡ length (planes.now).invs }
+        requires number { first < count }
+        requires ids { (k : ℕ) (x : Partition) → slice_get partitions.now k ≡ Some x
+            → x.id < MAX_PARTITIONS }
+        requires size { length (self.old).digits.items ≡ length partitions.now }
+        ensures window { IsWindowOf planes.now partitions.now self.new }
+        ensures first { (self.new).first ≡ first }
+        ensures some { 0 < (self.new).len }
+    {
+        let len = TOGETHER.min(count - first);
+        self.first = first;
+        self.len = len;
+        for (j, partition) in partitions.iter().enumerate() {
+            self.digits[j] = digits_at(planes, first, len, partition.id);
+        }
+    }
+
+    /// Which of the window's invariants the one with this number is. Where it is none of them, the window is read from it on.
+    fn place_of(
+        &mut self,
+        planes: &Planes,
+        number: usize,
+        count: usize,
+        partitions: &[Partition],
+    ) -> usize
+        requires count { count ≡ length (planes.now).invs }
+        requires number { number < count }
+        requires ids { (k : ℕ) (x : Partition) → slice_get partitions.now k ≡ Some x
+            → x.id < MAX_PARTITIONS }
+        requires window { IsWindowOf planes.now partitions.now self.old }
+        ensures window { IsWindowOf planes.now partitions.now self.new }
+        ensures within { result < (self.new).len }
+        ensures place { (self.new).first + result ≡ number }
+    {
+        if self.first <= number && number - self.first < self.len {
+            return number - self.first;
+        }
+        self.read(planes, number, count, partitions);
+        0
+    }
+}
+
+/// The labels of the invariant with this number at the partitions, in their order.
+fn labels_of(
+    alloc: Global,
+    planes: &Planes,
+    number: usize,
+    count: usize,
+    partitions: &[Partition],
+    window: &mut Window,
+) -> Result<Seq<u8>, AllocError>
+    requires count { count ≡ length (planes.now).invs }
+    requires number { number < count }
+    requires ids { (k : ℕ) (x : Partition) → slice_get partitions.now k ≡ Some x
+        → x.id < MAX_PARTITIONS }
+    requires window { IsWindowOf planes.now partitions.now window.old }
+    ensures labels { IfOk result
+        (λ labels. labels ≡ map (λ x. digit planes.now number x.id) partitions.now) }
+    ensures window { IsWindowOf planes.now partitions.now window.new }
+{
+    let place = window.place_of(planes, number, count, partitions);
+    let mut labels = Vec::with_capacity(alloc, partitions.len())?;
+    for digits in &window.digits {
+        labels.push_reserved(digits[place]);
+    }
+    Ok(Seq::from_vec(labels))
+}
+
+/// The invariants, each with its labels.
+pub fn listed(
+    alloc: Global,
+    planes: &Planes,
+    invs: &[Invariant],
+    partitions: &[Partition],
+) -> Result<Seq<Listed>, AllocError>
+    requires list { (planes.now).invs ≡ invs.now }
+    requires ids { (k : ℕ) (x : Partition) → slice_get partitions.now k ≡ Some x
+        → x.id < MAX_PARTITIONS }
+
+    // What is listed, and what its labels say.
+    ensures listing { IfOk result (λ list. map (λ l. l.inv) list ≡ invs.now) }
+    ensures labels { IfOk result (λ list. (h : Assignment) → ArePartitions partitions.now h
+        → AreLabelsOf planes.now (G h)
+        → AllByRecursion (λ l. AreReached l.inv h partitions.now l.labels) list) }
+{
+    let mut window = Window::make(alloc, partitions.len())?;
+    let mut list = Vec::with_capacity(alloc, invs.len())?;
+    for (number, inv) in invs.iter().enumerate() {
+        list.push_reserved(Listed {
+            inv: *inv,
+            labels: labels_of(alloc, planes, number, invs.len(), partitions, &mut window)?,
+        });
+    }
+    Ok(Seq::from_vec(list))
+}
