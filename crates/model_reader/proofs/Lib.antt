@@ -1,0 +1,4 @@
+pub mod Numbers
+pub mod Listing
+pub mod Escapes
+pub mod Objects

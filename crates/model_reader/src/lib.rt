@@ -1,0 +1,14 @@
+//! Reads a model file, and reads the spelling that `model_file::write_model` writes without a tokenizer.
+//!
+//! Almost every model file was written by `infer` or `migrate`: one line without blanks, with its keys in a fixed order.
+//! Such bytes are read in one pass. `model_file::read_model` reads all others, and gives every refusal.
+#![tactic(auto)]
+
+mod entries;
+mod lists;
+mod members;
+mod reading;
+mod rest;
+mod texts;
+
+pub use reading::read_model;

@@ -1,0 +1,79 @@
+//! Lists of entries in their shortest spelling.
+ghost use Rattle.std.specs.Prelude.{◌≡◌, ◌∷◌, ◌++◌, map, IfSome};
+ghost use Rattle.serde_json.specs.Written.{compact_text};
+ghost use Rattle.model_file.specs.Tree.{array_of};
+
+use crate::rest::Rest;
+use invariants::Seq;
+use std::alloc::Global;
+
+/// An entry of a model, as it is spelled where nothing but what is needed stands.
+pub(crate) trait Spelled: Sized {
+    ghost use Rattle.serde_json.specs.Data.{Data};
+
+    /// The JSON value of an entry.
+    ghost data_of: { Self → Data };
+
+    /// Takes an entry, if its text comes next.
+    fn take(alloc: Global, rest: &mut Rest<'_>) -> Option<Self>
+        ensures { IfSome result (λ entry. rest.old ≡ compact_text (data_of entry) ++ rest.new) };
+
+    /// Whether a model may list this entry next to the one before it.
+    fn may_follow(&self, before: &Self) -> bool;
+}
+
+/// Whether a model may list the entry at the end of these.
+#[inline(always)]
+fn fits<T: Spelled>(entries: &[T], entry: &T, most: usize) -> bool {
+    if entries.len() >= most {
+        return false;
+    }
+    match entries.last() {
+        Some(before) => entry.may_follow(before),
+        None => true,
+    }
+}
+
+/// Takes the entries of a list up to its closing bracket, after its opening bracket.
+///
+/// It gives up at more than `most` entries, and at entries in an order that no model has, so that a file does not cost
+/// memory for what no model holds.
+#[inline(always)]
+fn take_entries<T: Spelled + Drop>(
+    alloc: Global,
+    rest: &mut Rest<'_>,
+    most: usize,
+) -> Option<Seq<T>>
+    ensures { IfSome result (λ entries. 91 ∷ rest.old ≡ compact_text (array_of (map T.data_of entries)) ++ rest.new) }
+{
+    let mut entries = Vec::new(alloc);
+    if rest.takes(b']') {
+        return Some(Seq::from_vec(entries));
+    }
+    'entries: loop {
+        let entry = T::take(alloc, rest)?;
+        if !fits(&entries, &entry, most) {
+            return None;
+        }
+        let Ok(()) = entries.push(entry) else {
+            return None;
+        };
+        if rest.takes(b']') {
+            return Some(Seq::from_vec(entries));
+        }
+        rest.byte(b',')?;
+    }
+}
+
+/// Takes a list, of at most so many entries.
+#[inline(always)]
+pub(crate) fn take_list<T: Spelled + Drop>(
+    alloc: Global,
+    rest: &mut Rest<'_>,
+    most: usize,
+) -> Option<Seq<T>>
+    ensures { IfSome result (λ entries. rest.old ≡ compact_text (array_of (map T.data_of entries)) ++ rest.new) }
+{
+    rest.byte(b'[')?;
+    take_entries::<T>(alloc, rest, most)
+}

@@ -1,0 +1,84 @@
+//! Reading a model file.
+ghost use Rattle.std.specs.Prelude.{◌≡◌, All, IsUtf8, IfOk, IfErr, IfSome, Ok};
+ghost use Rattle.model_shape.specs.Shapes.{IsWellShaped};
+ghost use Rattle.model_file.specs.Reading.{Fails, reads};
+ghost use Rattle.model_file.specs.Tree.{file_text};
+
+use crate::members::take_members;
+use crate::rest::Rest;
+use invariants::{Kinds, Model, Seq, Text};
+use model_file::{FileError, is_well_shaped, written_reads_back};
+use std::alloc::Global;
+
+/// A model with nothing in its lists.
+fn empty(alloc: Global) -> Model {
+    Model {
+        types: Seq::from_vec(Vec::new(alloc)),
+        kinds: Kinds::Three,
+        partitions: Seq::from_vec(Vec::new(alloc)),
+        edges: Seq::from_vec(Vec::new(alloc)),
+        invariants: Seq::from_vec(Vec::new(alloc)),
+        splits: Seq::from_vec(Vec::new(alloc)),
+        merges: Seq::from_vec(Vec::new(alloc)),
+        blocks: Seq::from_vec(Vec::new(alloc)),
+    }
+}
+
+/// Each text is UTF-8, as its type has it: a call that does nothing.
+fn texts_are_utf8(texts: &[Text])
+    ensures { All IsUtf8 texts.now }
+{
+    'texts: for text in texts {
+        let _ = text.as_str();
+    }
+}
+
+/// The model whose text these bytes are, if they are spelled as `write_model` spells it.
+///
+/// It answers None too if memory is wanted.
+fn written_model(alloc: Global, bytes: &[u8]) -> Option<Model>
+    ensures text { IfSome result (λ model. bytes.now ≡ file_text model) }
+    ensures utf8 { IfSome result (λ model. All IsUtf8 model.types) }
+{
+    let mut model = empty(alloc);
+    let mut rest = Rest::new(bytes);
+    take_members(alloc, &mut rest, &mut model)?;
+    if !rest.is_empty() {
+        return None;
+    }
+    texts_are_utf8(model.types.as_slice());
+    Some(model)
+}
+
+/// The model that `written_model` gives, if it is well shaped.
+fn shaped_model(alloc: Global, bytes: &[u8]) -> Option<Model>
+    ensures read { IfSome result (λ model. reads bytes.now ≡ Ok model) }
+    ensures shape { IfSome result IsWellShaped }
+{
+    let model = written_model(alloc, bytes)?;
+    written_reads_back();
+    match is_well_shaped(alloc, &model) {
+        Ok(true) => Some(model),
+        _ => None,
+    }
+}
+
+/// The model of the bytes of a file of version 2, or the first refusal, as `model_file::read_model` gives it.
+///
+/// `TooLong` comes for more than 536,870,912 bytes (`limits::MAX_MODEL_BYTES`), `NotJson` for bytes that are no JSON
+/// text, `Shape(Root)` for a value that is no object, `Shape(Version)` and `Version` for any version but 2,
+/// `Shape(Extra)` for a key that no file of version 2 has, and `Shape` of the first part that is not there, is not of its
+/// form or breaks its rule. `Memory` may come at any time.
+///
+/// Bytes that are spelled as `write_model` spells a model are read in one pass. All others are read again from their
+/// tokens, which gives the same model or a refusal in more time.
+pub fn read_model(alloc: Global, bytes: &[u8]) -> Result<Model, FileError>
+    ensures ok { IfOk result (λ model. reads bytes.now ≡ Ok model) }
+    ensures shape { IfOk result IsWellShaped }
+    ensures err { IfErr result (λ e. Fails e (reads bytes.now)) }
+{
+    match shaped_model(alloc, bytes) {
+        Some(model) => Ok(model),
+        None => model_file::read_model(alloc, bytes),
+    }
+}

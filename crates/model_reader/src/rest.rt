@@ -1,0 +1,128 @@
+//! The bytes that are still to be read, from whose front tokens are taken in their shortest spelling.
+ghost use Rattle.std.specs.Prelude.{◌≡◌, ◌<◌, ◌+◌, ◌∷◌, ◌++◌, [], IfSome, OnSome, MatchOption, decimal};
+ghost use Rattle.std.specs.Bool.{OnTrue, OnFalse};
+
+use memchr::memchr;
+use std::marker::Model;
+
+/// The bytes that are still to be read.
+#[derive(Drop)]
+pub(crate) struct Rest<'a> {
+    bytes: &'a [u8],
+}
+
+impl<'a> Model for Rest<'a> {
+    ghost use Rattle.std.specs.Prelude.{List, ℕ};
+
+    ghost Value = { List ℕ };
+
+    ghost view = { λ r. r.bytes.now };
+}
+
+impl<'a> Rest<'a> {
+    /// All of these bytes.
+    pub(crate) fn new(bytes: &'a [u8]) -> Rest<'a>
+        ensures { result ≡ bytes.now }
+    {
+        Rest { bytes }
+    }
+
+    /// Whether all bytes were taken.
+    pub(crate) fn is_empty(&self) -> bool
+        ensures { OnTrue result (self.now ≡ []) }
+    {
+        self.bytes.is_empty()
+    }
+
+    /// Takes this byte, if it comes next.
+    #[inline(always)]
+    pub(crate) fn takes(&mut self, byte: u8) -> bool
+        ensures yes { OnTrue result (self.old ≡ byte ∷ self.new) }
+        ensures no { OnFalse result (self.new ≡ self.old) }
+    {
+        let [first, others @ ..] = self.bytes else {
+            return false;
+        };
+        if *first != byte {
+            return false;
+        }
+        self.bytes = others;
+        true
+    }
+
+    /// Takes this byte, which has to come next.
+    #[inline(always)]
+    pub(crate) fn byte(&mut self, byte: u8) -> Option<()>
+        ensures { OnSome result (self.old ≡ byte ∷ self.new) }
+    {
+        if self.takes(byte) { Some(()) } else { None }
+    }
+
+    /// Takes this text, if it comes next.
+    #[inline(always)]
+    pub(crate) fn text(&mut self, text: &[u8]) -> Option<()>
+        ensures { MatchOption result (self.new ≡ self.old) (λ _. self.old ≡ text.now ++ self.new) }
+    {
+        self.bytes = self.bytes.strip_prefix(text)?;
+        Some(())
+    }
+
+    /// Takes this text, if it comes next, and says so.
+    #[inline(always)]
+    pub(crate) fn takes_text(&mut self, text: &[u8]) -> bool
+        ensures yes { OnTrue result (self.old ≡ text.now ++ self.new) }
+        ensures no { OnFalse result (self.new ≡ self.old) }
+    {
+        match self.text(text) {
+            Some(()) => true,
+            None => false,
+        }
+    }
+
+    /// Takes a decimal digit, if one comes next.
+    #[inline(always)]
+    fn digit(&mut self) -> Option<u32>
+        ensures { MatchOption result (self.new ≡ self.old)
+            (λ digit. (digit < 10) × (self.old ≡ (48 + digit) ∷ self.new)) }
+    {
+        let [first, others @ ..] = self.bytes else {
+            return None;
+        };
+        if *first < b'0' || *first > b'9' {
+            return None;
+        }
+        self.bytes = others;
+        Some((*first - b'0') as u32)
+    }
+
+    /// Takes a number of at most nine digits, of which the first is 0 only in `0`.
+    #[inline(always)]
+    pub(crate) fn number(&mut self) -> Option<u32>
+        ensures { IfSome result (λ number. self.old ≡ decimal number ++ self.new) }
+    {
+        let mut number = self.digit()?;
+        if number == 0 {
+            return Some(0);
+        }
+        'digits: while let Some(digit) = self.digit() {
+            if number > 99_999_999 {
+                return None;
+            }
+            number = number * 10 + digit;
+        }
+        Some(number)
+    }
+
+    /// Takes a string, and gives the bytes between its quotation marks.
+    #[inline(always)]
+    pub(crate) fn string(&mut self) -> Option<&'a [u8]>
+        ensures { IfSome result (λ inside. self.old ≡ 34 ∷ (inside.now ++ 34 ∷ self.new)) }
+    {
+        self.byte(b'"')?;
+        let end = memchr(b'"', self.bytes)?;
+        let (inside, others) = self.bytes.split_at(end);
+        self.bytes = others;
+        self.byte(b'"')?;
+        Some(inside)
+    }
+}
