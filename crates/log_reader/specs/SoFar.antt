@@ -3,6 +3,7 @@ use Rattle.std.specs.Prelude.{ℕ, ◌≡◌, ◌≤◌, ◌⊎◌, ◌==◌, Bo
 use Rattle.std.specs.Str.Lossy.{utf8_lossy}
 use Rattle.limits.specs.declared.TheConstants.{MAX_EVENTS, MAX_TYPES}
 use Rattle.traces.specs.Words.{Event as KeyedEvent, Gathering, gathered_of, event_count_of}
+use Rattle.trace_builder.specs.Placed.{placed_in}
 use Rattle.line_rules.specs.Views.{rules_in, matched_rules}
 use Rattle.log_reader.specs.Reading as spec
 use Rattle.log_reader.specs.Reading.{Setting, Decided, decided, event_refusal, line_events, section_after, setting}
@@ -13,6 +14,8 @@ use Rattle.log_reader.specs.declared.refusal.ReadError.{ReadError}
 use Rattle.log_reader.specs.declared.refusal.ReadError.TheVariants as refused
 use Rattle.log_reader.specs.declared.so_far.LogSoFar.{LogSoFar}
 use Rattle.log_reader.specs.declared.reader.LogReader.{LogReader}
+use Rattle.log_reader.specs.declared.taken.Taken.{Taken}
+use Rattle.log_reader.specs.declared.taken.Taken.TheVariants as taken
 
 -- what a decider decides by
 abbrev pub decider_view : Decider → spec.Form
@@ -60,6 +63,17 @@ pub record TakesLine (at : At) (d : Decided) (old new : LogSoFar) : Type 0 where
   pub ignore : new.ignore ≡ old.ignore
   pub join : new.join ≡ old.join
   pub within : IsWithin new.builder
+
+-- what a line that is decided so is taken for
+abbrev pub taken_for : At → Decided → LogSoFar → Taken
+taken_for at (spec.Event typ trace time) log =
+    taken.Event
+    (placed_in log.builder (record { file = if log.join then 0 else at.file; section = log.section; text = trace }) typ)
+    time
+taken_for at spec.Undecided log = taken.Undecided
+taken_for at spec.Skip log = taken.Nothing
+taken_for at spec.Separator log = taken.Nothing
+taken_for at spec.BadTime log = taken.Nothing
 
 -- how a reader reads
 abbrev pub setting_of : LogReader → Setting

@@ -10,6 +10,7 @@ mod reading;
 mod refusal;
 mod so_far;
 mod take_lines;
+mod taken;
 
 pub use form::Form;
 pub use law::{
@@ -17,5 +18,8 @@ pub use law::{
     lines_come_in_order, one_file_passes_the_limit,
 };
 pub use line_reader::{LineError, Lines};
-pub use reading::read_log;
+pub use reader::LogReader;
+pub use reading::{read_inputs, read_log};
 pub use refusal::{At, ReadError};
+pub use take_lines::TakeLines;
+pub use taken::Taken;

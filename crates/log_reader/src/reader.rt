@@ -4,12 +4,13 @@ ghost use Rattle.std.specs.Str.{IsAscii, IsUtf8};
 ghost use Rattle.traces.specs.Words.{gathered_of, in_order};
 ghost use Rattle.log_reader.specs.Views.{form_view};
 ghost use Rattle.log_reader.specs.Reading.{decided, next_section, setting};
-ghost use Rattle.log_reader.specs.SoFar.{IsReady, IsRefusal, ReadsText, decided_line, refusal_in, setting_of};
+ghost use Rattle.log_reader.specs.SoFar.{IsReady, IsRefusal, ReadsText, decided_line, refusal_in, setting_of, taken_for};
 
 use crate::decider::Decider;
 use crate::form::Form;
 use crate::refusal::{At, ReadError};
 use crate::so_far::LogSoFar;
+use crate::taken::Taken;
 use bstr::ByteSlice;
 use std::alloc::{AllocError, Global};
 use std::str;
@@ -53,12 +54,14 @@ impl<'r> LogReader<'r> {
 
     /// Takes in the line with this text, with which these bytes begin.
     #[inline(always)]
-    fn read_text(&mut self, at: At, text: &str, bytes: &[u8]) -> Result<(), ReadError>
+    fn read_text(&mut self, at: At, text: &str, bytes: &[u8]) -> Result<Taken, ReadError>
         requires begins { take (length text.now) bytes.now ≡ text.now }
         requires ready { IsReady self.old }
         requires room { self.old.log.section < 2 ^ 32 - 1 }
 
         // The line is taken in, or it is told why not.
+        ensures taken { IfOk result (λ taken. taken
+            ≡ taken_for at (decided (setting_of self.old).form text.now) self.old.log) }
         ensures ok { OnOk result
             (ReadsText at (decided (setting_of self.old).form text.now) self.old self.new) }
         ensures err { IfErr result (IsRefusal
@@ -75,12 +78,14 @@ impl<'r> LogReader<'r> {
     }
 
     /// Takes in a line that is not UTF-8.
-    fn read_lossy(&mut self, alloc: Global, at: At, line: &[u8]) -> Result<(), ReadError>
+    fn read_lossy(&mut self, alloc: Global, at: At, line: &[u8]) -> Result<Taken, ReadError>
         requires ready { IsReady self.old }
         requires room { self.old.log.section < 2 ^ 32 - 1 }
         requires some { 0 < length line.now }
 
         // The line is taken in, or it is told why not.
+        ensures taken { IfOk result (λ taken. taken
+            ≡ taken_for at (decided_line (setting_of self.old).form line.now) self.old.log) }
         ensures ok { OnOk result
             (ReadsText at (decided_line (setting_of self.old).form line.now) self.old self.new) }
         ensures err { IfErr result (IsRefusal
@@ -102,13 +107,15 @@ impl<'r> LogReader<'r> {
         at: At,
         line: &[u8],
         bytes: &[u8],
-    ) -> Result<(), ReadError>
+    ) -> Result<Taken, ReadError>
         requires begins { take (length line.now) bytes.now ≡ line.now }
         requires ready { IsReady self.old }
         requires room { self.old.log.section < 2 ^ 32 - 1 }
         requires some { 0 < length line.now }
 
         // The line is taken in, or it is told why not.
+        ensures taken { IfOk result (λ taken. taken
+            ≡ taken_for at (decided_line (setting_of self.old).form line.now) self.old.log) }
         ensures ok { OnOk result
             (ReadsText at (decided_line (setting_of self.old).form line.now) self.old self.new) }
         ensures err { IfErr result (IsRefusal
@@ -124,8 +131,8 @@ impl<'r> LogReader<'r> {
         }
     }
 
-    /// Takes in a line, which may be known to be ASCII and with which these bytes begin. Want of memory hides no refusal of a line
-    /// that is UTF-8.
+    /// Takes in a line, which may be known to be ASCII and with which these bytes begin, and returns what it was taken for. Want of
+    /// memory hides no refusal of a line that is UTF-8.
     #[inline(always)]
     pub fn read_line(
         &mut self,
@@ -134,13 +141,15 @@ impl<'r> LogReader<'r> {
         line: &[u8],
         bytes: &[u8],
         ascii: bool,
-    ) -> Result<(), ReadError>
+    ) -> Result<Taken, ReadError>
         requires ascii { ascii ≡ true → IsAscii line.now }
         requires begins { take (length line.now) bytes.now ≡ line.now }
         requires ready { IsReady self.old }
         requires room { self.old.log.section < 2 ^ 32 - 1 }
 
         // The line is taken in, or it is told why not.
+        ensures taken { IfOk result (λ taken. taken
+            ≡ taken_for at (decided_line (setting_of self.old).form line.now) self.old.log) }
         ensures ok { OnOk result
             (ReadsText at (decided_line (setting_of self.old).form line.now) self.old self.new) }
         ensures err { IfErr result (IsRefusal
@@ -151,7 +160,7 @@ impl<'r> LogReader<'r> {
             (decided_line (setting_of self.old).form line.now) ≡ None }
     {
         if line.is_empty() {
-            return Ok(());
+            return Ok(Taken::Nothing);
         }
         if ascii {
             let text = unsafe { str::from_utf8_unchecked(line) };

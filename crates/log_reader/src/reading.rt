@@ -155,8 +155,9 @@ fn read_file<I: Inputs, T: TakeLines>(
     Ok(())
 }
 
-/// Takes in the lines of all named inputs, in this order.
-fn read_inputs<I: Inputs, T: TakeLines>(
+/// Takes in the lines of all named inputs, in this order, as [`read_log`] does, which says when each error comes and what it
+/// leaves. What takes in the lines has taken in none before. There are fewer than 2^32 names.
+pub fn read_inputs<I: Inputs, T: TakeLines>(
     alloc: Global,
     inputs: &mut I,
     names: &[String],

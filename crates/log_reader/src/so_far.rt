@@ -1,14 +1,15 @@
 //! The log of the lines so far.
-ghost use Rattle.std.specs.Prelude.{◌≡◌, ◌≢◌, ◌<◌, ◌-◌, ◌^◌, nat_lt, length, take, OnOk, IfErr, Some, None, Err, if◌then◌else◌};
+ghost use Rattle.std.specs.Prelude.{◌≡◌, ◌≢◌, ◌<◌, ◌-◌, ◌^◌, nat_lt, length, take, OnOk, IfOk, IfErr, Some, None, Err, if◌then◌else◌};
 ghost use Rattle.limits.specs.declared.TheConstants.{MAX_TRACE_BYTES, MAX_TYPE_BYTES};
 ghost use Rattle.lines.specs.Lines.{plain_fields_of};
 ghost use Rattle.line_rules.specs.Views.{rules_in, matched_rules};
 ghost use Rattle.log_reader.specs.Reading as spec;
 ghost use Rattle.log_reader.specs.Reading.{by_fields, decided};
-ghost use Rattle.log_reader.specs.SoFar.{refusal_in, IsRefusal, IsWithin, TakesLine};
+ghost use Rattle.log_reader.specs.SoFar.{refusal_in, taken_for, IsRefusal, IsWithin, TakesLine};
 
 use crate::decider::{KeptRules, type_text_of};
 use crate::refusal::{At, ReadError};
+use crate::taken::Taken;
 use limits::{MAX_TRACE_BYTES, MAX_TYPE_BYTES};
 use line_rules::{DecideError, Decision};
 use lines::plain_fields_ahead;
@@ -73,9 +74,11 @@ impl LogSoFar {
         trace_text: &str,
         type_text: &str,
         time: u128,
-    ) -> Result<(), ReadError>
+    ) -> Result<Taken, ReadError>
         requires within { IsWithin self.old.builder }
         requires stands { 0 < length type_text.now }
+        ensures taken { IfOk result (λ taken. taken
+            ≡ taken_for at (spec.Event type_text.now trace_text.now time) self.old) }
         ensures ok { OnOk result
             (TakesLine at (spec.Event type_text.now trace_text.now time) self.old self.new) }
         ensures err { IfErr result (IsRefusal (refusal_in self.old.ignore at self.old.builder
@@ -91,7 +94,7 @@ impl LogSoFar {
             .builder
             .add(file, self.section, trace_text, type_text, time)
         {
-            Ok(()) => Ok(()),
+            Ok(placed) => Ok(Taken::Event { placed, time }),
             Err(error) => Err(not_added(at, error)),
         }
     }
@@ -106,15 +109,16 @@ impl LogSoFar {
     }
 
     /// Passes over a line that nothing decides, where such lines are skipped.
-    fn pass(&self, at: At) -> Result<(), ReadError>
+    fn pass(&self, at: At) -> Result<Taken, ReadError>
         requires within { IsWithin self.now.builder }
+        ensures taken { IfOk result (λ taken. taken ≡ taken_for at spec.Undecided self.now) }
         ensures ok { OnOk result (TakesLine at spec.Undecided self.now self.now) }
         ensures err { IfErr result
             (IsRefusal (refusal_in self.now.ignore at self.now.builder spec.Undecided)) }
         ensures no_memory { result ≢ Err ReadError.Memory }
     {
         if self.ignore {
-            Ok(())
+            Ok(Taken::Undecided)
         } else {
             Err(ReadError::Undecided(at))
         }
@@ -127,9 +131,11 @@ impl LogSoFar {
         at: At,
         trace_text: &Worded<'_>,
         type_text: &Worded<'_>,
-    ) -> Result<(), ReadError>
+    ) -> Result<Taken, ReadError>
         requires within { IsWithin self.old.builder }
         requires stands { 0 < length type_text.now }
+        ensures taken { IfOk result (λ taken. taken
+            ≡ taken_for at (spec.Event type_text.now trace_text.now 0) self.old) }
         ensures ok { OnOk result
             (TakesLine at (spec.Event type_text.now trace_text.now 0) self.old self.new) }
         ensures err { IfErr result (IsRefusal (refusal_in self.old.ignore at self.old.builder
@@ -145,16 +151,18 @@ impl LogSoFar {
             .builder
             .add_worded(file, self.section, trace_text, type_text)
         {
-            Ok(()) => Ok(()),
+            Ok(placed) => Ok(Taken::Event { placed, time: 0 }),
             Err(error) => Err(not_added(at, error)),
         }
     }
 
     /// Takes in a line in the plain form, with which these bytes begin.
     #[inline(always)]
-    pub fn take_plain(&mut self, at: At, text: &str, bytes: &[u8]) -> Result<(), ReadError>
+    pub fn take_plain(&mut self, at: At, text: &str, bytes: &[u8]) -> Result<Taken, ReadError>
         requires begins { take (length text.now) bytes.now ≡ text.now }
         requires within { IsWithin self.old.builder }
+        ensures taken { IfOk result (λ taken. taken
+            ≡ taken_for at (by_fields (plain_fields_of text.now)) self.old) }
         ensures ok { OnOk result
             (TakesLine at (by_fields (plain_fields_of text.now)) self.old self.new) }
         ensures err { IfErr result (IsRefusal (refusal_in self.old.ignore at self.old.builder
@@ -180,12 +188,14 @@ impl LogSoFar {
         kept: &mut KeptRules<'_>,
         at: At,
         text: &str,
-    ) -> Result<(), ReadError>
+    ) -> Result<Taken, ReadError>
         requires within { IsWithin self.old.builder }
         requires matchers { matched_rules kept.old.matchers ≡ rules_in kept.old.rules.now }
         requires room { self.old.section < 2 ^ 32 - 1 }
 
         // The line is taken in or refused, and the rules stay.
+        ensures taken { IfOk result (λ taken. taken
+            ≡ taken_for at (decided (spec.Rules (rules_in kept.old.rules.now)) text.now) self.old) }
         ensures ok { OnOk result
             (TakesLine at (decided (spec.Rules (rules_in kept.old.rules.now)) text.now)
             self.old self.new) }
@@ -208,10 +218,10 @@ impl LogSoFar {
                 let type_text = type_text_of(kept.rules, text, name);
                 self.add(at, &text[trace_from..trace_to], type_text, time)
             }
-            Ok(Decision::Skip) => Ok(()),
+            Ok(Decision::Skip) => Ok(Taken::Nothing),
             Ok(Decision::Separator) => {
                 self.begin_section(at);
-                Ok(())
+                Ok(Taken::Nothing)
             }
             Ok(Decision::Undecided) => self.pass(at),
             Err(DecideError::BadTime) => Err(ReadError::BadTime(at)),

@@ -50,7 +50,7 @@ impl<'r> TakeLines for LogReader<'r> {
         ascii: bool,
     ) -> Result<(), ReadError> {
         match self.read_line(alloc, at, line, bytes, ascii) {
-            Ok(()) => Ok(()),
+            Ok(_) => Ok(()),
             Err(error) => Err(error),
         }
     }

@@ -32,7 +32,10 @@ fn add(
         return Ok(());
     }
     numbers.push(number(behind))?;
-    builder.add(0, trace, "", word, 0).map_err(|_| AllocError)
+    match builder.add(0, trace, "", word, 0) {
+        Ok(_) => Ok(()),
+        Err(_) => Err(AllocError),
+    }
 }
 
 /// Adds the events of traces between bars.

@@ -1,2 +1,3 @@
 pub mod PlaceMaps
 pub mod TextsTold
+pub mod Places

@@ -1,19 +1,21 @@
 //! Events gathered to traces.
-ghost use Rattle.std.specs.Prelude.{◌≡◌, ◌≤◌, ◌<◌, ◌+◌, ◌-◌, ◌^◌, ◌++◌, ◌∷◌, [], List, map, length, OnOk, OnErr, IfOk, Err, ◌≢◌, ◌↔◌, true, false, slice_index_or, slice_get, IfSome, ℕ, ◌*◌};
+ghost use Rattle.std.specs.Prelude.{◌≡◌, ◌≤◌, ◌<◌, ◌+◌, ◌-◌, ◌^◌, ◌++◌, ◌∷◌, [], List, map, length, OnOk, OnErr, IfOk, Err, ◌≢◌, ◌↔◌, true, false, slice_index_or, slice_get, IfSome, None, ℕ, ◌*◌};
 ghost use Rattle.std.specs.List.{list_any, position_or_len};
 ghost use Rattle.std.specs.Str.{bytes_eq};
 ghost use Rattle.key_table.specs.Keys.{key_in, key_shown};
 ghost use Rattle.limits.specs.declared.TheConstants.{FIRST_TYPE, MAX_EVENTS, MAX_TRACE_BYTES, MAX_TYPE_BYTES, MAX_TYPES};
 ghost use Rattle.trace_builder.specs.declared.builder.AddError.TheVariants.{Memory};
 ghost use Rattle.trace_builder.specs.Limits.{IsNewType, PassesTypeLimit, PassesEventLimit};
+ghost use Rattle.trace_builder.specs.Placed.{placed_in, trace_place};
 ghost use Rattle.traces.specs.Words.{with_event, with_new};
 
 use crate::layout::{lay_in_order, zeros_of};
+use crate::placing::{NewEvent, Placed, put_typed_event, put_worded};
 use crate::trace_table::TraceTable;
 use crate::type_table::TypeTable;
 use invariants::Seq;
 use key_table::{KeyParts, Worded};
-use limits::{FIRST_TYPE, MAX_EVENTS, MAX_TYPES};
+use limits::{MAX_EVENTS, MAX_TYPES};
 use std::alloc::{AllocError, AllocFailed, Global};
 use std::marker::Model;
 use traces::TraceSet;
@@ -57,14 +59,6 @@ pub struct Builder {
     event_count: u32,
 }
 
-/// An event that is to be added.
-#[derive(Drop)]
-struct NewEvent<'a> {
-    key: KeyParts<'a>,
-    type_text: &'a str,
-    time: u128,
-}
-
 /// The place of a type's text, where the limits leave room for one more event of it.
 fn room_for(types: &TypeTable, event_count: u32, type_text: &str) -> Result<usize, AddError>
     requires few { length types.now ≤ MAX_TYPES }
@@ -89,110 +83,6 @@ fn room_for(types: &TypeTable, event_count: u32, type_text: &str) -> Result<usiz
         return Err(AddError::EventLimit);
     }
     Ok(place)
-}
-
-/// Puts an event of a new type at the end of its trace, and the type at the end of the types. It stays a call, so that the
-/// way of an event of a known type is short.
-#[inline(never)]
-fn put_with_type(
-    alloc: Global,
-    types: &mut TypeTable,
-    traces: &mut TraceTable,
-    event: &NewEvent<'_>,
-    number: u16,
-) -> Result<(), AllocError>
-    requires new { IsNewType types.old event.now.type_text.now }
-    requires few_traces { length traces.old < 2 ^ 32 - 1 }
-    requires short { length event.now.key.text.now < 2 ^ 32 }
-    requires short_type { length event.now.type_text.now ≤ MAX_TYPE_BYTES }
-    ensures types { OnOk result (types.new ≡ types.old ++ event.now.type_text.now ∷ []) }
-    ensures traces { OnOk result (traces.new
-        ≡ with_event traces.old (key_in event.now.key) number event.now.time) }
-
-    // Where memory is wanted, nothing has changed.
-    ensures err { OnErr result (types.new ≡ types.old) }
-    ensures err_traces { OnErr result (traces.new ≡ traces.old) }
-{
-    types.add(alloc, event.type_text)?;
-    let put = traces.put(alloc, &event.key, number, event.time);
-    if put.is_err() {
-        types.forget_last(event.type_text);
-    }
-    put
-}
-
-/// Puts an event at the end of its trace, and its type at the end of the types where it is new.
-/// The place is that of the type's text.
-fn put_typed_event(
-    alloc: Global,
-    types: &mut TypeTable,
-    traces: &mut TraceTable,
-    event: &NewEvent<'_>,
-    place: usize,
-) -> Result<(), AllocError>
-    requires place { place ≡ position_or_len (bytes_eq event.now.type_text.now) types.old }
-    requires new { IsNewType types.old event.now.type_text.now ↔ (place ≡ length types.old) }
-    requires few { place < MAX_TYPES }
-    requires few_traces { length traces.old < 2 ^ 32 - 1 }
-    requires short { length event.now.key.text.now < 2 ^ 32 }
-    requires short_type { length event.now.type_text.now ≤ MAX_TYPE_BYTES }
-    ensures types { OnOk result (types.new ≡ with_new bytes_eq types.old event.now.type_text.now) }
-    ensures traces { OnOk result (traces.new
-        ≡ with_event traces.old (key_in event.now.key) (place + FIRST_TYPE) event.now.time) }
-
-    // Where memory is wanted, nothing has changed.
-    ensures err { OnErr result (types.new ≡ types.old) }
-    ensures err_traces { OnErr result (traces.new ≡ traces.old) }
-{
-    let number = (place + FIRST_TYPE as usize) as u16;
-    if place < types.len() {
-        return traces.put(alloc, &event.key, number, event.time);
-    }
-    // One that is handed to a call has to stand in memory; a copy leaves the event where it is.
-    let copy = NewEvent {
-        key: KeyParts {
-            file: event.key.file,
-            section: event.key.section,
-            text: event.key.text,
-        },
-        type_text: event.type_text,
-        time: event.time,
-    };
-    put_with_type(alloc, types, traces, &copy, number)
-}
-
-/// Puts an event without a time at the end of its trace, where its type is short and a slot leads to it. Says whether it did.
-#[inline(always)]
-fn put_worded(
-    alloc: Global,
-    types: &TypeTable,
-    traces: &mut TraceTable,
-    file: u32,
-    section: u32,
-    text: &Worded<'_>,
-    type_text: &Worded<'_>,
-) -> Result<bool, AllocError>
-    requires few { length types.now ≤ MAX_TYPES }
-    requires few_traces { length traces.old < 2 ^ 32 - 1 }
-    requires short { length text.now < 2 ^ 32 }
-    ensures known { IfOk result (λ put. put ≡ true → types.now ≡ with_new bytes_eq types.now type_text.now) }
-    ensures put { IfOk result (λ put. put ≡ true → traces.new
-        ≡ with_event traces.old (record { file = file; section = section; text = text.now })
-        (position_or_len (bytes_eq type_text.now) types.now + FIRST_TYPE) 0) }
-    ensures same { IfOk result (λ put. put ≡ false → traces.new ≡ traces.old) }
-
-    // Where memory is wanted, nothing has changed, and the type is known.
-    ensures err { OnErr result (traces.new ≡ traces.old) }
-    ensures err_type { OnErr result (list_any (bytes_eq type_text.now) types.now ≡ true) }
-{
-    match types.short_place_of(type_text) {
-        Some(place) => {
-            let number = (place + FIRST_TYPE as usize) as u16;
-            traces.put_worded(alloc, file, section, text, number)?;
-            Ok(true)
-        }
-        None => Ok(false),
-    }
 }
 
 impl Model for Builder {
@@ -228,6 +118,7 @@ impl Builder {
 
     /// Adds an event of the trace of this key, at most 1,024 bytes of text, and of the type of this text, 1 to
     /// 256 bytes. Its time is in billionths of whatever unit the log takes, from any beginning; an event without a time has 0.
+    /// Returns the place of its trace and the number of its type.
     ///
     /// `TypeLimit` comes exactly where the text is new and 256 types stand, `EventLimit` exactly where that is
     /// not so and 1,000,000 events stand. Each refusal leaves the builder as it was.
@@ -239,10 +130,12 @@ impl Builder {
         text: &str,
         type_text: &str,
         time: u128,
-    ) -> Result<(), AddError>
+    ) -> Result<Placed, AddError>
         requires text { length text.now ≤ MAX_TRACE_BYTES }
         requires type_text { length type_text.now ≤ MAX_TYPE_BYTES }
         requires type_text_stands { 0 < length type_text.now }
+        ensures placed { IfOk result (λ placed. placed ≡ placed_in self.old
+            (record { file = file; section = section; text = text.now }) type_text.now) }
         ensures exact { OnOk result (self.new
             ≡ gathered_with self.old (event_of file section text.now type_text.now time)) }
         ensures ok { OnOk result
@@ -270,9 +163,9 @@ impl Builder {
             time,
         };
         match put_typed_event(self.alloc, &mut self.types, &mut self.traces, &event, place) {
-            Ok(()) => {
+            Ok(placed) => {
                 self.event_count += 1;
-                Ok(())
+                Ok(placed)
             }
             Err(_) => Err(AddError::Memory),
         }
@@ -286,10 +179,12 @@ impl Builder {
         section: u32,
         text: &Worded<'_>,
         type_text: &Worded<'_>,
-    ) -> Result<(), AddError>
+    ) -> Result<Placed, AddError>
         requires text { length text.now ≤ MAX_TRACE_BYTES }
         requires type_text { length type_text.now ≤ MAX_TYPE_BYTES }
         requires type_text_stands { 0 < length type_text.now }
+        ensures placed { IfOk result (λ placed. placed ≡ placed_in self.old
+            (record { file = file; section = section; text = text.now }) type_text.now) }
         ensures exact { OnOk result (self.new
             ≡ gathered_with self.old (event_of file section text.now type_text.now 0)) }
         ensures ok { OnOk result
@@ -316,9 +211,12 @@ impl Builder {
                 text,
                 type_text,
             )?;
-            if put {
-                self.event_count += 1;
-                return Ok(());
+            match put {
+                Some(placed) => {
+                    self.event_count += 1;
+                    return Ok(placed);
+                }
+                None => {}
             }
         }
         self.add(file, section, text.text(), type_text.text(), 0)

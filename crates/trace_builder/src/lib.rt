@@ -4,6 +4,7 @@
 mod builder;
 mod columns;
 mod layout;
+mod placing;
 mod slots;
 mod sorting;
 mod trace_table;
@@ -11,3 +12,4 @@ mod type_table;
 
 pub use builder::{AddError, Builder};
 pub use key_table::Worded;
+pub use placing::Placed;

@@ -1,6 +1,6 @@
-use Rattle.std.proofs.Common.{◌≡◌, subst, None, OnOk, IfErr}
+use Rattle.std.proofs.Common.{◌≡◌, subst, None, OnOk, IfOk, IfErr}
 use Rattle.log_reader.specs.Reading.{decided}
-use Rattle.log_reader.specs.SoFar.{setting_of, decided_line, refusal_in, IsRefusal, ReadsText}
+use Rattle.log_reader.specs.SoFar.{setting_of, decided_line, refusal_in, taken_for, IsRefusal, ReadsText}
 use Rattle.log_reader.proofs.PieceByPiece.{not-none, read-as_it_stands, line-decided}
 use Rattle.log_reader.proofs.reader.LogReader.read_unknown.Goals as goal
 
@@ -30,3 +30,12 @@ returns-in-Ok-clause-memory c =
     let text = c.in-Ok.text.now in
     let is : decided s.form text ≡ decided_line s.form line = line-decided s.form line text (not-none _ c.requires.some) (read-as_it_stands line text c.in-Ok.ensures.cases.0 c.in-Ok.ensures.cases.1) in
     λ wanted utf8. subst (λ d. refusal_in s.ignore c.args.at old.log.builder d ≡ None) is (c.read_text.ensures.memory wanted)
+
+pub returns-in-Ok-clause-taken : goal.returns-in-Ok-clause-taken
+returns-in-Ok-clause-taken c =
+    let old = c.args.self.now in
+    let form = (setting_of old).form in
+    let line = c.args.line.now in
+    let text = c.in-Ok.text.now in
+    let is : decided form text ≡ decided_line form line = line-decided form line text (not-none _ c.requires.some) (read-as_it_stands line text c.in-Ok.ensures.cases.0 c.in-Ok.ensures.cases.1) in
+    subst (λ d. IfOk c.read_text.result (λ taken. taken ≡ taken_for c.args.at d old.log)) is c.read_text.ensures.taken

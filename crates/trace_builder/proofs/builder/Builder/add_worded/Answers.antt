@@ -7,17 +7,18 @@ use Rattle.traces.specs.Words.{Event, Gathering, Trace, IsGathered, event_of, ev
 use Rattle.traces.proofs.Grown.{place-in-types, traces-few, count-with_event, adds-one, adds-event}
 use Rattle.traces.specs.Kept.{AreNumbered, AreShort, HaveBytes, HaveTimes, HaveEvents, IsKept}
 use Rattle.traces.proofs.Numbered.{numbered-with_event, timed-with_event, begun-with_event}
+use Rattle.trace_builder.proofs.Places.{if-some}
 use Rattle.trace_builder.proofs.builder.Builder.add_worded.Goals as goal
 
-pub invariant_of-self-then-put : goal.invariant_of-self-then-put
-invariant_of-self-then-put c =
+pub invariant_of-self-in-Some : goal.invariant_of-self-in-Some
+invariant_of-self-in-Some c =
     let typ = c.args.type_text.now in
     let event : Event = event_of c.args.file c.args.section c.args.text.now typ 0 in
     let types = c.self.inside.types in
     let traces = c.self.inside.traces in
     let place : ℕ = position_or_len (bytes_eq typ) types in
-    let known = c.in_ok-put.ensures.known c.if-put.true in
-    let put = c.in_ok-put.ensures.put c.if-put.true in
+    let known = if-some _ c.in_ok-put.put c.in-Some.placed (cc (c.in-Some.is)) c.in_ok-put.ensures.known in
+    let put = if-some _ c.in_ok-put.put c.in-Some.placed (cc (c.in-Some.is)) c.in_ok-put.ensures.put in
     let old : Gathering = record { types = types; traces = traces } in
     let new : Gathering = record { types = types; traces = c.put_worded.new.traces } in (
       record {
@@ -39,26 +40,26 @@ invariant_of-self-then-put c =
       )),
     )
 
-pub invariant_of-self-else-put : goal.invariant_of-self-else-put
-invariant_of-self-else-put c =
+pub invariant_of-self-in-None : goal.invariant_of-self-in-None
+invariant_of-self-in-None c =
     let types = c.self.inside.types in
-    subst (λ (traces : List Trace). IsKept (length types) traces c.self.inside.event_count × HaveBytes types × AreShort types × IsGathered (record { types = types; traces = traces })) (sym (c.in_ok-put.ensures.same c.if-put.false))
+    subst (λ (traces : List Trace). IsKept (length types) traces c.self.inside.event_count × HaveBytes types × AreShort types × IsGathered (record { types = types; traces = traces })) (sym (c.in_ok-put.ensures.same (cc (c.in-None.is))))
     c.self.invariant
 
-pub returns-then-put-clause-ok : goal.returns-then-put-clause-ok
-returns-then-put-clause-ok c =
+pub returns-in-Some-clause-ok : goal.returns-in-Some-clause-ok
+returns-in-Some-clause-ok c =
     let event : Event = event_of c.args.file c.args.section c.args.text.now c.args.type_text.now 0 in
     let old : Gathering = record { types = c.self.inside.types; traces = c.self.inside.traces } in
     let new : Gathering = record { types = c.self.inside.types; traces = c.put_worded.new.traces } in
-    let one : new ≡ gathered_with old event = adds-one old new event (c.in_ok-put.ensures.known c.if-put.true) (c.in_ok-put.ensures.put c.if-put.true) in
+    let one : new ≡ gathered_with old event = adds-one old new event (if-some _ c.in_ok-put.put c.in-Some.placed (cc (c.in-Some.is)) c.in_ok-put.ensures.known) (if-some _ c.in_ok-put.put c.in-Some.placed (cc (c.in-Some.is)) c.in_ok-put.ensures.put) in
     subst (λ gathering. AddsEvent gathering new event) c.self.view_is (adds-event old new event one)
 
-pub returns-then-put-clause-limits : goal.returns-then-put-clause-limits
-returns-then-put-clause-limits c =
+pub returns-in-Some-clause-limits : goal.returns-in-Some-clause-limits
+returns-in-Some-clause-limits c =
     let event : Event = event_of c.args.file c.args.section c.args.text.now c.args.type_text.now 0 in
     let place : ℕ = position_or_len (bytes_eq c.args.type_text.now) c.self.inside.types in (
       c.self.invariant.0.few_types,
-      omega (arith, ap event_count_of (c.in_ok-put.ensures.put c.if-put.true), count-with_event c.self.inside.traces event.key (place + FIRST_TYPE) 0, c.self.invariant.0.count, c.if-self-lt-MAX_EVENTS.true),
+      omega (arith, ap event_count_of (if-some _ c.in_ok-put.put c.in-Some.placed (cc (c.in-Some.is)) c.in_ok-put.ensures.put), count-with_event c.self.inside.traces event.key (place + FIRST_TYPE) 0, c.self.invariant.0.count, c.if-self-lt-MAX_EVENTS.true),
     )
 
 pub invariant_of-self : goal.invariant_of-self

@@ -3,10 +3,11 @@ use Rattle.traces.specs.Words.{Trace, same_key, with_event}
 use Rattle.key_table.specs.Keys.{Key}
 use Rattle.traces.proofs.Columned.{columned-grows, columned-same, columns-kept, columns-same, length-columned}
 use Rattle.key_table.proofs.Positions.{position-le}
+use Rattle.trace_builder.proofs.Places.{place-told}
 use Rattle.trace_builder.proofs.trace_table.TraceTable.put_elsewhere.Goals as goal
 
-pub overflow_cast-place : goal.overflow_cast-place
-overflow_cast-place c =
+pub overflow_cast-trace : goal.overflow_cast-trace
+overflow_cast-trace c =
     let key : Key = record { file = c.args.file; section = c.args.section; text = c.args.text.now } in
     let events = c.self.inside.events in
     omega (
@@ -55,3 +56,9 @@ place_or_put_worded-requires-clause-few c =
       ap length c.self.view_is,
       c.requires.few,
     )
+
+pub returns-clause-place : goal.returns-clause-place
+returns-clause-place c =
+    let key : Key = record { file = c.args.file; section = c.args.section; text = c.args.text.now } in
+    let events = c.self.inside.events in
+    place-told c.self.inside.keys events.places.items events.numbers.items events.times.items c.args.self.now key c.in_ok-place.place c.self.view_is c.in_ok-place.ensures.place

@@ -2,7 +2,7 @@ use Rattle.std.proofs.Common.{rules, ◌≡◌, ℕ, List, ◌-◌, length, take
 use Rattle.std.specs.List.{list_any}
 use Rattle.std.specs.Str.{bytes_eq}
 use Rattle.trace_builder.proofs.PlaceMaps.{front}
-use Rattle.trace_builder.proofs.builder.put_with_type.Goals as goal
+use Rattle.trace_builder.proofs.placing.put_with_type.Goals as goal
 
 pub forget_last-requires-clause-new : goal.forget_last-requires-clause-new
 forget_last-requires-clause-new c =
