@@ -1,0 +1,4 @@
+pub mod Numbering
+pub mod Locating
+pub mod Collecting
+pub mod Ordering

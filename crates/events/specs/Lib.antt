@@ -1,0 +1,4 @@
+pub mod Located
+pub mod Undecided
+pub mod Takers
+pub mod Reading

@@ -1,0 +1,16 @@
+//! Reads the events of a log, each with the line it stands on, and the lines that nothing decides.
+#![tactic(auto)]
+
+mod event_reader;
+mod events;
+mod law;
+mod located;
+mod reading;
+mod undecided;
+mod undecided_reader;
+
+pub use events::Events;
+pub use law::located_events_are_the_log;
+pub use located::Located;
+pub use reading::{read_events, read_undecided};
+pub use undecided::UndecidedLine;
