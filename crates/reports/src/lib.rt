@@ -14,4 +14,6 @@ mod taken;
 pub use graph::graph_report;
 pub use invariant::invariant_report;
 pub use law::paths_tell;
+pub use name::Names;
+pub use number::push_number;
 pub use path::path_report;

@@ -114,13 +114,13 @@ fails task s old new mid number before silent cause =
     }
 
 -- the task has as many inputs as its file of rules and its log
-inputs-are : (task : Task) (s : Setting) (old mid : InputState) → Before task s old mid → input_count (stages_of task) ≡ input_count (first_stages task) + length (inputs_of task.files)
+pub inputs-are : (task : Task) (s : Setting) (old mid : InputState) → Before task s old mid → input_count (stages_of task) ≡ input_count (first_stages task) + length (inputs_of task.files)
 inputs-are task s old mid before =
     let log : input_count (log_stages task) ≡ length (inputs_of task.files) + 0 = ap input_count before.log in
     omega (arith, log, input_count-append (first_stages task) (log_stages task))
 
 -- memory was wanted in the log, or before its first input
-stops-anywhere : (task : Task) (s : Setting) (old mid new : InputState) → Before task s old mid → LogAnywhere (inputs_of task.files) mid new → StopsAnywhere task old new
+pub stops-anywhere : (task : Task) (s : Setting) (old mid new : InputState) → Before task s old mid → LogAnywhere (inputs_of task.files) mid new → StopsAnywhere task old new
 stops-anywhere task s old mid new before cause =
     let count = input_count (first_stages task) in
     ⊎_elim
@@ -130,7 +130,7 @@ stops-anywhere task s old mid new before cause =
     cause
 
 -- the run ends by the refusal of its log
-log-ends : (task : Task) (s : Setting) (words : List (List ℕ)) (old new : World) (mid : InputState) (e : ReadError) → Before task s old.inputs mid → new.out ≡ old.out → task_of words ≡ Some task
+pub log-ends : (task : Task) (s : Setting) (words : List (List ℕ)) (old new : World) (mid : InputState) (e : ReadError) → Before task s old.inputs mid → new.out ≡ old.out → task_of words ≡ Some task
     → new.inputs.opens ≤ mid.opens + length (inputs_of task.files) → HasReadCause s (inputs_of task.files) mid new.inputs e → HasCause (status_of e) words old new
 log-ends task s words old new mid (refused.ReadFault number) before silent asks few cause = (task, asks, fails task s old new mid number before silent cause)
 log-ends task s words old new mid refused.Memory before silent asks few cause =

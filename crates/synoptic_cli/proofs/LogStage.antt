@@ -49,7 +49,7 @@ alike-forms law (form.Rules rs) form.Plain ignore join alike = absurd alike
 
 -- ---- a log that is read whole
 
-log-value : (so_far : SoFar) (s t : Setting) (count : ℕ) (contents : List (List ℕ)) (log : Log) → AreReadAlike s t → length contents ≡ count → first_refusal s contents ≡ None
+pub log-value : (so_far : SoFar) (s t : Setting) (count : ℕ) (contents : List (List ℕ)) (log : Log) → AreReadAlike s t → length contents ≡ count → first_refusal s contents ≡ None
     → log ≡ log_of (events_of s contents) → reads_log so_far t count contents ≡ Ok (record { form = so_far.form; material = record { log = log; model = so_far.material.model } })
 log-value so_far s t count contents log alike many none value =
     let test : nat_lt (length contents) count ≡ false = grind (arith, nat_tests) in
@@ -58,11 +58,11 @@ log-value so_far s t count contents log alike many none value =
     ∙ ap (λ (l : Log). let r : Result SoFar Stop = Ok (record { form = so_far.form; material = record { log = l; model = so_far.material.model } }) in r) (sym (value ∙ ap log_of (alike contents).1)))
 
 -- a log has an input, so some were opened
-log-read : (names : List (List ℕ)) (old new : InputState) (s : Setting) (log : Log) → 0 < length names → ReadsLog s names old new log → ReadAll (length names + 0) old new
+pub log-read : (names : List (List ℕ)) (old new : InputState) (s : Setting) (log : Log) → 0 < length names → ReadsLog s names old new log → ReadAll (length names + 0) old new
 log-read names old new s log some read = inl (omega (arith, some), record { opens = omega (arith, read.opened.opens); faults = read.opened.faults }, read.at_end)
 
 -- and they were opened in turn
-log-turn : (names : List (List ℕ)) (old new : InputState) → 0 < length names → OpensInTurn names old new → OpensAll (names ++ []) old new
+pub log-turn : (names : List (List ℕ)) (old new : InputState) → 0 < length names → OpensInTurn names old new → OpensAll (names ++ []) old new
 log-turn [] old new some turn = absurd (omega (arith, some))
 log-turn (name ∷ names) old new some turn = subst (λ (all : List (List ℕ)). OpensAll all old new) (sym (append-nil (name ∷ names))) turn
 
@@ -94,7 +94,7 @@ log-first task old new some first =
     subst (λ (all : List (List ℕ)). OpensFirst all old new) (sym names) first
 
 -- without any name, the log is that of standard input
-some-input : (files : List (List ℕ)) → 0 < length (inputs_of files)
+pub some-input : (files : List (List ℕ)) → 0 < length (inputs_of files)
 some-input [] = omega arith
 some-input (name ∷ names) = omega arith
 

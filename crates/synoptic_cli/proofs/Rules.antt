@@ -25,7 +25,7 @@ use Rattle.synoptic_cli.specs.Causes.{LeavesOpen, RefusesRules, StopsAnywhere, S
 use Rattle.synoptic_cli.specs.declared.status.Status.TheVariants.{Expressions, Memory}
 use Rattle.synoptic_cli.specs.declared.status.Source.TheVariants as sources
 use Rattle.synoptic_cli.specs.declared.stages.SoFar as rust
-use Rattle.synoptic_cli.specs.Halts.{rules_answer, Ends, EndsByRules, HasRead, Reads, ReadsRules}
+use Rattle.synoptic_cli.specs.Halts.{rules_answer, Ends, EndsByRules, HasRead, IsOfRules, Reads, ReadsRules}
 use Rattle.synoptic_cli.proofs.Bytes.{contents-one}
 
 too-long : (bytes : List ℕ) → 65536 < length bytes → rules_of bytes ≡ Err refused.TooLong
@@ -153,6 +153,11 @@ pub rules-end : (old new : InputState) (before after : PatternsState) (name byte
     → EndsByRules (rules_answer e) name old new before after
 rules-end old new before after name bytes refused.Memory reads refusal = memory-by-rules old new before after name (reads-open old new name 65536 bytes reads)
 rules-end old new before after name bytes e reads refusal = rules-refused old new before after name bytes e reads (λ same. cc) refusal
+
+-- each refusal of a file of rules has a status of its own
+pub rules-status : (e : RuleError) → IsOfRules (rules_answer e)
+rules-status refused.Memory = tt
+rules-status e = tt
 
 -- ---- the stage of the rules
 

@@ -47,6 +47,13 @@ abbrev pub rules_answer : RuleError → Status
 rules_answer rule_error.Memory = Memory
 rules_answer e = Expressions e
 
+-- a status that a file of rules is answered by, which gives none
+abbrev pub IsOfRules : Status → Type 0
+IsOfRules (Expressions e) = ⊤
+IsOfRules (ReadFault source) = ⊤
+IsOfRules Memory = ⊤
+IsOfRules status = ⊥
+
 -- the status of words that give no task
 abbrev pub status_without_task : ParseError → Status
 status_without_task parse_error.Usage = Usage

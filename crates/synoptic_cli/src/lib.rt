@@ -21,6 +21,8 @@ pub use law::{
     histories_are_accepted, migrations_keep_models, models_are_accepted, outcomes_are_known,
     runs_end_alike,
 };
-pub use message::{ErrorStream, tell};
+pub use message::{ErrorStream, shown_source, tell};
+pub use reading::{read_rules, status_of};
 pub use status::{LimitKind, LogFault, Source, Status};
+pub use task::{names_of, rules_name};
 pub use top::run;

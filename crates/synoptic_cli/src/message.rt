@@ -68,7 +68,7 @@ fn shown(name: &str) -> &str
 }
 
 /// The name of an input of the task as it is shown; the empty text where there is no such input.
-fn shown_source<'a>(task: Option<&Task<'a>>, source: Source) -> &'a str
+pub fn shown_source<'a>(task: Option<&Task<'a>>, source: Source) -> &'a str
     ensures { result.now ≡ shown_source (option_map (λ t. task_held t.now) task.entry) source }
 {
     let Some(task) = task else {

@@ -9,7 +9,8 @@ ghost use Rattle.synoptic_cli.specs.Halts.{FitsVersion, ModelHalts, ReadsModel, 
 
 use crate::status::{Source, Status};
 use invariants::Model;
-use model_file::{FileError, Version, read_model, read_version_1};
+use model_file::{FileError, Version, read_version_1};
+use model_reader::read_model;
 use outside::{InputError, Inputs, read_input};
 use std::alloc::Global;
 

@@ -72,6 +72,41 @@ fn status_without_task(error: ParseError) -> Status
     }
 }
 
+/// Does the task that the words ask for, and tells its status: what `run` promises of words with a task.
+fn run_task<I: Inputs, P: Patterns, O: Sink, E: ErrorStream>(
+    alloc: Global,
+    _words: &[String],
+    task: &Task<'_>,
+    inputs: &mut I,
+    patterns: &mut P,
+    out: &mut O,
+    err: &mut E,
+) -> Status
+    requires asked { task_of (map string_bytes _words.now) ≡ Some (task_held task.now) }
+    requires sessions { HasSessions (task_held task.now) }
+    requires few { length (task_held task.now).files < 2 ^ 32 }
+    ensures cause { HasCause result (map string_bytes _words.now)
+        (world (I.state inputs.old) (P.state patterns.old) (O.state out.old))
+        (world (I.state inputs.new) (P.state patterns.new) (O.state out.new)) }
+    ensures expected { IsExpected result (map string_bytes _words.now)
+        (world (I.state inputs.old) (P.state patterns.old) (O.state out.old))
+        (world (I.state inputs.new) (P.state patterns.new) (O.state out.new)) }
+    ensures memory { result ≡ Status.Memory
+        → (I.state inputs.new).faults ≡ (I.state inputs.old).faults }
+    ensures count { KeepsCount result (P.state patterns.old) (P.state patterns.new) }
+    ensures stays { Stays
+        (world (I.state inputs.old) (P.state patterns.old) (O.state out.old))
+        (world (I.state inputs.new) (P.state patterns.new) (O.state out.new)) }
+    ensures turn { OpensFirst (names_of (map string_bytes _words.now))
+        (I.state inputs.old) (I.state inputs.new) }
+    ensures told { Tells (message_of (map string_bytes _words.now) result)
+        (E.heard err.old) (E.heard err.new) }
+{
+    let status = answer(alloc, task, inputs, patterns, out);
+    tell(Some(task), status, err);
+    status
+}
+
 /// Does what the words ask: reads the inputs, writes the answer to `out`, and a line to `err` where it refuses.
 ///
 /// The words are the arguments without the program's name; `command_line::parse` says what they ask for. A run has three
@@ -161,7 +196,5 @@ pub fn run<I: Inputs, P: Patterns, O: Sink, E: ErrorStream>(
             return status;
         }
     };
-    let status = answer(alloc, &task, inputs, patterns, out);
-    tell(Some(&task), status, err);
-    status
+    run_task(alloc, words, &task, inputs, patterns, out, err)
 }

@@ -18,10 +18,15 @@ pub fn add(
     if key.2.len() > MAX_TRACE_BYTES || typ.is_empty() || typ.len() > MAX_TYPE_BYTES {
         return Ok(());
     }
-    if time == 0 {
-        return builder.add_worded(key.0, key.1, &Worded::of(key.2), &Worded::of(typ));
+    let added = if time == 0 {
+        builder.add_worded(key.0, key.1, &Worded::of(key.2), &Worded::of(typ))
+    } else {
+        builder.add(key.0, key.1, key.2, typ, time)
+    };
+    match added {
+        Ok(_) => Ok(()),
+        Err(fault) => Err(fault),
     }
-    builder.add(key.0, key.1, key.2, typ, time)
 }
 
 /// Takes a step `COUNT FILE SECTION TIME TRACE|TYPE`: adds that event so many times, and says why one is refused.

@@ -2,7 +2,7 @@
 
 use crate::formats::notation::{bytes_of, write_bytes};
 use invariants::{Block, Listed, Model, Split, Text};
-use model_file::read_model;
+use model_reader::read_model;
 use std::alloc::{AllocError, Global};
 use std::fmt::Write;
 use traces::TraceSet;

@@ -4,7 +4,8 @@ use crate::formats::changes::changed;
 use crate::formats::notation::{bytes_of, write_bytes};
 use crate::formats::said::write_types;
 use invariants::Model;
-use model_file::{FileError, is_well_shaped, read_model, read_version_1, write_model};
+use model_file::{FileError, is_well_shaped, read_version_1, write_model};
+use model_reader::read_model;
 use std::alloc::{AllocError, Global};
 use std::fmt::Write;
 

@@ -4,7 +4,7 @@ use crate::formats::changes::changed;
 use crate::formats::events::add;
 use crate::formats::notation::bytes_of;
 use model_check::check;
-use model_file::read_model;
+use model_reader::read_model;
 use std::alloc::{AllocError, Global};
 use std::fmt::Write;
 use trace_builder::{AddError, Builder};

@@ -1,9 +1,9 @@
 use Rattle.std.proofs.Common.{List, ℕ, subst, sym}
 use Rattle.line_rules.specs.Files.{AreRead, IsRefused}
 use Rattle.line_rules.specs.Views.{rules_in}
-use Rattle.synoptic_cli.specs.Halts.{EndsByRules}
+use Rattle.synoptic_cli.specs.Halts.{EndsByRules, IsOfRules}
 use Rattle.synoptic_cli.specs.declared.status.Status.{Status}
-use Rattle.synoptic_cli.proofs.Rules.{memory-given, rules-read, rules-end}
+use Rattle.synoptic_cli.proofs.Rules.{memory-given, rules-read, rules-end, rules-status}
 use Rattle.synoptic_cli.proofs.reading.read_rules.Goals as goal
 
 pub returns-in-Ok-read-clause-ok : goal.returns-in-Ok-read-clause-ok
@@ -31,3 +31,6 @@ pub returns-in-Err-Memory-clause-err : goal.returns-in-Err-Memory-clause-err
 returns-in-Err-Memory-clause-err g c =
     memory-given (g.I.Inputs.state c.args.inputs.now) (g.I.Inputs.state c.read_input.new.inputs) (g.P.Patterns.state c.args.patterns.now) (g.P.Patterns.state c.args.patterns.now) c.args.name.now
     c.in-Err-Memory.field-0 (assumption (c.in-Err-Memory.field-0-is, sym c.in-Err-Memory.field-0-is)) c.in-Err-Memory.ensures.gives
+
+pub returns-clause-refused : goal.returns-clause-refused
+returns-clause-refused g c = subst IsOfRules (sym c.rules_answer.ensures) (rules-status c.in-Err.error)
