@@ -1,0 +1,9 @@
+pub mod Alike
+pub mod Latest
+pub mod Answered
+pub mod Ended
+pub mod Given
+pub mod Shown
+pub mod Texts
+pub mod PlainLog
+pub mod PlainWords

@@ -1,0 +1,155 @@
+//! The lines of events.
+ghost use Rattle.std.specs.Prelude.{◌≡◌, ◌++◌, OnOk, IfOk, drop};
+ghost use Rattle.command_line.specs.Task.{task_held};
+ghost use Rattle.events_cli.specs.Texts.{event_line, event_report, have_times, place_text, quoted, time_column, time_text, trace_name, what_part, where_part};
+
+use command_line::Task;
+use events::Located;
+use invariants::Seq;
+use itoa::Buffer;
+use log_reader::At;
+use reports::{Names, push_number};
+use serde_json::Value;
+use std::alloc::{AllocError, Global};
+use std::str;
+use synoptic_cli::{Source, shown_source};
+use traces::TraceSet;
+
+/// How many parts a time has in the unit of the log.
+const PARTS: u128 = 1_000_000_000;
+
+/// Puts the text at the end, as a JSON string.
+pub fn push_quoted(alloc: Global, all: &mut Vec<u8>, text: &str) -> Result<(), AllocError>
+    ensures { OnOk result (all.new.items ≡ all.old.items ++ quoted text.now) }
+{
+    let value = Value::try_from_str(alloc, text)?;
+    let written = value.to_string(alloc)?;
+    all.extend_from_slice(written.as_bytes())
+}
+
+/// Puts where a line is at the end.
+pub fn push_place(all: &mut Vec<u8>, task: &Task<'_>, at: At) -> Result<(), AllocError>
+    ensures { OnOk result (all.new.items ≡ all.old.items ++ place_text (task_held task.now) at) }
+{
+    all.extend_from_slice(shown_source(Some(task), Source::Log(at.file)).as_bytes())?;
+    all.extend_from_slice(b":")?;
+    push_number(all, at.line)
+}
+
+/// Puts the name of the trace with this number at the end, if there is one.
+fn push_trace(alloc: Global, all: &mut Vec<u8>, traces: &TraceSet, k: u32) -> Result<(), AllocError>
+    ensures { OnOk result (all.new.items ≡ all.old.items ++ trace_name (traces.now).traces k) }
+{
+    if k >= traces.trace_count() {
+        return Ok(());
+    }
+    match str::from_utf8(traces.key(k).text) {
+        Ok(text) => push_quoted(alloc, all, text),
+        Err(_) => unreachable!(),
+    }
+}
+
+/// The bytes without the first.
+fn without_first(digits: &[u8]) -> &[u8]
+    ensures { result.now ≡ drop 1 digits.now }
+{
+    if digits.is_empty() {
+        return digits;
+    }
+    &digits[1..]
+}
+
+/// Puts a time at the end.
+fn push_time(all: &mut Vec<u8>, time: u128) -> Result<(), AllocError>
+    ensures { OnOk result (all.new.items ≡ all.old.items ++ time_text time) }
+{
+    let mut digits = Buffer::new();
+    all.extend_from_slice(digits.format(time / PARTS).as_bytes())?;
+    all.extend_from_slice(b".")?;
+    all.extend_from_slice(without_first(digits.format(PARTS + time % PARTS).as_bytes()))
+}
+
+/// Puts the column of the time at the end, where the log has times.
+fn push_time_column(all: &mut Vec<u8>, timed: bool, time: u128) -> Result<(), AllocError>
+    ensures { OnOk result (all.new.items ≡ all.old.items ++ time_column timed time) }
+{
+    if !timed {
+        return Ok(());
+    }
+    all.extend_from_slice(b"\t")?;
+    push_time(all, time)
+}
+
+/// Puts where an event is at the end.
+fn push_where(all: &mut Vec<u8>, task: &Task<'_>, event: &Located) -> Result<(), AllocError>
+    ensures { OnOk result (all.new.items
+        ≡ all.old.items ++ where_part (task_held task.now) event.now) }
+{
+    push_number(all, event.trace)?;
+    all.extend_from_slice(b"\t")?;
+    push_place(all, task, event.at)?;
+    all.extend_from_slice(b"\t")
+}
+
+/// Puts what an event is at the end.
+fn push_what(
+    alloc: Global,
+    all: &mut Vec<u8>,
+    traces: &TraceSet,
+    names: &Names<'_>,
+    timed: bool,
+    event: &Located,
+) -> Result<(), AllocError>
+    ensures { OnOk result (all.new.items
+        ≡ all.old.items ++ what_part (traces.now).traces names.now timed event.now) }
+{
+    push_trace(alloc, all, traces, event.trace)?;
+    all.extend_from_slice(b"\t")?;
+    names.push_name(all, event.number)?;
+    push_time_column(all, timed, event.time)?;
+    all.extend_from_slice(b"\n")
+}
+
+/// Puts the line of an event at the end.
+fn push_event(
+    alloc: Global,
+    all: &mut Vec<u8>,
+    task: &Task<'_>,
+    traces: &TraceSet,
+    names: &Names<'_>,
+    timed: bool,
+    event: &Located,
+) -> Result<(), AllocError>
+    requires { names.now ≡ (traces.now).types }
+    ensures { OnOk result (all.new.items
+        ≡ all.old.items ++ event_line (task_held task.now) traces.now timed event.now) }
+{
+    push_where(all, task, event)?;
+    push_what(alloc, all, traces, names, timed, event)?;
+    Ok(())
+}
+
+/// Whether an event has a time other than 0.
+fn have_times(events: &[Located]) -> bool
+    ensures { result ≡ have_times events.now }
+{
+    events.iter().any(|event| event.time != 0)
+}
+
+/// A line for each of the events, in this order.
+pub fn event_report(
+    alloc: Global,
+    task: &Task<'_>,
+    traces: &TraceSet,
+    events: &[Located],
+) -> Result<Seq<u8>, AllocError>
+    ensures { IfOk result (λ text. text ≡ event_report (task_held task.now) traces.now events.now) }
+{
+    let names = Names::new(alloc, traces.types())?;
+    let timed = have_times(events);
+    let mut all = Vec::new(alloc);
+    for event in events {
+        push_event(alloc, &mut all, task, traces, &names, timed, event)?;
+    }
+    Ok(Seq::from_vec(all))
+}

@@ -1,0 +1,24 @@
+//! The command line of the program `synoptic-events`, as a library: the events of a log, each with the line it stands on.
+//!
+//! `run` is the top call. It reads a log as `synoptic` does, and writes its events, the log in the plain form, or the lines that
+//! nothing decides. `tell` writes the message of an ending where errors go.
+#![tactic(auto)]
+
+mod answer;
+mod ending;
+mod event_text;
+mod law;
+mod message;
+mod mode;
+mod plain;
+mod request;
+mod rules;
+mod show;
+mod top;
+mod undecided_text;
+
+pub use ending::{Ending, PlainFault};
+pub use law::plain_keeps_the_words;
+pub use message::tell;
+pub use mode::Mode;
+pub use top::run;
