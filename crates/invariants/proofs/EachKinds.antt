@@ -1,6 +1,5 @@
 -- The candidates of three and of four kinds.
-use Rattle.std.proofs.Common.{◌≡◌, ℕ, ◌≤◌, ◌⊎◌, length, None, ⊎_elim, arith}
-use Rattle.std.proofs.lemmas.Option.{slice_get_past}
+use Rattle.std.proofs.Common.{◌≡◌, ℕ, ◌⊎◌, length, ⊎_elim}
 use Rattle.std.specs.List.{slice_get}
 use Rattle.std.specs.Prelude.{Some}
 use Rattle.invariants.specs.declared.Kinds.{Kinds}
@@ -14,10 +13,6 @@ use Rattle.invariants.proofs.FourPlaces.{length-four, four-shape, four-differ}
 pub length-total : (kinds : Kinds) (count : ℕ) → length (candidates_for kinds count) ≡ candidate_total kinds count
 length-total Three count = length-candidates count
 length-total Four count = length-four count
-
--- none stands at the count or past it
-pub candidate-past : (kinds : Kinds) (count index : ℕ) → candidate_total kinds count ≤ index → slice_get (candidates_for kinds count) index ≡ None
-candidate-past kinds count index past = slice_get_past (candidates_for kinds count) index (omega (arith, length-total kinds count))
 
 -- one says that each trace has a type, or is of two types
 pub candidate-shape : (kinds : Kinds) (count index : ℕ) (inv : Invariant) → slice_get (candidates_for kinds count) index ≡ Some inv → IsFirst count inv ⊎ IsPair kinds count inv

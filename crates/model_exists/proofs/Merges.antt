@@ -15,10 +15,9 @@ use Rattle.partition_model.proofs.Forming.{graphs_are_formed, merged_are_formed}
 use Rattle.partition_model.proofs.Naming.{typed_from}
 use Rattle.partition_model.proofs.Merging.{merge_typed}
 use Rattle.partition_model.proofs.Keeping.{coarsening_keeps}
-use Rattle.partition_model.proofs.Unique.{one_coarsening}
+use Rattle.partition_model.proofs.Unique.{none-broken, one_coarsening}
 use Rattle.partition_bounds.specs.Laws.{IsBelow}
 use Rattle.partition_bounds.specs.Pairs.{pair_of, pairs_of, pairs_below}
-use Rattle.partition_bounds.proofs.FirstSplits.{none-broken}
 use Rattle.partition_bounds.proofs.Merges.{graphs_are_below, merged_are_below, merge-below, merges_are_few, pass_coarsens}
 use Rattle.partition_bounds.proofs.Pairing.{pairs_tell, In-Among}
 use Rattle.partition_bounds.proofs.BlockPairs.{pairs_give_blocks}

@@ -23,7 +23,7 @@ use Rattle.partition_model.specs.Refinement.{Splits, Refines, after_split, stitc
 use Rattle.partition_model.specs.Coarsening.{merge, Coarsens, IsBlock, AreBlocks}
 use Rattle.partition_model.specs.Laws.{IsRun, HoldAll, Divides, Keeps}
 use Rattle.partition_model.proofs.Lists.{In, In-map, map-In, In-events, events-In, all_in, all_from, count-member, edge_count-cons}
-use Rattle.partition_model.proofs.Listing.{Contains-In, In-filter, are_partitions}
+use Rattle.partition_model.proofs.Listing.{Contains-In, In-filter, are_partitions, live-below}
 use Rattle.partition_model.proofs.Passes.{live-member}
 use Rattle.partition_model.proofs.Forming.{graphs_are_formed, merged_are_formed}
 use Rattle.partition_model.proofs.Stitching.{stitch_divides}
@@ -31,7 +31,7 @@ use Rattle.partition_model.proofs.Runs.{broken, traces-hold, fresh-run, next-run
 use Rattle.model_shape.specs.Numbers.{split_numbers, block_numbers}
 use Rattle.partition_bounds.proofs.Ordered.{In-get}
 use Rattle.partition_bounds.proofs.Pairing.{range-count}
-use Rattle.partition_bounds.proofs.Merges.{In-range, live-below, merge-below, merges-below, merges_are_few}
+use Rattle.partition_bounds.proofs.Merges.{In-range, merge-below, merges-below, merges_are_few}
 use Rattle.models.specs.Models.{TypedWords, mined_of, graph_of, AreReached, IsModelOf}
 use Rattle.models.specs.Laws.{IsTypedLog, ModelsAreShaped}
 use Rattle.models.proofs.Agreeing.{IsEdgeOf, each-edge, Agrees, agrees}

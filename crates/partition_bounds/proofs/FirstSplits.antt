@@ -1,33 +1,11 @@
 -- The first splits of a run begin the whole run.
-use Rattle.std.proofs.Common.{◌≡◌, ℕ, zero, suc, ◌+◌, ◌<◌, List, [], ◌∷◌, ◌++◌, length, slice_get, Some, sym, ◌∙◌, refl, ap, ap₂, subst, arith, add-zero, length-append}
+use Rattle.std.proofs.Common.{◌≡◌, ℕ, suc, ◌+◌, ◌<◌, List, [], ◌∷◌, ◌++◌, length, sym, refl, ap, ap₂, subst, arith, add-zero, length-append}
 use Rattle.invariants.specs.declared.Invariant.{Invariant}
 use Rattle.invariants.specs.declared.records.Split.{Split}
-use Rattle.partition_model.specs.Graphs.{Graph, Satisfies}
 use Rattle.partition_model.specs.Assignments.{Assignment, G}
-use Rattle.partition_model.specs.Refinement.{Splits, Refines, SatisfiesAll, IsFirstBroken, IsNextSplit, after_split, stitch}
+use Rattle.partition_model.specs.Refinement.{Splits, Refines, IsNextSplit, after_split}
 use Rattle.partition_bounds.specs.Laws.{SplitsBegin, StepsExclude}
-use Rattle.partition_model.proofs.Least.{one_least}
-use Rattle.partition_model.proofs.Runs.{broken}
-use Rattle.partition_model.proofs.Unique.{one-broken}
-
--- where each invariant is satisfied, none is the first that is broken
-pub none-broken : (g : Graph) (invs : List Invariant) (k : ℕ) → SatisfiesAll g invs → IsFirstBroken g invs k → ⊥
-none-broken g [] k s b = b
-none-broken g (inv ∷ invs) zero s b = b s.0
-none-broken g (inv ∷ invs) (suc k) s b = none-broken g invs k s.1 b.1
-
--- there is at most one next split
-one-split : (invs : List Invariant) (h : Assignment) (s t : Split) → IsNextSplit invs h s → IsNextSplit invs h t → s ≡ t
-one-split invs h s t a b =
-    let i : s.inv ≡ t.inv = one-broken (G h) invs s.inv t.inv a.first b.first in
-    let f : (inv : Invariant) × (slice_get invs s.inv ≡ Some inv) × (Satisfies (G h) inv → ⊥) = broken (G h) invs s.inv a.first in
-    let e : slice_get invs t.inv ≡ Some f.0 = ap (λ (k : ℕ). slice_get invs k) (sym i) ∙ f.1 in
-    let p : s.path ≡ t.path = one_least (G h) f.0 s.path t.path (a.least f.0 f.1) (b.least f.0 e) in
-    let q : s.place ≡ t.place = a.place ∙ ap (λ (x : List ℕ). stitch h x) p ∙ sym b.place in
-    same i q p
-  where
-    same : s.inv ≡ t.inv → s.place ≡ t.place → s.path ≡ t.path → s ≡ t
-    same i q p = λ d. record { inv = i d; place = q d; path = p d }
+use Rattle.partition_model.proofs.Unique.{none-broken, one-split}
 
 -- what is left of the run b after the splits a, which goes on from where these lead
 abbrev Rest : List Invariant → Assignment → Assignment → ℕ → List Split → List Split → Type 0

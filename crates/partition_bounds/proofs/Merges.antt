@@ -1,6 +1,6 @@
 -- Each merge takes an id away.
 use Rattle.std.proofs.Common.{◌≡◌, ℕ, zero, suc, ◌+◌, ◌<◌, ◌≤◌, Bool, true, false, cond, List, [], ◌∷◌, map, length, sym, ◌∙◌, refl, ap, subst, inl, inr, arith, count_by, ◌↔◌, ◌==◌, not}
-use Rattle.std.proofs.lemmas.Bool.{cases_eq, cases_lt, cases_Bool, and_parts}
+use Rattle.std.proofs.lemmas.Bool.{cases_eq, cases_Bool, and_parts}
 use Rattle.std.proofs.lemmas.List.Sums.{sum_by-cons, count_by-le-length}
 use Rattle.std.specs.List.{AllByRecursion, range_with_len}
 use Rattle.invariants.specs.declared.Invariant.{Invariant}
@@ -9,10 +9,10 @@ use Rattle.partition_model.specs.Assignments.{Event, Assignment, events, G, is_l
 use Rattle.partition_model.specs.Listings.{AreBelow}
 use Rattle.partition_model.specs.Coarsening.{merge, onto, IsPair, Coarsens}
 use Rattle.partition_model.proofs.Lists.{In, In-map, all_in, all_from, bit}
-use Rattle.partition_model.proofs.Listing.{range-In}
+use Rattle.partition_model.proofs.Listing.{live-below, range-In}
 use Rattle.partition_model.proofs.Naming.{events-renamed}
 use Rattle.partition_model.proofs.Merging.{onto_is, onto_other, gone}
-use Rattle.partition_model.proofs.Passes.{live-member, live-back, one_pass_coarsens}
+use Rattle.partition_model.proofs.Passes.{live-back, one_pass_coarsens}
 use Rattle.partition_model.specs.Laws.{PairsAscend, IsAmong}
 use Rattle.partition_bounds.specs.Pairs.{pairs_below}
 use Rattle.partition_bounds.specs.Laws.{GraphsAreBelow, MergedAreBelow, MergesStayBelow, PassCoarsens, MergesAreFew}
@@ -23,16 +23,6 @@ pub In-range : (a m x : ℕ) → In x (range_with_len a m) → (a ≤ x) × (x <
 In-range a zero x i = absurd i
 In-range a (suc m) x (inl e) = (omega arith, omega arith)
 In-range a (suc m) x (inr r) = let o : (a + 1 ≤ x) × (x < a + 1 + m) = In-range (a + 1) m x r in (omega (arith, o.0), omega (arith, o.1))
-
--- ids of live partitions are below the bound of events' ids
-pub live-below : (h : Assignment) (n p : ℕ) → 2 ≤ n → AreBelow n h → (G h).listed p ≡ true → p < n
-live-below h n p l b k =
-    elim (cases_lt p 2) [
-      | inl s ↦ omega arith
-      | inr s ↦
-          let o : (e : Event) × In e (events h) × (e.id ≡ p) = live-member h p s k in
-          subst (λ (z : ℕ). z < n) o.2 (all_in (λ e. e.id < n) o.0 (events h) b o.1)
-    ]
 
 -- after a merge the ids of events are below the same bound
 pub merge-below : (h : Assignment) (n p q : ℕ) → 2 ≤ n → AreBelow n h → IsPair (G h) p q → AreBelow n (merge p q h)

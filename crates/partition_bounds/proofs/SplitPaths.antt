@@ -13,7 +13,7 @@ use Rattle.partition_model.proofs.Runs.{broken, next-run, start-run}
 use Rattle.model_shape.specs.Numbers.{split_numbers}
 use Rattle.partition_bounds.specs.Pairs.{longest_path}
 use Rattle.partition_bounds.specs.Laws.{SplitPathsWithinLimit}
-use Rattle.partition_bounds.proofs.Merges.{live-below}
+use Rattle.partition_model.proofs.Listing.{live-below}
 use Rattle.partition_bounds.proofs.Shorter.{least_within_limit}
 
 -- each path of the run is short, and so they are together

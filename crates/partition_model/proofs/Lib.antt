@@ -21,3 +21,5 @@ pub mod MergedGraph
 pub mod Longest
 pub mod Adding
 pub mod Satisfied
+pub mod OneMore
+pub mod Breaking

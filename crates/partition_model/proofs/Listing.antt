@@ -89,7 +89,7 @@ below-of h n l b trace i x (inr k) =
     ]
 
 -- live ids are below the bound
-live-below : (h : Assignment) (n p : ℕ) → 2 ≤ n → AreBelow n h → is_live h p ≡ true → p < n
+pub live-below : (h : Assignment) (n p : ℕ) → 2 ≤ n → AreBelow n h → is_live h p ≡ true → p < n
 live-below h n p l b k =
     elim (cases_lt p 2) [
       | inl s ↦ omega arith

@@ -13,7 +13,7 @@ use Rattle.partition_model.proofs.Forming.{graphs_are_formed}
 use Rattle.partition_model.proofs.Runs.{broken, next-run, fresh-run, traces-hold}
 use Rattle.partition_model.proofs.Stitching.{stitch_divides}
 use Rattle.partition_bounds.specs.Laws.{IsBelow}
-use Rattle.partition_bounds.proofs.FirstSplits.{none-broken}
+use Rattle.partition_model.proofs.Unique.{none-broken}
 use Rattle.partition_bounds.proofs.Merges.{graphs_are_below}
 use Rattle.refinement_end.specs.Laws.{HasNext, SatisfiedOrSplit, NextSplitExists, NextSplitDivides}
 use Rattle.refinement_end.proofs.Violations.{satisfied_or_violated}
