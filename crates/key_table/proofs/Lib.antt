@@ -1,8 +1,2 @@
-pub mod Positions
-pub mod Apart
-pub mod Keys
 pub mod Rest
 pub mod Placed
-pub mod KeyLists
-pub mod Numbers
-pub mod Told

@@ -6,14 +6,14 @@ use Rattle.std.proofs.lemmas.Option.{same_Some, none-some, slice_get_within}
 use Rattle.std.specs.List.{slice_get, list_any}
 use Rattle.std.specs.Option.{option_map_or}
 use Rattle.std.specs.declared.alloc.Global.{Global}
-use Rattle.key_table.specs.Keys.{Key, same_key, AreApart}
-use Rattle.key_table.specs.Placed.{is_empty, is_empty_at, IsFull, slot_of, Stands, key_home, StandsNowhere, rest_place, RestGrows, IsPlaced, ArePlaced, GrowsAt, KeepsPlaced, AreKeysPlaced}
-use Rattle.key_table.specs.Signs.{sign_of, mix_of, home_of, mark_of}
-use Rattle.key_table.specs.declared.sign.Sign.{Sign}
+use Rattle.trace_keys.specs.Keys.{Key, same_key, AreApart}
+use Rattle.key_table.specs.Placed.{home_of, tag_of, is_empty, is_empty_at, IsFull, slot_of, Stands, key_home, StandsNowhere, rest_place, RestGrows, IsPlaced, ArePlaced, GrowsAt, KeepsPlaced, AreKeysPlaced}
+use Rattle.trace_keys.specs.Fingerprints.{fingerprint_of, mix_of}
+use Rattle.trace_keys.specs.declared.fingerprint.Fingerprint.{Fingerprint}
 use Rattle.key_table.specs.declared.slots.Slot.{Slot}
 use Rattle.key_table.specs.declared.slots.TheConstants.{WINDOW}
-use Rattle.key_table.proofs.Apart.{apart-push}
-use Rattle.key_table.proofs.Keys.{same_key-refl, same_key-≡, same_key-swap, stands-before, stands-any, any-stands, one-place}
+use Rattle.trace_keys.proofs.Apart.{apart-push}
+use Rattle.trace_keys.proofs.Keys.{same_key-refl, same_key-≡, same_key-swap, stands-before, stands-any, any-stands, one-place}
 
 -- slots that are set
 
@@ -232,21 +232,21 @@ more-in-rest slots shift old new keys n key apart at_n full grows placed i q bel
 
 -- what the code has computed of a key
 
--- the home of a key, by what its sign is mixed to
-pub home-is : (key : Key) (sign : Sign) (mix shift home : ℕ) → sign ≡ sign_of key → mix ≡ mix_of sign → home ≡ home_of shift mix → home ≡ key_home shift key
-home-is key sign mix shift home signed mixed is = is ∙ ap (home_of shift) (mixed ∙ ap mix_of signed)
+-- the home of a key, by what its fingerprint is mixed to
+pub home-is : (key : Key) (fingerprint : Fingerprint) (mix shift home : ℕ) → fingerprint ≡ fingerprint_of key → mix ≡ mix_of fingerprint → home ≡ home_of shift mix → home ≡ key_home shift key
+home-is key fingerprint mix shift home hashed mixed is = is ∙ ap (home_of shift) (mixed ∙ ap mix_of hashed)
 
 -- and its slot
-pub slot-is : (key : Key) (sign : Sign) (mix mark place : ℕ) → sign ≡ sign_of key → mix ≡ mix_of sign → mark ≡ mark_of mix → record { mark = mark; place = place } ≡ slot_of key place
-slot-is key sign mix mark place signed mixed is = ap (λ (m : ℕ). record { mark = m; place = place }) (is ∙ ap mark_of (mixed ∙ ap mix_of signed))
+pub slot-is : (key : Key) (fingerprint : Fingerprint) (mix tag place : ℕ) → fingerprint ≡ fingerprint_of key → mix ≡ mix_of fingerprint → tag ≡ tag_of mix → record { tag = tag; place = place } ≡ slot_of key place
+slot-is key fingerprint mix tag place hashed mixed is = ap (λ (m : ℕ). record { tag = m; place = place }) (is ∙ ap tag_of (mixed ∙ ap mix_of hashed))
 
--- a slot that leads to no key at its place, or has another mark, is not the key's
+-- a slot that leads to no key at its place, or has another tag, is not the key's
 pub other-slot : (slots : List Slot) (keys : List Key) (at : ℕ) (slot : Slot) (key : Key) (place : ℕ) → slice_get slots at ≡ Some slot
-    → (slot.mark ≡ mark_of (mix_of (sign_of key)) → slice_get keys slot.place ≡ Some key → ⊥)
+    → (slot.tag ≡ tag_of (mix_of (fingerprint_of key)) → slice_get keys slot.place ≡ Some key → ⊥)
     → slice_get slots at ≡ Some (slot_of key place) → slice_get keys place ≡ Some key → ⊥
 other-slot slots keys at slot key place stands other is there =
     let same : slot ≡ slot_of key place = same_Some slot (slot_of key place) (sym stands ∙ is) in
-    other (ap (λ (s : Slot). s.mark) same) (ap (λ (s : Slot). slice_get keys s.place) same ∙ there)
+    other (ap (λ (s : Slot). s.tag) same) (ap (λ (s : Slot). slice_get keys s.place) same ∙ there)
 
 -- what is kept where a key is put behind the rest, or memory is wanted
 pub begun-by-rest : {E : Type 0} (r : Result (Unit {0}) E) (slots : List Slot) (shift : ℕ) (old new : List ((ℕ × ℕ × ℕ × ℕ × String Global) × ℕ)) (keys after : List Key) (key : Key)

@@ -12,10 +12,10 @@ use Rattle.std.specs.String.{string_bytes, string_cmp}
 use Rattle.std.specs.declared.alloc.Global.{Global}
 use Rattle.std.specs.declared.cmp.Ordering.{Ordering}
 use Rattle.std.specs.declared.cmp.Ordering.TheVariants.{Less, Equal, Greater}
-use Rattle.key_table.specs.Keys.{Key, same_key}
+use Rattle.trace_keys.specs.Keys.{Key, same_key}
 use Rattle.key_table.specs.Placed.{key_of, key_cmp, is_key_of}
-use Rattle.key_table.specs.Signs.{front_of, end_of}
-use Rattle.key_table.proofs.Keys.{same_key-refl, same_key-≡}
+use Rattle.trace_keys.specs.Fingerprints.{front_of, end_of}
+use Rattle.trace_keys.proofs.Keys.{same_key-refl, same_key-≡}
 
 eqb-refl : (n : ℕ) → (n == n) ≡ true
 eqb-refl n = grind (arith, nat_tests)
@@ -47,7 +47,7 @@ key-tells k l =
     regroup true false c d e = refl
     regroup false b c d e = refl
 
--- the words of a key's sign stand with it
+-- the words of a key's fingerprint stand with it
 abbrev pub HasItsWords : ℕ × ℕ × ℕ × ℕ × String Global → Type 0
 HasItsWords k = (front_of (string_bytes k.4) ≡ k.0) × (end_of (string_bytes k.4) ≡ k.1)
 

@@ -1,4 +1,1 @@
-pub mod Keys
-pub mod Signs
-pub mod KeyLists
 pub mod Placed

@@ -1,15 +1,23 @@
 -- Where keys stand.
-use Rattle.std.specs.Prelude.{ℕ, ◌≡◌, ◌+◌, ◌<◌, ◌==◌, ◌&&◌, Bool, false, List, slice_get, String, Option, Some, ◌⊎◌, if◌then◌else◌}
+use Rattle.std.specs.Prelude.{ℕ, ◌≡◌, ◌+◌, ◌/◌, ◌%◌, ◌^◌, bit_xor, ◌<◌, ◌==◌, ◌&&◌, Bool, false, List, slice_get, String, Option, Some, ◌⊎◌, if◌then◌else◌}
 use Rattle.std.specs.Map.{lookup}
 use Rattle.std.specs.Option.{option_map_or}
 use Rattle.std.specs.Ordering.{nat_cmp, ordering_then}
 use Rattle.std.specs.String.{string_bytes, string_cmp}
 use Rattle.std.specs.declared.alloc.Global.{Global}
 use Rattle.std.specs.declared.cmp.Ordering.{Ordering}
-use Rattle.key_table.specs.Keys.{Key, same_key, AreApart}
-use Rattle.key_table.specs.Signs.{front_of, end_of, sign_of, mix_of, home_of, mark_of}
+use Rattle.trace_keys.specs.Keys.{Key, same_key, AreApart}
+use Rattle.trace_keys.specs.Fingerprints.{front_of, end_of, fingerprint_of, mix_of}
 use Rattle.key_table.specs.declared.slots.Slot.{Slot}
 use Rattle.key_table.specs.declared.slots.TheConstants.{WINDOW}
+
+-- the first slot in which a key may stand, by what its fingerprint is mixed to: as many of the upper bits as are not shifted out
+unfoldable pub home_of : ℕ → ℕ → ℕ
+home_of shift mix = mix / 2 ^ 32 / 2 ^ shift
+
+-- what a slot has of the mixed fingerprint: both halves
+unfoldable pub tag_of : ℕ → ℕ
+tag_of mix = bit_xor (mix / 2 ^ 32) (mix % 2 ^ 32)
 
 -- a slot without a place
 abbrev pub is_empty : Slot → Bool
@@ -25,7 +33,7 @@ IsFull slots home = (i : ℕ) → i < WINDOW → is_empty_at slots (home + i) �
 
 -- the slot of a key at a place
 abbrev pub slot_of : Key → ℕ → Slot
-slot_of key place = record { mark = mark_of (mix_of (sign_of key)); place = place }
+slot_of key place = record { tag = tag_of (mix_of (fingerprint_of key)); place = place }
 
 -- no slot from a home on, before the slot i, is without a place
 abbrev pub IsFullBefore : List Slot → ℕ → ℕ → Type 0
@@ -37,7 +45,7 @@ Stands slots home slot = (i : ℕ) × ((i < WINDOW) × (slice_get slots (home + 
 
 -- the home of a key
 abbrev pub key_home : ℕ → Key → ℕ
-key_home shift key = home_of shift (mix_of (sign_of key))
+key_home shift key = home_of shift (mix_of (fingerprint_of key))
 
 -- no slot from its home on, up to the first without a place, leads to the key
 abbrev pub StandsNowhere : List Key → List Slot → ℕ → Key → Type 0

@@ -1,16 +1,7 @@
-//! The keys of traces in the order first met, each at its place.
+//! The keys of traces in the order first met, each once, with a table that finds the place of a key.
 #![tactic(auto)]
 
-mod key;
-mod key_list;
-mod sign;
-mod signed_key;
 mod slots;
 mod table;
-mod worded;
 
-pub use key::{KeyParts, ShownKey};
-pub use key_list::KeyList;
-pub use sign::Sign;
 pub use table::KeyTable;
-pub use worded::Worded;

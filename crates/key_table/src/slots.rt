@@ -1,23 +1,46 @@
 //! Slots that say where keys stand.
 ghost use Rattle.std.specs.Prelude.{ℕ, ◌≡◌, ◌≤◌, ◌<◌, ◌+◌, ◌^◌, None, IfSome, true, false};
-ghost use Rattle.key_table.specs.Placed.{is_empty_at, IsFull};
+ghost use Rattle.key_table.specs.Placed.{home_of, is_empty_at, IsFull, tag_of};
 
 /// In how many slots a key may stand, from its home on.
 pub const WINDOW: usize = 8;
 
-/// A place, and a part of the mixed sign of the key that stands there, so that most other keys are told apart without a
+/// How many bits of a home there are at most.
+pub const MAX_BITS: u32 = 32;
+
+/// A place, and a part of the mixed fingerprint of the key that stands there, so that most other keys are told apart without a
 /// look at the place.
 #[derive(Clone, Copy)]
 pub struct Slot {
-    pub mark: u32,
+    pub tag: u32,
     pub place: u32,
 }
 
 /// A slot with no place.
 pub const EMPTY: Slot = Slot {
-    mark: 0,
+    tag: 0,
     place: u32::MAX,
 };
+
+/// The first slot in which a key may stand, by what its fingerprint is mixed to.
+#[inline]
+#[tactic(auto, unfolding(crate::specs::Placed::home_of))]
+pub fn home_of_mix(mix: u64, shift: u32) -> usize
+    requires { shift < 32 }
+    ensures value { result ≡ home_of shift mix }
+    ensures few { result < 2 ^ 32 }
+{
+    (((mix >> 32) as u32) >> shift) as usize
+}
+
+/// What a slot has of the mixed fingerprint: both halves, since the lower one does not depend on the last bytes of a word.
+#[inline]
+#[tactic(auto, unfolding(crate::specs::Placed::tag_of))]
+pub fn tag_of_mix(mix: u64) -> u32
+    ensures { result ≡ tag_of mix }
+{
+    (mix >> 32) as u32 ^ (mix % 0x1_0000_0000) as u32
+}
 
 /// The first slot without a place, from a home on.
 pub fn first_empty(slots: &[Slot], home: usize) -> Option<usize>

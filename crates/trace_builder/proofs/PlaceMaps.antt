@@ -13,8 +13,8 @@ use Rattle.std.specs.declared.alloc.Global.{Global}
 use Rattle.trace_builder.specs.PlaceMaps.{AreTextPlaces, AreTextsPlaced}
 use Rattle.traces.specs.Words.{AreApart}
 use Rattle.traces.proofs.Grown.{position-within, position-kept, position-end}
-use Rattle.key_table.proofs.Positions.{position-all}
-use Rattle.key_table.proofs.Apart.{apart-push, apart-front, apart-place}
+use Rattle.trace_keys.proofs.Positions.{position-all}
+use Rattle.trace_keys.proofs.Apart.{apart-push, apart-front, apart-place}
 
 -- a place as an option and as a number
 

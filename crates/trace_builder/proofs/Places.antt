@@ -3,7 +3,7 @@ use Rattle.std.proofs.Common.{◌≡◌, ℕ, suc, ◌+◌, List, [], ◌∷◌,
 use Rattle.std.specs.List.{position_or_len}
 use Rattle.std.specs.Str.{bytes_eq}
 use Rattle.limits.specs.declared.TheConstants.{FIRST_TYPE}
-use Rattle.key_table.specs.Keys.{Key, same_key}
+use Rattle.trace_keys.specs.Keys.{Key, same_key}
 use Rattle.traces.specs.Columns.{at_place, columned, times_beside, traces_from}
 use Rattle.traces.specs.Words.{Gathering, Trace}
 use Rattle.trace_builder.specs.Placed.{placed_in, trace_place}

@@ -24,7 +24,7 @@ text-stays (x ∷ texts) t (suc i) u at = text-stays texts t i u at
 pub slots-tell : (texts : List (List ℕ)) (t : List ℕ) (slots : List Slot) → All (TellsText texts) slots → All (TellsText (texts ++ t ∷ [])) slots
 slots-tell texts t slots told = λ k d inside short.
     let old = told k d inside short in
-    (old.0, record { stands = text-stays texts t _ old.0 old.1.stands; bytes = old.1.bytes; sign = old.1.sign })
+    (old.0, record { stands = text-stays texts t _ old.0 old.1.stands; bytes = old.1.bytes; fingerprint = old.1.fingerprint })
 
 -- what is kept where the texts and the entries of the map stay
 pub all-stays : (old new : BTreeMap (String Global) ℕ) (slots : List Slot) (texts now : List (List ℕ)) → AreTextsPlaced old texts × All (TellsText texts) slots

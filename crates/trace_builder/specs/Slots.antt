@@ -1,19 +1,19 @@
 -- Slots that tell where the texts of types stand.
 use Rattle.std.specs.Prelude.{ℕ, ◌≡◌, ◌<◌, ◌≤◌, List, Some, slice_get, slice_index}
-use Rattle.key_table.specs.Keys.{Key}
-use Rattle.key_table.specs.Signs.{sign_of}
+use Rattle.trace_keys.specs.Keys.{Key}
+use Rattle.trace_keys.specs.Fingerprints.{fingerprint_of}
 use Rattle.trace_builder.specs.declared.slots.Slot.{Slot}
 
--- the key whose sign is that of a type's text
+-- the key whose fingerprint is that of a type's text
 abbrev pub type_key : List ℕ → Key
 type_key text = record { file = 0; section = 0; text = text }
 
--- the text stands at the slot's place, and the slot has its sign
-pub record HasSign (texts : List (List ℕ)) (slot : Slot) (text : List ℕ) : Type 0 where
+-- the text stands at the slot's place, and the slot has its fingerprint
+pub record HasFingerprint (texts : List (List ℕ)) (slot : Slot) (text : List ℕ) : Type 0 where
   pub stands : slice_get texts slot.place ≡ Some text
   pub bytes : (i : ℕ) → slice_index text i < 256
-  pub sign : slot.sign ≡ sign_of (type_key text)
+  pub fingerprint : slot.fingerprint ≡ fingerprint_of (type_key text)
 
--- a slot whose sign is that of a short text leads to that text
+-- a slot whose fingerprint is that of a short text leads to that text
 abbrev pub TellsText : List (List ℕ) → Slot → Type 0
-TellsText texts slot = slot.sign.length ≤ 16 → (text : List ℕ) × HasSign texts slot text
+TellsText texts slot = slot.fingerprint.length ≤ 16 → (text : List ℕ) × HasFingerprint texts slot text

@@ -2,7 +2,7 @@
 ghost use Rattle.std.specs.Prelude.{◌≡◌, ◌≤◌, ◌<◌, ◌+◌, ◌-◌, ◌^◌, ◌++◌, ◌∷◌, [], List, map, length, OnOk, OnErr, IfOk, Err, ◌≢◌, ◌↔◌, true, false, slice_index_or, slice_get, IfSome, None, ℕ, ◌*◌};
 ghost use Rattle.std.specs.List.{list_any, position_or_len};
 ghost use Rattle.std.specs.Str.{bytes_eq};
-ghost use Rattle.key_table.specs.Keys.{key_in, key_shown};
+ghost use Rattle.trace_keys.specs.Keys.{key_in, key_shown};
 ghost use Rattle.limits.specs.declared.TheConstants.{FIRST_TYPE, MAX_EVENTS, MAX_TRACE_BYTES, MAX_TYPE_BYTES, MAX_TYPES};
 ghost use Rattle.trace_builder.specs.declared.builder.AddError.TheVariants.{Memory};
 ghost use Rattle.trace_builder.specs.Limits.{IsNewType, PassesTypeLimit, PassesEventLimit};
@@ -10,14 +10,14 @@ ghost use Rattle.trace_builder.specs.Placed.{placed_in, trace_place};
 ghost use Rattle.traces.specs.Words.{with_event, with_new};
 
 use crate::layout::{lay_in_order, zeros_of};
-use crate::placing::{NewEvent, Placed, put_typed_event, put_worded};
-use crate::trace_table::TraceTable;
+use crate::placing::{NewEvent, Placed, put_packed, put_typed_event};
+use crate::trace_table::{PackedKey, TraceTable};
 use crate::type_table::TypeTable;
 use invariants::Seq;
-use key_table::{KeyParts, Worded};
 use limits::{MAX_EVENTS, MAX_TYPES};
 use std::alloc::{AllocError, AllocFailed, Global};
 use std::marker::Model;
+use trace_keys::{KeyParts, PackedText};
 use traces::TraceSet;
 
 /// Why an event was not added.
@@ -173,12 +173,12 @@ impl Builder {
 
     /// Adds an event without a time, as `add` does, of which the words of the two texts are known.
     #[inline(always)]
-    pub fn add_worded(
+    pub fn add_packed(
         &mut self,
         file: u32,
         section: u32,
-        text: &Worded<'_>,
-        type_text: &Worded<'_>,
+        text: &PackedText<'_>,
+        type_text: &PackedText<'_>,
     ) -> Result<Placed, AddError>
         requires text { length text.now ≤ MAX_TRACE_BYTES }
         requires type_text { length type_text.now ≤ MAX_TYPE_BYTES }
@@ -202,15 +202,12 @@ impl Builder {
             × (event_count_of (self.new).traces ≤ MAX_EVENTS)) }
     {
         if self.event_count < MAX_EVENTS {
-            let put = put_worded(
-                self.alloc,
-                &self.types,
-                &mut self.traces,
+            let key = PackedKey {
                 file,
                 section,
                 text,
-                type_text,
-            )?;
+            };
+            let put = put_packed(self.alloc, &self.types, &mut self.traces, key, type_text)?;
             match put {
                 Some(placed) => {
                     self.event_count += 1;

@@ -11,5 +11,5 @@ mod trace_table;
 mod type_table;
 
 pub use builder::{AddError, Builder};
-pub use key_table::Worded;
 pub use placing::Placed;
+pub use trace_keys::PackedText;

@@ -2,17 +2,17 @@
 ghost use Rattle.std.specs.Prelude.{◌≡◌, ◌<◌, ◌≤◌, ◌+◌, ◌-◌, ◌^◌, ◌++◌, ◌∷◌, [], length, IfOk, IfSome, None, OnErr, OnOk, true, false, ◌↔◌};
 ghost use Rattle.std.specs.List.{list_any, position_or_len};
 ghost use Rattle.std.specs.Str.{bytes_eq};
-ghost use Rattle.key_table.specs.Keys.{key_in};
+ghost use Rattle.trace_keys.specs.Keys.{key_in};
 ghost use Rattle.limits.specs.declared.TheConstants.{FIRST_TYPE, MAX_TYPE_BYTES, MAX_TYPES};
 ghost use Rattle.trace_builder.specs.Limits.{IsNewType};
-ghost use Rattle.trace_builder.specs.Placed.{placed_in, trace_place};
+ghost use Rattle.trace_builder.specs.Placed.{key_packed, placed_in, trace_place};
 ghost use Rattle.traces.specs.Words.{with_event, with_new};
 
-use crate::trace_table::TraceTable;
+use crate::trace_table::{PackedKey, TraceTable};
 use crate::type_table::TypeTable;
-use key_table::{KeyParts, Worded};
 use limits::FIRST_TYPE;
 use std::alloc::{AllocError, Global};
+use trace_keys::{KeyParts, PackedText};
 
 /// Where an event was put.
 #[derive(Clone, Copy)]
@@ -109,25 +109,23 @@ pub fn put_typed_event(
 
 /// Puts an event without a time at the end of its trace, where its type is short and a slot leads to it. Returns where, if it did.
 #[inline(always)]
-pub fn put_worded(
+pub fn put_packed(
     alloc: Global,
     types: &TypeTable,
     traces: &mut TraceTable,
-    file: u32,
-    section: u32,
-    text: &Worded<'_>,
-    type_text: &Worded<'_>,
+    key: PackedKey<'_, '_>,
+    type_text: &PackedText<'_>,
 ) -> Result<Option<Placed>, AllocError>
     requires few { length types.now ≤ MAX_TYPES }
     requires few_traces { length traces.old < 2 ^ 32 - 1 }
-    requires short { length text.now < 2 ^ 32 }
+    requires short { length key.text.now < 2 ^ 32 }
     ensures placed { IfOk result (λ put. IfSome put (λ placed. placed
         ≡ placed_in (record { types = types.now; traces = traces.old })
-        (record { file = file; section = section; text = text.now }) type_text.now)) }
+        (key_packed key.entry) type_text.now)) }
     ensures known { IfOk result (λ put. IfSome put (λ _. types.now
         ≡ with_new bytes_eq types.now type_text.now)) }
     ensures put { IfOk result (λ put. IfSome put (λ _. traces.new
-        ≡ with_event traces.old (record { file = file; section = section; text = text.now })
+        ≡ with_event traces.old (key_packed key.entry)
         (position_or_len (bytes_eq type_text.now) types.now + FIRST_TYPE) 0)) }
     ensures same { IfOk result (λ put. put ≡ None → traces.new ≡ traces.old) }
 
@@ -138,7 +136,7 @@ pub fn put_worded(
     match types.short_place_of(type_text) {
         Some(place) => {
             let number = (place + FIRST_TYPE as usize) as u16;
-            let trace = traces.put_worded(alloc, file, section, text, number)?;
+            let trace = traces.put_packed(alloc, key, number)?;
             Ok(Some(Placed { trace, number }))
         }
         None => Ok(None),

@@ -1,37 +1,37 @@
-//! Slots that tell where the texts of types stand, so that a known type is found by its sign.
+//! Slots that tell where the texts of types stand, so that a known type is found by its fingerprint.
 ghost use Rattle.std.specs.Prelude.{◌≡◌, ◌<◌, ◌^◌, ℕ, List, true, false, length, slice_get, slice_index, Some, IfSome};
 ghost use Rattle.std.specs.List.{All};
 ghost use Rattle.std.specs.Option.{option_map_or};
 ghost use Rattle.std.specs.Str.{bytes_eq};
-ghost use Rattle.key_table.specs.Signs.{sign_of};
+ghost use Rattle.trace_keys.specs.Fingerprints.{fingerprint_of};
 ghost use Rattle.trace_builder.specs.Slots.{TellsText, type_key};
 
 use invariants::Text;
-use key_table::{KeyParts, Sign, Worded};
 use std::alloc::Global;
+use trace_keys::{Fingerprint, KeyParts, PackedText};
 
 /// How many homes there are: many more than types, so that most types have a home of their own.
 const HOMES: usize = 4096;
 
-/// How far what a sign is mixed to is shifted to give the home.
+/// How far what a fingerprint is mixed to is shifted to give the home.
 const SHIFT: u32 = 52;
 
 /// In how many slots a type may stand, from its home on.
 const WINDOW: usize = 4;
 
-/// How many bytes of a text its sign tells whole.
+/// How many bytes of a text its fingerprint tells whole.
 const MAX_TOLD: u32 = 16;
 
-/// The sign of a type's text, and the place at which that text stands.
+/// The fingerprint of a type's text, and the place at which that text stands.
 #[derive(Clone, Copy)]
 pub struct Slot {
-    pub sign: Sign,
+    pub fingerprint: Fingerprint,
     pub place: usize,
 }
 
-/// A slot with no place: no text is as long as its sign tells.
+/// A slot with no place: no text is as long as its fingerprint tells.
 const EMPTY: Slot = Slot {
-    sign: Sign {
+    fingerprint: Fingerprint {
         low: 0,
         high: 0,
         file: 0,
@@ -58,38 +58,38 @@ fn is_text_at(texts: &[Text], place: usize, text: &str) -> bool
     }
 }
 
-/// The sign of a type's text.
+/// The fingerprint of a type's text.
 #[inline(always)]
-fn sign_of_text(text: &str) -> Sign
+fn fingerprint_of_text(text: &str) -> Fingerprint
     requires { length text.now < 2 ^ 32 }
-    ensures { result ≡ sign_of (type_key text.now) }
+    ensures { result ≡ fingerprint_of (type_key text.now) }
 {
-    Sign::of(&KeyParts {
+    Fingerprint::of(&KeyParts {
         file: 0,
         section: 0,
         text,
     })
 }
 
-/// The first slot in which a type with this sign may stand.
+/// The first slot in which a type with this fingerprint may stand.
 #[inline(always)]
-fn home_of(sign: &Sign) -> usize
+fn home_of(fingerprint: &Fingerprint) -> usize
     ensures { result < HOMES }
 {
-    (sign.mix() >> SHIFT) as usize
+    (fingerprint.mix() >> SHIFT) as usize
 }
 
-/// Whether a slot leads to the text with this sign.
+/// Whether a slot leads to the text with this fingerprint.
 #[inline(always)]
-fn leads_to(slot: &Slot, sign: &Sign, texts: &[Text], text: &str) -> bool
-    requires sign { sign.now ≡ sign_of (type_key text.now) }
+fn leads_to(slot: &Slot, fingerprint: &Fingerprint, texts: &[Text], text: &str) -> bool
+    requires fingerprint { fingerprint.now ≡ fingerprint_of (type_key text.now) }
     requires told { TellsText texts.now slot.now }
     ensures { result ≡ true → slice_get texts.now slot.now.place ≡ Some text.now }
 {
-    if !slot.sign.is(sign) {
+    if !slot.fingerprint.is(fingerprint) {
         return false;
     }
-    if sign.length > MAX_TOLD {
+    if fingerprint.length > MAX_TOLD {
         return is_text_at(texts, slot.place, text);
     }
     are_bytes(text.as_bytes());
@@ -98,15 +98,15 @@ fn leads_to(slot: &Slot, sign: &Sign, texts: &[Text], text: &str) -> bool
 
 /// The place of a short text, if a slot leads to it.
 #[inline(always)]
-pub fn find_short(slots: &[Slot], text: &Worded<'_>) -> Option<usize>
+pub fn find_short(slots: &[Slot], text: &PackedText<'_>) -> Option<usize>
     ensures { (texts : List (List ℕ)) → All (TellsText texts) slots.now
         → IfSome result (λ place. slice_get texts place ≡ Some text.now) }
 {
-    let sign = text.sign(0, 0)?;
-    let home = home_of(&sign);
+    let fingerprint = text.fingerprint(0, 0)?;
+    let home = home_of(&fingerprint);
     for i in 0..WINDOW {
         let slot = slots.get(home + i)?;
-        if slot.sign.is(&sign) {
+        if slot.fingerprint.is(&fingerprint) {
             return Some(slot.place);
         }
     }
@@ -119,11 +119,11 @@ pub fn find(slots: &[Slot], texts: &[Text], text: &str) -> Option<usize>
     requires told { All (TellsText texts.now) slots.now }
     ensures { IfSome result (λ place. slice_get texts.now place ≡ Some text.now) }
 {
-    let sign = sign_of_text(text);
-    let home = home_of(&sign);
+    let fingerprint = fingerprint_of_text(text);
+    let home = home_of(&fingerprint);
     for i in 0..WINDOW {
         if let Some(slot) = slots.get(home + i) {
-            if leads_to(slot, &sign, texts, text) {
+            if leads_to(slot, &fingerprint, texts, text) {
                 return Some(slot.place);
             }
         }
@@ -138,7 +138,7 @@ fn first_empty(slots: &[Slot], home: usize) -> Option<usize>
 {
     for i in 0..WINDOW {
         if let Some(slot) = slots.get(home + i) {
-            if slot.sign.length == u32::MAX {
+            if slot.fingerprint.length == u32::MAX {
                 return Some(home + i);
             }
         }
@@ -166,8 +166,8 @@ pub fn note(alloc: Global, slots: &mut Vec<Slot>, text: &str, place: usize)
 {
     make(alloc, slots);
     are_bytes(text.as_bytes());
-    let sign = sign_of_text(text);
-    if let Some(at) = first_empty(slots, home_of(&sign)) {
-        slots[at] = Slot { sign, place };
+    let fingerprint = fingerprint_of_text(text);
+    if let Some(at) = first_empty(slots, home_of(&fingerprint)) {
+        slots[at] = Slot { fingerprint, place };
     }
 }

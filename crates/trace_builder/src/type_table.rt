@@ -9,10 +9,10 @@ ghost use Rattle.traces.specs.Words.{AreApart};
 
 use crate::slots::{Slot, find, find_short, note};
 use invariants::Text;
-use key_table::Worded;
 use std::alloc::{AllocError, Global};
 use std::collections::BTreeMap;
 use std::marker::Model;
+use trace_keys::PackedText;
 
 /// Texts, and the place of each.
 #[derive(Drop)]
@@ -70,7 +70,7 @@ impl TypeTable {
 
     /// Where a short text stands, if a slot leads to it.
     #[inline(always)]
-    pub fn short_place_of(&self, text: &Worded<'_>) -> Option<usize>
+    pub fn short_place_of(&self, text: &PackedText<'_>) -> Option<usize>
         ensures place { IfSome result (λ place. place ≡ position_or_len (bytes_eq text.now) self.now) }
         ensures known { IfSome result (λ _. list_any (bytes_eq text.now) self.now ≡ true) }
     {

@@ -7,8 +7,8 @@ use Rattle.std.proofs.lemmas.List.Elements.{All-tail, All-push}
 use Rattle.std.specs.List.{All, list_any, position_or_len}
 use Rattle.traces.specs.Columns.{times_beside, at_place, traces_from, columned, AreColumns}
 use Rattle.traces.specs.Words.{Trace, same_key, with_event, with_new}
-use Rattle.key_table.specs.Keys.{Key}
-use Rattle.key_table.proofs.Positions.{position-hit, position-miss}
+use Rattle.trace_keys.specs.Keys.{Key}
+use Rattle.trace_keys.proofs.Positions.{position-hit, position-miss}
 
 -- what stands at a place after one item more
 

@@ -9,9 +9,9 @@ use Rattle.std.specs.Bool.{Decides}
 use Rattle.std.specs.List.{fold, list_any}
 use Rattle.std.specs.Str.{bytes_eq}
 use Rattle.traces.specs.Words.{same_key, with_new, first_met, AreApart, TellsFirstMet}
-use Rattle.key_table.specs.Keys.{Key}
-use Rattle.key_table.proofs.Apart.{apart-push}
-use Rattle.key_table.proofs.Keys.{same_key-Decides}
+use Rattle.trace_keys.specs.Keys.{Key}
+use Rattle.trace_keys.proofs.Apart.{apart-push}
+use Rattle.trace_keys.proofs.Keys.{same_key-Decides}
 
 or-false : (a : Bool) → (a || false) ≡ a
 or-false true = refl

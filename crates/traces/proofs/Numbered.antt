@@ -8,7 +8,7 @@ use Rattle.std.proofs.lemmas.List.Elements.{All-push}
 use Rattle.limits.specs.declared.TheConstants.{MAX_TYPE_BYTES}
 use Rattle.traces.specs.Kept.{IsTypeNumber, AreNumbered, AreShort, HaveBytes, HaveTimes, HaveEvents}
 use Rattle.traces.specs.Words.{Trace, same_key, trace_with, with_event, with_new}
-use Rattle.key_table.specs.Keys.{Key}
+use Rattle.trace_keys.specs.Keys.{Key}
 
 numbers-more : (n m : ℕ) (numbers : List ℕ) → n ≤ m → AllByRecursion (IsTypeNumber n) numbers → AllByRecursion (IsTypeNumber m) numbers
 numbers-more n m [] more all = tt

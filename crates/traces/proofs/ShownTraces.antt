@@ -4,7 +4,7 @@ use Rattle.std.specs.List.{All}
 use Rattle.traces.specs.Columns.{times_beside, part_at, traces_from, laid, AreBeside, AreStarts, Suffice}
 use Rattle.traces.specs.Kept.{IsTypeNumber, IsKept}
 use Rattle.traces.specs.Words.{Trace, Log}
-use Rattle.key_table.specs.Keys.{Key}
+use Rattle.trace_keys.specs.Keys.{Key}
 use Rattle.std.proofs.lemmas.List.{length-take-le, length-drop, take-map, drop-map}
 use Rattle.traces.proofs.Columned.{length-traces_from}
 use Rattle.traces.proofs.Numbered.{numbers-at, begun-at}

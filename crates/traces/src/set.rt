@@ -1,12 +1,12 @@
 //! A log as types and traces, and how its events are laid out.
 ghost use Rattle.std.specs.Prelude.{◌≡◌, ◌<◌, ◌≤◌, ◌-◌, suc, length, take, drop, slice_index, slice_get, IfSome};
 ghost use Rattle.std.specs.Str.{IsUtf8, bytes_eq};
-ghost use Rattle.key_table.specs.Keys.{key_shown};
+ghost use Rattle.trace_keys.specs.Keys.{key_shown};
 ghost use Rattle.limits.specs.declared.TheConstants.{MAX_EVENTS, MAX_TYPE_BYTES, MAX_TYPES};
 
 use invariants::{Seq, Text};
-use key_table::{KeyList, ShownKey};
 use std::marker::Model;
+use trace_keys::{KeyList, ShownKey};
 
 /// The events of traces, trace after trace: trace k has those from where it starts to where the next one does.
 #[derive(Drop)]

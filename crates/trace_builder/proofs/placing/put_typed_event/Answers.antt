@@ -2,7 +2,7 @@ use Rattle.std.proofs.Common.{rules, ◌≡◌, arith, sym, ◌∙◌, false}
 use Rattle.std.proofs.lemmas.Bool.{cond-false}
 use Rattle.std.specs.List.{list_any}
 use Rattle.std.specs.Str.{bytes_eq}
-use Rattle.key_table.proofs.Positions.{position-le}
+use Rattle.trace_keys.proofs.Positions.{position-le}
 use Rattle.trace_builder.proofs.placing.put_typed_event.Goals as goal
 
 pub put_with_type-requires-clause-new : goal.put_with_type-requires-clause-new

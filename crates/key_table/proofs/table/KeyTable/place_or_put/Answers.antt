@@ -1,6 +1,6 @@
 use Rattle.std.proofs.Common.{◌≡◌, sym, ◌∙◌, subst, Some, slice_get}
-use Rattle.key_table.specs.Keys.{Key, key_in}
-use Rattle.key_table.proofs.Keys.{key-told, known-key}
+use Rattle.trace_keys.specs.Keys.{Key, key_in}
+use Rattle.trace_keys.proofs.Keys.{key-told, known-key}
 use Rattle.key_table.proofs.table.KeyTable.place_or_put.Goals as goal
 
 pub returns-then-has_parts_at-clause-place : goal.returns-then-has_parts_at-clause-place

@@ -1,7 +1,7 @@
 use Rattle.std.proofs.Common.{◌≡◌, ℕ, List, length, refl, ◌∙◌, ap, subst, arith, IfSome, Option, Ok, Some, slice_get}
-use Rattle.key_table.specs.Keys.{Key, AreApart, same_key}
-use Rattle.key_table.proofs.Keys.{known-key}
-use Rattle.key_table.proofs.Positions.{position-all}
+use Rattle.trace_keys.specs.Keys.{Key, AreApart, same_key}
+use Rattle.trace_keys.proofs.Keys.{known-key}
+use Rattle.trace_keys.proofs.Positions.{position-all}
 use Rattle.key_table.proofs.table.KeyTable.place_or_put_key.Goals as goal
 
 pub returns-in-Some-clause-place : goal.returns-in-Some-clause-place

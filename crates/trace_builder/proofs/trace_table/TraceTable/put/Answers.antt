@@ -1,9 +1,9 @@
 use Rattle.std.proofs.Common.{◌∙◌, List, length, refl, ap, arith}
-use Rattle.key_table.specs.Keys.{key_in}
+use Rattle.trace_keys.specs.Keys.{key_in}
 use Rattle.traces.specs.Words.{Trace, same_key, with_event}
-use Rattle.key_table.specs.Keys.{Key}
+use Rattle.trace_keys.specs.Keys.{Key}
 use Rattle.traces.proofs.Columned.{columned-grows, columned-same, columns-kept, columns-same, length-columned}
-use Rattle.key_table.proofs.Positions.{position-le}
+use Rattle.trace_keys.proofs.Positions.{position-le}
 use Rattle.trace_builder.proofs.Places.{place-told}
 use Rattle.trace_builder.proofs.trace_table.TraceTable.put.Goals as goal
 

@@ -2,7 +2,7 @@ use Rattle.std.proofs.Common.{◌≡◌, ◌≤◌, ◌↔◌, List, ℕ, length
 use Rattle.std.specs.List.{list_any, position_or_len}
 use Rattle.std.specs.Str.{bytes_eq}
 use Rattle.traces.proofs.Grown.{position-within}
-use Rattle.key_table.proofs.Positions.{position-all}
+use Rattle.trace_keys.proofs.Positions.{position-all}
 use Rattle.trace_builder.proofs.PlaceMaps.{place-is, place-none}
 use Rattle.trace_builder.proofs.type_table.TypeTable.mapped_place_of.Goals as goal
 

@@ -2,7 +2,7 @@ use Rattle.std.proofs.Common.{◌≡◌, ◌≤◌, ◌<◌, ◌↔◌, ℕ, Som
 use Rattle.std.specs.List.{list_any, position_or_len}
 use Rattle.std.proofs.lemmas.Option.{slice_get_within}
 use Rattle.std.specs.Str.{bytes_eq}
-use Rattle.key_table.proofs.Positions.{position-all}
+use Rattle.trace_keys.proofs.Positions.{position-all}
 use Rattle.trace_builder.proofs.PlaceMaps.{text-at}
 use Rattle.trace_builder.proofs.type_table.TypeTable.place_of.Goals as goal
 

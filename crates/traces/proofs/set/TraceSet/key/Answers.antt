@@ -1,6 +1,6 @@
 use Rattle.std.proofs.Common.{◌≡◌, arith, sym}
 use Rattle.std.proofs.lemmas.Option.{get_or_from_slice_get}
-use Rattle.key_table.specs.Keys.{Key, key_shown}
+use Rattle.trace_keys.specs.Keys.{Key, key_shown}
 use Rattle.traces.specs.Words.{Trace}
 use Rattle.traces.proofs.ShownTraces.{count-shown, shown}
 use Rattle.traces.proofs.set.TraceSet.key.Goals as goal

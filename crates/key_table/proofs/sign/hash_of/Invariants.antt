@@ -1,7 +1,0 @@
-use Rattle.std.proofs.Common.{◌≡◌, take}
-use Rattle.std.specs.List.{fold}
-use Rattle.key_table.specs.Signs.{hash_step}
-use Rattle.key_table.proofs.sign.hash_of.Given as goal
-
-abbrev pub invariant-loop-b : goal.invariant-loop-b
-invariant-loop-b l = l.hash ≡ fold hash_step 0 (take l.b-index l.bytes)
