@@ -18,6 +18,7 @@ ghost use Rattle.closure_miner.specs.Standing.{Stands};
 
 mod between;
 mod standing;
+mod striking;
 mod type_sets;
 
 use invariants::{Invariant, Kinds, Seq};

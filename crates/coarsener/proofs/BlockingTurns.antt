@@ -45,23 +45,23 @@ pub all-push : {X : Type 0} (P : X → Type 0) (xs : List X) (x : X) → AllByRe
 all-push P [] x a p = (p, tt)
 all-push P (y ∷ xs) x a p = (a.0, all-push P xs x a.1 p)
 
--- the log with one more block
+-- the run's log with one more block
 abbrev pub with_block : ℕ → ℕ → ℕ → Span → RunLists → RunLists
-with_block p q k span log = record log { blocks = log.blocks ++ record { p = p; q = q; inv = k; path = span } ∷ [] }
+with_block p q k span run_log = record run_log { blocks = run_log.blocks ++ record { p = p; q = q; inv = k; path = span } ∷ [] }
 
 abbrev Held : List ℕ → List BlockEntry → Type 0
 Held numbers entries = All (λ (e : BlockEntry). IsWithin numbers e.path) entries
 
 -- what the pass keeps: the pairs up to (p, q) have their blocks
-pub record IsBlocking (invs : List Invariant) (parts : Parts) (log0 log : RunLists) (spans0 spans : Numbers) (p q : ℕ) : Type 0 where
+pub record IsBlocking (invs : List Invariant) (parts : Parts) (log0 run_log : RunLists) (spans0 spans : Numbers) (p q : ℕ) : Type 0 where
   pub rest : List Merge
   pub remain : Remain (G parts.traces) p q rest
-  pub pairs : pairs_of (blocks_of log spans) ++ rest ≡ pairs_below parts.used (G parts.traces)
-  pub each : AllByRecursion (IsBlock invs (G parts.traces)) (blocks_of log spans)
-  pub held : All (λ (e : BlockEntry). IsWithin spans.numbers e.path) log.blocks
-  pub paths : spans ≡ record spans0 { numbers = spans0.numbers ++ paths_of (blocks_of log spans) }
+  pub pairs : pairs_of (blocks_of run_log spans) ++ rest ≡ pairs_below parts.used (G parts.traces)
+  pub each : AllByRecursion (IsBlock invs (G parts.traces)) (blocks_of run_log spans)
+  pub held : All (λ (e : BlockEntry). IsWithin spans.numbers e.path) run_log.blocks
+  pub paths : spans ≡ record spans0 { numbers = spans0.numbers ++ paths_of (blocks_of run_log spans) }
   pub stays : KeepsLists spans0.numbers spans.numbers
-  pub others : log ≡ record log0 { blocks = log.blocks }
+  pub others : run_log ≡ record log0 { blocks = run_log.blocks }
 
 parts-below : (parts : Parts) → HasIds parts → IsBelow parts.used (G parts.traces)
 parts-below parts ids = graphs_are_below parts.traces parts.used ids.two ids.below
@@ -71,10 +71,10 @@ append-none [] = refl
 append-none (x ∷ xs) = ap (λ ys. x ∷ ys) (append-none xs)
 
 -- before the first pair there are no blocks
-pub blocking-start : (invs : List Invariant) (parts : Parts) (log : RunLists) (spans : Numbers) → HasIds parts → log.blocks ≡ [] → IsBlocking invs parts log log spans spans 2 2
-blocking-start invs parts log spans ids e =
+pub blocking-start : (invs : List Invariant) (parts : Parts) (run_log : RunLists) (spans : Numbers) → HasIds parts → run_log.blocks ≡ [] → IsBlocking invs parts run_log run_log spans spans 2 2
+blocking-start invs parts run_log spans ids e =
     let g : Graph = G parts.traces in
-    let b : blocks_of log spans ≡ [] = ap (map (block_of spans.numbers)) e in
+    let b : blocks_of run_log spans ≡ [] = ap (map (block_of spans.numbers)) e in
     record {
       rest = pairs_below parts.used g;
       remain = remain-start g parts.used (parts-below parts ids);
@@ -97,23 +97,23 @@ blocks-kept numbers numbers' (e ∷ es) k w =
     (block-kept numbers numbers' e k (All-head (λ (x : BlockEntry). IsWithin numbers x.path) e es w))
     (blocks-kept numbers numbers' es k (All-tail (λ (x : BlockEntry). IsWithin numbers x.path) e es w))
 
-blocks-more : (p q k : ℕ) (path : List ℕ) (span : Span) (log : RunLists) (spans spans' : Numbers) → Held spans.numbers log.blocks → KeepsLists spans.numbers spans'.numbers → Pushes spans spans' path span
-    → blocks_of (with_block p q k span log) spans' ≡ blocks_of log spans ++ record { p = p; q = q; inv = k; path = path } ∷ []
-blocks-more p q k path span log spans spans' held keeps push =
+blocks-more : (p q k : ℕ) (path : List ℕ) (span : Span) (run_log : RunLists) (spans spans' : Numbers) → Held spans.numbers run_log.blocks → KeepsLists spans.numbers spans'.numbers → Pushes spans spans' path span
+    → blocks_of (with_block p q k span run_log) spans' ≡ blocks_of run_log spans ++ record { p = p; q = q; inv = k; path = path } ∷ []
+blocks-more p q k path span run_log spans spans' held keeps push =
     let e : BlockEntry = record { p = p; q = q; inv = k; path = span } in
-    map-append (block_of spans'.numbers) log.blocks (e ∷ [])
-    ∙ ap₂ (λ (bs cs : List Block). bs ++ cs) (blocks-kept spans.numbers spans'.numbers log.blocks keeps held)
+    map-append (block_of spans'.numbers) run_log.blocks (e ∷ [])
+    ∙ ap₂ (λ (bs cs : List Block). bs ++ cs) (blocks-kept spans.numbers spans'.numbers run_log.blocks keeps held)
     (ap (λ (ns : List ℕ). record { p = p; q = q; inv = k; path = ns } ∷ []) push.there)
 
-held-more : (p q k : ℕ) (path : List ℕ) (span : Span) (log : RunLists) (spans spans' : Numbers) → Held spans.numbers log.blocks → Pushes spans spans' path span
-    → Held spans'.numbers (with_block p q k span log).blocks
-held-more p q k path span log spans spans' held push =
+held-more : (p q k : ℕ) (path : List ℕ) (span : Span) (run_log : RunLists) (spans spans' : Numbers) → Held spans.numbers run_log.blocks → Pushes spans spans' path span
+    → Held spans'.numbers (with_block p q k span run_log).blocks
+held-more p q k path span run_log spans spans' held push =
     let n : length spans'.numbers ≡ length spans.numbers + length path = ap (λ (x : Numbers). length x.numbers) push.appends ∙ length-append spans.numbers path in
     let from : span.from ≡ length spans.numbers = push.from in
     let long : span.len ≡ length path = push.long in
-    All-push (λ (x : BlockEntry). IsWithin spans'.numbers x.path) log.blocks (record { p = p; q = q; inv = k; path = span })
+    All-push (λ (x : BlockEntry). IsWithin spans'.numbers x.path) run_log.blocks (record { p = p; q = q; inv = k; path = span })
     (All-weaker (λ (x : BlockEntry). IsWithin spans.numbers x.path) (λ (x : BlockEntry). IsWithin spans'.numbers x.path)
-    (λ x w. omega (arith, w)) log.blocks held)
+    (λ x w. omega (arith, w)) run_log.blocks held)
     (omega arith)
 
 paths-more : (bs : List Block) (b : Block) → paths_of (bs ++ b ∷ []) ≡ paths_of bs ++ b.path
@@ -138,15 +138,15 @@ block-is invs g p q k path i f v =
     }
 
 -- a turn adds the block of the next pair
-pub blocking-turn : (invs : List Invariant) (parts : Parts) (log0 log : RunLists) (spans0 spans spans' : Numbers) (p q r s k : ℕ) (path : List ℕ) (span : Span)
-    → IsBlocking invs parts log0 log spans0 spans p q → IsNextPair (G parts.traces) p q r s → IsFirstBroken (Merged (G parts.traces) r s) invs k
+pub blocking-turn : (invs : List Invariant) (parts : Parts) (log0 run_log : RunLists) (spans0 spans spans' : Numbers) (p q r s k : ℕ) (path : List ℕ) (span : Span)
+    → IsBlocking invs parts log0 run_log spans0 spans p q → IsNextPair (G parts.traces) p q r s → IsFirstBroken (Merged (G parts.traces) r s) invs k
     → IsLeastViolation (Merged (G parts.traces) r s) (get_or invs k none) path → Pushes spans spans' path span → KeepsLists spans.numbers spans'.numbers
-    → IsBlocking invs parts log0 (with_block r s k span log) spans0 spans' r s
-blocking-turn invs parts log0 log spans0 spans spans' p q r s k path span c n f v push keeps =
+    → IsBlocking invs parts log0 (with_block r s k span run_log) spans0 spans' r s
+blocking-turn invs parts log0 run_log spans0 spans spans' p q r s k path span c n f v push keeps =
     let g : Graph = G parts.traces in
     let b : Block = record { p = r; q = s; inv = k; path = path } in
-    let bs : List Block = blocks_of log spans in
-    let e : blocks_of (with_block r s k span log) spans' ≡ bs ++ b ∷ [] = blocks-more r s k path span log spans spans' c.held keeps push in
+    let bs : List Block = blocks_of run_log spans in
+    let e : blocks_of (with_block r s k span run_log) spans' ≡ bs ++ b ∷ [] = blocks-more r s k path span run_log spans spans' c.held keeps push in
     let m : (more : List Merge) × (c.rest ≡ pair_of r s ∷ more) × Remain g r s more = remain-next g p q r s c.rest c.remain n in
     let here : spans.numbers ≡ spans0.numbers ++ paths_of bs = ap (λ (x : Numbers). x.numbers) c.paths in
     let long : length spans0.numbers ≤ length spans.numbers = omega (arith, ap (λ (ns : List ℕ). length ns) here, length-append spans0.numbers (paths_of bs)) in
@@ -157,11 +157,11 @@ blocking-turn invs parts log0 log spans0 spans spans' p q r s k path span c n f 
       remain = m.2;
       pairs = ap (λ (xs : List Block). pairs_of xs ++ m.0) e ∙ pairs-more bs b m.0 ∙ ap (λ (ms : List Merge). pairs_of bs ++ ms) (sym m.1) ∙ c.pairs;
       each = subst (λ (xs : List Block). AllByRecursion (IsBlock invs g) xs) (sym e) (all-push (IsBlock invs g) bs b c.each (block-is invs g r s k path n.pair f v));
-      held = held-more r s k path span log spans spans' c.held push;
+      held = held-more r s k path span run_log spans spans' c.held push;
       paths = push.appends ∙ ap (λ (x : Numbers). record x { numbers = spans.numbers ++ path }) c.paths
           ∙ ap (λ (ns : List ℕ). record spans0 { numbers = ns }) (numbers ∙ ap (λ (xs : List Block). spans0.numbers ++ paths_of xs) (sym e));
       stays = keeps-more spans0.numbers spans.numbers spans'.numbers c.stays keeps long;
-      others = ap (λ (l : RunLists). record l { blocks = log.blocks ++ record { p = r; q = s; inv = k; path = span } ∷ [] }) c.others;
+      others = ap (λ (l : RunLists). record l { blocks = run_log.blocks ++ record { p = r; q = s; inv = k; path = span } ∷ [] }) c.others;
     }
 
 -- there are as many pairs of blocks as blocks
@@ -169,27 +169,27 @@ pairs-count : (bs : List Block) → length (pairs_of bs) ≡ length bs
 pairs-count bs = length-map bs (λ (b : Block). pair_of b.p b.q)
 
 -- there are no more blocks than pairs
-pub blocks-few : (invs : List Invariant) (parts : Parts) (log0 log : RunLists) (spans0 spans : Numbers) (p q : ℕ) → IsBlocking invs parts log0 log spans0 spans p q → length log.blocks ≤ pair_count parts
-blocks-few invs parts log0 log spans0 spans p q c =
-    let a : length (pairs_of (blocks_of log spans) ++ c.rest) ≡ length (pairs_of (blocks_of log spans)) + length c.rest = length-append (pairs_of (blocks_of log spans)) c.rest in
-    let d : length (blocks_of log spans) ≡ length log.blocks = length-map log.blocks (block_of spans.numbers) in
-    omega (arith, ap (λ (ms : List Merge). length ms) c.pairs, pairs-count (blocks_of log spans))
+pub blocks-few : (invs : List Invariant) (parts : Parts) (log0 run_log : RunLists) (spans0 spans : Numbers) (p q : ℕ) → IsBlocking invs parts log0 run_log spans0 spans p q → length run_log.blocks ≤ pair_count parts
+blocks-few invs parts log0 run_log spans0 spans p q c =
+    let a : length (pairs_of (blocks_of run_log spans) ++ c.rest) ≡ length (pairs_of (blocks_of run_log spans)) + length c.rest = length-append (pairs_of (blocks_of run_log spans)) c.rest in
+    let d : length (blocks_of run_log spans) ≡ length run_log.blocks = length-map run_log.blocks (block_of spans.numbers) in
+    omega (arith, ap (λ (ms : List Merge). length ms) c.pairs, pairs-count (blocks_of run_log spans))
 
 -- where a pair is left, there are fewer
-pub blocks-fewer : (invs : List Invariant) (parts : Parts) (log0 log : RunLists) (spans0 spans : Numbers) (p q r s : ℕ) → IsBlocking invs parts log0 log spans0 spans p q
-    → IsNextPair (G parts.traces) p q r s → length log.blocks < pair_count parts
-blocks-fewer invs parts log0 log spans0 spans p q r s c n =
+pub blocks-fewer : (invs : List Invariant) (parts : Parts) (log0 run_log : RunLists) (spans0 spans : Numbers) (p q r s : ℕ) → IsBlocking invs parts log0 run_log spans0 spans p q
+    → IsNextPair (G parts.traces) p q r s → length run_log.blocks < pair_count parts
+blocks-fewer invs parts log0 run_log spans0 spans p q r s c n =
     let m : (more : List Merge) × (c.rest ≡ pair_of r s ∷ more) × Remain (G parts.traces) r s more = remain-next (G parts.traces) p q r s c.rest c.remain n in
-    let a : length (pairs_of (blocks_of log spans) ++ c.rest) ≡ length (pairs_of (blocks_of log spans)) + length c.rest = length-append (pairs_of (blocks_of log spans)) c.rest in
-    let d : length (blocks_of log spans) ≡ length log.blocks = length-map log.blocks (block_of spans.numbers) in
-    omega (arith, ap (λ (ms : List Merge). length ms) c.pairs, ap (λ (ms : List Merge). length ms) m.1, pairs-count (blocks_of log spans))
+    let a : length (pairs_of (blocks_of run_log spans) ++ c.rest) ≡ length (pairs_of (blocks_of run_log spans)) + length c.rest = length-append (pairs_of (blocks_of run_log spans)) c.rest in
+    let d : length (blocks_of run_log spans) ≡ length run_log.blocks = length-map run_log.blocks (block_of spans.numbers) in
+    omega (arith, ap (λ (ms : List Merge). length ms) c.pairs, ap (λ (ms : List Merge). length ms) m.1, pairs-count (blocks_of run_log spans))
 
 -- the spans still hold all paths
-pub blocking-holds : (invs : List Invariant) (parts : Parts) (log0 log : RunLists) (spans0 spans : Numbers) (p q : ℕ) → IsBlocking invs parts log0 log spans0 spans p q
-    → HoldsPaths log0 spans0 → HoldsPaths log spans
-blocking-holds invs parts log0 log spans0 spans p q c h =
-    let long : length spans.numbers ≡ length spans0.numbers + length (paths_of (blocks_of log spans)) =
-    ap (λ (x : Numbers). length x.numbers) c.paths ∙ length-append spans0.numbers (paths_of (blocks_of log spans)) in
+pub blocking-holds : (invs : List Invariant) (parts : Parts) (log0 run_log : RunLists) (spans0 spans : Numbers) (p q : ℕ) → IsBlocking invs parts log0 run_log spans0 spans p q
+    → HoldsPaths log0 spans0 → HoldsPaths run_log spans
+blocking-holds invs parts log0 run_log spans0 spans p q c h =
+    let long : length spans.numbers ≡ length spans0.numbers + length (paths_of (blocks_of run_log spans)) =
+    ap (λ (x : Numbers). length x.numbers) c.paths ∙ length-append spans0.numbers (paths_of (blocks_of run_log spans)) in
     record {
       splits = subst (λ (es : List SplitEntry). All (λ (e : SplitEntry). IsWithin spans.numbers e.path) es) (sym (ap (λ (x : RunLists). x.splits) c.others))
           (All-weaker (λ (e : SplitEntry). IsWithin spans0.numbers e.path) (λ (e : SplitEntry). IsWithin spans.numbers e.path) (λ e w. omega (arith, w, long)) log0.splits h.splits);
@@ -197,32 +197,32 @@ blocking-holds invs parts log0 log spans0 spans p q c h =
     }
 
 -- behind the last pair the blocks are those of all pairs
-pub blocking-end : (invs : List Invariant) (parts : Parts) (log0 log : RunLists) (spans0 spans : Numbers) (p q : ℕ) → HasIds parts → IsBlocking invs parts log0 log spans0 spans p q
-    → HasNoPairBehind (G parts.traces) p q → AreBlocks invs (G parts.traces) (blocks_of log spans)
-blocking-end invs parts log0 log spans0 spans p q ids c n =
+pub blocking-end : (invs : List Invariant) (parts : Parts) (log0 run_log : RunLists) (spans0 spans : Numbers) (p q : ℕ) → HasIds parts → IsBlocking invs parts log0 run_log spans0 spans p q
+    → HasNoPairBehind (G parts.traces) p q → AreBlocks invs (G parts.traces) (blocks_of run_log spans)
+blocking-end invs parts log0 run_log spans0 spans p q ids c n =
     let g : Graph = G parts.traces in
     let e : c.rest ≡ [] = remain-none g p q c.rest c.remain n in
-    let pairs : pairs_of (blocks_of log spans) ≡ pairs_below parts.used g =
-    sym (append-none (pairs_of (blocks_of log spans))) ∙ ap (λ (ms : List Merge). pairs_of (blocks_of log spans) ++ ms) (sym e) ∙ c.pairs in
-    pairs_give_blocks invs g parts.used (blocks_of log spans) (parts-below parts ids) pairs c.each
+    let pairs : pairs_of (blocks_of run_log spans) ≡ pairs_below parts.used g =
+    sym (append-none (pairs_of (blocks_of run_log spans))) ∙ ap (λ (ms : List Merge). pairs_of (blocks_of run_log spans) ++ ms) (sym e) ∙ c.pairs in
+    pairs_give_blocks invs g parts.used (blocks_of run_log spans) (parts-below parts ids) pairs c.each
 
 -- where there is no pair, no block is the whole of them
-pub blocking-none : (invs : List Invariant) (parts : Parts) (log : RunLists) (spans : Numbers) (r : Option Pair) → HasIds parts → log.blocks ≡ [] → is_some r ≡ false
-    → MatchOption r (HasNoPairBehind (G parts.traces) 2 2) (λ (x : Pair). IsNextPair (G parts.traces) 2 2 x.p x.q) → AreBlocks invs (G parts.traces) (blocks_of log spans)
-blocking-none invs parts log spans None ids e n f = blocking-end invs parts log log spans spans 2 2 ids (blocking-start invs parts log spans ids e) f
-blocking-none invs parts log spans (Some x) ids e n f = absurd (true≢false n)
+pub blocking-none : (invs : List Invariant) (parts : Parts) (run_log : RunLists) (spans : Numbers) (r : Option Pair) → HasIds parts → run_log.blocks ≡ [] → is_some r ≡ false
+    → MatchOption r (HasNoPairBehind (G parts.traces) 2 2) (λ (x : Pair). IsNextPair (G parts.traces) 2 2 x.p x.q) → AreBlocks invs (G parts.traces) (blocks_of run_log spans)
+blocking-none invs parts run_log spans None ids e n f = blocking-end invs parts run_log run_log spans spans 2 2 ids (blocking-start invs parts run_log spans ids e) f
+blocking-none invs parts run_log spans (Some x) ids e n f = absurd (true≢false n)
 
 -- where the next path has more numbers than there is room for, the blocks end there
-pub blocking-full : (invs : List Invariant) (parts : Parts) (log0 log : RunLists) (spans0 spans : Numbers) (p q r s k : ℕ) (path : List ℕ) → IsBlocking invs parts log0 log spans0 spans p q
+pub blocking-full : (invs : List Invariant) (parts : Parts) (log0 run_log : RunLists) (spans0 spans : Numbers) (p q r s k : ℕ) (path : List ℕ) → IsBlocking invs parts log0 run_log spans0 spans p q
     → IsNextPair (G parts.traces) p q r s → IsFirstBroken (Merged (G parts.traces) r s) invs k
     → IsLeastViolation (Merged (G parts.traces) r s) (get_or invs k none) path → 4000000 < length spans.numbers + length path
-    → EndsWithoutRoom invs parts (blocks_of log spans) (length spans.numbers)
-blocking-full invs parts log0 log spans0 spans p q r s k path c n f v l =
+    → EndsWithoutRoom invs parts (blocks_of run_log spans) (length spans.numbers)
+blocking-full invs parts log0 run_log spans0 spans p q r s k path c n f v l =
     let m : (more : List Merge) × (c.rest ≡ pair_of r s ∷ more) × Remain (G parts.traces) r s more = remain-next (G parts.traces) p q r s c.rest c.remain n in
     record {
       next = record { p = r; q = s; inv = k; path = path };
       rest = m.0;
-      pairs = ap (λ (ms : List Merge). pairs_of (blocks_of log spans) ++ ms) (sym m.1) ∙ c.pairs;
+      pairs = ap (λ (ms : List Merge). pairs_of (blocks_of run_log spans) ++ ms) (sym m.1) ∙ c.pairs;
       each = c.each;
       is_block = block-is invs (G parts.traces) r s k path n.pair f v;
       too_long = l;
@@ -258,12 +258,12 @@ each-block : (invs : List Invariant) (g : Graph) (bs : List Block) → AreBlocks
 each-block invs g bs a = all_from (IsBlock invs g) bs (λ b i. let k : (k : ℕ) × (slice_get bs k ≡ Some b) = In-get b bs i in a.each k.0 b k.1)
 
 -- where the blocks end without room, those of all pairs have more numbers than there may be
-pub blocking-limit : (invs : List Invariant) (parts : Parts) (log : RunLists) (spans0 spans : Numbers) → HasIds parts → EndsWithoutRoom invs parts (blocks_of log spans) (length spans.numbers)
-    → spans ≡ record spans0 { numbers = spans0.numbers ++ paths_of (blocks_of log spans) } → (bs : List Block) → AreBlocks invs (G parts.traces) bs
+pub blocking-limit : (invs : List Invariant) (parts : Parts) (run_log : RunLists) (spans0 spans : Numbers) → HasIds parts → EndsWithoutRoom invs parts (blocks_of run_log spans) (length spans.numbers)
+    → spans ≡ record spans0 { numbers = spans0.numbers ++ paths_of (blocks_of run_log spans) } → (bs : List Block) → AreBlocks invs (G parts.traces) bs
     → 4000000 < length spans0.numbers + block_numbers bs
-blocking-limit invs parts log spans0 spans ids w e bs a =
+blocking-limit invs parts run_log spans0 spans ids w e bs a =
     let g : Graph = G parts.traces in
-    let done : List Block = blocks_of log spans in
+    let done : List Block = blocks_of run_log spans in
     let f : pairs_of bs ≡ pairs_below parts.used g = blocks_follow_pairs invs g parts.used bs (parts-below parts ids) a in
     let l : block_numbers done + length w.next.path ≤ block_numbers bs = no-less invs g done bs w.next w.rest (f ∙ sym w.pairs) (each-block invs g bs a) w.each w.is_block in
     let n : length spans.numbers ≡ length spans0.numbers + length (paths_of done) = ap (λ (x : Numbers). length x.numbers) e ∙ length-append spans0.numbers (paths_of done) in

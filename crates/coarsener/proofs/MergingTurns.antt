@@ -13,10 +13,10 @@ use Rattle.partition_model.specs.Refinement.{SatisfiesAll}
 use Rattle.partition_model.specs.Coarsening.{merge, IsPair, IsNextMerge, NoMerge, PairBefore, Coarsens}
 use Rattle.partition_model.specs.Laws.{LostBefore}
 use Rattle.partition_model.proofs.Lists.{In, bit}
-use Rattle.partition_model.proofs.Listing.{range-In}
+use Rattle.partition_model.proofs.Listing.{live-below, range-In}
 use Rattle.partition_model.proofs.Merging.{gone}
 use Rattle.partition_model.proofs.Passes.{live-back, pair-back, one_pass_merges}
-use Rattle.partition_bounds.proofs.Merges.{graphs_are_below, live-below, In-range}
+use Rattle.partition_bounds.proofs.Merges.{graphs_are_below, In-range}
 use Rattle.partition_bounds.specs.Pairs.{pairs_below}
 use Rattle.partition_bounds.proofs.Pairing.{range-count}
 use Rattle.partition_graph.specs.Parts.{Parts, joined}
@@ -119,8 +119,8 @@ none-before h u v i (inr e) =
     omega (arith, e.0, e.1)
 
 -- before the first pair no merge is made
-pub coarsening-start : (invs : List Invariant) (parts : Parts) (log : RunLists) → SatisfiesAll (G parts.traces) invs → log.merges ≡ [] → IsCoarsening invs parts parts 2 2 (merges_of log)
-coarsening-start invs parts log sat e =
+pub coarsening-start : (invs : List Invariant) (parts : Parts) (run_log : RunLists) → SatisfiesAll (G parts.traces) invs → run_log.merges ≡ [] → IsCoarsening invs parts parts 2 2 (merges_of run_log)
+coarsening-start invs parts run_log sat e =
     subst (λ (ms : List Merge). IsCoarsening invs parts parts 2 2 ms) (sym (ap (map merge_of) e))
     (record { so_far = refl; used = refl; lost = λ u v i k all. none-before parts.traces u v i k; satisfied = sat; few = omega arith })
 
@@ -163,14 +163,14 @@ lost-too invs h r s lost f u v i (inr e) sat =
     ]
 
 -- the merges with one more
-merges-more : (p q : ℕ) (log : RunLists) → merges_of (with_merge p q log) ≡ merges_of log ++ record { p = p; q = q } ∷ []
-merges-more p q log = map-append merge_of log.merges (record { p = p; q = q } ∷ [])
+merges-more : (p q : ℕ) (run_log : RunLists) → merges_of (with_merge p q run_log) ≡ merges_of run_log ++ record { p = p; q = q } ∷ []
+merges-more p q run_log = map-append merge_of run_log.merges (record { p = p; q = q } ∷ [])
 
 -- a turn decides the next pair
-pub coarsening-turn : (invs : List Invariant) (old now new : Parts) (p q r s : ℕ) (log log' : RunLists) → HasIds now → IsCoarsening invs old now p q (merges_of log)
-    → IsNextPair (G now.traces) p q r s → IsDecided invs now new log log' r s → IsCoarsening invs old new r s (merges_of log')
-coarsening-turn invs old now new p q r s log log' ids c n (inl d) =
-    subst (λ (x : Parts). IsCoarsening invs old x r s (merges_of log')) (sym d.graph)
+pub coarsening-turn : (invs : List Invariant) (old now new : Parts) (p q r s : ℕ) (run_log run_log' : RunLists) → HasIds now → IsCoarsening invs old now p q (merges_of run_log)
+    → IsNextPair (G now.traces) p q r s → IsDecided invs now new run_log run_log' r s → IsCoarsening invs old new r s (merges_of run_log')
+coarsening-turn invs old now new p q r s run_log run_log' ids c n (inl d) =
+    subst (λ (x : Parts). IsCoarsening invs old x r s (merges_of run_log')) (sym d.graph)
     (subst (λ (l : RunLists). IsCoarsening invs old now r s (merges_of l)) (sym d.told)
     (record {
       so_far = c.so_far;
@@ -179,27 +179,27 @@ coarsening-turn invs old now new p q r s log log' ids c n (inl d) =
       satisfied = c.satisfied;
       few = c.few;
     }))
-coarsening-turn invs old now new p q r s log log' ids c n (inr d) =
+coarsening-turn invs old now new p q r s run_log run_log' ids c n (inr d) =
     let m : Merge = record { p = r; q = s } in
     let o : IsNextMerge invs now.traces m × LostBefore invs (merge r s now.traces) r (s + 1) × IsTyped (merge r s now.traces) =
     one_pass_merges invs now.traces r s ids.typed n.pair (lost-between invs now.traces p q r s c.lost n) d.keeps in
     let f : suc (live_count now.used (merge r s now.traces)) ≤ live_count now.used now.traces = fewer-live now.traces now.used r s ids.two ids.below n.pair in
     let f' : suc (live_count old.used (merge r s now.traces)) ≤ live_count old.used now.traces =
     subst (λ (x : ℕ). suc (live_count x (merge r s now.traces)) ≤ live_count x now.traces) c.used f in
-    let len : length (merges_of log ++ m ∷ []) ≡ length (merges_of log) + 1 = length-append (merges_of log) (m ∷ []) in
-    let w : length (merges_of log) + live_count old.used now.traces ≤ live_count old.used old.traces = c.few in
-    subst (λ (x : Parts). IsCoarsening invs old x r s (merges_of log')) (sym d.graph)
+    let len : length (merges_of run_log ++ m ∷ []) ≡ length (merges_of run_log) + 1 = length-append (merges_of run_log) (m ∷ []) in
+    let w : length (merges_of run_log) + live_count old.used now.traces ≤ live_count old.used old.traces = c.few in
+    subst (λ (x : Parts). IsCoarsening invs old x r s (merges_of run_log')) (sym d.graph)
     (subst (λ (l : RunLists). IsCoarsening invs old (joined r s now) r s (merges_of l)) (sym d.told)
-    (subst (λ (ms : List Merge). IsCoarsening invs old (joined r s now) r s ms) (sym (merges-more r s log))
+    (subst (λ (ms : List Merge). IsCoarsening invs old (joined r s now) r s ms) (sym (merges-more r s run_log))
     (record {
-      so_far = merges-push invs (merges_of log) m old.traces now.traces c.so_far o.0;
+      so_far = merges-push invs (merges_of run_log) m old.traces now.traces c.so_far o.0;
       used = c.used;
       lost = o.1;
       satisfied = d.keeps;
       few = omega arith;
     })))
 
--- there are fewer merges than the log has room for
+-- there are fewer merges than the run's log has room for
 pub coarsening-few : (invs : List Invariant) (old now : Parts) (p q r s : ℕ) (ms : List Merge) → HasIds now → IsCoarsening invs old now p q ms → IsPair (G now.traces) r s → length ms < 1022
 coarsening-few invs old now p q r s ms ids c i =
     let f : suc (live_count now.used (merge r s now.traces)) ≤ live_count now.used now.traces = fewer-live now.traces now.used r s ids.two ids.below i in
@@ -215,17 +215,17 @@ coarsening-few invs old now p q r s ms ids c i =
 pub coarsening-end : (invs : List Invariant) (old now : Parts) (p q : ℕ) (ms : List Merge) → IsCoarsening invs old now p q ms → HasNoPairBehind (G now.traces) p q → Coarsens invs old.traces ms now.traces
 coarsening-end invs old now p q ms c n = merges-end invs ms old.traces now.traces c.so_far (lost-behind invs now.traces p q c.lost n)
 
--- a turn changes nothing of the log but its merges
-pub others-turn : (invs : List Invariant) (old new : Parts) (first log log' : RunLists) (p q : ℕ) → log ≡ record first { merges = log.merges } → IsDecided invs old new log log' p q
-    → log' ≡ record first { merges = log'.merges }
-others-turn invs old new first log log' p q e (inl d) = subst (λ (l : RunLists). l ≡ record first { merges = l.merges }) (sym d.told) e
-others-turn invs old new first log log' p q e (inr d) =
+-- a turn changes nothing of the run's log but its merges
+pub others-turn : (invs : List Invariant) (old new : Parts) (first run_log run_log' : RunLists) (p q : ℕ) → run_log ≡ record first { merges = run_log.merges } → IsDecided invs old new run_log run_log' p q
+    → run_log' ≡ record first { merges = run_log'.merges }
+others-turn invs old new first run_log run_log' p q e (inl d) = subst (λ (l : RunLists). l ≡ record first { merges = l.merges }) (sym d.told) e
+others-turn invs old new first run_log run_log' p q e (inr d) =
     subst (λ (l : RunLists). l ≡ record first { merges = l.merges }) (sym d.told)
-    (ap (λ (l : RunLists). record l { merges = log.merges ++ record { p = p; q = q } ∷ [] }) e)
+    (ap (λ (l : RunLists). record l { merges = run_log.merges ++ record { p = p; q = q } ∷ [] }) e)
 
--- the log tells as many merges as it has
-pub merge-count : (log : RunLists) → length (merges_of log) ≡ length log.merges
-merge-count log = length-map log.merges merge_of
+-- the run's log tells as many merges as it has
+pub merge-count : (run_log : RunLists) → length (merges_of run_log) ≡ length run_log.merges
+merge-count run_log = length-map run_log.merges merge_of
 
 -- 1 where a pair stays apart
 abbrev pub kept : Bool → ℕ
@@ -304,23 +304,23 @@ counting-merged old now p q r s m apart ids c n =
     }
 
 -- and behind the next pair, whether it was merged or stays apart
-pub counting-turn : (invs : List Invariant) (old now new : Parts) (p q r s : ℕ) (log log' : RunLists) (apart : Bool) (marked : Marked) → HasIds now → IsCounted old now p q (length log.merges) apart
-    → IsNextPair (G now.traces) p q r s → IsDecided invs now new log log' r s → length log'.merges ≡ length log.merges + owed marked
-    → IsCounted old new r s (length log'.merges) (apart || stays_apart marked)
-counting-turn invs old now new p q r s log log' apart Now ids c n (inl d) e =
-    subst (λ (x : Parts). IsCounted old x r s (length log'.merges) (apart || true)) (sym d.graph)
+pub counting-turn : (invs : List Invariant) (old now new : Parts) (p q r s : ℕ) (run_log run_log' : RunLists) (apart : Bool) (marked : Marked) → HasIds now → IsCounted old now p q (length run_log.merges) apart
+    → IsNextPair (G now.traces) p q r s → IsDecided invs now new run_log run_log' r s → length run_log'.merges ≡ length run_log.merges + owed marked
+    → IsCounted old new r s (length run_log'.merges) (apart || stays_apart marked)
+counting-turn invs old now new p q r s run_log run_log' apart Now ids c n (inl d) e =
+    subst (λ (x : Parts). IsCounted old x r s (length run_log'.merges) (apart || true)) (sym d.graph)
     (subst (λ (m : ℕ). IsCounted old now r s m (apart || true)) (sym (ap (λ (l : RunLists). length l.merges) d.told))
-    (counting-apart old now p q r s (length log.merges) apart c n))
-counting-turn invs old now new p q r s log log' apart Nothing ids c n (inl d) e = absurd (omega (arith, e, ap (λ (l : RunLists). length l.merges) d.told))
-counting-turn invs old now new p q r s log log' apart (Before x) ids c n (inl d) e = absurd (omega (arith, e, ap (λ (l : RunLists). length l.merges) d.told))
-counting-turn invs old now new p q r s log log' apart Now ids c n (inr d) e =
-    absurd (omega (arith, e, ap (λ (l : RunLists). length l.merges) d.told, length-append log.merges (record { p = r; q = s } ∷ [])))
-counting-turn invs old now new p q r s log log' apart Nothing ids c n (inr d) e =
-    subst (λ (x : Parts). IsCounted old x r s (length log'.merges) (apart || false)) (sym d.graph)
-    (subst (λ (m : ℕ). IsCounted old (joined r s now) r s m (apart || false)) (sym e) (counting-merged old now p q r s (length log.merges) apart ids c n))
-counting-turn invs old now new p q r s log log' apart (Before x) ids c n (inr d) e =
-    subst (λ (x : Parts). IsCounted old x r s (length log'.merges) (apart || false)) (sym d.graph)
-    (subst (λ (m : ℕ). IsCounted old (joined r s now) r s m (apart || false)) (sym e) (counting-merged old now p q r s (length log.merges) apart ids c n))
+    (counting-apart old now p q r s (length run_log.merges) apart c n))
+counting-turn invs old now new p q r s run_log run_log' apart Nothing ids c n (inl d) e = absurd (omega (arith, e, ap (λ (l : RunLists). length l.merges) d.told))
+counting-turn invs old now new p q r s run_log run_log' apart (Before x) ids c n (inl d) e = absurd (omega (arith, e, ap (λ (l : RunLists). length l.merges) d.told))
+counting-turn invs old now new p q r s run_log run_log' apart Now ids c n (inr d) e =
+    absurd (omega (arith, e, ap (λ (l : RunLists). length l.merges) d.told, length-append run_log.merges (record { p = r; q = s } ∷ [])))
+counting-turn invs old now new p q r s run_log run_log' apart Nothing ids c n (inr d) e =
+    subst (λ (x : Parts). IsCounted old x r s (length run_log'.merges) (apart || false)) (sym d.graph)
+    (subst (λ (m : ℕ). IsCounted old (joined r s now) r s m (apart || false)) (sym e) (counting-merged old now p q r s (length run_log.merges) apart ids c n))
+counting-turn invs old now new p q r s run_log run_log' apart (Before x) ids c n (inr d) e =
+    subst (λ (x : Parts). IsCounted old x r s (length run_log'.merges) (apart || false)) (sym d.graph)
+    (subst (λ (m : ℕ). IsCounted old (joined r s now) r s m (apart || false)) (sym e) (counting-merged old now p q r s (length run_log.merges) apart ids c n))
 
 -- where no pair stays apart, the last one that was looked at was merged
 pub owed-turn : (apart : Bool) (marked : Marked) → (apart || stays_apart marked) ≡ false → owed marked ≡ 1

@@ -12,26 +12,26 @@ use Rattle.partition_graph.specs.Parts.{Parts, joined}
 abbrev pub IsLost : List Invariant → Parts → ℕ → ℕ → Type 0
 IsLost invs parts p q = SatisfiesAll (G (merge p q parts.traces)) invs → ⊥
 
--- the log has the merge of the pair behind the others
+-- the run's log has the merge of the pair behind the others
 abbrev pub with_merge : ℕ → ℕ → RunLists → RunLists
-with_merge p q log = record log { merges = log.merges ++ record { p = p; q = q } ∷ [] }
+with_merge p q run_log = record run_log { merges = run_log.merges ++ record { p = p; q = q } ∷ [] }
 
 -- the pair stays apart, since its merge loses an invariant
-pub record StaysApart (invs : List Invariant) (old new : Parts) (log log' : RunLists) (p q : ℕ) : Type 0 where
+pub record StaysApart (invs : List Invariant) (old new : Parts) (run_log run_log' : RunLists) (p q : ℕ) : Type 0 where
   pub lost : IsLost invs old p q
   pub graph : new ≡ old
-  pub told : log' ≡ log
+  pub told : run_log' ≡ run_log
 
 -- the pair is merged, which loses no invariant
-pub record IsMerged (invs : List Invariant) (old new : Parts) (log log' : RunLists) (p q : ℕ) : Type 0 where
+pub record IsMerged (invs : List Invariant) (old new : Parts) (run_log run_log' : RunLists) (p q : ℕ) : Type 0 where
   pub keeps : SatisfiesAll (G (merge p q old.traces)) invs
   pub graph : new ≡ joined p q old
-  pub told : log' ≡ with_merge p q log
+  pub told : run_log' ≡ with_merge p q run_log
 
 -- the pair stays apart or is merged, by whether its merge loses an invariant
 abbrev pub IsDecided : List Invariant → Parts → Parts → RunLists → RunLists → ℕ → ℕ → Type 0
-IsDecided invs old new log log' p q =
-    StaysApart invs old new log log' p q ⊎ IsMerged invs old new log log' p q
+IsDecided invs old new run_log run_log' p q =
+    StaysApart invs old new run_log run_log' p q ⊎ IsMerged invs old new run_log run_log' p q
 
 -- the number of the first invariant that the graph does not satisfy, or none where it satisfies all
 abbrev pub IsFirstBad : Graph → List Invariant → Option ℕ → Type 0

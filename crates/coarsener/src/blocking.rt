@@ -126,7 +126,7 @@ fn blocks_told<L: Ledger>(
     told: Told,
     invs: &[Invariant],
     spans: &mut Spans,
-    log: &mut RunLog,
+    run_log: &mut RunLog,
     steps: &mut Steps<L>,
 ) -> Result<(), EvidenceLimit>
     requires told { 0 < pair_count graph.now → TellsLosses told planes.old (G (graph.now).traces) }
@@ -134,27 +134,27 @@ fn blocks_told<L: Ledger>(
     requires ended { NoMerge invs.now (graph.now).traces }
     requires listed { (planes.old).invs ≡ invs.now }
     requires numbers { (spans.old).room ≡ MAX_PATH_NUMBERS }
-    requires begun { (log.old).blocks ≡ [] }
-    requires room { pair_count graph.now ≤ (log.old).block_room }
+    requires begun { (run_log.old).blocks ≡ [] }
+    requires room { pair_count graph.now ≤ (run_log.old).block_room }
 
     // All blocks, where there is room for their paths.
     ensures ok { OnOk result
-        (AreBlocks invs.now (G (graph.now).traces) (blocks_of log.new spans.new)) }
+        (AreBlocks invs.now (G (graph.now).traces) (blocks_of run_log.new spans.new)) }
     ensures within { OnOk result (length (spans.new).numbers ≤ MAX_PATH_NUMBERS) }
 
     // When the limit is passed, and what stands then.
     ensures limit { OnErr result ((bs : List Block) → AreBlocks invs.now (G (graph.now).traces) bs
         → MAX_PATH_NUMBERS < length (spans.old).numbers + block_numbers bs) }
-    ensures err { OnErr result (EndsWithoutRoom invs.now graph.now (blocks_of log.new spans.new)
+    ensures err { OnErr result (EndsWithoutRoom invs.now graph.now (blocks_of run_log.new spans.new)
         (length (spans.new).numbers)) }
 
-    // What the spans and the log hold in each case.
+    // What the spans and the run's log hold in each case.
     ensures paths { spans.new ≡ record spans.old {
-      numbers = (spans.old).numbers ++ paths_of (blocks_of log.new spans.new);
+      numbers = (spans.old).numbers ++ paths_of (blocks_of run_log.new spans.new);
     } }
     ensures stays { KeepsLists (spans.old).numbers (spans.new).numbers }
-    ensures holds { HoldsPaths log.old spans.old → HoldsPaths log.new spans.new }
-    ensures others { log.new ≡ record log.old { blocks = (log.new).blocks } }
+    ensures holds { HoldsPaths run_log.old spans.old → HoldsPaths run_log.new spans.new }
+    ensures others { run_log.new ≡ record run_log.old { blocks = (run_log.new).blocks } }
     ensures list { (planes.new).invs ≡ (planes.old).invs }
 
     // How many steps are counted.
@@ -181,55 +181,55 @@ fn blocks_told<L: Ledger>(
         let Some(path) = spans.push(path) else {
             return Err(EvidenceLimit);
         };
-        log.add_block(pair.p, pair.q, k as u32, path);
+        run_log.add_block(pair.p, pair.q, k as u32, path);
         at = pair;
     }
     Ok(())
 }
 
-/// Tells in the log, for each pair of one type, why it stays apart: the first invariant that its merge loses, and the
-/// least violation of it in the merged graph, whose path goes into the spans. Pairs come by their lower ids and then by
-/// their higher ones.
+/// Tells in the run's log, for each pair of one type, why it stays apart: the first invariant that its merge loses, and
+/// the least violation of it in the merged graph, whose path goes into the spans. Pairs come by their lower ids and then
+/// by their higher ones.
 ///
-/// No merge keeps all invariants. The log has no blocks yet, and room for one for each pair. The spans have room for
-/// `MAX_PATH_NUMBERS` numbers, those of the splits' paths, which they hold already, among them.
+/// No merge keeps all invariants. The run's log has no blocks yet, and room for one for each pair. The spans have room
+/// for `MAX_PATH_NUMBERS` numbers, those of the splits' paths, which they hold already, among them.
 ///
 /// `EvidenceLimit` comes exactly where the paths of the blocks have together with these more numbers than that. Then the
-/// log has the blocks before the one whose path did not fit. It counts at most two steps
-/// for each pair, and takes no memory.
+/// run's log has the blocks before the one whose path did not fit. It counts at most two steps for each pair, and takes
+/// no memory.
 pub fn blocks<L: Ledger>(
     graph: &PartGraph,
     finder: &mut Finder,
     planes: &mut Planes,
     invs: &[Invariant],
     spans: &mut Spans,
-    log: &mut RunLog,
+    run_log: &mut RunLog,
     steps: &mut Steps<L>,
 ) -> Result<(), EvidenceLimit>
     requires ended { NoMerge invs.now (graph.now).traces }
     requires listed { (planes.old).invs ≡ invs.now }
     requires numbers { (spans.old).room ≡ MAX_PATH_NUMBERS }
-    requires begun { (log.old).blocks ≡ [] }
-    requires room { pair_count graph.now ≤ (log.old).block_room }
+    requires begun { (run_log.old).blocks ≡ [] }
+    requires room { pair_count graph.now ≤ (run_log.old).block_room }
 
     // All blocks, where there is room for their paths.
     ensures ok { OnOk result
-        (AreBlocks invs.now (G (graph.now).traces) (blocks_of log.new spans.new)) }
+        (AreBlocks invs.now (G (graph.now).traces) (blocks_of run_log.new spans.new)) }
     ensures within { OnOk result (length (spans.new).numbers ≤ MAX_PATH_NUMBERS) }
 
     // When the limit is passed, and what stands then.
     ensures limit { OnErr result ((bs : List Block) → AreBlocks invs.now (G (graph.now).traces) bs
         → MAX_PATH_NUMBERS < length (spans.old).numbers + block_numbers bs) }
-    ensures err { OnErr result (EndsWithoutRoom invs.now graph.now (blocks_of log.new spans.new)
+    ensures err { OnErr result (EndsWithoutRoom invs.now graph.now (blocks_of run_log.new spans.new)
         (length (spans.new).numbers)) }
 
-    // What the spans and the log hold in each case.
+    // What the spans and the run's log hold in each case.
     ensures paths { spans.new ≡ record spans.old {
-      numbers = (spans.old).numbers ++ paths_of (blocks_of log.new spans.new);
+      numbers = (spans.old).numbers ++ paths_of (blocks_of run_log.new spans.new);
     } }
     ensures stays { KeepsLists (spans.old).numbers (spans.new).numbers }
-    ensures holds { HoldsPaths log.old spans.old → HoldsPaths log.new spans.new }
-    ensures others { log.new ≡ record log.old { blocks = (log.new).blocks } }
+    ensures holds { HoldsPaths run_log.old spans.old → HoldsPaths run_log.new spans.new }
+    ensures others { run_log.new ≡ record run_log.old { blocks = (run_log.new).blocks } }
     ensures list { (planes.new).invs ≡ (planes.old).invs }
 
     // How many steps are counted.
@@ -237,7 +237,7 @@ pub fn blocks<L: Ledger>(
     ensures few { steps.new ≤ steps.old + 2 * pair_count graph.now }
 {
     let told = tell_losses(graph, planes, steps);
-    blocks_told(graph, finder, planes, told, invs, spans, log, steps)
+    blocks_told(graph, finder, planes, told, invs, spans, run_log, steps)
 }
 
 /// Tells why pairs stay apart, as `blocks` does, where the graph satisfies all invariants and the marks are those of the
@@ -248,7 +248,7 @@ pub fn blocks_marked<L: Ledger>(
     planes: &mut Planes,
     invs: &[Invariant],
     spans: &mut Spans,
-    log: &mut RunLog,
+    run_log: &mut RunLog,
     steps: &mut Steps<L>,
 ) -> Result<(), EvidenceLimit>
     requires satisfied { SatisfiesAll (G (graph.now).traces) invs.now }
@@ -257,27 +257,27 @@ pub fn blocks_marked<L: Ledger>(
     requires ended { NoMerge invs.now (graph.now).traces }
     requires listed { (planes.old).invs ≡ invs.now }
     requires numbers { (spans.old).room ≡ MAX_PATH_NUMBERS }
-    requires begun { (log.old).blocks ≡ [] }
-    requires room { pair_count graph.now ≤ (log.old).block_room }
+    requires begun { (run_log.old).blocks ≡ [] }
+    requires room { pair_count graph.now ≤ (run_log.old).block_room }
 
     // All blocks, where there is room for their paths.
     ensures ok { OnOk result
-        (AreBlocks invs.now (G (graph.now).traces) (blocks_of log.new spans.new)) }
+        (AreBlocks invs.now (G (graph.now).traces) (blocks_of run_log.new spans.new)) }
     ensures within { OnOk result (length (spans.new).numbers ≤ MAX_PATH_NUMBERS) }
 
     // When the limit is passed, and what stands then.
     ensures limit { OnErr result ((bs : List Block) → AreBlocks invs.now (G (graph.now).traces) bs
         → MAX_PATH_NUMBERS < length (spans.old).numbers + block_numbers bs) }
-    ensures err { OnErr result (EndsWithoutRoom invs.now graph.now (blocks_of log.new spans.new)
+    ensures err { OnErr result (EndsWithoutRoom invs.now graph.now (blocks_of run_log.new spans.new)
         (length (spans.new).numbers)) }
 
-    // What the spans and the log hold in each case.
+    // What the spans and the run's log hold in each case.
     ensures paths { spans.new ≡ record spans.old {
-      numbers = (spans.old).numbers ++ paths_of (blocks_of log.new spans.new);
+      numbers = (spans.old).numbers ++ paths_of (blocks_of run_log.new spans.new);
     } }
     ensures stays { KeepsLists (spans.old).numbers (spans.new).numbers }
-    ensures holds { HoldsPaths log.old spans.old → HoldsPaths log.new spans.new }
-    ensures others { log.new ≡ record log.old { blocks = (log.new).blocks } }
+    ensures holds { HoldsPaths run_log.old spans.old → HoldsPaths run_log.new spans.new }
+    ensures others { run_log.new ≡ record run_log.old { blocks = (run_log.new).blocks } }
     ensures list { (planes.new).invs ≡ (planes.old).invs }
 
     // How many steps are counted.
@@ -291,7 +291,7 @@ pub fn blocks_marked<L: Ledger>(
         Told::Marks(None),
         invs,
         spans,
-        log,
+        run_log,
         steps,
     )
 }

@@ -59,7 +59,7 @@ fn mark<L: Ledger>(graph: &PartGraph, planes: &mut Planes, marked: Marked, steps
 fn merge_unless_lost(
     graph: &mut PartGraph,
     planes: &mut Planes,
-    log: &mut RunLog,
+    run_log: &mut RunLog,
     pair: Pair,
 ) -> Marked
     requires typed { IsTyped (graph.old).traces }
@@ -68,52 +68,52 @@ fn merge_unless_lost(
     requires satisfied { SatisfiesAll (G (graph.old).traces) (planes.old).invs }
     requires listed { (planes.old).clashes.invs ≡ (planes.old).invs }
     requires marks { AreMarksOf (planes.old).clashes (G (graph.old).traces) }
-    requires room { length (log.old).merges < (log.old).merge_room }
+    requires room { length (run_log.old).merges < (run_log.old).merge_room }
 
     // What is decided, and of which graph the marks are. A step is owed where a merge was made.
     ensures decided { IsDecided
-        (planes.old).invs graph.old graph.new log.old log.new pair.p pair.q }
+        (planes.old).invs graph.old graph.new run_log.old run_log.new pair.p pair.q }
     ensures marked { AreMarkedAs result planes.new graph.new }
     ensures same { planes.new ≡ planes.old }
-    ensures owes { length (log.new).merges ≡ length (log.old).merges + owed result }
+    ensures owes { length (run_log.new).merges ≡ length (run_log.old).merges + owed result }
 {
     if planes.first_clash(pair.p, pair.q).is_some() {
         return Marked::Now;
     }
     graph.merge(pair.p, pair.q);
-    log.add_merge(pair.p, pair.q);
+    run_log.add_merge(pair.p, pair.q);
     Marked::Before(pair)
 }
 
-/// Merges partitions of one type until each further merge loses an invariant, and tells the merges in the log.
+/// Merges partitions of one type until each further merge loses an invariant, and tells the merges in the run's log.
 /// Each is of the first pair, by its lower id and then by its higher one, whose merge loses none.
 ///
-/// The graph satisfies the invariants that the planes were made for. The log has no merges yet, and room for all that can
-/// come. It takes no memory. It counts at most a step for each pair of one type that there is at the start, and at most
-/// one more than it makes merges: all marks are found once, and after a merge they spread from there. Where pairs are
-/// left, the marks are those of the graph at the end.
+/// The graph satisfies the invariants that the planes were made for. The run's log has no merges yet, and room for all
+/// that can come. It takes no memory. It counts at most a step for each pair of one type that there is at the start, and
+/// at most one more than it makes merges: all marks are found once, and after a merge they propagate from there. Where
+/// pairs are left, the marks are those of the graph at the end.
 pub fn coarsen<L: Ledger>(
     graph: &mut PartGraph,
     planes: &mut Planes,
-    log: &mut RunLog,
+    run_log: &mut RunLog,
     steps: &mut Steps<L>,
 )
     requires satisfied { SatisfiesAll (G (graph.old).traces) (planes.old).invs }
-    requires begun { (log.old).merges ≡ [] }
-    requires room { MAX_STEPS ≤ (log.old).merge_room }
+    requires begun { (run_log.old).merges ≡ [] }
+    requires room { MAX_STEPS ≤ (run_log.old).merge_room }
 
     // The whole run, and what stays as it was.
     ensures run { Coarsens
-        (planes.old).invs (graph.old).traces (merges_of log.new) (graph.new).traces }
+        (planes.old).invs (graph.old).traces (merges_of run_log.new) (graph.new).traces }
     ensures used { (graph.new).used ≡ (graph.old).used }
-    ensures others { log.new ≡ record log.old { merges = (log.new).merges } }
+    ensures others { run_log.new ≡ record run_log.old { merges = (run_log.new).merges } }
     ensures list { (planes.new).invs ≡ (planes.old).invs }
     ensures marks { 0 < pair_count graph.new → AreMarksNow planes.new graph.new }
 
     // How many steps are counted.
     ensures more { steps.old ≤ steps.new }
     ensures few { steps.new ≤ steps.old + pair_count graph.old }
-    ensures once { steps.new ≤ steps.old + 1 + length (merges_of log.new) }
+    ensures once { steps.new ≤ steps.old + 1 + length (merges_of run_log.new) }
 {
     prove!(graph.ids_used() <= MAX_PARTITIONS);
     let mut at = Pair::start();
@@ -121,7 +121,7 @@ pub fn coarsen<L: Ledger>(
     let mut apart = false;
     while let Some(pair) = next_pair(graph, at) {
         mark(graph, planes, marked, steps);
-        marked = merge_unless_lost(graph, planes, log, pair);
+        marked = merge_unless_lost(graph, planes, run_log, pair);
         apart = apart | stays_apart(marked);
         at = pair;
     }

@@ -4,7 +4,6 @@ pub mod Edges
 pub mod UnusedIds
 pub mod WordCells
 pub mod Counting
-pub mod Listing
 pub mod Gathered
 pub mod Moving
 pub mod Marking

@@ -1,10 +1,11 @@
 //! The partitions of events, and the counts of edges.
-ghost use Rattle.std.specs.Prelude.{◌≡◌, ◌≤◌, ◌<◌, ◌+◌, ◌++◌, IfOk, OnOk, length, map, slice_index, slice_get, Some, MatchOption, IfSome};
+ghost use Rattle.std.specs.Prelude.{◌≡◌, ◌≤◌, ◌<◌, ◌+◌, IfOk, length, slice_index, slice_get, Some, MatchOption, IfSome};
+
+mod listing;
 
 use crate::cells::{Cell, copy_traces, gather, gather_shared};
 use crate::events::Events;
 use crate::tables::Tables;
-use invariants::{Edge, Partition, Seq};
 use limits::{FIRST_TYPE, MAX_PARTITIONS};
 use std::alloc::{AllocError, Global};
 use std::marker::Model;
@@ -40,7 +41,7 @@ impl Model for PartGraph {
 
 impl PartGraph {
     ghost use Rattle.partition_model.specs.Assignments.{edge_count, events, is_live, size, type_of, G, IsTyped};
-    ghost use Rattle.partition_model.specs.Listings.{edges_below, edges_from, first_event, partitions_below, parts_of, AreBelow, IsLast};
+    ghost use Rattle.partition_model.specs.Listings.{first_event, parts_of, AreBelow, IsLast};
     ghost use Rattle.partition_model.specs.Coarsening.{IsPair};
     ghost use Rattle.partition_graph.specs.Parts.{divided, joined, start_of, HasEdgesBelow, IsUsed};
     ghost use Rattle.partition_graph.specs.Nexts.{IsNextAnswer};
@@ -275,76 +276,4 @@ impl PartGraph {
     {
         self.firsts[t as usize]
     }
-
-    /// The live partitions, by their ids.
-    pub fn partitions(&self, alloc: Global) -> Result<Seq<Partition>, AllocError>
-        ensures { IfOk result (λ list. list ≡ partitions_below (self.now).used (self.now).traces) }
-    {
-        let mut list = Vec::new(alloc);
-        for p in 0..self.ids_used() {
-            if self.is_live(p) {
-                list.push(Partition {
-                    id: p,
-                    typ: self.type_of(p),
-                    count: self.size(p),
-                })?;
-            }
-        }
-        Ok(Seq::from_vec(list))
-    }
-
-    /// The edges whose count is above 0, by the ids that they leave and then by those that they enter.
-    pub fn edges(&self, alloc: Global) -> Result<Seq<Edge>, AllocError>
-        ensures { IfOk result (λ list. list ≡ edges_below (self.now).used (self.now).traces) }
-    {
-        let mut list = Vec::new(alloc);
-        for p in 0..self.ids_used() {
-            self.push_edges_from(p, &mut list)?;
-        }
-        Ok(Seq::from_vec(list))
-    }
-
-    /// Puts the edges that leave p behind the others.
-    fn push_edges_from(&self, p: u32, list: &mut Vec<Edge>) -> Result<(), AllocError>
-        ensures { OnOk result
-            (list.new.items ≡ list.old.items ++ edges_from (self.now).used (self.now).traces p) }
-    {
-        for q in 0..self.ids_used() {
-            let count = self.edge_count(p, q);
-            if count > 0 {
-                list.push(Edge {
-                    from: p,
-                    to: q,
-                    count,
-                })?;
-            }
-        }
-        Ok(())
-    }
-
-    /// The id of each event, trace after trace.
-    pub fn parts(&self, alloc: Global) -> Result<Seq<u32>, AllocError>
-        ensures { IfOk result (λ list. list ≡ parts_of (self.now).traces) }
-    {
-        ids_of(alloc, self.events.cells())
-    }
-
-    /// The id of each event of the traces with these numbers, one trace for each number: those of the graph that
-    /// `spread` makes.
-    pub fn spread_parts(&self, alloc: Global, numbers: &[u32]) -> Result<Seq<u32>, AllocError>
-        requires within { All (λ k. k < length (self.now).traces) numbers.now }
-        requires few { length (events (spread numbers.now (self.now).traces)) ≤ MAX_EVENTS }
-        ensures { IfOk result (λ list. list ≡ parts_of (spread numbers.now (self.now).traces)) }
-    {
-        let (cells, _firsts) = copy_traces(alloc, self.events.cells(), &self.firsts, numbers)?;
-        ids_of(alloc, &cells)
-    }
-}
-
-/// The id of each cell.
-fn ids_of(alloc: Global, cells: &[Cell]) -> Result<Seq<u32>, AllocError>
-    ensures { IfOk result (λ list. list ≡ map (λ c. c.id) cells.now) }
-{
-    let ids = cells.iter().map(|cell| cell.id as u32).collect(alloc)?;
-    Ok(Seq::from_vec(ids))
 }

@@ -10,7 +10,7 @@ use Rattle.partition_model.specs.Graphs.{Graph, Walk, IsPath, word, Breaks, Sati
 use Rattle.invariants.specs.Monitors.{run, is_bad}
 use Rattle.invariants.proofs.Agree.{monitor_agrees}
 use Rattle.path_finder.specs.declared.reach.Way.TheVariants.{Ahead, Behind}
-use Rattle.path_finder.specs.Nearness.{narrowed, is_met, is_of_type, key_of, AvoidsGone, IsSpread}
+use Rattle.path_finder.specs.Nearness.{narrowed, is_met, is_of_type, key_of, AvoidsGone, IsReachedFrom}
 use Rattle.path_finder.specs.Reaching.{edge_by}
 use Rattle.path_finder.specs.declared.reach.Around.{Around}
 use Rattle.path_finder.specs.Keeping.{is_around}
@@ -92,8 +92,8 @@ other_edge g p q u v a b e =
 pub record KeepsAround (kept : ℕ → Bool) (g : Graph) (starts : ℕ → Bool) : Type 0 where
   pub ahead : ℕ → Bool
   pub behind : ℕ → Bool
-  pub spreads : IsSpread ahead starts (edge_by Ahead g)
-  pub comes : IsSpread behind starts (edge_by Behind g)
+  pub reaches : IsReachedFrom ahead starts (edge_by Ahead g)
+  pub comes : IsReachedFrom behind starts (edge_by Behind g)
   pub keeps_ahead : (u : ℕ) → ahead u ≡ true → kept u ≡ true
   pub keeps_behind : (u : ℕ) → behind u ≡ true → kept u ≡ true
 
@@ -101,7 +101,7 @@ pub record KeepsAround (kept : ℕ → Bool) (g : Graph) (starts : ℕ → Bool)
 pub ahead_walk : (kept : ℕ → Bool) (g : Graph) (starts : ℕ → Bool) (k : KeepsAround kept g starts) (xs : List ℕ) (x y : ℕ) → k.ahead x ≡ true → Walk g x xs y → Walk (narrowed kept g) x xs y
 ahead_walk kept g starts k [] x y a w = w
 ahead_walk kept g starts k (r ∷ rs) x y a w =
-    let b : k.ahead r ≡ true = k.spreads.along x r a w.0 in
+    let b : k.ahead r ≡ true = k.reaches.along x r a w.0 in
     (kept_edge kept g x r (k.keeps_ahead x a) (k.keeps_ahead r b) w.0, ahead_walk kept g starts k rs r y b w.1)
 
 -- no id of the list is one of the starts
@@ -119,7 +119,7 @@ through kept g starts k [] x y w =
     ]
 through kept g starts k (r ∷ rs) x y w =
     elim (cases_Bool (starts x)) [
-      | inl e ↦ inl (k.comes.first x e, ahead_walk kept g starts k (r ∷ rs) x y (k.spreads.first x e) w)
+      | inl e ↦ inl (k.comes.first x e, ahead_walk kept g starts k (r ∷ rs) x y (k.reaches.first x e) w)
       | inr n ↦ elim (through kept g starts k rs r y w.1) [
         | inl b ↦
             let c : k.behind x ≡ true = k.comes.along r x b.0 w.0 in
@@ -174,13 +174,13 @@ key_keeps kept g ids inv two w k =
     (λ x xs a p. lacks_holds inv.kind inv.a inv.b (word g (x ∷ xs)) (avoiding_lacks g ids (key_of inv.kind inv.a inv.b) w xs x TERMINAL (let z : x ≡ 0 = p.0 in omega arith) a p.1))
 
 -- what is around an id is kept
-pub around_keeps : (a : Around) (g : Graph) (starts : ℕ → Bool) → IsSpread (is_met a.ahead) starts (edge_by Ahead g) → IsSpread (is_met a.behind) starts (edge_by Behind g)
+pub around_keeps : (a : Around) (g : Graph) (starts : ℕ → Bool) → IsReachedFrom (is_met a.ahead) starts (edge_by Ahead g) → IsReachedFrom (is_met a.behind) starts (edge_by Behind g)
     → KeepsAround (is_around a) g starts
 around_keeps a g starts s c =
     record {
       ahead = is_met a.ahead;
       behind = is_met a.behind;
-      spreads = s;
+      reaches = s;
       comes = c;
       keeps_ahead = λ u e. ap (λ (x : Bool). x || is_met a.behind u) e;
       keeps_behind = λ u e. or-right (is_met a.ahead u) (is_met a.behind u) e;
@@ -209,7 +209,7 @@ live_below h n p two b l =
 
 -- what breaks the invariant that is asked for has its edges looked at, where ids around those of its key are kept
 pub asked_keeps : (v : View) (a : Around) (inv : Invariant) (ids typ : ℕ) → ids ≡ (parts_seen v).used → 2 ≤ ids → HasEdgesBelow (seen v) ids → typ ≡ key_of inv.kind inv.a inv.b
-    → IsSpread (is_met a.ahead) (is_of_type (seen v) (parts_seen v).used typ) (edge_by Ahead (seen v)) → IsSpread (is_met a.behind) (is_of_type (seen v) (parts_seen v).used typ) (edge_by Behind (seen v))
+    → IsReachedFrom (is_met a.ahead) (is_of_type (seen v) (parts_seen v).used typ) (edge_by Ahead (seen v)) → IsReachedFrom (is_met a.behind) (is_of_type (seen v) (parts_seen v).used typ) (edge_by Behind (seen v))
     → KeepsViolations (is_around a) (seen v) inv
 asked_keeps v a inv ids typ e two w t s c =
     let k : KeepsAround (is_around a) (seen v) (is_of_type (seen v) (parts_seen v).used typ) = around_keeps a (seen v) (is_of_type (seen v) (parts_seen v).used typ) s c in

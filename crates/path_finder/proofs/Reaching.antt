@@ -7,7 +7,7 @@ use Rattle.std.proofs.lemmas.Option.{same_Some, slice_get_within}
 use Rattle.limits.specs.declared.TheConstants.{MAX_PARTITIONS}
 use Rattle.path_finder.specs.Nearness.{Met, is_met, is_of_type, IsClosed}
 use Rattle.partition_model.specs.Graphs.{Graph}
-use Rattle.path_finder.specs.Reaching.{meeting, HasNoneOn, IsCounted, IsSpreading, MeetsMore}
+use Rattle.path_finder.specs.Reaching.{meeting, HasNoneOn, IsCounted, IsReaching, MeetsMore}
 use Rattle.path_finder.proofs.Entering.{slice_get_kept, slice_get_last, slice_get_push}
 
 -- the id is put behind those that are met
@@ -61,9 +61,9 @@ with_counted m id l o c =
     record { size = length-set m.flags id true ∙ c.size; count = omega arith }
 
 -- where a new id is put behind those that are met, all edges of the first ones of the list are still followed
-pub with_spreading : (edge : ℕ → ℕ → Bool) (next : ℕ) (m : Met) (id : ℕ) → next ≤ length m.list → id < MAX_PARTITIONS → is_met m id ≡ false → IsSpreading edge next m
-    → IsSpreading edge next (with_id m id)
-with_spreading edge next m id w l o s =
+pub with_reaching : (edge : ℕ → ℕ → Bool) (next : ℕ) (m : Met) (id : ℕ) → next ≤ length m.list → id < MAX_PARTITIONS → is_met m id ≡ false → IsReaching edge next m
+    → IsReaching edge next (with_id m id)
+with_reaching edge next m id w l o s =
     let z : length m.flags ≡ MAX_PARTITIONS = s.counted.size in
     let b : id < length m.flags = omega arith in
     record {
@@ -81,22 +81,22 @@ with_spreading edge next m id w l o s =
     }
 
 -- where an id is met, new or not, all edges of the first ones of the list are still followed
-pub meets_spreading : (edge : ℕ → ℕ → Bool) (next : ℕ) (m : Met) (id : ℕ) → next ≤ length m.list → id < MAX_PARTITIONS → IsSpreading edge next m
-    → IsSpreading edge next (meeting m id) × MeetsMore m (meeting m id) × (is_met (meeting m id) id ≡ true)
-meets_spreading edge next m id w l s =
+pub meets_reaching : (edge : ℕ → ℕ → Bool) (next : ℕ) (m : Met) (id : ℕ) → next ≤ length m.list → id < MAX_PARTITIONS → IsReaching edge next m
+    → IsReaching edge next (meeting m id) × MeetsMore m (meeting m id) × (is_met (meeting m id) id ≡ true)
+meets_reaching edge next m id w l s =
     elim (cases_Bool (is_met m id)) [
       | inl y ↦
-          subst (λ (x : Met). IsSpreading edge next x × MeetsMore m x × (is_met x id ≡ true)) (sym (met_again m id y))
+          subst (λ (x : Met). IsReaching edge next x × MeetsMore m x × (is_met x id ≡ true)) (sym (met_again m id y))
           (s, record { met = λ p e. e; listed = λ i p e. e }, y)
       | inr n ↦
           let z : length m.flags ≡ MAX_PARTITIONS = s.counted.size in
-          subst (λ (x : Met). IsSpreading edge next x × MeetsMore m x × (is_met x id ≡ true)) (sym (met_first m id n))
-          (with_spreading edge next m id w l n s, with_more m id (omega arith), with_met m id (omega arith))
+          subst (λ (x : Met). IsReaching edge next x × MeetsMore m x × (is_met x id ≡ true)) (sym (met_first m id n))
+          (with_reaching edge next m id w l n s, with_more m id (omega arith), with_met m id (omega arith))
     ]
 
 -- at first none is met
-pub blank_spreading : (edge : ℕ → ℕ → Bool) (m : Met) (n : ℕ) → n ≡ MAX_PARTITIONS → m.flags ≡ replicate n false → m.list ≡ [] → IsSpreading edge 0 m
-blank_spreading edge m n k f l =
+pub blank_reaching : (edge : ℕ → ℕ → Bool) (m : Met) (n : ℕ) → n ≡ MAX_PARTITIONS → m.flags ≡ replicate n false → m.list ≡ [] → IsReaching edge 0 m
+blank_reaching edge m n k f l =
     let z : length m.flags ≡ MAX_PARTITIONS = ap length f ∙ (length-replicate n false ∙ k) in
     let c : count_by not m.flags ≤ length m.flags = count_by-le-length not m.flags in
     let o : length m.list ≡ 0 = ap length l in
@@ -107,7 +107,7 @@ blank_spreading edge m n k f l =
     }
 
 -- where the edges of all that are met were followed, each id to which a walk leads is met
-pub all_followed : (edge : ℕ → ℕ → Bool) (next : ℕ) (m : Met) → IsSpreading edge next m → length m.list ≤ next → IsClosed (is_met m) edge
+pub all_followed : (edge : ℕ → ℕ → Bool) (next : ℕ) (m : Met) → IsReaching edge next m → length m.list ≤ next → IsClosed (is_met m) edge
 all_followed edge next m s l p q a d =
     let f : (i : ℕ) × (slice_get m.list i ≡ Some p) = s.listed p a in
     let w : f.0 < length m.list = slice_get_within m.list f.0 p f.1 in
@@ -120,9 +120,9 @@ of_type_tells g ids typ p e =
     (ltb-true p ids parts.0, eqb-true (g.typ p) typ parts.1)
 
 -- where all to which an edge leads from the next one of the list are met, its edges were followed too
-pub spreading_next : (edge : ℕ → ℕ → Bool) (next from id : ℕ) (m : Met) → IsSpreading edge next m → slice_get m.list next ≡ Some id
-    → ((q : ℕ) → q < from → edge id q ≡ true → is_met m q ≡ true) → HasNoneOn edge id from → IsSpreading edge (next + 1) m
-spreading_next edge next from id m s there followed none =
+pub reaching_next : (edge : ℕ → ℕ → Bool) (next from id : ℕ) (m : Met) → IsReaching edge next m → slice_get m.list next ≡ Some id
+    → ((q : ℕ) → q < from → edge id q ≡ true → is_met m q ≡ true) → HasNoneOn edge id from → IsReaching edge (next + 1) m
+reaching_next edge next from id m s there followed none =
     record {
       counted = s.counted;
       listed = s.listed;

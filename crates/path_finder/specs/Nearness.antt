@@ -26,7 +26,7 @@ abbrev pub IsClosed : (ℕ → Bool) → (ℕ → ℕ → Bool) → Type 0
 IsClosed met edge = (p q : ℕ) → met p ≡ true → edge p q ≡ true → met q ≡ true
 
 -- these ids are met, and so is each to which a walk leads from one of them
-pub record IsSpread (met starts : ℕ → Bool) (edge : ℕ → ℕ → Bool) : Type 0 where
+pub record IsReachedFrom (met starts : ℕ → Bool) (edge : ℕ → ℕ → Bool) : Type 0 where
   pub first : (p : ℕ) → starts p ≡ true → met p ≡ true
   pub along : IsClosed met edge
 

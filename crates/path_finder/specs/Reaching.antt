@@ -37,7 +37,7 @@ pub record MeetsMore (old new : Met) : Type 0 where
   pub listed : (i p : ℕ) → slice_get old.list i ≡ Some p → slice_get new.list i ≡ Some p
 
 -- each id that is met is listed, and all edges of the first ones of the list were followed
-pub record IsSpreading (edge : ℕ → ℕ → Bool) (next : ℕ) (m : Met) : Type 0 where
+pub record IsReaching (edge : ℕ → ℕ → Bool) (next : ℕ) (m : Met) : Type 0 where
   pub counted : IsCounted m
   pub listed : (p : ℕ) → is_met m p ≡ true → (i : ℕ) × (slice_get m.list i ≡ Some p)
   pub done : (i p q : ℕ) → i < next → slice_get m.list i ≡ Some p → edge p q ≡ true → is_met m q ≡ true

@@ -2,10 +2,10 @@
 ghost use Rattle.std.specs.Prelude.{◌≡◌, ◌==◌, ℕ, ◌≤◌, ◌<◌, ◌+◌, [], Bool, true, length, replicate, IfSome, MatchOption, false};
 ghost use Rattle.limits.specs.declared.TheConstants.{MAX_PARTITIONS};
 ghost use Rattle.partition_graph.specs.Seen.{parts_seen, seen};
-ghost use Rattle.path_finder.specs.Nearness.{is_met, is_of_type, IsClosed, IsSpread};
+ghost use Rattle.path_finder.specs.Nearness.{is_met, is_of_type, IsClosed, IsReachedFrom};
 ghost use Rattle.path_finder.specs.Keeping.{is_around};
 ghost use Rattle.path_finder.specs.declared.reach.Way.TheVariants.{Ahead, Behind};
-ghost use Rattle.path_finder.specs.Reaching.{edge_by, meeting, HasNoneOn, IsCounted, IsNextOn, IsSpreading, MeetsMore};
+ghost use Rattle.path_finder.specs.Reaching.{edge_by, meeting, HasNoneOn, IsCounted, IsNextOn, IsReaching, MeetsMore};
 
 use crate::sight::Sight;
 use limits::MAX_PARTITIONS;
@@ -105,8 +105,8 @@ impl Reach {
     /// Meets the ids to which an edge leads from the one at this place of the list.
     fn follow(&mut self, sight: &Sight<'_>, way: Way, next: usize)
         requires place { next < length (self.old).list }
-        requires spreading { IsSpreading (edge_by way (seen sight.now.view)) next self.old }
-        ensures spreading { IsSpreading (edge_by way (seen sight.now.view)) (next + 1) self.new }
+        requires reaching { IsReaching (edge_by way (seen sight.now.view)) next self.old }
+        ensures reaching { IsReaching (edge_by way (seen sight.now.view)) (next + 1) self.new }
         ensures more { MeetsMore self.old self.new }
     {
         let id = self.list[next];
@@ -119,7 +119,7 @@ impl Reach {
 
     /// Meets all to which walks lead that way from those that are met.
     fn follow_all(&mut self, sight: &Sight<'_>, way: Way)
-        requires { IsSpreading (edge_by way (seen sight.now.view)) 0 self.old }
+        requires { IsReaching (edge_by way (seen sight.now.view)) 0 self.old }
         ensures more { MeetsMore self.old self.new }
         ensures closed { IsClosed (is_met self.new) (edge_by way (seen sight.now.view)) }
     {
@@ -133,8 +133,8 @@ impl Reach {
     /// Meets the id, if it has the type.
     fn meet_of_type(&mut self, view: &View<'_>, typ: u16, id: u32)
         requires id { id < MAX_PARTITIONS }
-        requires spreading { (edge : ℕ → ℕ → Bool) → IsSpreading edge 0 self.old }
-        ensures spreading { (edge : ℕ → ℕ → Bool) → IsSpreading edge 0 self.new }
+        requires reaching { (edge : ℕ → ℕ → Bool) → IsReaching edge 0 self.old }
+        ensures reaching { (edge : ℕ → ℕ → Bool) → IsReaching edge 0 self.new }
         ensures more { MeetsMore self.old self.new }
         ensures met { (seen view.now).typ id ≡ typ → is_met self.new id ≡ true }
     {
@@ -146,7 +146,7 @@ impl Reach {
 
     /// Meets the ids of the type, and no others before.
     fn begin_with_type(&mut self, view: &View<'_>, typ: u16)
-        ensures spreading { (edge : ℕ → ℕ → Bool) → IsSpreading edge 0 self.new }
+        ensures reaching { (edge : ℕ → ℕ → Bool) → IsReaching edge 0 self.new }
         ensures first { (p : ℕ) → is_of_type (seen view.now) (parts_seen view.now).used typ p ≡ true
             → is_met self.new p ≡ true }
     {
@@ -157,9 +157,9 @@ impl Reach {
     }
 
     /// Meets the id and all to which walks lead from it that way.
-    fn spread(&mut self, sight: &Sight<'_>, way: Way, start: u32)
+    fn reach_from(&mut self, sight: &Sight<'_>, way: Way, start: u32)
         requires { start < MAX_PARTITIONS }
-        ensures { IsSpread (is_met self.new) (λ p. p == start) (edge_by way (seen sight.now.view)) }
+        ensures { IsReachedFrom (is_met self.new) (λ p. p == start) (edge_by way (seen sight.now.view)) }
     {
         self.clear(IDS);
         self.meet(start);
@@ -167,8 +167,8 @@ impl Reach {
     }
 
     /// Meets the ids of the type and all to which walks lead from them that way.
-    fn spread_type(&mut self, sight: &Sight<'_>, way: Way, typ: u16)
-        ensures { IsSpread (is_met self.new)
+    fn reach_from_type(&mut self, sight: &Sight<'_>, way: Way, typ: u16)
+        ensures { IsReachedFrom (is_met self.new)
             (is_of_type (seen sight.now.view) (parts_seen sight.now.view).used typ)
             (edge_by way (seen sight.now.view)) }
     {
@@ -195,27 +195,27 @@ impl Around {
     /// Finds those around this id, which is one of both.
     pub fn find(&mut self, sight: &Sight<'_>, id: u32)
         requires { id < MAX_PARTITIONS }
-        ensures ahead { IsSpread (is_met (self.new).ahead) (λ p. p == id)
+        ensures ahead { IsReachedFrom (is_met (self.new).ahead) (λ p. p == id)
             (edge_by Ahead (seen sight.now.view)) }
-        ensures behind { IsSpread (is_met (self.new).behind) (λ p. p == id)
+        ensures behind { IsReachedFrom (is_met (self.new).behind) (λ p. p == id)
             (edge_by Behind (seen sight.now.view)) }
     {
-        self.ahead.spread(sight, Way::Ahead, id);
-        self.behind.spread(sight, Way::Behind, id);
+        self.ahead.reach_from(sight, Way::Ahead, id);
+        self.behind.reach_from(sight, Way::Behind, id);
     }
 
     /// Finds those around the ids of this type.
     pub fn find_type(&mut self, sight: &Sight<'_>, typ: u16)
         // The ids of the type are met both ways, and so is each to which a walk leads from one of them.
-        ensures ahead { IsSpread (is_met (self.new).ahead)
+        ensures ahead { IsReachedFrom (is_met (self.new).ahead)
             (is_of_type (seen sight.now.view) (parts_seen sight.now.view).used typ)
             (edge_by Ahead (seen sight.now.view)) }
-        ensures behind { IsSpread (is_met (self.new).behind)
+        ensures behind { IsReachedFrom (is_met (self.new).behind)
             (is_of_type (seen sight.now.view) (parts_seen sight.now.view).used typ)
             (edge_by Behind (seen sight.now.view)) }
     {
-        self.ahead.spread_type(sight, Way::Ahead, typ);
-        self.behind.spread_type(sight, Way::Behind, typ);
+        self.ahead.reach_from_type(sight, Way::Ahead, typ);
+        self.behind.reach_from_type(sight, Way::Behind, typ);
     }
 
     /// Whether the id is one of either.

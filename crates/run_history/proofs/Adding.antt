@@ -1,4 +1,4 @@
--- What the log says after a step more.
+-- What the run's log says after a step more.
 use Rattle.std.proofs.Common.{◌≡◌, ℕ, List, [], ◌∷◌, ◌++◌, length, map, take, drop, All, sym, ◌∙◌, refl, ap, ap₂, subst, arith, length-append, length-drop}
 use Rattle.std.proofs.lemmas.List.{take-append-le, drop-append-le}
 use Rattle.std.proofs.lemmas.List.Elements.{All-head, All-tail}

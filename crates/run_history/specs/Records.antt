@@ -26,23 +26,23 @@ merge_of e = record { p = e.p; q = e.q }
 abbrev pub block_of : List ℕ → BlockEntry → Block
 block_of numbers e = record { p = e.p; q = e.q; inv = e.inv; path = path_of numbers e.path }
 
--- the splits of the log, in their order
+-- the splits of the run's log, in their order
 abbrev pub splits_of : RunLists → Numbers → List Split
-splits_of log spans = map (split_of spans.numbers) log.splits
+splits_of run_log spans = map (split_of spans.numbers) run_log.splits
 
--- the merges of the log, in their order
+-- the merges of the run's log, in their order
 abbrev pub merges_of : RunLists → List Merge
-merges_of log = map merge_of log.merges
+merges_of run_log = map merge_of run_log.merges
 
--- the blocks of the log, in their order
+-- the blocks of the run's log, in their order
 abbrev pub blocks_of : RunLists → Numbers → List Block
-blocks_of log spans = map (block_of spans.numbers) log.blocks
+blocks_of run_log spans = map (block_of spans.numbers) run_log.blocks
 
 -- the span lies within the numbers
 abbrev pub IsWithin : List ℕ → Span → Type 0
 IsWithin numbers span = span.from + span.len ≤ length numbers
 
 -- the numbers hold the path of each split and of each block
-pub record HoldsPaths (log : RunLists) (spans : Numbers) : Type 0 where
-  pub splits : All (λ e. IsWithin spans.numbers e.path) log.splits
-  pub blocks : All (λ e. IsWithin spans.numbers e.path) log.blocks
+pub record HoldsPaths (run_log : RunLists) (spans : Numbers) : Type 0 where
+  pub splits : All (λ e. IsWithin spans.numbers e.path) run_log.splits
+  pub blocks : All (λ e. IsWithin spans.numbers e.path) run_log.blocks

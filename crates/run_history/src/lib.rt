@@ -18,13 +18,13 @@ fn copy_of(alloc: Global, spans: &Spans, span: Span) -> Result<Seq<u32>, AllocEr
     Ok(Seq::from_vec(path))
 }
 
-/// The splits of the log, in their order, each with its path. The spans hold the paths of the log. `AllocError` comes
+/// The splits of the run's log, in their order, each with its path. The spans hold the log's paths. `AllocError` comes
 /// where there is not the memory for the list and for each path.
-pub fn splits(alloc: Global, log: &RunLog, spans: &Spans) -> Result<Seq<Split>, AllocError>
-    requires { HoldsPaths log.now spans.now }
-    ensures { IfOk result (λ list. list ≡ splits_of log.now spans.now) }
+pub fn splits(alloc: Global, run_log: &RunLog, spans: &Spans) -> Result<Seq<Split>, AllocError>
+    requires { HoldsPaths run_log.now spans.now }
+    ensures { IfOk result (λ list. list ≡ splits_of run_log.now spans.now) }
 {
-    let entries = log.splits();
+    let entries = run_log.splits();
     let mut list = Vec::with_capacity(alloc, entries.len())?;
     for split in entries {
         list.push_reserved(Split {
@@ -36,11 +36,11 @@ pub fn splits(alloc: Global, log: &RunLog, spans: &Spans) -> Result<Seq<Split>, 
     Ok(Seq::from_vec(list))
 }
 
-/// The merges of the log, in their order. `AllocError` comes where there is not the memory for the list.
-pub fn merges(alloc: Global, log: &RunLog) -> Result<Seq<Merge>, AllocError>
-    ensures { IfOk result (λ list. list ≡ merges_of log.now) }
+/// The merges of the run's log, in their order. `AllocError` comes where there is not the memory for the list.
+pub fn merges(alloc: Global, run_log: &RunLog) -> Result<Seq<Merge>, AllocError>
+    ensures { IfOk result (λ list. list ≡ merges_of run_log.now) }
 {
-    let entries = log.merges();
+    let entries = run_log.merges();
     let mut list = Vec::with_capacity(alloc, entries.len())?;
     for merge in entries {
         list.push_reserved(Merge {
@@ -51,13 +51,13 @@ pub fn merges(alloc: Global, log: &RunLog) -> Result<Seq<Merge>, AllocError>
     Ok(Seq::from_vec(list))
 }
 
-/// The blocks of the log, in their order, each with its path. The spans hold the paths of the log. `AllocError` comes
+/// The blocks of the run's log, in their order, each with its path. The spans hold the log's paths. `AllocError` comes
 /// where there is not the memory for the list and for each path.
-pub fn blocks(alloc: Global, log: &RunLog, spans: &Spans) -> Result<Seq<Block>, AllocError>
-    requires { HoldsPaths log.now spans.now }
-    ensures { IfOk result (λ list. list ≡ blocks_of log.now spans.now) }
+pub fn blocks(alloc: Global, run_log: &RunLog, spans: &Spans) -> Result<Seq<Block>, AllocError>
+    requires { HoldsPaths run_log.now spans.now }
+    ensures { IfOk result (λ list. list ≡ blocks_of run_log.now spans.now) }
 {
-    let entries = log.blocks();
+    let entries = run_log.blocks();
     let mut list = Vec::with_capacity(alloc, entries.len())?;
     for block in entries {
         list.push_reserved(Block {

@@ -1,4 +1,4 @@
--- What stands in the log and in the spans after each turn of refinement.
+-- What stands in the run's log and in the spans after each turn of refinement.
 use Rattle.std.proofs.Common.{◌≡◌, ℕ, ◌+◌, List, [], ◌∷◌, ◌++◌, length, map, All, sym, refl, ap, ap₂, ◌∙◌, subst, arith, length-append}
 use Rattle.std.proofs.lemmas.List.{map-append, flat_map_more}
 use Rattle.std.proofs.lemmas.List.Elements.{All-nil, All-push, All-weaker}
@@ -21,9 +21,9 @@ paths-long (s ∷ ss) =
     omega (arith, c, length-append s.path (paths_of ss), paths-long ss)
 
 -- before the first turn nothing is written
-pub writing-start : (log : RunLists) (spans : Numbers) → AreEmpty log spans → WritesSplits log log spans spans
-writing-start log spans e =
-    let none : splits_of log spans ≡ [] = ap (map (split_of spans.numbers)) e.splits in
+pub writing-start : (run_log : RunLists) (spans : Numbers) → AreEmpty run_log spans → WritesSplits run_log run_log spans spans
+writing-start run_log spans e =
+    let none : splits_of run_log spans ≡ [] = ap (map (split_of spans.numbers)) e.splits in
     record {
       log_is = refl;
       spans_are = ap (λ (xs : List ℕ). record spans { numbers = xs }) (e.numbers ∙ sym (ap (λ (ss : List Split). paths_of ss) none));
@@ -37,41 +37,41 @@ writing-start log spans e =
 entry-says : (numbers : List ℕ) (e : SplitEntry) (s : Split) → e.inv ≡ s.inv → e.place ≡ s.place → (split_of numbers e).path ≡ s.path → split_of numbers e ≡ s
 entry-says numbers e s i q p = λ d. record { inv = i d; place = q d; path = p d }
 
--- a log with one entry more tells one split more
-pub adds-told : (log new : RunLists) (spans after : Numbers) (s : Split) → HoldsPaths log spans → AddsSplit log new spans after s → splits_of new after ≡ splits_of log spans ++ s ∷ []
-adds-told log new spans after s h a =
+-- a log of a run with one entry more tells one split more
+pub adds-told : (run_log new : RunLists) (spans after : Numbers) (s : Split) → HoldsPaths run_log spans → AddsSplit run_log new spans after s → splits_of new after ≡ splits_of run_log spans ++ s ∷ []
+adds-told run_log new spans after s h a =
     let of : SplitEntry → Split = split_of after.numbers in
-    let es : new.splits ≡ log.splits ++ a.entry ∷ [] = ap (λ (l : RunLists). l.splits) a.log_is in
-    let stay : map of log.splits ≡ splits_of log spans =
-    splits-stay spans.numbers after.numbers log.splits (pushes-keep spans after s.path a.entry.path a.path) h.splits in
+    let es : new.splits ≡ run_log.splits ++ a.entry ∷ [] = ap (λ (l : RunLists). l.splits) a.log_is in
+    let stay : map of run_log.splits ≡ splits_of run_log spans =
+    splits-stay spans.numbers after.numbers run_log.splits (pushes-keep spans after s.path a.entry.path a.path) h.splits in
     let more : of a.entry ≡ s = entry-says after.numbers a.entry s a.inv a.place a.path.there in
-    ap (map of) es ∙ map-append of log.splits (a.entry ∷ []) ∙ ap₂ (λ (xs : List Split) (x : Split). xs ++ x ∷ []) stay more
+    ap (map of) es ∙ map-append of run_log.splits (a.entry ∷ []) ∙ ap₂ (λ (xs : List Split) (x : Split). xs ++ x ∷ []) stay more
 
--- a log with one entry more still has all its paths in the spans
-adds-holds : (log new : RunLists) (spans after : Numbers) (s : Split) → HoldsPaths log spans → AddsSplit log new spans after s → HoldsPaths new after
-adds-holds log new spans after s h a =
-    let es : new.splits ≡ log.splits ++ a.entry ∷ [] = ap (λ (l : RunLists). l.splits) a.log_is in
-    let bs : new.blocks ≡ log.blocks = ap (λ (l : RunLists). l.blocks) a.log_is in
+-- a log of a run with one entry more still has all its paths in the spans
+adds-holds : (run_log new : RunLists) (spans after : Numbers) (s : Split) → HoldsPaths run_log spans → AddsSplit run_log new spans after s → HoldsPaths new after
+adds-holds run_log new spans after s h a =
+    let es : new.splits ≡ run_log.splits ++ a.entry ∷ [] = ap (λ (l : RunLists). l.splits) a.log_is in
+    let bs : new.blocks ≡ run_log.blocks = ap (λ (l : RunLists). l.blocks) a.log_is in
     let P : SplitEntry → Type 0 = λ d. IsWithin spans.numbers d.path in
     let Q : SplitEntry → Type 0 = λ d. IsWithin after.numbers d.path in
     let B : BlockEntry → Type 0 = λ d. IsWithin spans.numbers d.path in
     let C : BlockEntry → Type 0 = λ d. IsWithin after.numbers d.path in
     record {
-      splits = subst (All Q) (sym es) (All-push Q log.splits a.entry
-          (All-weaker P Q (λ d w. pushes-hold spans after s.path a.entry.path d.path a.path w) log.splits h.splits)
+      splits = subst (All Q) (sym es) (All-push Q run_log.splits a.entry
+          (All-weaker P Q (λ d w. pushes-hold spans after s.path a.entry.path d.path a.path w) run_log.splits h.splits)
           (pushes-within spans after s.path a.entry.path a.path));
-      blocks = subst (All C) (sym bs) (All-weaker B C (λ d w. pushes-hold spans after s.path a.entry.path d.path a.path w) log.blocks h.blocks);
+      blocks = subst (All C) (sym bs) (All-weaker B C (λ d w. pushes-hold spans after s.path a.entry.path d.path a.path w) run_log.blocks h.blocks);
     }
 
--- where one split more is written, the log and the spans tell all splits so far
-pub writing-more : (old log new : RunLists) (first spans after : Numbers) (s : Split) → WritesSplits old log first spans → AddsSplit log new spans after s → WritesSplits old new first after
-writing-more old log new first spans after s w a =
-    let es : new.splits ≡ log.splits ++ a.entry ∷ [] = ap (λ (l : RunLists). l.splits) a.log_is in
-    let told : splits_of new after ≡ splits_of log spans ++ s ∷ [] = adds-told log new spans after s w.paths a in
+-- where one split more is written, the run's log and the spans tell all splits so far
+pub writing-more : (old run_log new : RunLists) (first spans after : Numbers) (s : Split) → WritesSplits old run_log first spans → AddsSplit run_log new spans after s → WritesSplits old new first after
+writing-more old run_log new first spans after s w a =
+    let es : new.splits ≡ run_log.splits ++ a.entry ∷ [] = ap (λ (l : RunLists). l.splits) a.log_is in
+    let told : splits_of new after ≡ splits_of run_log spans ++ s ∷ [] = adds-told run_log new spans after s w.paths a in
     let joined : spans.numbers ++ s.path ≡ paths_of (splits_of new after) =
-    ap (λ (n : Numbers). n.numbers ++ s.path) w.spans_are ∙ flat_map_more (λ (x : Split). x.path) [] (splits_of log spans) s ∙ sym (ap (λ (ss : List Split). paths_of ss) told) in
+    ap (λ (n : Numbers). n.numbers ++ s.path) w.spans_are ∙ flat_map_more (λ (x : Split). x.path) [] (splits_of run_log spans) s ∙ sym (ap (λ (ss : List Split). paths_of ss) told) in
     record {
-      log_is = a.log_is ∙ ap (λ (l : RunLists). record l { splits = log.splits ++ a.entry ∷ [] }) w.log_is ∙ ap (λ (xs : List SplitEntry). record old { splits = xs }) (sym es);
+      log_is = a.log_is ∙ ap (λ (l : RunLists). record l { splits = run_log.splits ++ a.entry ∷ [] }) w.log_is ∙ ap (λ (xs : List SplitEntry). record old { splits = xs }) (sym es);
       spans_are = a.path.appends ∙ ap (λ (n : Numbers). record n { numbers = spans.numbers ++ s.path }) w.spans_are ∙ ap (λ (xs : List ℕ). record first { numbers = xs }) joined;
-      paths = adds-holds log new spans after s w.paths a;
+      paths = adds-holds run_log new spans after s w.paths a;
     }

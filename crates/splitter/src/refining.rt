@@ -39,26 +39,26 @@ fn divide(
     path: &[u32],
     k: u32,
     spans: &mut Spans,
-    log: &mut RunLog,
+    run_log: &mut RunLog,
 ) -> Result<(), PartitionLimit>
     requires divides { Divides (graph.old).traces path.now (graph.old).used }
     requires starts { slice_get path.now 0 ≡ Some INITIAL }
     requires made { stitcher.old ≡ length (events (graph.old).traces) }
     requires short { length path.now < 2 ^ 32 }
     requires splits { (graph.old).used < MAX_PARTITIONS
-        → length (log.old).splits < (log.old).split_room }
+        → length (run_log.old).splits < (run_log.old).split_room }
     requires numbers { length (spans.old).numbers + length path.now ≤ (spans.old).room }
 
     // The split, and what is written of it.
     ensures split { OnOk result (graph.new ≡ after (split_by graph.old path.now k) graph.old) }
     ensures adds { OnOk result
-        (AddsSplit log.old log.new spans.old spans.new (split_by graph.old path.now k)) }
+        (AddsSplit run_log.old run_log.new spans.old spans.new (split_by graph.old path.now k)) }
     ensures room { OnOk result ((graph.old).used < MAX_PARTITIONS) }
 
     // The limit comes exactly where no id is left, and then nothing is changed.
     ensures full { OnErr result ((graph.old).used ≡ MAX_PARTITIONS) }
     ensures graph { OnErr result (graph.new ≡ graph.old) }
-    ensures log { OnErr result (log.new ≡ log.old) }
+    ensures run_log { OnErr result (run_log.new ≡ run_log.old) }
     ensures spans { OnErr result (spans.new ≡ spans.old) }
     ensures same { stitcher.new ≡ stitcher.old }
 {
@@ -69,7 +69,7 @@ fn divide(
     let Some(span) = spans.push(path) else {
         unreachable!()
     };
-    log.add_split(k, place as u32, span);
+    run_log.add_split(k, place as u32, span);
     Ok(())
 }
 
@@ -80,50 +80,50 @@ fn is_known(known: &[bool], k: usize) -> bool
     k < known.len() && known[k]
 }
 
-/// Divides partitions until the graph satisfies each invariant of the list, and writes the splits to the log, in their
-/// order, and their paths to the spans, one behind the other. Each split is for the first invariant that is not
+/// Divides partitions until the graph satisfies each invariant of the list, and writes the splits to the run's log, in
+/// their order, and their paths to the spans, one behind the other. Each split is for the first invariant that is not
 /// satisfied, by its least violation, at the place of that path's stitch.
 ///
-/// It begins with an empty log and empty spans, which have the room for all that it can write, and it takes no memory.
-/// It counts a step for each invariant and one for each split.
+/// It begins with an empty log of the run and empty spans, which have the room for all that it can write, and it takes no
+/// memory. It counts a step for each invariant and one for each split.
 ///
 /// `PartitionLimit` comes exactly where all `MAX_PARTITIONS` ids are used and a further split is wanted. Then the graph,
-/// the log and the spans stand as the last split left them, and at most as many steps are counted.
+/// the run's log and the spans stand as the last split left them, and at most as many steps are counted.
 pub fn refine<L: Ledger>(
     graph: &mut PartGraph,
     finder: &mut Finder,
     stitcher: &mut Stitcher,
     invs: &[Invariant],
     spans: &mut Spans,
-    log: &mut RunLog,
+    run_log: &mut RunLog,
     steps: &mut Steps<L>,
 ) -> Result<(), PartitionLimit>
     requires few { length invs.now < 2 ^ 32 }
     requires opened { IsOpened graph.old }
     requires hold { HoldAll (inner_words (graph.old).traces) invs.now }
     requires made { stitcher.old ≡ length (events (graph.old).traces) }
-    requires empty { AreEmpty log.old spans.old }
-    requires room { HaveRoom log.old spans.old }
+    requires empty { AreEmpty run_log.old spans.old }
+    requires room { HaveRoom run_log.old spans.old }
 
     // What is written, whether or not the run ends.
-    ensures writes { WritesSplits log.old log.new spans.old spans.new }
+    ensures writes { WritesSplits run_log.old run_log.new spans.old spans.new }
     ensures same { stitcher.new ≡ stitcher.old }
 
     // The whole run.
     ensures ok { OnOk result
-        (EndsRefined invs.now graph.old (splits_of log.new spans.new) graph.new) }
+        (EndsRefined invs.now graph.old (splits_of run_log.new spans.new) graph.new) }
     ensures counted { OnOk result
-        (steps.new ≡ steps.old + length invs.now + length (splits_of log.new spans.new)) }
-    ensures fewer { OnOk result (AreFewer (splits_of log.new spans.new) (event_count graph.old)) }
+        (steps.new ≡ steps.old + length invs.now + length (splits_of run_log.new spans.new)) }
+    ensures fewer { OnOk result (AreFewer (splits_of run_log.new spans.new) (event_count graph.old)) }
 
     // When the limit comes, and what it leaves.
     ensures full { OnErr result (IsFull invs.now graph.new) }
     ensures excludes { OnErr result (WantsMoreIds invs.now graph.old) }
     ensures rests { HaveFewRests graph.old → IsOk result }
     ensures stands { OnErr result (IsStopped invs.now graph.old graph.new
-        (splits_of log.new spans.new) (steps.new - steps.old)) }
+        (splits_of run_log.new spans.new) (steps.new - steps.old)) }
 {
-    refine_skipping(graph, finder, stitcher, invs, &[], spans, log, steps)
+    refine_skipping(graph, finder, stitcher, invs, &[], spans, run_log, steps)
 }
 
 /// Refines as `refine` does, where flags tell which invariants the graph satisfies at the beginning. Where `known` has
@@ -138,7 +138,7 @@ pub fn refine_skipping<L: Ledger>(
     invs: &[Invariant],
     known: &[bool],
     spans: &mut Spans,
-    log: &mut RunLog,
+    run_log: &mut RunLog,
     steps: &mut Steps<L>,
 ) -> Result<(), PartitionLimit>
     requires few { length invs.now < 2 ^ 32 }
@@ -146,26 +146,26 @@ pub fn refine_skipping<L: Ledger>(
     requires hold { HoldAll (inner_words (graph.old).traces) invs.now }
     requires known { AreKnown known.now invs.now (G (graph.old).traces) }
     requires made { stitcher.old ≡ length (events (graph.old).traces) }
-    requires empty { AreEmpty log.old spans.old }
-    requires room { HaveRoom log.old spans.old }
+    requires empty { AreEmpty run_log.old spans.old }
+    requires room { HaveRoom run_log.old spans.old }
 
     // What is written, whether or not the run ends.
-    ensures writes { WritesSplits log.old log.new spans.old spans.new }
+    ensures writes { WritesSplits run_log.old run_log.new spans.old spans.new }
     ensures same { stitcher.new ≡ stitcher.old }
 
     // The whole run.
     ensures ok { OnOk result
-        (EndsRefined invs.now graph.old (splits_of log.new spans.new) graph.new) }
+        (EndsRefined invs.now graph.old (splits_of run_log.new spans.new) graph.new) }
     ensures counted { OnOk result (steps.new ≡ steps.old + asked_count known.now (length invs.now)
-        + length (splits_of log.new spans.new)) }
-    ensures fewer { OnOk result (AreFewer (splits_of log.new spans.new) (event_count graph.old)) }
+        + length (splits_of run_log.new spans.new)) }
+    ensures fewer { OnOk result (AreFewer (splits_of run_log.new spans.new) (event_count graph.old)) }
 
     // When the limit comes, and what it leaves.
     ensures full { OnErr result (IsFull invs.now graph.new) }
     ensures excludes { OnErr result (WantsMoreIds invs.now graph.old) }
     ensures rests { HaveFewRests graph.old → IsOk result }
     ensures stands { OnErr result (IsStopped invs.now graph.old graph.new
-        (splits_of log.new spans.new) (steps.new - steps.old)) }
+        (splits_of run_log.new spans.new) (steps.new - steps.old)) }
 {
     prove!(graph.ids_used() <= MAX_PARTITIONS);
     let mut k = 0;
@@ -176,7 +176,7 @@ pub fn refine_skipping<L: Ledger>(
         }
         match finder.least_violation(&View::Plain(graph), invs[k], steps) {
             None => k += 1,
-            Some(path) => divide(graph, stitcher, path, k as u32, spans, log)?,
+            Some(path) => divide(graph, stitcher, path, k as u32, spans, run_log)?,
         }
     }
     Ok(())

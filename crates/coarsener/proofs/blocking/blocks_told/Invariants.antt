@@ -17,9 +17,9 @@ invariant-loop-pair g l =
       told : TellsLosses l.told l.planes (G l.graph.traces);
       few : length l.invs < 2 ^ 32;
       some : 0 < pair_count l.graph;
-      counted : l.steps ≡ l.fn.steps + length l.log.blocks;
+      counted : l.steps ≡ l.fn.steps + length l.run_log.blocks;
       within : length l.spans.numbers ≤ MAX_PATH_NUMBERS;
-      run : IsBlocking l.invs l.graph l.fn.log l.log l.fn.spans l.spans l.at.p l.at.q;
+      run : IsBlocking l.invs l.graph l.fn.run_log l.run_log l.fn.spans l.spans l.at.p l.at.q;
     }
 
 abbrev pub decreases-loop-pair : goal.decreases-loop-pair

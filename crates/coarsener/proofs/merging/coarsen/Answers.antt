@@ -26,10 +26,10 @@ loop-pair-init g c =
       list = refl;
       marked = tt;
       others = refl;
-      run = subst₂ (λ (p q : ℕ). IsCoarsening c.args.planes.now.invs c.args.graph.now c.args.graph.now p q (merges_of c.args.log.now)) (sym c.start-at.ensures.p) (sym c.start-at.ensures.q)
-          (coarsening-start c.args.planes.now.invs c.args.graph.now c.args.log.now c.requires.satisfied c.requires.begun);
+      run = subst₂ (λ (p q : ℕ). IsCoarsening c.args.planes.now.invs c.args.graph.now c.args.graph.now p q (merges_of c.args.run_log.now)) (sym c.start-at.ensures.p) (sym c.start-at.ensures.q)
+          (coarsening-start c.args.planes.now.invs c.args.graph.now c.args.run_log.now c.requires.satisfied c.requires.begun);
       more = omega arith;
-      counted = subst₂ (λ (p q : ℕ). IsCounted c.args.graph.now c.args.graph.now p q (length c.args.log.now.merges) false) (sym c.start-at.ensures.p) (sym c.start-at.ensures.q)
+      counted = subst₂ (λ (p q : ℕ). IsCounted c.args.graph.now c.args.graph.now p q (length c.args.run_log.now.merges) false) (sym c.start-at.ensures.p) (sym c.start-at.ensures.q)
           (subst (λ (m : ℕ). IsCounted c.args.graph.now c.args.graph.now 2 2 m false) (sym (ap length c.requires.begun)) (counting-start c.args.graph.now ids));
       last = λ e. refl;
       once = omega (arith, ap length c.requires.begun);
@@ -37,17 +37,17 @@ loop-pair-init g c =
 
 pub merge_unless_lost-marked-requires-clause-room : goal.merge_unless_lost-marked-requires-clause-room
 merge_unless_lost-marked-requires-clause-room g c =
-    let few : length (merges_of c.loop-pair.log) < 1022 =
-    coarsening-few c.args.planes.now.invs c.args.graph.now c.loop-pair.graph c.loop-pair.at.p c.loop-pair.at.q c.in-Some.pair.p c.in-Some.pair.q (merges_of c.loop-pair.log)
+    let few : length (merges_of c.loop-pair.run_log) < 1022 =
+    coarsening-few c.args.planes.now.invs c.args.graph.now c.loop-pair.graph c.loop-pair.at.p c.loop-pair.at.q c.in-Some.pair.p c.in-Some.pair.q (merges_of c.loop-pair.run_log)
     c.in-Some.ensures.ids c.loop-pair.invariant.run c.in-Some.ensures.next.pair in
-    let room : c.loop-pair.log.merge_room ≡ c.args.log.now.merge_room = ap (λ (l : RunLists). l.merge_room) c.loop-pair.invariant.others in
-    let more : MAX_STEPS ≤ c.args.log.now.merge_room = c.requires.room in
-    omega (arith, merge-count c.loop-pair.log)
+    let room : c.loop-pair.run_log.merge_room ≡ c.args.run_log.now.merge_room = ap (λ (l : RunLists). l.merge_room) c.loop-pair.invariant.others in
+    let more : MAX_STEPS ≤ c.args.run_log.now.merge_room = c.requires.room in
+    omega (arith, merge-count c.loop-pair.run_log)
 
 pub loop-pair-preserved : goal.loop-pair-preserved
 loop-pair-preserved g c =
-    let decided : IsDecided c.args.planes.now.invs c.loop-pair.graph c.merge_unless_lost-marked.new.graph c.loop-pair.log c.merge_unless_lost-marked.new.log c.in-Some.pair.p c.in-Some.pair.q =
-    subst (λ (invs : List Invariant). IsDecided invs c.loop-pair.graph c.merge_unless_lost-marked.new.graph c.loop-pair.log c.merge_unless_lost-marked.new.log c.in-Some.pair.p c.in-Some.pair.q)
+    let decided : IsDecided c.args.planes.now.invs c.loop-pair.graph c.merge_unless_lost-marked.new.graph c.loop-pair.run_log c.merge_unless_lost-marked.new.run_log c.in-Some.pair.p c.in-Some.pair.q =
+    subst (λ (invs : List Invariant). IsDecided invs c.loop-pair.graph c.merge_unless_lost-marked.new.graph c.loop-pair.run_log c.merge_unless_lost-marked.new.run_log c.in-Some.pair.p c.in-Some.pair.q)
     (c.mark.ensures.list ∙ c.loop-pair.invariant.list) c.merge_unless_lost-marked.ensures.decided in
     record {
       low = c.in-Some.ensures.next.pair.low;
@@ -55,34 +55,34 @@ loop-pair-preserved g c =
       limit = c.in-Some.ensures.limit;
       list = ap (λ (planes : Labelling). planes.invs) c.merge_unless_lost-marked.ensures.same ∙ c.mark.ensures.list ∙ c.loop-pair.invariant.list;
       marked = c.merge_unless_lost-marked.ensures.marked;
-      others = others-turn c.args.planes.now.invs c.loop-pair.graph c.merge_unless_lost-marked.new.graph c.args.log.now c.loop-pair.log c.merge_unless_lost-marked.new.log
+      others = others-turn c.args.planes.now.invs c.loop-pair.graph c.merge_unless_lost-marked.new.graph c.args.run_log.now c.loop-pair.run_log c.merge_unless_lost-marked.new.run_log
           c.in-Some.pair.p c.in-Some.pair.q c.loop-pair.invariant.others decided;
       run = coarsening-turn c.args.planes.now.invs c.args.graph.now c.loop-pair.graph c.merge_unless_lost-marked.new.graph c.loop-pair.at.p c.loop-pair.at.q c.in-Some.pair.p c.in-Some.pair.q
-          c.loop-pair.log c.merge_unless_lost-marked.new.log c.in-Some.ensures.ids c.loop-pair.invariant.run c.in-Some.ensures.next decided;
+          c.loop-pair.run_log c.merge_unless_lost-marked.new.run_log c.in-Some.ensures.ids c.loop-pair.invariant.run c.in-Some.ensures.next decided;
       more = omega (arith, c.loop-pair.invariant.more, c.mark.ensures.counted);
-      counted = subst (λ (b : Bool). IsCounted c.args.graph.now c.merge_unless_lost-marked.new.graph c.in-Some.pair.p c.in-Some.pair.q (length c.merge_unless_lost-marked.new.log.merges) (c.loop-pair.apart || b))
+      counted = subst (λ (b : Bool). IsCounted c.args.graph.now c.merge_unless_lost-marked.new.graph c.in-Some.pair.p c.in-Some.pair.q (length c.merge_unless_lost-marked.new.run_log.merges) (c.loop-pair.apart || b))
           (sym c.stays_apart-apart.ensures)
           (counting-turn c.args.planes.now.invs c.args.graph.now c.loop-pair.graph c.merge_unless_lost-marked.new.graph c.loop-pair.at.p c.loop-pair.at.q c.in-Some.pair.p c.in-Some.pair.q
-          c.loop-pair.log c.merge_unless_lost-marked.new.log c.loop-pair.apart c.merge_unless_lost-marked.result c.in-Some.ensures.ids c.loop-pair.invariant.counted c.in-Some.ensures.next decided c.merge_unless_lost-marked.ensures.owes);
+          c.loop-pair.run_log c.merge_unless_lost-marked.new.run_log c.loop-pair.apart c.merge_unless_lost-marked.result c.in-Some.ensures.ids c.loop-pair.invariant.counted c.in-Some.ensures.next decided c.merge_unless_lost-marked.ensures.owes);
       last = λ e. owed-turn c.loop-pair.apart c.merge_unless_lost-marked.result (ap (λ (b : Bool). c.loop-pair.apart || b) (sym c.stays_apart-apart.ensures) ∙ e);
       once = omega (arith, c.mark.ensures.counted, c.merge_unless_lost-marked.ensures.owes, c.loop-pair.invariant.once);
     }
 
 pub returns-clause-run : goal.returns-clause-run
 returns-clause-run g c =
-    coarsening-end c.args.planes.now.invs c.args.graph.now c.loop-pair.graph c.loop-pair.at.p c.loop-pair.at.q (merges_of c.loop-pair.log) c.loop-pair.invariant.run c.in_default.ensures.next
+    coarsening-end c.args.planes.now.invs c.args.graph.now c.loop-pair.graph c.loop-pair.at.p c.loop-pair.at.q (merges_of c.loop-pair.run_log) c.loop-pair.invariant.run c.in_default.ensures.next
 
 pub returns-then-not-apart-clause-run : goal.returns-then-not-apart-clause-run
 returns-then-not-apart-clause-run g c =
-    coarsening-end c.args.planes.now.invs c.args.graph.now c.loop-pair.graph c.loop-pair.at.p c.loop-pair.at.q (merges_of c.loop-pair.log) c.loop-pair.invariant.run c.in_default.ensures.next
+    coarsening-end c.args.planes.now.invs c.args.graph.now c.loop-pair.graph c.loop-pair.at.p c.loop-pair.at.q (merges_of c.loop-pair.run_log) c.loop-pair.invariant.run c.in_default.ensures.next
 
 pub returns-then-not-apart-clause-marks : goal.returns-then-not-apart-clause-marks
 returns-then-not-apart-clause-marks g c some =
     absurd (omega (
       arith,
       some,
-      none-left c.args.graph.now c.loop-pair.graph c.loop-pair.at.p c.loop-pair.at.q (length c.loop-pair.log.merges) c.in_default.ensures.ids
-          (subst (λ (b : Bool). IsCounted c.args.graph.now c.loop-pair.graph c.loop-pair.at.p c.loop-pair.at.q (length c.loop-pair.log.merges) b) c.if-not-apart.true c.loop-pair.invariant.counted) c.in_default.ensures.next,
+      none-left c.args.graph.now c.loop-pair.graph c.loop-pair.at.p c.loop-pair.at.q (length c.loop-pair.run_log.merges) c.in_default.ensures.ids
+          (subst (λ (b : Bool). IsCounted c.args.graph.now c.loop-pair.graph c.loop-pair.at.p c.loop-pair.at.q (length c.loop-pair.run_log.merges) b) c.if-not-apart.true c.loop-pair.invariant.counted) c.in_default.ensures.next,
     ))
 
 pub loop-pair-smaller : goal.loop-pair-smaller

@@ -13,12 +13,12 @@ invariant-loop-pair g l =
       limit : l.at.q < MAX_PARTITIONS;
       list : l.planes.invs ≡ l.fn.planes.invs;
       marked : AreMarkedAs l.marked l.planes l.graph;
-      others : l.log ≡ record l.fn.log { merges = l.log.merges };
-      run : IsCoarsening l.fn.planes.invs l.fn.graph l.graph l.at.p l.at.q (merges_of l.log);
+      others : l.run_log ≡ record l.fn.run_log { merges = l.run_log.merges };
+      run : IsCoarsening l.fn.planes.invs l.fn.graph l.graph l.at.p l.at.q (merges_of l.run_log);
       more : l.fn.steps ≤ l.steps;
-      counted : IsCounted l.fn.graph l.graph l.at.p l.at.q (length l.log.merges) l.apart;
+      counted : IsCounted l.fn.graph l.graph l.at.p l.at.q (length l.run_log.merges) l.apart;
       last : l.apart ≡ false → owed l.marked ≡ 1;
-      once : l.steps + owed l.marked ≤ l.fn.steps + 1 + length l.log.merges;
+      once : l.steps + owed l.marked ≤ l.fn.steps + 1 + length l.run_log.merges;
     }
 
 abbrev pub decreases-loop-pair : goal.decreases-loop-pair

@@ -61,4 +61,4 @@ pub returns-then-is_some-clause-owes : goal.returns-then-is_some-clause-owes
 returns-then-is_some-clause-owes c = omega arith
 
 pub returns-clause-owes : goal.returns-clause-owes
-returns-clause-owes c = ap (λ (log : RunLists). length log.merges) c.add_merge.ensures ∙ length-append c.args.log.now.merges _
+returns-clause-owes c = ap (λ (run_log : RunLists). length run_log.merges) c.add_merge.ensures ∙ length-append c.args.run_log.now.merges _

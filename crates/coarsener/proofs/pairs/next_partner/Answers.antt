@@ -2,7 +2,7 @@ use Rattle.std.proofs.Common.{◌≡◌, ◌<◌, ◌∙◌, ℕ, sym, subst, in
 use Rattle.std.proofs.lemmas.Bool.{cases_lt, true≢false}
 use Rattle.partition_model.specs.Assignments.{G}
 use Rattle.partition_model.specs.Coarsening.{IsPair}
-use Rattle.partition_bounds.proofs.Merges.{live-below}
+use Rattle.partition_model.proofs.Listing.{live-below}
 use Rattle.coarsener.proofs.pairs.next_partner.Goals as goal
 
 pub loop-q-preserved : goal.loop-q-preserved

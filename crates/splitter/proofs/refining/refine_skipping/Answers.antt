@@ -21,11 +21,11 @@ none = record { kind = AF; a = 0; b = 0 }
 
 pub loop-k-init : goal.loop-k-init
 loop-k-init g c =
-    let e : splits_of c.args.log.now c.args.spans.now ≡ [] = ap (map (split_of c.args.spans.now.numbers)) c.requires.empty.splits in
+    let e : splits_of c.args.run_log.now c.args.spans.now ≡ [] = ap (map (split_of c.args.spans.now.numbers)) c.requires.empty.splits in
     record {
       refining = subst (λ (z : List Split). IsRefining c.args.invs.now c.args.graph.now c.args.graph.now 0 z) (sym e)
           (refining-start c.args.invs.now c.args.graph.now c.requires.opened (omega arith));
-      writes = writing-start c.args.log.now c.args.spans.now c.requires.empty;
+      writes = writing-start c.args.run_log.now c.args.spans.now c.requires.empty;
       known = c.requires.known;
       counted = omega (arith, ap (λ (z : List Split). length z) e);
       same = refl;
@@ -35,7 +35,7 @@ pub divide-requires-clause-divides : goal.divide-requires-clause-divides
 divide-requires-clause-divides g c =
     let now = c.loop-k.graph in
     let r = c.loop-k.invariant.refining in
-    let ss : List Split = splits_of c.loop-k.log c.loop-k.spans in
+    let ss : List Split = splits_of c.loop-k.run_log c.loop-k.spans in
     violation-divides now.traces (get_or c.args.invs.now c.loop-k.k none) c.in-Some.path.now now.used r.run.typed
     (refining-fresh c.args.invs.now c.args.graph.now now c.loop-k.k ss c.requires.opened r)
     (refining-hold c.args.invs.now c.args.graph.now now c.loop-k.k ss none r c.requires.hold c.loop-k-test.true)
@@ -48,18 +48,18 @@ divide-requires-clause-starts g c =
 pub divide-requires-clause-made : goal.divide-requires-clause-made
 divide-requires-clause-made g c =
     c.loop-k.invariant.same ∙ c.requires.made
-    ∙ sym (refining-events c.args.invs.now c.args.graph.now c.loop-k.graph c.loop-k.k (splits_of c.loop-k.log c.loop-k.spans) c.loop-k.invariant.refining)
+    ∙ sym (refining-events c.args.invs.now c.args.graph.now c.loop-k.graph c.loop-k.k (splits_of c.loop-k.run_log c.loop-k.spans) c.loop-k.invariant.refining)
 
 pub divide-requires-clause-splits : goal.divide-requires-clause-splits
 divide-requires-clause-splits g c few =
-    let ss : List Split = splits_of c.loop-k.log c.loop-k.spans in
+    let ss : List Split = splits_of c.loop-k.run_log c.loop-k.spans in
     let n = refining-numbers c.args.invs.now c.args.graph.now c.loop-k.graph c.loop-k.k ss c.requires.opened c.requires.hold c.loop-k.invariant.refining in
-    let room : c.loop-k.log.split_room ≡ c.args.log.now.split_room = ap (λ (l : RunLists). l.split_room) c.loop-k.invariant.writes.log_is in
-    omega (arith, n.1, room, c.requires.room.splits, length-map c.loop-k.log.splits (split_of c.loop-k.spans.numbers))
+    let room : c.loop-k.run_log.split_room ≡ c.args.run_log.now.split_room = ap (λ (l : RunLists). l.split_room) c.loop-k.invariant.writes.log_is in
+    omega (arith, n.1, room, c.requires.room.splits, length-map c.loop-k.run_log.splits (split_of c.loop-k.spans.numbers))
 
 pub divide-requires-clause-numbers : goal.divide-requires-clause-numbers
 divide-requires-clause-numbers g c =
-    let ss : List Split = splits_of c.loop-k.log c.loop-k.spans in
+    let ss : List Split = splits_of c.loop-k.run_log c.loop-k.spans in
     let r = c.loop-k.invariant.refining in
     let n = refining-numbers c.args.invs.now c.args.graph.now c.loop-k.graph c.loop-k.k ss c.requires.opened c.requires.hold r in
     let room : c.loop-k.spans.room ≡ c.args.spans.now.room = ap (λ (s : Numbers). s.room) c.loop-k.invariant.writes.spans_are in
@@ -69,7 +69,7 @@ divide-requires-clause-numbers g c =
 pub loop-k-preserved-then-is_known : goal.loop-k-preserved-then-is_known
 loop-k-preserved-then-is_known g c =
     record {
-      refining = refining-known c.args.invs.now c.args.graph.now c.loop-k.graph c.loop-k.k (splits_of c.loop-k.log c.loop-k.spans) none c.args.known.now c.loop-k.invariant.refining c.loop-k-test.true
+      refining = refining-known c.args.invs.now c.args.graph.now c.loop-k.graph c.loop-k.k (splits_of c.loop-k.run_log c.loop-k.spans) none c.args.known.now c.loop-k.invariant.refining c.loop-k-test.true
           c.loop-k.invariant.known (sym c.is_known.ensures ∙ c.if-is_known.true);
       writes = c.loop-k.invariant.writes;
       known = c.loop-k.invariant.known;
@@ -80,7 +80,7 @@ loop-k-preserved-then-is_known g c =
 pub loop-k-preserved-in-None : goal.loop-k-preserved-in-None
 loop-k-preserved-in-None g c =
     record {
-      refining = refining-none c.args.invs.now c.args.graph.now c.loop-k.graph c.loop-k.k (splits_of c.loop-k.log c.loop-k.spans) none c.loop-k.invariant.refining c.loop-k-test.true c.in-None.ensures.found;
+      refining = refining-none c.args.invs.now c.args.graph.now c.loop-k.graph c.loop-k.k (splits_of c.loop-k.run_log c.loop-k.spans) none c.loop-k.invariant.refining c.loop-k-test.true c.in-None.ensures.found;
       writes = c.loop-k.invariant.writes;
       known = c.loop-k.invariant.known;
       counted = omega (arith, asked-unknown c.args.known.now c.loop-k.k (sym c.is_known.ensures ∙ c.if-is_known.false), c.in-None.ensures.counted);
@@ -89,15 +89,15 @@ loop-k-preserved-in-None g c =
 
 pub loop-k-preserved : goal.loop-k-preserved
 loop-k-preserved g c =
-    let ss : List Split = splits_of c.loop-k.log c.loop-k.spans in
+    let ss : List Split = splits_of c.loop-k.run_log c.loop-k.spans in
     let s : Split = split_by c.loop-k.graph c.in-Some.path.now c.loop-k.k in
-    let more : List Split = splits_of c.divide.new.log c.divide.new.spans in
-    let f : more ≡ ss ++ s ∷ [] = adds-told c.loop-k.log c.divide.new.log c.loop-k.spans c.divide.new.spans s c.loop-k.invariant.writes.paths c.in_ok-divide-in-Some.ensures.adds in
+    let more : List Split = splits_of c.divide.new.run_log c.divide.new.spans in
+    let f : more ≡ ss ++ s ∷ [] = adds-told c.loop-k.run_log c.divide.new.run_log c.loop-k.spans c.divide.new.spans s c.loop-k.invariant.writes.paths c.in_ok-divide-in-Some.ensures.adds in
     record {
       refining = subst (λ (z : List Split). IsRefining c.args.invs.now c.args.graph.now c.divide.new.graph c.loop-k.k z) (sym f)
           (refining-some c.args.invs.now c.args.graph.now c.loop-k.graph c.divide.new.graph c.loop-k.k ss none c.in-Some.path.now c.requires.opened c.requires.hold c.loop-k.invariant.refining
           c.loop-k-test.true c.in_ok-divide-in-Some.ensures.room c.in-Some.ensures.found c.in_ok-divide-in-Some.ensures.split);
-      writes = writing-more c.args.log.now c.loop-k.log c.divide.new.log c.args.spans.now c.loop-k.spans c.divide.new.spans s c.loop-k.invariant.writes c.in_ok-divide-in-Some.ensures.adds;
+      writes = writing-more c.args.run_log.now c.loop-k.run_log c.divide.new.run_log c.args.spans.now c.loop-k.spans c.divide.new.spans s c.loop-k.invariant.writes c.in_ok-divide-in-Some.ensures.adds;
       known = known-some c.args.invs.now c.args.graph.now c.loop-k.graph c.divide.new.graph c.loop-k.k ss c.in-Some.path.now c.args.known.now c.requires.opened c.loop-k.invariant.refining
           c.in_ok-divide-in-Some.ensures.split c.loop-k.invariant.known;
       counted = omega (arith, ap (λ (z : List Split). length z) f, length-append ss (s ∷ []), c.in-Some.ensures.counted);
@@ -111,29 +111,29 @@ on_err (Err _) p = p
 
 pub returns-in_err-divide-in-Some-clause-full : goal.returns-in_err-divide-in-Some-clause-full
 returns-in_err-divide-in-Some-clause-full g c =
-    let ss : List Split = splits_of c.loop-k.log c.loop-k.spans in
+    let ss : List Split = splits_of c.loop-k.run_log c.loop-k.spans in
     on_err c.from_residual.result (subst (IsFull c.args.invs.now) (sym c.in_err-divide-in-Some.ensures.graph)
     (refining-full c.args.invs.now c.args.graph.now c.loop-k.graph c.loop-k.k ss none c.in-Some.path.now c.requires.opened c.requires.hold c.loop-k.invariant.refining c.loop-k-test.true
     c.in_err-divide-in-Some.ensures.full c.in-Some.ensures.found))
 
 pub returns-in_err-divide-in-Some-clause-excludes : goal.returns-in_err-divide-in-Some-clause-excludes
 returns-in_err-divide-in-Some-clause-excludes g c =
-    let ss : List Split = splits_of c.loop-k.log c.loop-k.spans in
+    let ss : List Split = splits_of c.loop-k.run_log c.loop-k.spans in
     on_err c.from_residual.result
     (refining-excludes c.args.invs.now c.args.graph.now c.loop-k.graph c.loop-k.k ss none c.in-Some.path.now c.requires.opened c.requires.hold c.loop-k.invariant.refining c.loop-k-test.true
     c.in_err-divide-in-Some.ensures.full c.in-Some.ensures.found)
 
 pub returns-in_err-divide-in-Some-clause-rests : goal.returns-in_err-divide-in-Some-clause-rests
 returns-in_err-divide-in-Some-clause-rests g c h =
-    let ss : List Split = splits_of c.loop-k.log c.loop-k.spans in
+    let ss : List Split = splits_of c.loop-k.run_log c.loop-k.spans in
     absurd (refining-rests c.args.invs.now c.args.graph.now c.loop-k.graph c.loop-k.k ss none c.in-Some.path.now h.names c.requires.opened c.requires.hold c.loop-k.invariant.refining c.loop-k-test.true
     c.in_err-divide-in-Some.ensures.full c.in-Some.ensures.found h.rests h.few)
 
 pub returns-in_err-divide-in-Some-clause-stands : goal.returns-in_err-divide-in-Some-clause-stands
 returns-in_err-divide-in-Some-clause-stands g c =
-    let ss : List Split = splits_of c.loop-k.log c.loop-k.spans in
-    let same : splits_of c.divide.new.log c.divide.new.spans ≡ ss =
-    ap₂ (λ (l : RunLists) (s : Numbers). splits_of l s) c.in_err-divide-in-Some.ensures.log c.in_err-divide-in-Some.ensures.spans in
+    let ss : List Split = splits_of c.loop-k.run_log c.loop-k.spans in
+    let same : splits_of c.divide.new.run_log c.divide.new.spans ≡ ss =
+    ap₂ (λ (l : RunLists) (s : Numbers). splits_of l s) c.in_err-divide-in-Some.ensures.run_log c.in_err-divide-in-Some.ensures.spans in
     let counted : ℕ = c.least_violation.new.steps - c.args.steps.now in
     on_err c.from_residual.result
     (subst₂ (λ (p : Parts) (z : List Split). IsStopped c.args.invs.now c.args.graph.now p z counted) (sym c.in_err-divide-in-Some.ensures.graph) (sym same)
@@ -142,8 +142,8 @@ returns-in_err-divide-in-Some-clause-stands g c =
 
 pub returns-clause-ok : goal.returns-clause-ok
 returns-clause-ok g c =
-    refining-end c.args.invs.now c.args.graph.now c.loop-k.graph c.loop-k.k (splits_of c.loop-k.log c.loop-k.spans) c.loop-k.invariant.refining c.loop-k-test.false
+    refining-end c.args.invs.now c.args.graph.now c.loop-k.graph c.loop-k.k (splits_of c.loop-k.run_log c.loop-k.spans) c.loop-k.invariant.refining c.loop-k-test.false
 
 pub returns-clause-fewer : goal.returns-clause-fewer
 returns-clause-fewer g c =
-    refining-fewer c.args.invs.now c.args.graph.now c.loop-k.graph c.loop-k.k (splits_of c.loop-k.log c.loop-k.spans) c.requires.opened c.requires.hold c.loop-k.invariant.refining
+    refining-fewer c.args.invs.now c.args.graph.now c.loop-k.graph c.loop-k.k (splits_of c.loop-k.run_log c.loop-k.spans) c.requires.opened c.requires.hold c.loop-k.invariant.refining

@@ -10,10 +10,10 @@ use Rattle.splitter.proofs.refining.refine_skipping.Given as goal
 abbrev pub invariant-loop-k : goal.invariant-loop-k
 invariant-loop-k g l =
     record {
-      refining : IsRefining l.invs l.fn.graph l.graph l.k (splits_of l.log l.spans);
-      writes : WritesSplits l.fn.log l.log l.fn.spans l.spans;
+      refining : IsRefining l.invs l.fn.graph l.graph l.k (splits_of l.run_log l.spans);
+      writes : WritesSplits l.fn.run_log l.run_log l.fn.spans l.spans;
       known : AreKnown l.known l.invs (G l.graph.traces);
-      counted : l.steps ≡ l.fn.steps + asked_count l.known l.k + length (splits_of l.log l.spans);
+      counted : l.steps ≡ l.fn.steps + asked_count l.known l.k + length (splits_of l.run_log l.spans);
       same : l.stitcher ≡ l.fn.stitcher;
     }
 

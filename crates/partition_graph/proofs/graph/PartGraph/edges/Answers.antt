@@ -1,4 +1,4 @@
-use Rattle.partition_graph.proofs.Listing.{edges_more}
+use Rattle.partition_model.proofs.OneMore.{edges_more}
 use Rattle.partition_graph.proofs.graph.PartGraph.edges.Goals as goal
 
 pub loop-p-preserved : goal.loop-p-preserved

@@ -1,5 +1,5 @@
 use Rattle.std.proofs.Common.{sym, ◌∙◌}
-use Rattle.partition_graph.proofs.Listing.{live_more, dead_more}
+use Rattle.partition_model.proofs.OneMore.{live_more, dead_more}
 use Rattle.partition_graph.proofs.graph.PartGraph.partitions.Goals as goal
 use Rattle.partition_graph.proofs.graph.PartGraph.partitions.Goals.{then-is_live+in_ok-push, else-is_live}
 

@@ -1,4 +1,4 @@
-use Rattle.partition_graph.proofs.Listing.{edge_more, no_edge_more}
+use Rattle.partition_model.proofs.OneMore.{edge_more, no_edge_more}
 use Rattle.partition_graph.proofs.graph.PartGraph.push_edges_from.Goals as goal
 use Rattle.partition_graph.proofs.graph.PartGraph.push_edges_from.Goals.{then-count-gt0+in_ok-push, else-count-gt0}
 

@@ -3,18 +3,18 @@ use Rattle.std.proofs.lemmas.Bool.{cases_lt}
 use Rattle.limits.specs.declared.TheConstants.{MAX_PARTITIONS}
 use Rattle.partition_graph.specs.Seen.{seen, parts_seen}
 use Rattle.path_finder.specs.Nearness.{is_met}
-use Rattle.path_finder.proofs.Reaching.{blank_spreading, of_type_tells}
+use Rattle.path_finder.proofs.Reaching.{blank_reaching, of_type_tells}
 use Rattle.path_finder.proofs.reach.Reach.begin_with_type.Goals as goal
 
 pub loop-id-init : goal.loop-id-init
 loop-id-init c = record {
-  spreading = λ edge. blank_spreading edge c.clear.new.self MAX_PARTITIONS refl c.clear.ensures.flags c.clear.ensures.list;
+  reaching = λ edge. blank_reaching edge c.clear.new.self MAX_PARTITIONS refl c.clear.ensures.flags c.clear.ensures.list;
   met = λ p l e. absurd (omega arith);
 }
 
 pub loop-id-preserved : goal.loop-id-preserved
 loop-id-preserved c = record {
-  spreading = c.meet_of_type.ensures.spreading;
+  reaching = c.meet_of_type.ensures.reaching;
   met = λ p l e. elim (cases_lt p c.loop-id.id) [
     | inl before ↦ c.meet_of_type.ensures.more.met p (c.loop-id.invariant.met p before e)
     | inr at ↦

@@ -4,8 +4,8 @@ use Rattle.std.proofs.lemmas.Option.{slice_get_within}
 use Rattle.limits.specs.declared.TheConstants.{MAX_PARTITIONS}
 use Rattle.partition_graph.specs.Seen.{seen}
 use Rattle.path_finder.specs.Nearness.{Met, is_met}
-use Rattle.path_finder.specs.Reaching.{edge_by, IsSpreading, MeetsMore}
-use Rattle.path_finder.proofs.Reaching.{meets_spreading, spreading_next}
+use Rattle.path_finder.specs.Reaching.{edge_by, IsReaching, MeetsMore}
+use Rattle.path_finder.proofs.Reaching.{meets_reaching, reaching_next}
 use Rattle.path_finder.proofs.reach.Reach.follow.Goals as goal
 
 pub loop-n-preserved : goal.loop-n-preserved
@@ -15,13 +15,13 @@ loop-n-preserved c =
     let n : ℕ = c.in-Some.n in
     let w : n < MAX_PARTITIONS = c.in-Some.ensures.within in
     let b : c.args.next < length c.loop-n.self.list = i.place in
-    let k : IsSpreading e c.args.next c.meet.new.self × MeetsMore c.loop-n.self c.meet.new.self × (is_met c.meet.new.self n ≡ true) =
-    subst (λ (m : Met). IsSpreading e c.args.next m × MeetsMore c.loop-n.self m × (is_met m n ≡ true)) (sym c.meet.ensures)
-    (meets_spreading e c.args.next c.loop-n.self n (omega (arith, b)) w i.spreading) in
+    let k : IsReaching e c.args.next c.meet.new.self × MeetsMore c.loop-n.self c.meet.new.self × (is_met c.meet.new.self n ≡ true) =
+    subst (λ (m : Met). IsReaching e c.args.next m × MeetsMore c.loop-n.self m × (is_met m n ≡ true)) (sym c.meet.ensures)
+    (meets_reaching e c.args.next c.loop-n.self n (omega (arith, b)) w i.reaching) in
     record {
       place = slice_get_within c.meet.new.self.list c.args.next c.index-id.result.now (k.1.listed c.args.next c.index-id.result.now i.there);
       there = k.1.listed c.args.next c.index-id.result.now i.there;
-      spreading = k.0;
+      reaching = k.0;
       more = record { met = λ p m. k.1.met p (i.more.met p m); listed = λ j p m. k.1.listed j p (i.more.listed j p m) };
       low = omega (arith, w);
       followed = λ q l d. elim (cases_lt q n) [
@@ -33,7 +33,7 @@ loop-n-preserved c =
       ];
     }
 
-pub returns-clause-spreading : goal.returns-clause-spreading
-returns-clause-spreading c =
-    spreading_next (edge_by c.args.way (seen c.args.sight.now.view)) c.args.next c.loop-n.from c.index-id.result.now c.loop-n.self c.loop-n.invariant.spreading c.loop-n.invariant.there
+pub returns-clause-reaching : goal.returns-clause-reaching
+returns-clause-reaching c =
+    reaching_next (edge_by c.args.way (seen c.args.sight.now.view)) c.args.next c.loop-n.from c.index-id.result.now c.loop-n.self c.loop-n.invariant.reaching c.loop-n.invariant.there
     c.loop-n.invariant.followed c.in_default.ensures.next

@@ -2,7 +2,7 @@ use Rattle.std.proofs.Common.{◌≡◌, ◌<◌, ◌≤◌, ◌-◌, true, ℕ,
 use Rattle.limits.specs.declared.TheConstants.{MAX_PARTITIONS}
 use Rattle.partition_graph.specs.Seen.{seen}
 use Rattle.path_finder.specs.Nearness.{is_met}
-use Rattle.path_finder.specs.Reaching.{edge_by, IsSpreading, MeetsMore}
+use Rattle.path_finder.specs.Reaching.{edge_by, IsReaching, MeetsMore}
 use Rattle.path_finder.proofs.reach.Reach.follow.Given as goal
 
 abbrev pub invariant-loop-n : goal.invariant-loop-n
@@ -10,7 +10,7 @@ invariant-loop-n l =
     record {
       place : l.next < length l.self.list;
       there : slice_get l.self.list l.next ≡ Some l.id;
-      spreading : IsSpreading (edge_by l.way (seen l.sight.view)) l.next l.self;
+      reaching : IsReaching (edge_by l.way (seen l.sight.view)) l.next l.self;
       more : MeetsMore l.initial.self l.self;
       low : l.from ≤ MAX_PARTITIONS;
       followed : (q : ℕ) → q < l.from → edge_by l.way (seen l.sight.view) l.id q ≡ true → is_met l.self q ≡ true;

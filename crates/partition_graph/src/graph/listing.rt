@@ -1,0 +1,87 @@
+//! The lists that a graph gives: its partitions, its edges, and the ids of its events.
+ghost use Rattle.std.specs.Prelude.{◌≡◌, ◌≤◌, ◌<◌, ◌++◌, IfOk, OnOk, length, map};
+
+use super::PartGraph;
+use crate::cells::{Cell, copy_traces};
+use invariants::{Edge, Partition, Seq};
+use std::alloc::{AllocError, Global};
+
+/// The id of each cell.
+fn ids_of(alloc: Global, cells: &[Cell]) -> Result<Seq<u32>, AllocError>
+    ensures { IfOk result (λ list. list ≡ map (λ c. c.id) cells.now) }
+{
+    let ids = cells.iter().map(|cell| cell.id as u32).collect(alloc)?;
+    Ok(Seq::from_vec(ids))
+}
+
+impl PartGraph {
+    ghost use Rattle.partition_model.specs.Assignments.{events};
+    ghost use Rattle.partition_model.specs.Listings.{edges_below, edges_from, partitions_below, parts_of};
+    ghost use Rattle.partition_graph.specs.Spread.{spread};
+    ghost use Rattle.limits.specs.declared.TheConstants.{MAX_EVENTS};
+    ghost use Rattle.std.specs.Prelude.{All};
+
+    /// The live partitions, by their ids.
+    pub fn partitions(&self, alloc: Global) -> Result<Seq<Partition>, AllocError>
+        ensures { IfOk result (λ list. list ≡ partitions_below (self.now).used (self.now).traces) }
+    {
+        let mut list = Vec::new(alloc);
+        for p in 0..self.ids_used() {
+            if self.is_live(p) {
+                list.push(Partition {
+                    id: p,
+                    typ: self.type_of(p),
+                    count: self.size(p),
+                })?;
+            }
+        }
+        Ok(Seq::from_vec(list))
+    }
+
+    /// The edges whose count is above 0, by the ids that they leave and then by those that they enter.
+    pub fn edges(&self, alloc: Global) -> Result<Seq<Edge>, AllocError>
+        ensures { IfOk result (λ list. list ≡ edges_below (self.now).used (self.now).traces) }
+    {
+        let mut list = Vec::new(alloc);
+        for p in 0..self.ids_used() {
+            self.push_edges_from(p, &mut list)?;
+        }
+        Ok(Seq::from_vec(list))
+    }
+
+    /// Puts the edges that leave p behind the others.
+    fn push_edges_from(&self, p: u32, list: &mut Vec<Edge>) -> Result<(), AllocError>
+        ensures { OnOk result
+            (list.new.items ≡ list.old.items ++ edges_from (self.now).used (self.now).traces p) }
+    {
+        for q in 0..self.ids_used() {
+            let count = self.edge_count(p, q);
+            if count > 0 {
+                list.push(Edge {
+                    from: p,
+                    to: q,
+                    count,
+                })?;
+            }
+        }
+        Ok(())
+    }
+
+    /// The id of each event, trace after trace.
+    pub fn parts(&self, alloc: Global) -> Result<Seq<u32>, AllocError>
+        ensures { IfOk result (λ list. list ≡ parts_of (self.now).traces) }
+    {
+        ids_of(alloc, self.events.cells())
+    }
+
+    /// The id of each event of the traces with these numbers, one trace for each number: those of the graph that
+    /// `spread` makes.
+    pub fn spread_parts(&self, alloc: Global, numbers: &[u32]) -> Result<Seq<u32>, AllocError>
+        requires within { All (λ k. k < length (self.now).traces) numbers.now }
+        requires few { length (events (spread numbers.now (self.now).traces)) ≤ MAX_EVENTS }
+        ensures { IfOk result (λ list. list ≡ parts_of (spread numbers.now (self.now).traces)) }
+    {
+        let (cells, _firsts) = copy_traces(alloc, self.events.cells(), &self.firsts, numbers)?;
+        ids_of(alloc, &cells)
+    }
+}
