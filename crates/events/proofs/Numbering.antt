@@ -8,9 +8,9 @@ use Rattle.std.proofs.lemmas.Slice.Eq.{bytes_eq-Decides}
 use Rattle.std.specs.List.{list_any, position_or_len, fold}
 use Rattle.std.specs.Str.{bytes_eq}
 use Rattle.limits.specs.declared.TheConstants.{FIRST_TYPE}
-use Rattle.key_table.specs.Keys.{Key, same_key, with_new}
-use Rattle.key_table.proofs.Keys.{same_key-refl}
-use Rattle.key_table.proofs.Positions.{position-all}
+use Rattle.trace_keys.specs.Keys.{Key, same_key, with_new}
+use Rattle.trace_keys.proofs.Keys.{same_key-refl}
+use Rattle.trace_keys.proofs.Positions.{position-all}
 use Rattle.traces.specs.Words.{Event as KeyedEvent, Trace, gathered_of, gathered_trace, keys_of, number_of, types_of}
 use Rattle.traces.proofs.FirstMet.{keys-first_met, types-first_met}
 use Rattle.traces.proofs.Grown.{number-new, position-end, position-kept}

@@ -6,8 +6,8 @@ use Rattle.std.proofs.lemmas.List.Elements.{filter_agree}
 use Rattle.std.proofs.lemmas.Option.{same_Some}
 use Rattle.std.specs.List.{list_all, list_any, slice_get, position_or_len}
 use Rattle.std.specs.List.Sorted.{ties, IsNonDecreasingBy, IsStableByKey}
-use Rattle.key_table.specs.Keys.{Key, AreApart, same_key}
-use Rattle.key_table.proofs.Keys.{same_key-refl, same_key-≡, any-stands, key-at}
+use Rattle.trace_keys.specs.Keys.{Key, AreApart, same_key}
+use Rattle.trace_keys.proofs.Keys.{same_key-refl, same_key-≡, any-stands, key-at}
 use Rattle.traces.specs.Words.{Event as KeyedEvent, AreOrderedBy, events_of_key, insert_by, keys_of, number_of, ordered_by, trace_of, types_of}
 use Rattle.traces.proofs.FirstMet.{keys-first_met}
 use Rattle.traces.proofs.StableOrder.{ordered-at, ordered-unique, ordered_by-ordered, ordered_by-stable}

@@ -1,7 +1,7 @@
 -- The events of a log, and which line each stands on.
 use Rattle.std.specs.Prelude.{ℕ, ◌==◌, List, [], ◌∷◌, map, filter}
 use Rattle.std.specs.List.{flat_map, position_or_len}
-use Rattle.key_table.specs.Keys.{same_key}
+use Rattle.trace_keys.specs.Keys.{same_key}
 use Rattle.traces.specs.Words.{Event as KeyedEvent, keys_of, number_of, ordered_by, types_of}
 use Rattle.log_reader.specs.LogLines.{Line, events_at, own_events}
 use Rattle.log_reader.specs.Reading.{Setting}

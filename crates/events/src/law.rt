@@ -1,6 +1,6 @@
 //! Laws over the definitions.
 ghost use Rattle.std.specs.Prelude.{◌≡◌, ℕ, List, map, slice_get, Some};
-ghost use Rattle.key_table.specs.Keys.{Key};
+ghost use Rattle.trace_keys.specs.Keys.{Key};
 ghost use Rattle.traces.specs.Words.{keys_of, trace_of};
 ghost use Rattle.log_reader.specs.LogLines.{Line, events_at};
 ghost use Rattle.log_reader.specs.Reading.{Setting};

@@ -13,14 +13,14 @@ use Rattle.outside.specs.Inputs.{InputState, Stays}
 use Rattle.lines.specs.Lines.{is_feed, line_of, pieces}
 use Rattle.log_reader.specs.LineReader.{SeenLines, with_more, without_line, feed_if, feed_bytes, first_piece_refusal, refusal_to_come, GivesLine, NextGives}
 use Rattle.log_reader.specs.Buffers.{part_of, line_in, IsClean, ReadsMore, FindsEnd, IsWithinLimits, PassesLimit}
-use Rattle.log_reader.specs.declared.line_reader.Cut.{Cut}
-use Rattle.log_reader.specs.declared.line_reader.LineError.{LineError}
-use Rattle.log_reader.specs.declared.line_reader.LineError.TheVariants.{ReadFault, TooLong, InputLimit}
-use Rattle.log_reader.specs.declared.line_reader.Part.{Part}
+use Rattle.log_reader.specs.declared.cut.Cut.{Cut}
+use Rattle.log_reader.specs.declared.line_error.LineError.{LineError}
+use Rattle.log_reader.specs.declared.line_error.LineError.TheVariants.{ReadFault, TooLong, InputLimit}
+use Rattle.log_reader.specs.declared.cut.Extent.{Extent}
 use Rattle.log_reader.proofs.Feeds.{IsLong, none-before, feed-at, reached-more, piece-first, piece-alone, first-long}
 
 -- what contracts see of the fields
-abbrev pub seen : List ℕ → ℕ → ℕ → Option Part → Bool → ℕ → ℕ → Bool → SeenLines
+abbrev pub seen : List ℕ → ℕ → ℕ → Option Extent → Bool → ℕ → ℕ → Bool → SeenLines
 seen buf from to line fed number taken refused = record {
   buffered = part_of buf from to;
   line = line_in buf line;
@@ -30,12 +30,12 @@ seen buf from to line fed number taken refused = record {
   refused = refused;
 }
 
-same-none : (buf other : List ℕ) (line : Option Part) → line_in buf line ≡ None → line_in other line ≡ line_in buf line
+same-none : (buf other : List ℕ) (line : Option Extent) → line_in buf line ≡ None → line_in other line ≡ line_in buf line
 same-none buf other None none = refl
 same-none buf other (Some part) none = absurd (none-some _ (sym none))
 
 -- bytes were read behind those at the front
-pub filled : (buf a b : List ℕ) (from to held count : ℕ) (line : Option Part) (fed : Bool) (number taken : ℕ) (refused : Bool) → held ≡ to - from
+pub filled : (buf a b : List ℕ) (from to held count : ℕ) (line : Option Extent) (fed : Bool) (number taken : ℕ) (refused : Bool) → held ≡ to - from
     → take held a ≡ part_of buf from to → take held b ≡ take held a → line_in buf line ≡ None
     → seen b 0 (held + count) line fed number taken refused ≡ with_more (seen buf from to line fed number taken refused) (take count (drop held b))
 filled buf a b from to held count line fed number taken refused is front stays none =
@@ -116,7 +116,7 @@ line-in-part buf line from to n within is =
     ap (λ k. take k rest) whole ∙ (ap (λ l. take (length l) rest) is_line ∙ (line-at-front n rest ∙ ap line_of (sym (take-take n (to - from) rest within))))
 
 -- what is left, and the line, where a piece is taken from the front
-pub took : (buf line : List ℕ) (from to used number taken : ℕ) (kept : Option Part) (old_fed refused : Bool) (cut : Cut) (old : SeenLines)
+pub took : (buf line : List ℕ) (from to used number taken : ℕ) (kept : Option Extent) (old_fed refused : Bool) (cut : Cut) (old : SeenLines)
     → seen buf from to kept old_fed number taken refused ≡ old → used ≡ cut.length + feed_bytes cut.fed → used ≤ to - from
     → line ≡ line_of (take (from + cut.length - from) (drop from buf))
     → ◌≡◌ {A = SeenLines}

@@ -6,9 +6,11 @@ use Rattle.std.proofs.lemmas.Option.{none-some, same_Some, slice_get_within}
 use Rattle.std.specs.Io.KnownBytes.{IsAtEnd}
 use Rattle.std.specs.List.{slice_get}
 use Rattle.std.proofs.lemmas.List.{length-map, take_all}
+use Rattle.std.proofs.lemmas.List.Sums.{sum_by_push}
+use Rattle.std.proofs.Math.Seq.{take-append_seam}
 use Rattle.std.specs.Prelude.{IsSomeAnd}
 use Rattle.outside.specs.Counts.{next_call}
-use Rattle.outside.specs.Inputs.{Files, InputState, Stays}
+use Rattle.outside.specs.Inputs.{Files, InputState, Stays, bytes_of}
 use Rattle.outside.specs.Reading.{IfTold, LosesFront, OpensNamed, OpensNone}
 use Rattle.outside.specs.Turns.{in_turn, all_in_turn, followed_to_end, OpensInTurn, OpensFirst}
 use Rattle.outside.proofs.Turns.{all_in_turn-append, closes}
@@ -16,9 +18,9 @@ use Rattle.limits.specs.declared.TheConstants.{MAX_INPUT_BYTES}
 use Rattle.lines.specs.Lines.{pieces}
 use Rattle.traces.specs.Words.{Event as KeyedEvent, Gathering, Log, gathered_of, in_order, log_of}
 use Rattle.log_reader.specs.Reading.{Setting, piece_events, section_at_end, key_file, next_section, first_of, files_refusal, first_refusal}
-use Rattle.log_reader.specs.Inputs.{inputs_of, with_content, told_contents, lacking, first_lacking, SomeContents, ReadsLog, StopsWithin, file_past, opens_after}
+use Rattle.log_reader.specs.Inputs.{inputs_of, with_content, told_contents, lacking, first_lacking, SomeContents, ReadsLog, LeavesRoom, StopsWithin, file_past, opens_after}
 use Rattle.log_reader.specs.SoFar.{IsGatheredOf}
-use Rattle.log_reader.specs.LogLines.{Line, events_at, lines_of}
+use Rattle.log_reader.specs.LogLines.{Line, events_at, lines_of, total_bytes}
 use Rattle.log_reader.specs.Taking.{Taker, files_lines, piece_lines}
 use Rattle.log_reader.proofs.LinesOfLog.{events-behind, events-own, met-lines}
 use Rattle.log_reader.specs.Files.{HasContent, FileIsRead, OpensFile, OpensOne, ReadsFile, ReadsInputs}
@@ -38,12 +40,13 @@ pub record IsUpTo (s : Setting) (names : List (List ℕ)) (count : ℕ) (old now
   pub some : 0 < count → now.opens ≡ min (old.opens + count) (2 ^ 64 - 1)
   pub at_end : 0 < count → IsAtEnd now.rest
   pub turn : followed_to_end now ≡ all_in_turn old.files (followed_to_end old) (take count names)
-  pub last : 0 < count → IsSomeAnd (slice_get names (count - 1)) (StopsWithin (count - 1) old now)
+  pub last : 0 < count → IsSomeAnd (slice_get names (count - 1)) (StopsWithin names (count - 1) old now)
   pub ready : reader.ready
   pub setting : reader.setting ≡ s
   pub few : reader.section + room ≤ MAX_INPUT_BYTES
   pub contents : List (List ℕ)
   pub many : length contents ≡ count
+  pub before : total_bytes contents + room ≡ MAX_INPUT_BYTES
   pub told : HasContents old.files names count contents
   pub lines : List Line
   pub has : reader.has lines
@@ -88,6 +91,7 @@ up-to-none s names old reader ready setting section has = record {
   few = omega arith;
   contents = [];
   many = refl;
+  before = omega arith;
   told = contents-none old.files names;
   lines = [];
   has = has;
@@ -139,21 +143,40 @@ opened-next a b c k none some next =
 pub stays-on : (a b c : InputState) → Stays a b → Stays b c → Stays a c
 stays-on a b c p q = record { files = q.files ∙ p.files; may_fail = q.may_fail ∙ p.may_fail; faults = omega (arith, p.faults, q.faults) }
 
--- what stands behind a front within a limit stands behind one within a greater limit
-wider : (files : Option Files) (name : List ℕ) (rest : Option (List ℕ)) (room limit : ℕ) → room ≤ limit
-    → IfTold files name (λ content. LosesFront (Some content) rest room) → IfTold files name (λ content. LosesFront (Some content) rest limit)
-wider None name rest room limit le left = tt
-wider (Some files) name rest room limit le left = (left.0, left.1, (left.2.0, omega (arith, left.2.1), left.2.2))
+take-content : (o : Option (List ℕ)) (all some : List (List ℕ)) (k : ℕ) → some ≡ take k all → with_content o some ≡ take (suc k) (with_content o all)
+take-content None all some k is = refl
+take-content (Some bytes) all some k is = ap (λ (l : List (List ℕ)). bytes ∷ l) is
+
+-- the bytes of the first so many of the named files are the first so many of all
+told-take : (files : Files) (names : List (List ℕ)) (k : ℕ) → told_contents files (take k names) ≡ take k (told_contents files names)
+told-take files names zero = refl
+told-take files [] (suc k) = refl
+told-take files (name ∷ names) (suc k) = take-content (bytes_of files name) (told_contents files names) (told_contents files (take k names)) k (told-take files names k)
+
+-- where files are told, the first so many of the named, which have these bytes, leave so much room
+leaves-room : (told : Option Files) (names : List (List ℕ)) (k : ℕ) (contents : List (List ℕ)) (room : ℕ) → HasContents told names k contents → length contents ≡ k
+    → total_bytes contents + room ≡ MAX_INPUT_BYTES → LeavesRoom told (take k names) room
+leaves-room None names k contents room has many sum = tt
+leaves-room (Some files) names k contents room has many sum =
+    let later = told_contents files (drop k names) in
+    let own : told_contents files (take k names) ≡ contents =
+    told-take files names k ∙ (ap (take k) has.0 ∙ (ap (λ n. take n (contents ++ later)) (sym many) ∙ take-append_seam contents later)) in
+    ap (λ (bytes : List (List ℕ)). total_bytes bytes + room) own ∙ sum
+
+-- the inputs that were read leave so much room
+pub room-before : (s : Setting) (names : List (List ℕ)) (k : ℕ) (old now : InputState) (reader : Taker) (room : ℕ) → IsUpTo s names k old now reader room → LeavesRoom old.files (take k names) room
+room-before s names k old now reader room so_far = leaves-room old.files names k so_far.contents room so_far.told so_far.many so_far.before
 
 -- the input that is open, from the first input on
 pub stops-within : (s : Setting) (names : List (List ℕ)) (k : ℕ) (old before after : InputState) (reader : Taker) (room : ℕ) (name : List ℕ)
-    → IsUpTo s names k old before reader room → slice_get names k ≡ Some name → OpensNamed before after name room → IsSomeAnd (slice_get names k) (StopsWithin k old after)
+    → IsUpTo s names k old before reader room → slice_get names k ≡ Some name → OpensNamed before after name room → IsSomeAnd (slice_get names k) (StopsWithin names k old after)
 stops-within s names k old before after reader room name so_far at named =
-    subst (λ o. IsSomeAnd o (StopsWithin k old after)) (sym at) (record {
+    subst (λ o. IsSomeAnd o (StopsWithin names k old after)) (sym at) (record {
       opens = opened-next old.opens before.opens after.opens k so_far.none so_far.some named.opens;
       mark = named.mark ∙ ap (λ (f : List ℕ → Bool). f name) so_far.stays.may_fail;
-      left = wider old.files name after.rest room MAX_INPUT_BYTES (omega (arith, so_far.few))
-          (subst (λ f. IfTold f name (λ content. LosesFront (Some content) after.rest room)) so_far.stays.files named.left);
+      room = room;
+      before = room-before s names k old before reader room so_far;
+      left = subst (λ f. IfTold f name (λ content. LosesFront (Some content) after.rest room)) so_far.stays.files named.left;
     })
 
 take-at : (names : List (List ℕ)) (k : ℕ) (name : List ℕ) → slice_get names k ≡ Some name → take (suc k) names ≡ take k names ++ name ∷ []
@@ -187,6 +210,7 @@ up-to-more s names k old before after reader new room left name so_far at stays 
     let left_is : room - length content ≡ left = omega (arith, reads.room_left) in
     let within : length content ≤ room = omega (arith, reads.room_left) in
     let fits : nat_lt room (length content) ≡ false = not-past room (length content) within in
+    let total : total_bytes (so_far.contents ++ content ∷ []) ≡ total_bytes so_far.contents + length content = sum_by_push length so_far.contents content in
     record {
       stays = stays-on old before after so_far.stays stays;
       faults = reads.faults ∙ so_far.faults;
@@ -196,12 +220,13 @@ up-to-more s names k old before after reader new room left name so_far at stays 
       turn = closes after reads.at_end ∙ turn-next s names k old before after reader room name so_far at one.1;
       last = λ some.
           let same : k ≡ k + 1 - 1 = omega arith in
-          subst (λ n. IsSomeAnd (slice_get names n) (StopsWithin n old after)) same (stops-within s names k old before after reader room name so_far at one.0);
+          subst (λ n. IsSomeAnd (slice_get names n) (StopsWithin names n old after)) same (stops-within s names k old before after reader room name so_far at one.0);
       ready = reads.ready;
       setting = reads.setting ∙ so_far.setting;
       few = omega (arith, reads.few, so_far.few);
       contents = so_far.contents ++ content ∷ [];
       many = omega (arith, length-append so_far.contents (content ∷ []), so_far.many);
+      before = omega (arith, total, so_far.before, reads.room_left);
       told = contents-more old.files names k so_far.contents name content at so_far.told (subst (λ f. HasContent f name content) so_far.stays.files reads.told);
       lines = lines ++ more;
       has = is_read.taken;

@@ -18,8 +18,8 @@ use Rattle.log_reader.specs.Files.{ReadsLines, RefusesLines, FailsWithin, known_
 use Rattle.log_reader.specs.SoFar.{IsRefusal}
 use Rattle.log_reader.specs.LogLines.{Line, events_at}
 use Rattle.log_reader.specs.Taking.{IsPiecesRefusal, RefusesLineOf, Taker, TakesLineOf, TakesPieces, piece_lines}
-use Rattle.log_reader.specs.declared.line_reader.LineError.{LineError}
-use Rattle.log_reader.specs.declared.line_reader.LineError.TheVariants.{ReadFault, TooLong, InputLimit}
+use Rattle.log_reader.specs.declared.line_error.LineError.{LineError}
+use Rattle.log_reader.specs.declared.line_error.LineError.TheVariants.{ReadFault, TooLong, InputLimit}
 use Rattle.log_reader.specs.declared.refusal.At.{At}
 use Rattle.log_reader.specs.declared.refusal.ReadError.{ReadError}
 use Rattle.log_reader.specs.declared.refusal.ReadError.TheVariants as refused

@@ -20,7 +20,7 @@ use Rattle.log_reader.specs.declared.refusal.ReadError.{ReadError}
 use Rattle.log_reader.specs.declared.refusal.ReadError.TheVariants as refused
 use Rattle.log_reader.specs.LogLines.{events_at}
 use Rattle.log_reader.specs.Taking.{Taker}
-use Rattle.log_reader.proofs.InputByInput.{HasContents, IsUpTo, next-name, opens-next, opened-so, stops-within}
+use Rattle.log_reader.proofs.InputByInput.{HasContents, IsUpTo, next-name, opens-next, opened-so, room-before, stops-within}
 
 -- a refusal names a line of this file, or is the limit on all input, where that cuts the file
 abbrev IsOfFile : ℕ → Bool → Option ReadError → Type 0
@@ -152,7 +152,7 @@ lacking-at s (Some files) names k contents name at has lacks none =
 -- where the reading of this input stopped, from the first input on
 stopped : (s : Setting) (names : List (List ℕ)) (k : ℕ) (old before after : InputState) (reader : Taker) (room : ℕ) (name : List ℕ)
     → IsUpTo s names k old before reader room → slice_get names k ≡ Some name → OpensNone before after ⊎ OpensNamed before after name room
-    → StopsBefore k old after ⊎ IsSomeAnd (slice_get names k) (StopsWithin k old after)
+    → StopsBefore k old after ⊎ IsSomeAnd (slice_get names k) (StopsWithin names k old after)
 stopped s names k old before after reader room name so_far at = ⊎_elim
     (λ (none : OpensNone before after). inl (record { opens = none.opens ∙ opened-so old.opens before.opens k so_far.none so_far.some; closed = none.closed }))
     (λ (named : OpensNamed before after name room). inr (stops-within s names k old before after reader room name so_far at named))
@@ -165,13 +165,15 @@ unreadable s names k old before after reader room name e so_far at unread = (
   k,
   unread.answer,
   ⊎_elim
-      (λ (fails : Rose before.faults after.faults × IsTrue (before.may_fail name) × (OpensNone before after ⊎ OpensNamed before after name room)). inl (
-        (
+      (λ (fails : Rose before.faults after.faults × IsTrue (before.may_fail name) × (OpensNone before after ⊎ OpensNamed before after name room)). inl (record {
+        fault = (
           subst (λ n. Rose n after.faults) so_far.faults fails.0,
           subst (λ o. IsSomeAnd o (λ name. IsTrue (old.may_fail name))) (sym at) (subst (λ (f : List ℕ → Bool). IsTrue (f name)) so_far.stays.may_fail fails.1),
-        ),
-        stopped s names k old before after reader room name so_far at fails.2,
-      ))
+        );
+        room = room;
+        before = room-before s names k old before reader room so_far;
+        stops = stopped s names k old before after reader room name so_far at fails.2;
+      }))
       (λ (lacks : Lacks before.files name × OpensNone before after × (after.faults ≡ before.faults)). inr (
         lacking-at s old.files names k so_far.contents name at so_far.told (subst (λ f. Lacks f name) so_far.stays.files lacks.0)
             (ap (first_refusal s) (sym (append-nil so_far.contents)) ∙ so_far.refusal []),

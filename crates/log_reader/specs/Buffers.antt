@@ -8,10 +8,10 @@ use Rattle.outside.specs.Counts.{Rose}
 use Rattle.outside.specs.Inputs.{InputState}
 use Rattle.lines.specs.Lines.{is_feed}
 use Rattle.log_reader.specs.LineReader.{SeenLines, with_more, feed_bytes, NextGives}
-use Rattle.log_reader.specs.declared.line_reader.Cut.{Cut}
-use Rattle.log_reader.specs.declared.line_reader.Part.{Part}
-use Rattle.log_reader.specs.declared.line_reader.LineError.{LineError}
-use Rattle.log_reader.specs.declared.line_reader.LineError.TheVariants.{ReadFault, TooLong, InputLimit}
+use Rattle.log_reader.specs.declared.cut.Cut.{Cut}
+use Rattle.log_reader.specs.declared.cut.Extent.{Extent}
+use Rattle.log_reader.specs.declared.line_error.LineError.{LineError}
+use Rattle.log_reader.specs.declared.line_error.LineError.TheVariants.{ReadFault, TooLong, InputLimit}
 use Rattle.log_reader.specs.declared.line_reader.TheConstants.{BUFFER_BYTES}
 
 -- the bytes of a buffer from one place up to another
@@ -19,12 +19,12 @@ abbrev pub part_of : List ℕ → ℕ → ℕ → List ℕ
 part_of buf from to = take (to - from) (drop from buf)
 
 -- the bytes of a line
-abbrev pub line_in : List ℕ → Option Part → Option (List ℕ)
+abbrev pub line_in : List ℕ → Option Extent → Option (List ℕ)
 line_in buf None = None
 line_in buf (Some part) = Some (part_of buf part.from part.to)
 
 -- a line stands within so many bytes
-abbrev pub IsLineWithin : ℕ → Option Part → Type 0
+abbrev pub IsLineWithin : ℕ → Option Extent → Type 0
 IsLineWithin size None = ⊤
 IsLineWithin size (Some part) = (part.from ≤ part.to) × (part.to ≤ size)
 
@@ -34,7 +34,7 @@ IsClean clean_from to buf = (i : ℕ) → clean_from ≤ i → i < to → slice_
 
 -- a buffer and the counts of its reader: it is never read more than one byte past the limit on all
 -- input
-pub record IsSound (buf : List ℕ) (from to : ℕ) (line : Option Part) (number taken : ℕ) : Type 0 where
+pub record IsSound (buf : List ℕ) (from to : ℕ) (line : Option Extent) (number taken : ℕ) : Type 0 where
   pub size : length buf ≡ BUFFER_BYTES
   pub order : from ≤ to
   pub inside : to ≤ BUFFER_BYTES

@@ -1,6 +1,6 @@
 -- The inputs of a log, and why reading them ends as it does.
 use Rattle.std.specs.Prelude.{ℕ, ◌≡◌, ◌≤◌, ◌<◌, ◌⊎◌, ◌+◌, ◌-◌, ◌^◌, min, nat_lt, if◌then◌else◌}
-use Rattle.std.specs.Prelude.{List, [], ◌∷◌, length, slice_get, IsTrue, IsSomeAnd, Option, Some, None, option_map}
+use Rattle.std.specs.Prelude.{List, [], ◌∷◌, length, take, slice_get, IsTrue, IsSomeAnd, Option, Some, None, option_map, ⊤}
 use Rattle.std.specs.Io.KnownBytes.{IsAtEnd}
 use Rattle.limits.specs.declared.TheConstants.{MAX_INPUT_BYTES}
 use Rattle.outside.specs.Counts.{Rose}
@@ -10,6 +10,7 @@ use Rattle.outside.specs.Turns.{OpensInTurn}
 pub use Rattle.outside.specs.Turns.{opens_after}
 use Rattle.traces.specs.Words.{Log, log_of}
 use Rattle.log_reader.specs.Reading.{Setting, events_of, first_refusal}
+use Rattle.log_reader.specs.LogLines.{total_bytes}
 use Rattle.log_reader.specs.declared.refusal.ReadError.{ReadError}
 use Rattle.log_reader.specs.declared.refusal.ReadError.TheVariants as refused
 
@@ -97,12 +98,21 @@ pub record StopsBefore (number : ℕ) (old new : InputState) : Type 0 where
   pub opens : new.opens ≡ opens_after old.opens number
   pub closed : new.rest ≡ Some []
 
+-- where files are told, the named ones leave so much room of the limit on all input
+abbrev pub LeavesRoom : Option Files → List (List ℕ) → ℕ → Type 0
+LeavesRoom None names room = ⊤
+LeavesRoom (Some files) names room = total_bytes (told_contents files names) + room ≡ MAX_INPUT_BYTES
+
 -- the inputs up to the named one, which has this number, were opened, and no others; it is open,
--- and has left what stands behind some front
-pub record StopsWithin (number : ℕ) (old new : InputState) (name : List ℕ) : Type 0 where
+-- and has left what stands behind some front, which has at most one byte past the room that the
+-- inputs before it leave
+pub record StopsWithin (names : List (List ℕ)) (number : ℕ) (old new : InputState)
+    (name : List ℕ) : Type 0 where
   pub opens : new.opens ≡ opens_after old.opens (number + 1)
   pub mark : new.mark ≡ old.may_fail name
-  pub left : IfTold old.files name (λ content. LosesFront (Some content) new.rest MAX_INPUT_BYTES)
+  pub room : ℕ
+  pub before : LeavesRoom old.files (take number names) room
+  pub left : IfTold old.files name (λ content. LosesFront (Some content) new.rest room)
 
 -- the inputs have this first refusal, and those up to the one at which reading stops were opened,
 -- and no others; that one is open, and has left what stands behind some front
@@ -112,23 +122,26 @@ pub record RefusesLog (s : Setting) (names : List (List ℕ)) (old new : InputSt
   pub few : number < length names
   pub refusal : SomeContents old.files names (IsRefusedAt s e number)
   pub opened : Opened (number + 1) old new
-  pub stops : IsSomeAnd (slice_get names number) (StopsWithin number old new)
+  pub stops : IsSomeAnd (slice_get names number) (StopsWithin names number old new)
 
 -- no call was made, or the inputs up to some one were opened, and no others, and that one is open
 abbrev pub StopsAnywhere : List (List ℕ) → InputState → InputState → Type 0
 StopsAnywhere names old new =
-    (new ≡ old) ⊎ ((number : ℕ) × IsSomeAnd (slice_get names number) (StopsWithin number old new))
+    (new ≡ old) ⊎ ((number : ℕ) × IsSomeAnd (slice_get names number) (StopsWithin names number old new))
 
 -- a fault was counted, and the input with this number may fail
 abbrev pub MayFail : List (List ℕ) → InputState → InputState → ℕ → Type 0
 MayFail names old new number =
     Rose old.faults new.faults × IsSomeAnd (slice_get names number) (λ name. IsTrue (old.may_fail name))
 
--- the input with this number failed at its opening, or at a read after it
-abbrev pub Fails : List (List ℕ) → InputState → InputState → ℕ → Type 0
-Fails names old new number =
-    MayFail names old new number
-    × (StopsBefore number old new ⊎ IsSomeAnd (slice_get names number) (StopsWithin number old new))
+-- the input with this number failed at its opening, or at a read after it, and the inputs before it
+-- leave some room
+pub record Fails (names : List (List ℕ)) (old new : InputState) (number : ℕ) : Type 0 where
+  pub fault : MayFail names old new number
+  pub room : ℕ
+  pub before : LeavesRoom old.files (take number names) room
+  pub stops : StopsBefore number old new
+      ⊎ IsSomeAnd (slice_get names number) (StopsWithin names number old new)
 
 -- the input with this number is the first that is not there, nothing before it is refused, and no
 -- fault was counted

@@ -7,8 +7,8 @@ use Rattle.limits.specs.declared.TheConstants.{MAX_INPUT_BYTES, MAX_LINE_BYTES}
 use Rattle.outside.specs.Counts.{Rose}
 use Rattle.outside.specs.Inputs.{InputState}
 use Rattle.lines.specs.Lines.{is_feed, line_of, pieces}
-use Rattle.log_reader.specs.declared.line_reader.LineError.{LineError}
-use Rattle.log_reader.specs.declared.line_reader.LineError.TheVariants.{ReadFault, TooLong, InputLimit}
+use Rattle.log_reader.specs.declared.line_error.LineError.{LineError}
+use Rattle.log_reader.specs.declared.line_error.LineError.TheVariants.{ReadFault, TooLong, InputLimit}
 
 -- what contracts see of a reader of lines
 pub record SeenLines : Type 0 where

@@ -5,7 +5,7 @@ ghost use Rattle.log_reader.specs.Inputs.{file_past};
 ghost use Rattle.line_rules.specs.Rules.{Rule, AreAlike};
 ghost use Rattle.log_reader.specs.Reading.{Rules, Setting, events_of, first_refusal, setting};
 ghost use Rattle.log_reader.specs.LineReader.{SeenLines, GivesLine, GivesNone, RefusesPiece, TellsLine, refusal_to_come};
-ghost use Rattle.log_reader.specs.declared.line_reader.LineError.{LineError};
+ghost use Rattle.log_reader.specs.declared.line_error.LineError.{LineError};
 ghost use Rattle.log_reader.specs.LogLines.{AllTaken, TellsPast, TellsRefusal, events_at, lines_of};
 
 /// Rules that are alike read each log alike: they have one first refusal, and the same events.

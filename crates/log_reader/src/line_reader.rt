@@ -1,79 +1,35 @@
 //! Reads the lines of inputs, one by one, through a buffer of a fixed size.
-ghost use Rattle.std.specs.Prelude.{ℕ, ◌≡◌, ◌<◌, ◌≤◌, ◌+◌, ◌-◌, [], length, take, drop, Some, IfOk, IfErr, IfNone, IfSome, IsSome, false, true, slice_index};
+ghost use Rattle.std.specs.Prelude.{◌≡◌, ◌<◌, ◌≤◌, ◌+◌, [], length, take, drop, Some, IfOk, IfErr, IfNone, IfSome, IsSome, false, true};
 ghost use Rattle.std.specs.List.{position_or_len};
 ghost use Rattle.std.specs.Str.{IsAscii};
 ghost use Rattle.limits.specs.declared.TheConstants.{MAX_INPUT_BYTES, MAX_LINE_BYTES};
 ghost use Rattle.lines.specs.Lines.{is_feed, line_of};
 ghost use Rattle.outside.specs.Inputs.{Stays};
 ghost use Rattle.log_reader.specs.LineReader.{NextGives, at_start, feed_bytes, unused_lines, without_line};
-ghost use Rattle.log_reader.specs.Buffers.{FillGives, FindsEnd, IsClean, IsWithinLimits, MissesEnd, PassesLimit, ReadsBehind, part_of};
+ghost use Rattle.log_reader.specs.Buffers.{FillGives, FindsEnd, IsWithinLimits, MissesEnd};
 
-use limits::{MAX_INPUT_BYTES, MAX_LINE_BYTES};
+mod buffer;
+mod feed_search;
+
+use crate::cut::{Cut, Extent, within_limits};
+use crate::line_error::LineError;
+use crate::line_reader::buffer::{clean_after, read_behind, to_front};
+use crate::line_reader::feed_search::{LANES, first_feed, near_feed};
+use limits::MAX_INPUT_BYTES;
 use lines::without_return;
-use memchr::memchr;
 use outside::{Failed, Inputs};
 use std::alloc::{AllocError, Global};
 use std::marker::Model;
-use std::simd::prelude::*;
 
-/// How many bytes the buffer has: a piece of the greatest length with its line feed, and room to
-/// read many more at once.
+/// How many bytes the buffer has: a piece of the greatest length with its line feed, and room to read many more at once.
 const BUFFER_BYTES: usize = 131_072;
 
-/// How many bytes are looked at together.
-const LANES: usize = 16;
-
-/// Why a line is not given.
-#[derive(Clone, Copy, Debug, PartialEq, Eq)]
-pub enum LineError {
-    /// The open input could not be read.
-    ReadFault,
-    /// The line has more than 65,536 bytes, a final carriage return counted.
-    TooLong,
-    /// All inputs have more than 268,435,456 bytes, and the first byte past them stands in this
-    /// line or ends it.
-    InputLimit,
-}
-
-/// Where the current line stands in the buffer.
-#[derive(Clone, Copy)]
-struct Part {
-    /// The place of its first byte.
-    from: usize,
-    /// The place behind its last byte.
-    to: usize,
-}
-
-/// Where a piece ends.
-#[derive(Clone, Copy)]
-struct Cut {
-    /// How many bytes the piece has.
-    length: usize,
-    /// Whether a line feed ends it.
-    fed: bool,
-}
-
-impl Cut {
-    /// How many bytes the piece takes, with the line feed that ends it.
-    fn used(self) -> usize
-        requires { self.length ≤ MAX_INPUT_BYTES + 1 }
-        ensures { result ≡ self.length + feed_bytes self.fed }
-    {
-        if self.fed {
-            self.length + 1
-        } else {
-            self.length
-        }
-    }
-}
-
-/// A reader of the lines of inputs, one input after the other. It keeps a buffer of 131,072 bytes,
-/// which is made once, and a line is read where it stands in it.
+/// A reader of the lines of inputs, one input after the other. It keeps a buffer of 131,072 bytes, which is made once, and a line
+/// is read where it stands in it.
 ///
-/// Contracts see the bytes that are buffered, the current line where there is one, whether a line
-/// feed ends it, the number of the line in its input, how many bytes all lines have taken since the
-/// reader was made, and whether a call of `next` was refused. The bytes still to come are those
-/// that are buffered, and then the rest of the open input.
+/// Contracts see the bytes that are buffered, the current line where there is one, whether a line feed ends it, the number of the
+/// line in its input, how many bytes all lines have taken since the reader was made, and whether a call of `next` was refused.
+/// The bytes still to come are those that are buffered, and then the rest of the open input.
 #[derive(Drop)]
 pub struct Lines {
     buf: Vec<u8>,
@@ -83,7 +39,7 @@ pub struct Lines {
     to: usize,
     /// From where on all bytes before that are known to be ASCII.
     clean_from: usize,
-    line: Option<Part>,
+    line: Option<Extent>,
     fed: bool,
     number: u32,
     taken: usize,
@@ -111,159 +67,8 @@ impl Model for Lines {
         × IsClean l.clean_from l.to l.buf.items };
 }
 
-/// Where the first line feed stands, if there is one, by a search from a place before which none stands.
-fn search_feed(bytes: &[u8], searched: usize) -> Option<usize>
-    requires inside { searched ≤ length bytes.now }
-    requires before { searched ≤ position_or_len is_feed bytes.now }
-    ensures some { IfSome result (λ n. n ≡ position_or_len is_feed bytes.now) }
-    ensures found { IfSome result (λ n. n < length bytes.now) }
-    ensures none { IfNone result (position_or_len is_feed bytes.now ≡ length bytes.now) }
-{
-    match memchr(10, &bytes[searched..]) {
-        Some(n) => Some(searched + n),
-        None => None,
-    }
-}
-
-/// How many bytes stand before the first line feed, of those that are looked at together from a place on.
-#[inline(always)]
-fn before_feed(bytes: &[u8], at: usize) -> usize
-    requires { at + LANES ≤ length bytes.now }
-    ensures { result ≡ position_or_len is_feed (take LANES (drop at bytes.now)) }
-{
-    let feeds = u8x16::from_slice(&bytes[at..])
-        .simd_eq(u8x16::splat(10))
-        .to_bitmask();
-    if feeds == 0 {
-        LANES
-    } else {
-        feeds.trailing_zeros() as usize
-    }
-}
-
-/// Where the first line feed stands, if there is one. None stands before the place from which the
-/// search begins. The end of a short line is found at the first look.
-#[inline(always)]
-fn first_feed(bytes: &[u8], searched: usize) -> Option<usize>
-    requires inside { searched ≤ length bytes.now }
-    requires before { searched ≤ position_or_len is_feed bytes.now }
-    ensures some { IfSome result (λ n. n ≡ position_or_len is_feed bytes.now) }
-    ensures found { IfSome result (λ n. n < length bytes.now) }
-    ensures none { IfNone result (position_or_len is_feed bytes.now ≡ length bytes.now) }
-{
-    if bytes.len() - searched < LANES {
-        return search_feed(bytes, searched);
-    }
-    let before = before_feed(bytes, searched);
-    if before < LANES {
-        return Some(searched + before);
-    }
-    search_feed(bytes, searched + LANES)
-}
-
-/// Where the first line feed stands, if it is among the first `LANES` bytes, which are looked at together, and more bytes stand
-/// behind these; else none.
-#[inline(always)]
-fn near_feed(bytes: &[u8]) -> Option<usize>
-    ensures some { IfSome result (λ n. n ≡ position_or_len is_feed bytes.now) }
-    ensures near { IfSome result (λ n. n < LANES) }
-    ensures more { IfSome result (λ n. n + 1 < length bytes.now) }
-    ensures none { IfNone result (LANES < length bytes.now
-        → LANES ≤ position_or_len is_feed bytes.now) }
-{
-    if bytes.len() <= LANES {
-        return None;
-    }
-    let before = before_feed(bytes, 0);
-    if before < LANES { Some(before) } else { None }
-}
-
-/// The cut of a piece that is within the limits, after lines that have taken so many bytes.
-fn within_limits(taken: usize, cut: Cut) -> Result<Cut, LineError>
-    requires taken { taken ≤ MAX_INPUT_BYTES }
-    requires length { cut.length ≤ MAX_INPUT_BYTES + 1 }
-    ensures ok { IfOk result (λ same. (same ≡ cut) × IsWithinLimits taken cut) }
-    ensures err { IfErr result (PassesLimit taken cut) }
-{
-    if cut.length > MAX_LINE_BYTES {
-        return Err(LineError::TooLong);
-    }
-    if taken + cut.used() > MAX_INPUT_BYTES {
-        return Err(LineError::InputLimit);
-    }
-    Ok(cut)
-}
-
-/// The greatest of the bytes.
-fn greatest(bytes: &[u8]) -> u8
-    ensures { (i : ℕ) → slice_index bytes.now i ≤ result }
-{
-    let mut greatest = 0;
-    for i in 0..bytes.len() {
-        greatest = bytes[i].max(greatest);
-    }
-    greatest
-}
-
-/// Whether the bytes are ASCII.
-fn are_clean(bytes: &[u8]) -> bool
-    ensures { result ≡ true → (i : ℕ) → slice_index bytes.now i < 128 }
-{
-    greatest(bytes) < 128
-}
-
-/// From where on the bytes before a place are ASCII, if those before an earlier one are from here on. Only the bytes between the
-/// two are looked at.
-fn clean_after(buf: &[u8], clean_from: usize, held: usize, to: usize) -> usize
-    requires order { held ≤ to }
-    requires inside { to ≤ length buf.now }
-    requires clean { IsClean clean_from held buf.now }
-    ensures { IsClean result to buf.now }
-{
-    if are_clean(&buf[held..to]) {
-        clean_from
-    } else {
-        to
-    }
-}
-
-/// Moves the bytes between two places to the front of a buffer.
-fn to_front(buf: &mut [u8], from: usize, to: usize)
-    requires order { from ≤ to }
-    requires inside { to ≤ length buf.old }
-    ensures front { take (to - from) buf.new ≡ part_of buf.old from to }
-    ensures size { length buf.new ≡ length buf.old }
-{
-    if from > 0 {
-        buf.copy_within(from..to, 0);
-    }
-}
-
-/// Reads into a buffer behind the bytes that it holds, at most so many.
-fn read_behind<I: Inputs>(
-    inputs: &mut I,
-    buf: &mut [u8],
-    held: usize,
-    room: usize,
-) -> Result<usize, Failed>
-    requires some { 0 < room }
-    requires inside { held + room ≤ length buf.old }
-    ensures stays { Stays (I.state inputs.old) (I.state inputs.new) }
-    ensures mark { (I.state inputs.new).mark ≡ (I.state inputs.old).mark }
-    ensures opens { (I.state inputs.new).opens ≡ (I.state inputs.old).opens }
-    ensures turn { (I.state inputs.new).followed ≡ (I.state inputs.old).followed }
-
-    // The bytes that are read, and where they are put.
-    ensures size { length buf.new ≡ length buf.old }
-    ensures gives { ReadsBehind (I.state inputs.old) held room buf.old result
-        buf.new (I.state inputs.new) }
-{
-    inputs.read(&mut buf[held..held + room])
-}
-
 impl Lines {
-    /// A reader with nothing buffered. This alone takes memory: `AllocError` comes where there is
-    /// not enough.
+    /// A reader with nothing buffered. This alone takes memory: `AllocError` comes where there is not enough.
     pub fn make(alloc: Global) -> Result<Lines, AllocError>
         ensures { IfOk result (λ lines. lines ≡ unused_lines) }
     {
@@ -281,8 +86,8 @@ impl Lines {
         })
     }
 
-    /// Begins an input that was opened, behind the end of the one before: its lines are numbered
-    /// from 1. The bytes that lines have taken are counted over all inputs.
+    /// Begins an input that was opened, behind the end of the one before: its lines are numbered from 1. The bytes that lines
+    /// have taken are counted over all inputs.
     pub fn start(&mut self)
         requires { (self.old).buffered ≡ [] }
         ensures { self.new ≡ at_start self.old }
@@ -292,8 +97,7 @@ impl Lines {
         self.number = 0;
     }
 
-    /// The current line: its bytes without the line feed that ends it, and without one carriage
-    /// return at its end.
+    /// The current line: its bytes without the line feed that ends it, and without one carriage return at its end.
     pub fn line(&self) -> &[u8]
         requires { IsSome (self.now).line }
         ensures { (self.now).line ≡ Some result.now }
@@ -325,8 +129,7 @@ impl Lines {
         }
     }
 
-    /// The number of the current line in its input, from 1: how many of the input's lines were
-    /// given.
+    /// The number of the current line in its input, from 1: how many of the input's lines were given.
     pub fn number(&self) -> u32
         ensures { result ≡ (self.now).number }
     {
@@ -408,7 +211,8 @@ impl Lines {
     }
 
     /// How long the first piece to come is, where more than `LANES` bytes are buffered and a line feed that is among the first
-    /// `LANES` of them ends it. It is then within the limits, since no more than one byte past that on all input is ever buffered.
+    /// `LANES` of them ends it. It is then within the limits, since no more than one byte past that on all input is ever
+    /// buffered.
     #[inline(always)]
     fn near_end(&self) -> Option<usize>
         ensures first { IfSome result (λ n. n ≡ position_or_len is_feed (self.now).buffered) }
@@ -420,8 +224,7 @@ impl Lines {
         near_feed(self.buffered())
     }
 
-    /// Takes the piece that ends so from the front of what is buffered: its line is the current
-    /// one.
+    /// Takes the piece that ends so from the front of what is buffered: its line is the current one.
     fn take(&mut self, cut: Cut)
         requires some { 0 < cut.length + feed_bytes cut.fed }
         requires inside { cut.length + feed_bytes cut.fed ≤ length (self.old).buffered }
@@ -438,7 +241,7 @@ impl Lines {
         } }
     {
         let line = without_return(&self.buf[self.from..self.from + cut.length]).len();
-        self.line = Some(Part {
+        self.line = Some(Extent {
             from: self.from,
             to: self.from + line,
         });
@@ -449,21 +252,18 @@ impl Lines {
         self.number += 1;
     }
 
-    /// Goes on to the next line of the open input, and says whether there is one. It takes no
-    /// memory. An input is begun by `start`. After a refusal the reader may only be dropped.
+    /// Goes on to the next line of the open input, and says whether there is one. It takes no memory. An input is begun by
+    /// `start`. After a refusal the reader may only be dropped.
     ///
-    /// - `Ok(true)`: the current line is the first of the bytes still to come. Its piece and the
-    ///   line feed that ends it are gone from them, and are counted as taken.
-    /// - `Ok(false)`: exactly where no byte is to come. There is no current line, and nothing is
-    ///   buffered. The number of the line and the count of bytes stay.
-    /// - `ReadFault`: only where the inputs counted a fault in this call, and may fail the open
-    ///   input.
-    /// - `TooLong`, `InputLimit`: exactly where the first piece to come has its 65,537th byte, or
-    ///   the byte past the limit on all input; of the two what comes first, and at one byte
-    ///   `TooLong`. The bytes of all inputs count.
+    /// - `Ok(true)`: the current line is the first of the bytes still to come. Its piece and the line feed that ends it are gone
+    ///   from them, and are counted as taken.
+    /// - `Ok(false)`: exactly where no byte is to come. There is no current line, and nothing is buffered. The number of the line
+    ///   and the count of bytes stay.
+    /// - `ReadFault`: only where the inputs counted a fault in this call, and may fail the open input.
+    /// - `TooLong`, `InputLimit`: exactly where the first piece to come has its 65,537th byte, or the byte past the limit on all
+    ///   input; of the two what comes first, and at one byte `TooLong`. The bytes of all inputs count.
     ///
-    /// At each refusal a front of the input was read and is buffered, up to one byte past the limit
-    /// on all input.
+    /// At each refusal a front of the input was read and is buffered, up to one byte past the limit on all input.
     pub fn next<I: Inputs>(&mut self, inputs: &mut I) -> Result<bool, LineError>
         requires { (self.old).refused ≡ false }
         ensures stays { Stays (I.state inputs.old) (I.state inputs.new) }

@@ -11,7 +11,8 @@ ghost use Rattle.log_reader.specs.Reading.{setting};
 ghost use Rattle.log_reader.specs.Views.{form_view, names_in};
 
 use crate::form::Form;
-use crate::line_reader::{LineError, Lines};
+use crate::line_error::LineError;
+use crate::line_reader::Lines;
 use crate::reader::LogReader;
 use crate::refusal::{At, ReadError};
 use crate::take_lines::TakeLines;
@@ -205,7 +206,8 @@ pub fn read_inputs<I: Inputs, T: TakeLines>(
 /// from one to the next, and separators count over all. The events of a trace stand by their times.
 ///
 /// Whatever is answered, the first so many of the inputs were opened, each but the last was read to
-/// its end before the next was opened, and no other input was opened.
+/// its end before the next was opened, and no other input was opened. Of all inputs together at
+/// most one byte past the limit on all input was read.
 ///
 /// - `Ok`: each input was opened and read to its end, nothing in them is refused, and no fault was
 ///   counted.

@@ -13,7 +13,7 @@ use crate::taken::Taken;
 use limits::{MAX_TRACE_BYTES, MAX_TYPE_BYTES};
 use line_rules::{DecideError, Decision};
 use lines::plain_fields_ahead;
-use trace_builder::{AddError, Builder, Worded};
+use trace_builder::{AddError, Builder, PackedText};
 
 /// The log of the lines so far.
 #[derive(Drop)]
@@ -126,11 +126,11 @@ impl LogSoFar {
 
     /// Adds the event of a line, which has no time, by texts of which the words are known.
     #[inline(always)]
-    fn add_worded(
+    fn add_packed(
         &mut self,
         at: At,
-        trace_text: &Worded<'_>,
-        type_text: &Worded<'_>,
+        trace_text: &PackedText<'_>,
+        type_text: &PackedText<'_>,
     ) -> Result<Taken, ReadError>
         requires within { IsWithin self.old.builder }
         requires stands { 0 < length type_text.now }
@@ -149,7 +149,7 @@ impl LogSoFar {
         let file = self.key_file(at);
         match self
             .builder
-            .add_worded(file, self.section, trace_text, type_text)
+            .add_packed(file, self.section, trace_text, type_text)
         {
             Ok(placed) => Ok(Taken::Event { placed, time: 0 }),
             Err(error) => Err(not_added(at, error)),
@@ -171,10 +171,10 @@ impl LogSoFar {
             (by_fields (plain_fields_of text.now)) ≡ None }
     {
         match plain_fields_ahead(text, bytes) {
-            Some((trace_text, type_text, from_type)) => self.add_worded(
+            Some((trace_text, type_text, from_type)) => self.add_packed(
                 at,
-                &Worded::at_start(trace_text, bytes),
-                &Worded::at_start(type_text, from_type),
+                &PackedText::at_start(trace_text, bytes),
+                &PackedText::at_start(type_text, from_type),
             ),
             None => self.pass(at),
         }

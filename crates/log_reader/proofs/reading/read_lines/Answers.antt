@@ -3,8 +3,8 @@ use Rattle.std.proofs.lemmas.Result.{err_from_is_err_and}
 use Rattle.log_reader.specs.LineReader.{SeenLines, NextGives, GivesLine, GivesNone, FailsToRead, RefusesPiece}
 use Rattle.log_reader.specs.Reading.{at_line}
 use Rattle.log_reader.specs.Taking.{RefusesLineOf, TakesLineOf}
-use Rattle.log_reader.specs.declared.line_reader.LineError.{LineError}
-use Rattle.log_reader.specs.declared.line_reader.LineError.TheVariants.{ReadFault, TooLong, InputLimit}
+use Rattle.log_reader.specs.declared.line_error.LineError.{LineError}
+use Rattle.log_reader.specs.declared.line_error.LineError.TheVariants.{ReadFault, TooLong, InputLimit}
 use Rattle.log_reader.specs.declared.refusal.ReadError.{ReadError}
 use Rattle.log_reader.specs.declared.refusal.ReadError.TheVariants as refused
 use Rattle.log_reader.proofs.LineByLine.{reading-begins, reading-more, reading-ends, reading-ends-in-line, reading-refused, reading-refused-at, reading-fails, front-lost}

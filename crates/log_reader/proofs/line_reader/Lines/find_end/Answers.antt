@@ -3,7 +3,7 @@ use Rattle.std.proofs.lemmas.Result.{err_from_is_err_and}
 use Rattle.std.specs.List.{position_or_len}
 use Rattle.lines.specs.Lines.{is_feed}
 use Rattle.log_reader.specs.LineReader.{SeenLines}
-use Rattle.log_reader.specs.declared.line_reader.Cut.{Cut}
+use Rattle.log_reader.specs.declared.cut.Cut.{Cut}
 use Rattle.log_reader.proofs.Buffered.{misses-end, searches-on}
 use Rattle.log_reader.proofs.line_reader.Lines.find_end.Goals as goal
 

@@ -1,7 +1,7 @@
 use Rattle.std.proofs.Common.{true, arith, subst}
 use Rattle.log_reader.specs.LineReader.{without_line}
 use Rattle.log_reader.specs.Buffers.{FindsEnd}
-use Rattle.log_reader.specs.declared.line_reader.Cut.{Cut}
+use Rattle.log_reader.specs.declared.cut.Cut.{Cut}
 use Rattle.log_reader.proofs.Buffered.{finds-near, gives-line}
 use Rattle.log_reader.proofs.line_reader.Lines.next.Goals as goal
 

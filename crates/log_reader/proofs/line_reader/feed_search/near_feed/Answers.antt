@@ -1,6 +1,6 @@
 use Rattle.std.proofs.Common.{arith}
 use Rattle.log_reader.proofs.Feeds.{look-found}
-use Rattle.log_reader.proofs.line_reader.near_feed.Goals as goal
+use Rattle.log_reader.proofs.line_reader.feed_search.near_feed.Goals as goal
 
 pub returns-then-before-lt-LANES-clause-some : goal.returns-then-before-lt-LANES-clause-some
 returns-then-before-lt-LANES-clause-some c =

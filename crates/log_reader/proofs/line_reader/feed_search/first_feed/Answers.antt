@@ -1,6 +1,6 @@
 use Rattle.std.proofs.Common.{arith}
 use Rattle.log_reader.proofs.Feeds.{look-found, look-none}
-use Rattle.log_reader.proofs.line_reader.first_feed.Goals as goal
+use Rattle.log_reader.proofs.line_reader.feed_search.first_feed.Goals as goal
 
 pub search_feed-requires-2-clause-before : goal.search_feed-requires-2-clause-before
 search_feed-requires-2-clause-before c =

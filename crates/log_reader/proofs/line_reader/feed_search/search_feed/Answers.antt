@@ -1,5 +1,5 @@
 use Rattle.log_reader.proofs.Feeds.{search-found, search-none}
-use Rattle.log_reader.proofs.line_reader.search_feed.Goals as goal
+use Rattle.log_reader.proofs.line_reader.feed_search.search_feed.Goals as goal
 
 pub returns-in-Some-clause-some : goal.returns-in-Some-clause-some
 returns-in-Some-clause-some c = search-found c.args.searched c.in-Some.n c.args.bytes.now c.requires.inside c.requires.before c.in-Some.ensures

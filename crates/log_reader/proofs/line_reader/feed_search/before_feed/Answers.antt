@@ -2,7 +2,7 @@ use Rattle.std.proofs.Common.{◌≢◌, ◌==◌, sym, ap, ◌∙◌, arith, w8
 use Rattle.std.proofs.lemmas.Simd.{bitmask_splat, length-chunk, leading_from_mask_l, trailing_mask_l}
 use lib.Count.{count_trailing_zeros}
 use lib.Lanes.{mask_l, chunk}
-use Rattle.log_reader.proofs.line_reader.before_feed.Goals as goal
+use Rattle.log_reader.proofs.line_reader.feed_search.before_feed.Goals as goal
 
 pub returns-then-feeds-eq0 : goal.returns-then-feeds-eq0
 returns-then-feeds-eq0 c =

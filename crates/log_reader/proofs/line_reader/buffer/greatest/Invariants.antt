@@ -1,5 +1,5 @@
 use Rattle.std.proofs.Common.{ℕ, ◌<◌, ◌≤◌, get_or}
-use Rattle.log_reader.proofs.line_reader.greatest.Given as goal
+use Rattle.log_reader.proofs.line_reader.buffer.greatest.Given as goal
 
 abbrev pub invariant-loop-i : goal.invariant-loop-i
 invariant-loop-i l = (k : ℕ) → k < l.i → get_or l.bytes k 0 ≤ l.greatest

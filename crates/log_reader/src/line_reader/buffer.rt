@@ -1,0 +1,73 @@
+//! The bytes of a buffer: reads behind those that it holds, moves them to its front, and looks whether they are ASCII.
+ghost use Rattle.std.specs.Prelude.{ℕ, ◌≡◌, ◌<◌, ◌≤◌, ◌+◌, ◌-◌, length, take, true, slice_index};
+ghost use Rattle.outside.specs.Inputs.{Stays};
+ghost use Rattle.log_reader.specs.Buffers.{IsClean, ReadsBehind, part_of};
+
+use outside::{Failed, Inputs};
+
+/// The greatest of the bytes.
+fn greatest(bytes: &[u8]) -> u8
+    ensures { (i : ℕ) → slice_index bytes.now i ≤ result }
+{
+    let mut greatest = 0;
+    for i in 0..bytes.len() {
+        greatest = bytes[i].max(greatest);
+    }
+    greatest
+}
+
+/// Whether the bytes are ASCII.
+fn are_clean(bytes: &[u8]) -> bool
+    ensures { result ≡ true → (i : ℕ) → slice_index bytes.now i < 128 }
+{
+    greatest(bytes) < 128
+}
+
+/// From where on the bytes before a place are ASCII, if those before an earlier one are from here on. Only the bytes between the
+/// two are looked at.
+pub fn clean_after(buf: &[u8], clean_from: usize, held: usize, to: usize) -> usize
+    requires order { held ≤ to }
+    requires inside { to ≤ length buf.now }
+    requires clean { IsClean clean_from held buf.now }
+    ensures { IsClean result to buf.now }
+{
+    if are_clean(&buf[held..to]) {
+        clean_from
+    } else {
+        to
+    }
+}
+
+/// Moves the bytes between two places to the front of a buffer.
+pub fn to_front(buf: &mut [u8], from: usize, to: usize)
+    requires order { from ≤ to }
+    requires inside { to ≤ length buf.old }
+    ensures front { take (to - from) buf.new ≡ part_of buf.old from to }
+    ensures size { length buf.new ≡ length buf.old }
+{
+    if from > 0 {
+        buf.copy_within(from..to, 0);
+    }
+}
+
+/// Reads into a buffer behind the bytes that it holds, at most so many.
+pub fn read_behind<I: Inputs>(
+    inputs: &mut I,
+    buf: &mut [u8],
+    held: usize,
+    room: usize,
+) -> Result<usize, Failed>
+    requires some { 0 < room }
+    requires inside { held + room ≤ length buf.old }
+    ensures stays { Stays (I.state inputs.old) (I.state inputs.new) }
+    ensures mark { (I.state inputs.new).mark ≡ (I.state inputs.old).mark }
+    ensures opens { (I.state inputs.new).opens ≡ (I.state inputs.old).opens }
+    ensures turn { (I.state inputs.new).followed ≡ (I.state inputs.old).followed }
+
+    // The bytes that are read, and where they are put.
+    ensures size { length buf.new ≡ length buf.old }
+    ensures gives { ReadsBehind (I.state inputs.old) held room buf.old result
+        buf.new (I.state inputs.new) }
+{
+    inputs.read(&mut buf[held..held + room])
+}

@@ -1,0 +1,77 @@
+//! Finds the first line feed among bytes.
+ghost use Rattle.std.specs.Prelude.{◌≡◌, ◌<◌, ◌≤◌, ◌+◌, length, take, drop, IfNone, IfSome};
+ghost use Rattle.std.specs.List.{position_or_len};
+ghost use Rattle.lines.specs.Lines.{is_feed};
+
+use memchr::memchr;
+use std::simd::prelude::*;
+
+/// How many bytes are looked at together.
+pub const LANES: usize = 16;
+
+/// Where the first line feed stands, if there is one, by a search from a place before which none stands.
+fn search_feed(bytes: &[u8], searched: usize) -> Option<usize>
+    requires inside { searched ≤ length bytes.now }
+    requires before { searched ≤ position_or_len is_feed bytes.now }
+    ensures some { IfSome result (λ n. n ≡ position_or_len is_feed bytes.now) }
+    ensures found { IfSome result (λ n. n < length bytes.now) }
+    ensures none { IfNone result (position_or_len is_feed bytes.now ≡ length bytes.now) }
+{
+    match memchr(10, &bytes[searched..]) {
+        Some(n) => Some(searched + n),
+        None => None,
+    }
+}
+
+/// How many bytes stand before the first line feed, of those that are looked at together from a place on.
+#[inline(always)]
+fn before_feed(bytes: &[u8], at: usize) -> usize
+    requires { at + LANES ≤ length bytes.now }
+    ensures { result ≡ position_or_len is_feed (take LANES (drop at bytes.now)) }
+{
+    let feeds = u8x16::from_slice(&bytes[at..])
+        .simd_eq(u8x16::splat(10))
+        .to_bitmask();
+    if feeds == 0 {
+        LANES
+    } else {
+        feeds.trailing_zeros() as usize
+    }
+}
+
+/// Where the first line feed stands, if there is one. None stands before the place from which the
+/// search begins. The end of a short line is found at the first look.
+#[inline(always)]
+pub fn first_feed(bytes: &[u8], searched: usize) -> Option<usize>
+    requires inside { searched ≤ length bytes.now }
+    requires before { searched ≤ position_or_len is_feed bytes.now }
+    ensures some { IfSome result (λ n. n ≡ position_or_len is_feed bytes.now) }
+    ensures found { IfSome result (λ n. n < length bytes.now) }
+    ensures none { IfNone result (position_or_len is_feed bytes.now ≡ length bytes.now) }
+{
+    if bytes.len() - searched < LANES {
+        return search_feed(bytes, searched);
+    }
+    let before = before_feed(bytes, searched);
+    if before < LANES {
+        return Some(searched + before);
+    }
+    search_feed(bytes, searched + LANES)
+}
+
+/// Where the first line feed stands, if it is among the first `LANES` bytes, which are looked at together, and more bytes stand
+/// behind these; else none.
+#[inline(always)]
+pub fn near_feed(bytes: &[u8]) -> Option<usize>
+    ensures some { IfSome result (λ n. n ≡ position_or_len is_feed bytes.now) }
+    ensures near { IfSome result (λ n. n < LANES) }
+    ensures more { IfSome result (λ n. n + 1 < length bytes.now) }
+    ensures none { IfNone result (LANES < length bytes.now
+        → LANES ≤ position_or_len is_feed bytes.now) }
+{
+    if bytes.len() <= LANES {
+        return None;
+    }
+    let before = before_feed(bytes, 0);
+    if before < LANES { Some(before) } else { None }
+}
