@@ -30,7 +30,8 @@ module _ (view : List (List Bool)) (ws mid : List ℕ) (w rows bits r from : ℕ
   from_lent : (i : ℕ) → i < w * 64 → eqb (bit_at (word mid (r * w) (i / 64)) (i % 64)) 1 ≡ is_set (row_at view r) i
   from_lent i hi = ap (λ m. bit_of m w r i) lent ∙ source view ws w rows bits r i seen laid within hi
 
-  from_word : (k j : ℕ) → k < w → j < 64 → eqb (bit_at (word mid (r * w) k) j) 1 ≡ is_set (row_at view r) (k * 64 + j)
+  -- a bit of a word is the bit of the row at its place
+  pub from_word : (k j : ℕ) → k < w → j < 64 → eqb (bit_at (word mid (r * w) k) j) 1 ≡ is_set (row_at view r) (k * 64 + j)
   from_word k j hk hj =
       sym (ap₂ (λ a b. eqb (bit_at (word mid (r * w) a) b) 1) (div-mul-add k 64 j hj) (mod-mul-add k 64 j hj)) ∙ from_lent (k * 64 + j) (omega arith)
 

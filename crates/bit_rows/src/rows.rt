@@ -1,6 +1,7 @@
 //! The rows, and what is done with them.
-ghost use Rattle.std.specs.Prelude.{◌≡◌, ◌≢◌, ℕ, ◌*◌, ◌^◌, ◌<◌, ◌≤◌, ◌↔◌, false, length, replicate, slice_set, IfOk, IsTrue, MatchOption};
+ghost use Rattle.std.specs.Prelude.{◌≡◌, ◌≢◌, ◌==◌, ℕ, ◌+◌, ◌*◌, ◌^◌, ◌<◌, ◌≤◌, ◌↔◌, false, length, replicate, slice_set, IfOk, IsTrue, MatchOption};
 ghost use Rattle.std.specs.Bool.{OnTrue, OnFalse};
+ghost use Rattle.std.specs.Int.{bit_at};
 ghost use Rattle.bit_rows.specs.Tables.{row_at, is_set, HasShape, KeepsShape, IsBlank, IsFirstSet, IsNextSet, either, both, without};
 
 use crate::kernels::{
@@ -62,6 +63,17 @@ impl Rows {
             self.words[r * self.width + i / WORD_BITS],
             (i % WORD_BITS) as u32,
         )
+    }
+
+    /// The 64 bits of row `r` from bit `64 * place` on, as a word: the first of them is its lowest bit. Past the end of the
+    /// row they are off.
+    pub fn word(&self, r: usize, place: usize) -> u64
+        requires row { r < length self.now }
+        requires place { place * 64 < length (row_at self.now r) }
+        ensures { (i : ℕ) → i < 64
+            → (bit_at result i == 1) ≡ is_set (row_at self.now r) (place * 64 + i) }
+    {
+        self.words[r * self.width + place]
     }
 
     /// Turns bit `i` of row `r` on or off. All other bits stay.

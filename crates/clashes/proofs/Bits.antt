@@ -16,14 +16,14 @@ pub set_other : (T new : List (List Bool)) (to s : ℕ) (row : List Bool) → s 
 set_other T new to s row n e = ap (λ t. row_at t s) e ∙ get_or-set_other T to s row [] n
 
 -- bits are added to a row
-pub record IsSpread (old new : List (List Bool)) (to : ℕ) (given : ℕ → Bool) : Type 0 where
+pub record IsPropagated (old new : List (List Bool)) (to : ℕ) (given : ℕ → Bool) : Type 0 where
   pub here : (k : ℕ) → on new to k ≡ (on old to k || given k)
   pub others : (s k : ℕ) → s ≢ to → on new s k ≡ on old s k
 
 -- a row that takes up another has the bits of that one too
-pub or_spread : (T new : List (List Bool)) (n bits to from : ℕ) → HasShape T n bits → to < n → from < n
-    → new ≡ set T to (either (row_at T to) (row_at T from)) → IsSpread T new to (on T from)
-or_spread T new n bits to from h lt lf e =
+pub or_propagated : (T new : List (List Bool)) (n bits to from : ℕ) → HasShape T n bits → to < n → from < n
+    → new ≡ set T to (either (row_at T to) (row_at T from)) → IsPropagated T new to (on T from)
+or_propagated T new n bits to from h lt lf e =
     record {
       here = λ k. ap (λ row. is_set row k) (set_here T new to (either (row_at T to) (row_at T from)) (omega (arith, h.count)) e)
           ∙ is_set-zip2 (λ x y. x || y) refl (row_at T to) (row_at T from) k (h.long to lt ∙ sym (h.long from lf));
@@ -31,9 +31,9 @@ or_spread T new n bits to from h lt lf e =
     }
 
 -- a row that takes up what two others have in common has these bits too
-pub or_and_spread : (T new : List (List Bool)) (n bits to a mask : ℕ) → HasShape T n bits → to < n → a < n → mask < n
-    → new ≡ set T to (either (row_at T to) (both (row_at T a) (row_at T mask))) → IsSpread T new to (λ k. on T a k && on T mask k)
-or_and_spread T new n bits to a mask h lt la lm e =
+pub or_and_propagated : (T new : List (List Bool)) (n bits to a mask : ℕ) → HasShape T n bits → to < n → a < n → mask < n
+    → new ≡ set T to (either (row_at T to) (both (row_at T a) (row_at T mask))) → IsPropagated T new to (λ k. on T a k && on T mask k)
+or_and_propagated T new n bits to a mask h lt la lm e =
     let same : length (row_at T a) ≡ length (row_at T mask) = h.long a la ∙ sym (h.long mask lm) in
     let long : length (both (row_at T a) (row_at T mask)) ≡ bits = length-zip2 (λ x y. x && y) (row_at T a) (row_at T mask) same ∙ h.long a la in
     record {
@@ -65,15 +65,15 @@ clear_done T new r n l e =
     }
 
 -- a row takes up another, where the numbers of both are given by other terms
-pub or_spread_at : (T new : List (List Bool)) (n bits to from to' from' : ℕ) → to ≡ to' → from ≡ from' → HasShape T n bits → to' < n → from' < n
-    → new ≡ set T to (either (row_at T to) (row_at T from)) → IsSpread T new to' (on T from')
-or_spread_at T new n bits to from to' from' a b h lt lf e =
-    subst (λ (x : ℕ). IsSpread T new x (on T from')) a (subst (λ (y : ℕ). IsSpread T new to (on T y)) b
-    (or_spread T new n bits to from h (omega arith) (omega arith) e))
+pub or_propagated_at : (T new : List (List Bool)) (n bits to from to' from' : ℕ) → to ≡ to' → from ≡ from' → HasShape T n bits → to' < n → from' < n
+    → new ≡ set T to (either (row_at T to) (row_at T from)) → IsPropagated T new to' (on T from')
+or_propagated_at T new n bits to from to' from' a b h lt lf e =
+    subst (λ (x : ℕ). IsPropagated T new x (on T from')) a (subst (λ (y : ℕ). IsPropagated T new to (on T y)) b
+    (or_propagated T new n bits to from h (omega arith) (omega arith) e))
 
 -- a row takes up what two others have in common, where the numbers of all three are given by other terms
-pub or_and_spread_at : (T new : List (List Bool)) (n bits to a mask to' a' mask' : ℕ) → to ≡ to' → a ≡ a' → mask ≡ mask' → HasShape T n bits → to' < n → a' < n → mask' < n
-    → new ≡ set T to (either (row_at T to) (both (row_at T a) (row_at T mask))) → IsSpread T new to' (λ k. on T a' k && on T mask' k)
-or_and_spread_at T new n bits to a mask to' a' mask' et ea em h lt la lm e =
-    subst (λ (x : ℕ). IsSpread T new x (λ k. on T a' k && on T mask' k)) et (subst (λ (y : ℕ). IsSpread T new to (λ k. on T y k && on T mask' k)) ea (subst (λ (z : ℕ). IsSpread T new to (λ k. on T a k && on T z k)) em
-    (or_and_spread T new n bits to a mask h (omega arith) (omega arith) (omega arith) e)))
+pub or_and_propagated_at : (T new : List (List Bool)) (n bits to a mask to' a' mask' : ℕ) → to ≡ to' → a ≡ a' → mask ≡ mask' → HasShape T n bits → to' < n → a' < n → mask' < n
+    → new ≡ set T to (either (row_at T to) (both (row_at T a) (row_at T mask))) → IsPropagated T new to' (λ k. on T a' k && on T mask' k)
+or_and_propagated_at T new n bits to a mask to' a' mask' et ea em h lt la lm e =
+    subst (λ (x : ℕ). IsPropagated T new x (λ k. on T a' k && on T mask' k)) et (subst (λ (y : ℕ). IsPropagated T new to (λ k. on T y k && on T mask' k)) ea (subst (λ (z : ℕ). IsPropagated T new to (λ k. on T a k && on T z k)) em
+    (or_and_propagated T new n bits to a mask h (omega arith) (omega arith) (omega arith) e)))

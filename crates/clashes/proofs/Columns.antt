@@ -1,30 +1,52 @@
 -- The masks, invariant by invariant.
-use Rattle.std.proofs.Common.{◌≡◌, ◌≢◌, ℕ, ◌+◌, Bool, List, Some, slice_get, sym, ◌∙◌, subst, arith, inl, inr}
+use Rattle.std.proofs.Common.{◌≡◌, ◌≢◌, ℕ, ◌+◌, ◌<◌, Bool, List, Some, slice_get, sym, ◌∙◌, subst, arith, inl, inr}
 use Rattle.std.proofs.lemmas.Bool.{cases_eq}
 use Rattle.invariants.specs.declared.Invariant.{Invariant}
-use Rattle.clashes.specs.declared.places.TheConstants.{START, BAD}
+use Rattle.clashes.specs.declared.places.TheConstants.{START, BAD, FIRST_MASK}
 use Rattle.clashes.specs.Marks.{on}
-use Rattle.clashes.specs.Rules.{enters, stays, falls}
-use Rattle.clashes.specs.Layout.{enters_row, stays_row, falls_row, IsColumn, IsMasked, AreColumns}
+use Rattle.clashes.specs.Rules.{starts, is_bad_itself}
+use Rattle.clashes.specs.Layout.{enters_row, stays_row, falls_row, IsIdle, IsColumn, IsMasked, AreColumns}
+use Rattle.clashes.proofs.Laid.{AreMasksOf}
+use Rattle.clashes.proofs.Unnamed.{not_entered, stayed, not_fallen}
 
--- a column for the types below n, with the masks of n, is one for the types up to n
-pub column_more : (T new : List (List Bool)) (n k : ℕ) (inv : Invariant) → IsColumn T n k inv → IsMasked T new n k inv → IsColumn new (n + 1) k inv
-column_more T new n k inv c m =
+-- the masks of x are there where those of y are written, or else were there before
+masked_at : (T new : List (List Bool)) (x y k : ℕ) (inv : Invariant) → IsMasked T new y k inv → (x ≢ y → AreMasksOf T x k inv x) → AreMasksOf new x k inv x
+masked_at T new x y k inv m before =
+    elim (cases_eq x y) [
+      | inl e ↦ subst (λ (z : ℕ). AreMasksOf new z k inv z) (sym e) (record { enters = m.enters; stays = m.stays; falls = m.falls })
+      | inr ne ↦
+          let there : AreMasksOf T x k inv x = before ne in
+          record {
+            enters = m.rows (enters_row x) k (λ z. absurd (ne (omega (arith, z)))) (λ z. absurd (omega (arith, z))) (λ z. absurd (omega (arith, z))) ∙ there.enters;
+            stays = m.rows (stays_row x) k (λ z. absurd (omega (arith, z))) (λ z. absurd (ne (omega (arith, z)))) (λ z. absurd (omega (arith, z))) ∙ there.stays;
+            falls = m.rows (falls_row x) k (λ z. absurd (omega (arith, z))) (λ z. absurd (omega (arith, z))) (λ z. absurd (ne (omega (arith, z)))) ∙ there.falls;
+          }
+    ]
+
+-- masks that say that a type does nothing are those of a type that the invariant does not name
+idle_masks : (T : List (List Bool)) (n x k : ℕ) (inv : Invariant) → IsIdle T n k → x < n → x ≢ inv.a → x ≢ inv.b → AreMasksOf T x k inv x
+idle_masks T n x k inv idle l not_a not_b =
     record {
-      enters = λ x l. elim (cases_eq x n) [
-        | inl e ↦ subst (λ (y : ℕ). on new (enters_row y) k ≡ enters inv y) (sym e) m.enters
-        | inr ne ↦ m.rows (enters_row x) k (λ z. absurd (ne (omega arith))) (λ z. absurd (omega arith)) (λ z. absurd (omega arith)) ∙ c.enters x (omega arith)
-      ];
-      stays = λ x l. elim (cases_eq x n) [
-        | inl e ↦ subst (λ (y : ℕ). on new (stays_row y) k ≡ stays inv y) (sym e) m.stays
-        | inr ne ↦ m.rows (stays_row x) k (λ z. absurd (omega arith)) (λ z. absurd (ne (omega arith))) (λ z. absurd (omega arith)) ∙ c.stays x (omega arith)
-      ];
-      falls = λ x l. elim (cases_eq x n) [
-        | inl e ↦ subst (λ (y : ℕ). on new (falls_row y) k ≡ falls inv y) (sym e) m.falls
-        | inr ne ↦ m.rows (falls_row x) k (λ z. absurd (omega arith)) (λ z. absurd (omega arith)) (λ z. absurd (ne (omega arith))) ∙ c.falls x (omega arith)
-      ];
-      starts = m.rows START k (λ z. absurd (omega arith)) (λ z. absurd (omega arith)) (λ z. absurd (omega arith)) ∙ c.starts;
-      bad = m.rows BAD k (λ z. absurd (omega arith)) (λ z. absurd (omega arith)) (λ z. absurd (omega arith)) ∙ c.bad;
+      enters = idle.enters x l ∙ sym (not_entered inv x not_a not_b);
+      stays = idle.stays x l ∙ sym (stayed inv x not_a not_b);
+      falls = idle.falls x l ∙ sym (not_fallen inv x not_a not_b);
+    }
+
+-- a row before the masks stays where masks are written
+before_masks : (T new : List (List Bool)) (r x k : ℕ) (inv : Invariant) → IsMasked T new x k inv → r < FIRST_MASK → on new r k ≡ on T r k
+before_masks T new r x k inv m l = m.rows r k (λ z. absurd (omega (arith, z, l))) (λ z. absurd (omega (arith, z, l))) (λ z. absurd (omega (arith, z, l)))
+
+-- where each type leaves an invariant as it is, it has its column once the masks of the two types that it names are written
+pub column_named : (T one new : List (List Bool)) (n k : ℕ) (inv : Invariant) → IsIdle T n k → on T START k ≡ starts inv → on T BAD k ≡ is_bad_itself inv
+    → IsMasked T one inv.a k inv → IsMasked one new inv.b k inv → IsColumn new n k inv
+column_named T one new n k inv idle begins bad a b =
+    let masks : (x : ℕ) → x < n → AreMasksOf new x k inv x = λ x l. masked_at one new x inv.b k inv b (λ not_b. masked_at T one x inv.a k inv a (λ not_a. idle_masks T n x k inv idle l not_a not_b)) in
+    record {
+      enters = λ x l. (masks x l).enters;
+      stays = λ x l. (masks x l).stays;
+      falls = λ x l. (masks x l).falls;
+      starts = before_masks one new START inv.b k inv b (omega arith) ∙ before_masks T one START inv.a k inv a (omega arith) ∙ begins;
+      bad = before_masks one new BAD inv.b k inv b (omega arith) ∙ before_masks T one BAD inv.a k inv a (omega arith) ∙ bad;
     }
 
 -- a column stays where something is written at another place

@@ -6,7 +6,7 @@ use Rattle.bit_rows.specs.Tables.{is_set, IsBlank, IsFirstSet}
 use Rattle.clashes.specs.declared.places.TheConstants.{SCRATCH}
 use Rattle.clashes.specs.Marks.{Marks, on, has_clash, NoClash, IsFirstClash}
 use Rattle.clashes.specs.Layout.{back_row, fores_in, backs_in, marks_in}
-use Rattle.clashes.proofs.Bits.{IsSpread, IsCleared}
+use Rattle.clashes.proofs.Bits.{IsPropagated, IsCleared}
 use Rattle.clashes.proofs.Offs.{front_kept, behind_kept_high}
 use Rattle.clashes.proofs.Laid.{fore_is, back_is}
 
@@ -19,7 +19,7 @@ marks_kept invs T new row e =
 
 -- the row in which clashes are gathered says of each invariant whether the two ids clash for it
 pub gathered : (invs : List Invariant) (T one two new : List (List Bool)) (p q : ℕ) → p < MAX_PARTITIONS → q < MAX_PARTITIONS → IsCleared T one SCRATCH
-    → IsSpread one two SCRATCH (λ k. on one p k && on one (back_row q) k) → IsSpread two new SCRATCH (λ k. on two q k && on two (back_row p) k)
+    → IsPropagated one two SCRATCH (λ k. on one p k && on one (back_row q) k) → IsPropagated two new SCRATCH (λ k. on two q k && on two (back_row p) k)
     → (k : ℕ) → on new SCRATCH k ≡ has_clash (marks_in invs T) k p q
 gathered invs T one two new p q lp lq a b c k =
     let fp : on one p k ≡ on (fores_in T) p k = a.others p k (λ z. absurd (omega arith)) ∙ sym (fore_is T p k lp) in

@@ -1,4 +1,4 @@
--- Marks before they spread: none, or those of a graph in which two partitions were then merged.
+-- Marks before they propagate: none, or those of a graph in which two partitions were then merged.
 use Rattle.std.proofs.Common.{◌≡◌, ◌≢◌, ℕ, ◌<◌, ◌≤◌, ◌||◌, true, List, [], ◌∷◌, ◌++◌, map, Some, slice_get, refl, sym, ap, ap₂, ◌∙◌, subst, arith, inl, inr}
 use Rattle.std.proofs.lemmas.Bool.{cases_eq, cases_lt, or_cases, or_left, or_right, both_ways, eqb-true}
 use Rattle.limits.specs.declared.TheConstants.{MAX_PARTITIONS, INITIAL, TERMINAL, FIRST_TYPE}
@@ -234,7 +234,7 @@ module _ (h : Assignment) (p q : ℕ) (old new : Marks) (t : IsTyped h) (i : IsP
             ap (λ (x : ℕ). on new.backs x k) (sym b.from) ∙ lift_back old new p q k b.x apart j marked;
       }
 
-  -- after a merge nothing more spreads along any edge but those of p
+  -- after a merge nothing more propagates along any edge but those of p
   pub joined_closed : ((u v : ℕ) → (G (merge p q h)).edge u v ≡ true → (u < MAX_PARTITIONS) × (v < MAX_PARTITIONS)) → IsClosedBeside new (G (merge p q h)) p
   joined_closed below u v edge nu nv =
       let b : EdgeBefore h p q u v = edge_before h p q u v t i edge in

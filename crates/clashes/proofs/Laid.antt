@@ -1,13 +1,11 @@
 -- From the rows of the table to the marks, and masks that stay.
-use Rattle.std.proofs.Common.{◌≡◌, ◌≢◌, ℕ, ◌+◌, ◌<◌, ◌≤◌, Bool, true, false, not, ◌&&◌, ◌||◌, ◌==◌, min, List, [], length, take, drop, Some, slice_get, refl, sym, ap, ap₂, ◌∙◌, subst, arith, inl, inr, ne_eqb}
+use Rattle.std.proofs.Common.{◌≡◌, ◌≢◌, ℕ, ◌+◌, ◌<◌, ◌≤◌, Bool, true, false, not, ◌&&◌, ◌||◌, ◌==◌, min, List, [], length, take, drop, Some, slice_get, refl, sym, ap, ap₂, ◌∙◌, subst, arith, inl, inr}
 use Rattle.std.proofs.lemmas.List.{length-take, get_or-take, get_or-drop, get_or_past}
 use Rattle.std.proofs.lemmas.Option.{slice_get_within, get_or_from_slice_get}
 use Rattle.std.proofs.lemmas.Bool.{cases_lt}
 use Rattle.limits.specs.declared.TheConstants.{MAX_PARTITIONS, INITIAL, TERMINAL}
-use Rattle.invariants.specs.declared.Kind.{Kind}
-use Rattle.invariants.specs.declared.Kind.TheVariants.{AF, NF, AP, IB}
 use Rattle.invariants.specs.declared.Invariant.{Invariant}
-use Rattle.invariants.specs.Monitors.{step_of, step, is_bad}
+use Rattle.invariants.specs.Monitors.{step, is_bad}
 use Rattle.merge_law.specs.Critical.{critical, calm_of}
 use Rattle.bit_rows.specs.Tables.{is_set, KeepsShape}
 use Rattle.clashes.specs.declared.places.TheConstants.{START, BAD, SCRATCH}
@@ -15,8 +13,9 @@ use Rattle.clashes.specs.Marks.{on}
 use Rattle.clashes.specs.Rules.{enters, stays, falls, AreNamedBelow}
 use Rattle.clashes.specs.Layout.{back_row, enters_row, stays_row, falls_row, row_count, fores_in, backs_in, marks_in, IsColumn, IsLaid}
 use Rattle.clashes.specs.Changes.{IsUnmarked, IsTakenUp, IsBegun, IsEntered, IsFollowed, TellsGrowth}
-use Rattle.clashes.proofs.Bits.{IsSpread, IsCleared}
+use Rattle.clashes.proofs.Bits.{IsPropagated, IsCleared}
 use Rattle.clashes.proofs.Offs.{IsTold}
+use Rattle.clashes.proofs.Unnamed.{unnamed_step}
 
 on_front : (n : ℕ) (T : List (List Bool)) (p k : ℕ) → p < n → on (take n T) p k ≡ on T p k
 on_front n T p k l = ap (λ row. is_set row k) (get_or-take n T p [] l)
@@ -65,11 +64,11 @@ keeps_then a b c h m =
     }
 
 -- bits that are added to the row of an id keep the masks
-pub spread_keeps : (T new : List (List Bool)) (to : ℕ) (given : ℕ → Bool) → KeepsShape T new → IsSpread T new to given → to < START → KeepsMasks T new
-spread_keeps T new to given s h l = record { shape = s; rows = λ r k m ne. h.others r k (λ e. absurd (omega arith)) }
+pub propagated_keeps : (T new : List (List Bool)) (to : ℕ) (given : ℕ → Bool) → KeepsShape T new → IsPropagated T new to given → to < START → KeepsMasks T new
+propagated_keeps T new to given s h l = record { shape = s; rows = λ r k m ne. h.others r k (λ e. absurd (omega arith)) }
 
 -- bits that are added to the row to write into keep the masks
-pub scratch_keeps : (T new : List (List Bool)) (given : ℕ → Bool) → KeepsShape T new → IsSpread T new SCRATCH given → KeepsMasks T new
+pub scratch_keeps : (T new : List (List Bool)) (given : ℕ → Bool) → KeepsShape T new → IsPropagated T new SCRATCH given → KeepsMasks T new
 scratch_keeps T new given s h = record { shape = s; rows = λ r k m ne. h.others r k ne }
 
 -- the masks stay where the row of an id is cleared
@@ -118,7 +117,7 @@ unmarked invs T mid new p l a b =
     }
 
 -- where the two rows of an id take up those of another, the id takes up its marks
-pub taken_up : (invs : List Invariant) (T mid new : List (List Bool)) (p q : ℕ) → p < MAX_PARTITIONS → q < MAX_PARTITIONS → p ≢ q → IsSpread T mid p (on T q) → IsSpread mid new (back_row p) (on mid (back_row q))
+pub taken_up : (invs : List Invariant) (T mid new : List (List Bool)) (p q : ℕ) → p < MAX_PARTITIONS → q < MAX_PARTITIONS → p ≢ q → IsPropagated T mid p (on T q) → IsPropagated mid new (back_row p) (on mid (back_row q))
     → IsTakenUp (marks_in invs T) (marks_in invs new) p q
 taken_up invs T mid new p q lp lq ne a b =
     record {
@@ -132,7 +131,7 @@ taken_up invs T mid new p q lp lq ne a b =
     }
 
 -- where rows of the two ends take up START and BAD, the marks are there from which all others come
-pub begun : (invs : List Invariant) (others : ℕ) (T mid new : List (List Bool)) → IsLaid invs others T → IsSpread T mid INITIAL (on T START) → IsSpread mid new (back_row TERMINAL) (on mid BAD)
+pub begun : (invs : List Invariant) (others : ℕ) (T mid new : List (List Bool)) → IsLaid invs others T → IsPropagated T mid INITIAL (on T START) → IsPropagated mid new (back_row TERMINAL) (on mid BAD)
     → IsBegun (marks_in invs T) (marks_in invs new)
 begun invs others T mid new laid a b =
     record {
@@ -148,13 +147,6 @@ begun invs others T mid new laid a b =
       fores = λ k r m. same_fore T new r k (λ l. b.others r k (λ e. absurd (omega arith)) ∙ a.others r k m);
       backs = λ k r m. same_back T new r k (λ l. b.others (back_row r) k (λ e. absurd (omega arith)) ∙ a.others (back_row r) k (λ e. absurd (omega arith)));
     }
-
--- a type that an invariant does not name leaves its monitor as it is
-unnamed_step : (kind : Kind) (a b s x : ℕ) → x ≢ a → x ≢ b → step_of kind a b s x ≡ s
-unnamed_step AF a b s x n m = rw (ne_eqb x a n, ne_eqb x b m) refl
-unnamed_step NF a b s x n m = rw (ne_eqb x b m, ne_eqb x a n) refl
-unnamed_step AP a b s x n m = rw (ne_eqb x b m, ne_eqb x a n) refl
-unnamed_step IB a b s x n m = rw (ne_eqb x a n, ne_eqb x b m) refl
 
 -- the least that no invariant names stands for each type from it on
 pub class_step : (inv : Invariant) (others x typ s : ℕ) → x ≡ min typ others → (inv.a < others) × (inv.b < others) → step inv s x ≡ step inv s typ
@@ -190,7 +182,7 @@ masks_of invs others T x typ k inv laid e get =
 
 -- where its ends take up what a type enters and what it falls from, an edge gives the marks that it brings at once
 pub entered : (invs : List Invariant) (others : ℕ) (T mid new : List (List Bool)) (u v typ x : ℕ) → IsLaid invs others T → x ≡ min typ others → u < MAX_PARTITIONS → v < MAX_PARTITIONS
-    → IsSpread T mid v (on T (enters_row x)) → IsSpread mid new (back_row u) (on mid (falls_row x)) → IsEntered (marks_in invs T) (marks_in invs new) u v typ
+    → IsPropagated T mid v (on T (enters_row x)) → IsPropagated mid new (back_row u) (on mid (falls_row x)) → IsEntered (marks_in invs T) (marks_in invs new) u v typ
 entered invs others T mid new u v typ x laid e lu lv a b =
     record {
       invs = refl;
@@ -215,7 +207,7 @@ swap false false false = refl
 
 -- an edge from an id to another takes marks along where they stay in their critical state
 pub followed : (invs : List Invariant) (others : ℕ) (T mid new : List (List Bool)) (u v typ x : ℕ) → IsLaid invs others T → x ≡ min typ others → u < MAX_PARTITIONS → v < MAX_PARTITIONS → u ≢ v
-    → IsSpread T mid v (λ k. on T u k && on T (stays_row x) k) → IsSpread mid new (back_row u) (λ k. on mid (back_row v) k && on mid (stays_row x) k)
+    → IsPropagated T mid v (λ k. on T u k && on T (stays_row x) k) → IsPropagated mid new (back_row u) (λ k. on mid (back_row v) k && on mid (stays_row x) k)
     → IsFollowed (marks_in invs T) (marks_in invs new) u v typ
 followed invs others T mid new u v typ x laid e lu lv ne a b =
     record {

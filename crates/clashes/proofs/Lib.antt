@@ -10,3 +10,5 @@ pub mod Joining
 pub mod Telling
 pub mod Noting
 pub mod Masking
+pub mod Unnamed
+pub mod Idle

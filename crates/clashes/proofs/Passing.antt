@@ -74,14 +74,14 @@ told_then a b c false y t u =
       fewer = λ e. let f : off_in c < off_in b = u.fewer e in let m : off_in b ≤ off_in a = told_most a b false t in omega arith;
     }
 
--- along the link with number j nothing more spreads, but where marks are new, or were at a link that is still to come
+-- along the link with number j nothing more propagates, but where marks are new, or were at a link that is still to come
 abbrev pub IsClosedFrom : Graph → Marks → List Link → List Bool → List Bool → ℕ → Type 0
 IsClosedFrom g marks links recent now i =
     (j : ℕ) (d : Link) → j < length links → IsStill now (get_or links j d).from → IsStill now (get_or links j d).to
     → (j < i) ⊎ (IsStill recent (get_or links j d).from × IsStill recent (get_or links j d).to)
     → IsClosedAt marks g (get_or links j d).from (get_or links j d).to
 
--- a pass that has come to this link: what it told so far, and where marks may still spread
+-- a pass that has come to this link: what it told so far, and where marks may still propagate
 pub record IsPassing (g : Graph) (old marks : Marks) (changed : Bool) (links : List Link) (recent now : List Bool) (i : ℕ) : Type 0 where
   pub grown : IsGrown old marks g
   pub tells : TellsGrowth old marks changed
@@ -211,7 +211,7 @@ pass_step g links i d old marks new typ changed more recent now now' h l f t e n
           }
     ]
 
--- behind a pass nothing more spreads but where marks are new
+-- behind a pass nothing more propagates but where marks are new
 pub pass_closes : (g : Graph) (links : List Link) (n : ℕ) (marks : Marks) (recent now : List Bool) → AreLinksOf links g → length links ≤ n → IsClosedFrom g marks links recent now n → IsClosedBut marks g now
 pass_closes g links n marks recent now h l c u v edge from to =
     let link : Link = record { from = u; to = v } in

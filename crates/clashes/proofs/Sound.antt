@@ -1,4 +1,4 @@
--- What marks tell stays so as they spread, and where nothing more spreads they tell all.
+-- What marks tell stays so as they propagate, and where nothing more propagates they tell all.
 use Rattle.std.proofs.Common.{◌≡◌, ℕ, ◌<◌, true, not, ◌&&◌, ◌||◌, List, [], ◌∷◌, ◌++◌, Some, slice_get, refl, sym, ap, ◌∙◌, subst, inl, inr, eq-eqb, eqb-true}
 use Rattle.std.proofs.lemmas.Bool.{cases_eq, or_cases, or_left, or_right, and_parts, and_from, eqb-false, not-true, not_from_false, ne_eqb}
 use Rattle.limits.specs.declared.TheConstants.{MAX_PARTITIONS, INITIAL, TERMINAL}
@@ -135,7 +135,7 @@ followed_sound g old new u v edge f paths s =
           ];
     }
 
--- where marks that an edge takes along change nothing, nothing more spreads along it
+-- where marks that an edge takes along change nothing, nothing more propagates along it
 pub followed_closed : (old new : Marks) (g : Graph) (u v : ℕ) → IsFollowed old new u v (g.typ v) → new ≡ old → IsClosedAt new g u v
 followed_closed old new g u v f same =
     record {
@@ -262,7 +262,7 @@ has_stays old new g u v h b =
 pub entered_stays : (old new : Marks) (g : Graph) → IsGrown old new g → AreEntered old g → AreEntered new g
 entered_stays old new g h b u v edge = has_stays old new g u v h (b u v edge)
 
--- where nothing more spreads, marks that tell what is so tell all that is so
+-- where nothing more propagates, marks that tell what is so tell all that is so
 pub all_told : (marks : Marks) (g : Graph) → g.typ INITIAL ≡ INITIAL → AreSound marks g → HasBegun marks g → AreEntered marks g → IsClosed marks g → AreMarksOf marks g
 all_told marks g typ s b n c =
     record {

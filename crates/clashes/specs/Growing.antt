@@ -1,4 +1,4 @@
--- How marks spread over a graph.
+-- How marks propagate over a graph.
 use Rattle.std.specs.Prelude.{ℕ, ◌≡◌, ◌≢◌, ◌<◌, ◌⊎◌, Bool, true, false, List, slice_get, Some}
 use Rattle.limits.specs.declared.TheConstants.{INITIAL, TERMINAL, MAX_PARTITIONS}
 use Rattle.invariants.specs.declared.Invariant.{Invariant}
@@ -36,7 +36,7 @@ pub record HasEntered (marks : Marks) (g : Graph) (u v : ℕ) : Type 0 where
   pub back : (k : ℕ) (inv : Invariant) → slice_get marks.invs k ≡ Some inv → Satisfies g inv
       → falls inv (g.typ v) ≡ true → on marks.backs u k ≡ true
 
--- nothing more of these spreads along the edge
+-- nothing more of these propagates along the edge
 pub record IsClosedAt (marks : Marks) (g : Graph) (u v : ℕ) : Type 0 where
   pub fore : (k : ℕ) (inv : Invariant) → slice_get marks.invs k ≡ Some inv → Satisfies g inv
       → stays inv (g.typ v) ≡ true → on marks.fores u k ≡ true → on marks.fores v k ≡ true
@@ -47,11 +47,11 @@ pub record IsClosedAt (marks : Marks) (g : Graph) (u v : ℕ) : Type 0 where
 abbrev pub AreEntered : Marks → Graph → Type 0
 AreEntered marks g = (u v : ℕ) → g.edge u v ≡ true → HasEntered marks g u v
 
--- nothing more spreads along any edge
+-- nothing more propagates along any edge
 abbrev pub IsClosed : Marks → Graph → Type 0
 IsClosed marks g = (u v : ℕ) → g.edge u v ≡ true → IsClosedAt marks g u v
 
--- nothing more spreads along any edge but those of p
+-- nothing more propagates along any edge but those of p
 abbrev pub IsClosedBeside : Marks → Graph → ℕ → Type 0
 IsClosedBeside marks g p = (u v : ℕ) → g.edge u v ≡ true → u ≢ p → v ≢ p → IsClosedAt marks g u v
 
@@ -68,7 +68,7 @@ pub record IsGrown (old new : Marks) (g : Graph) : Type 0 where
 abbrev pub IsStill : List Bool → ℕ → Type 0
 IsStill fresh p = is_set fresh p ≡ false
 
--- nothing more spreads along any edge but where marks are new at one of its ends
+-- nothing more propagates along any edge but where marks are new at one of its ends
 abbrev pub IsClosedBut : Marks → Graph → List Bool → Type 0
 IsClosedBut marks g fresh =
     (u v : ℕ) → g.edge u v ≡ true → IsStill fresh u → IsStill fresh v → IsClosedAt marks g u v

@@ -1,5 +1,5 @@
 -- How the rows lie in one table: those of the ids, and masks that say what types do.
-use Rattle.std.specs.Prelude.{ℕ, ◌≡◌, ◌≢◌, ◌+◌, ◌*◌, ◌<◌, ◌≤◌, Bool, List, length, take, drop, slice_get, Some}
+use Rattle.std.specs.Prelude.{ℕ, ◌≡◌, ◌≢◌, ◌+◌, ◌*◌, ◌<◌, ◌≤◌, Bool, true, false, List, length, take, drop, slice_get, Some}
 use Rattle.limits.specs.declared.TheConstants.{LAST_TYPE, MAX_INVARIANTS, MAX_PARTITIONS}
 use Rattle.invariants.specs.declared.Invariant.{Invariant}
 use Rattle.bit_rows.specs.Tables.{HasShape}
@@ -42,6 +42,12 @@ marks_in invs rows = record { invs = invs; fores = fores_in rows; backs = backs_
 -- the table has this form, and each row has the place k
 abbrev pub HasPlace : List (List Bool) → ℕ → ℕ → Type 0
 HasPlace rows others k = (bits : ℕ) × (k < bits) × HasShape rows (row_count others) bits
+
+-- the bits at the place k say that types below n leave an invariant as it is
+pub record IsIdle (rows : List (List Bool)) (n k : ℕ) : Type 0 where
+  pub enters : (x : ℕ) → x < n → on rows (enters_row x) k ≡ false
+  pub stays : (x : ℕ) → x < n → on rows (stays_row x) k ≡ true
+  pub falls : (x : ℕ) → x < n → on rows (falls_row x) k ≡ false
 
 -- the bits at the place k say what types below n do to this invariant
 pub record IsColumn (rows : List (List Bool)) (n k : ℕ) (inv : Invariant) : Type 0 where

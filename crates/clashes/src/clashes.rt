@@ -5,8 +5,8 @@ ghost use Rattle.partition_model.specs.Assignments.{Assignment, G, IsTyped};
 ghost use Rattle.partition_model.specs.Coarsening.{merge, IsPair};
 ghost use Rattle.clashes.specs.Rules.{AreNamedUpTo};
 
-use crate::board::Board;
 use crate::growing::{grow, grow_from};
+use crate::mark_rows::MarkRows;
 use invariants::Invariant;
 use limits::MAX_PARTITIONS;
 use partition_graph::{Links, PartGraph, View};
@@ -24,7 +24,7 @@ use steps::Steps;
 /// go by their numbers in the list, which count from 0.
 #[derive(Drop)]
 pub struct Clashes {
-    board: Board,
+    mark_rows: MarkRows,
     /// The edges of the graph, gathered anew for each call.
     links: Links,
 }
@@ -34,7 +34,7 @@ impl Model for Clashes {
 
     ghost Value = { Marks };
 
-    ghost view = { λ s. s.board };
+    ghost view = { λ s. s.mark_rows };
 }
 
 impl Clashes {
@@ -47,9 +47,9 @@ impl Clashes {
         requires named { AreNamedUpTo LAST_TYPE invs.now }
         ensures { IfOk result (λ made. made.invs ≡ invs.now) }
     {
-        let board = Board::make(alloc, invs)?;
+        let mark_rows = MarkRows::make(alloc, invs)?;
         let links = Links::make(alloc)?;
-        Ok(Clashes { board, links })
+        Ok(Clashes { mark_rows, links })
     }
 
     /// Finds the marks of this graph. What was marked before plays no part. It counts one step.
@@ -60,12 +60,12 @@ impl Clashes {
     {
         steps.tick();
         self.links.gather(&View::Plain(graph));
-        self.board.clear(graph.ids_used());
-        grow(&mut self.board, self.links.as_slice(), graph);
+        self.mark_rows.clear(graph.ids_used());
+        grow(&mut self.mark_rows, self.links.as_slice(), graph);
     }
 
     /// Where the marks were those of a graph of which `merge(p, q)` made this one, makes them those of this one: the
-    /// marks of q go to p, and spread from there. It counts one step.
+    /// marks of q go to p, and propagate from there. It counts one step.
     pub fn join<L: Ledger>(&mut self, graph: &PartGraph, p: u32, q: u32, steps: &mut Steps<L>)
         requires kept { p < MAX_PARTITIONS }
         requires gone { q < MAX_PARTITIONS }
@@ -80,8 +80,8 @@ impl Clashes {
     {
         steps.tick();
         self.links.gather(&View::Plain(graph));
-        self.board.join(p, q);
-        grow_from(&mut self.board, self.links.as_slice(), graph, p);
+        self.mark_rows.join(p, q);
+        grow_from(&mut self.mark_rows, self.links.as_slice(), graph, p);
     }
 
     /// The number of the first invariant for which p and q clash, and None where they do for none. No mark changes.
@@ -92,6 +92,6 @@ impl Clashes {
         ensures same { self.new ≡ self.old }
         ensures first { MatchOption result (NoClash self.old p q) (IsFirstClash self.old p q) }
     {
-        self.board.first_clash(p, q)
+        self.mark_rows.first_clash(p, q)
     }
 }

@@ -1,4 +1,4 @@
-//! How marks spread over a graph until nothing changes.
+//! How marks propagate over a graph until nothing changes.
 ghost use Rattle.std.specs.Prelude.{◌≡◌, ◌<◌, ℕ, true, false, length};
 ghost use Rattle.bit_rows.specs.Tables.{is_set};
 ghost use Rattle.partition_model.specs.Assignments.{G, IsTyped};
@@ -8,50 +8,50 @@ ghost use Rattle.clashes.specs.Marks.{AreMarksOf};
 ghost use Rattle.clashes.specs.Growing.{AreSound, AreEntered, HasBegun, IsClosed, IsClosedBeside};
 ghost use Rattle.clashes.specs.Growing.{IsClosedBut, IsFollowedIfNew, IsGrown, IsNoted, IsStill};
 
-use crate::board::Board;
+use crate::mark_rows::MarkRows;
 use crate::places::IDS;
 use limits::MAX_PARTITIONS;
 use partition_graph::{Link, PartGraph};
 
 /// Finds all marks of the graph, where each mark so far tells what is so.
-pub(crate) fn grow(board: &mut Board, links: &[Link], graph: &PartGraph)
+pub(crate) fn grow(mark_rows: &mut MarkRows, links: &[Link], graph: &PartGraph)
     requires { AreLinksOf links.now (G (graph.now).traces) }
-    ensures invs { (board.new).invs ≡ (board.old).invs }
-    ensures marks { IsTyped (graph.now).traces → AreSound board.old (G (graph.now).traces)
-        → AreMarksOf board.new (G (graph.now).traces) }
+    ensures invs { (mark_rows.new).invs ≡ (mark_rows.old).invs }
+    ensures marks { IsTyped (graph.now).traces → AreSound mark_rows.old (G (graph.now).traces)
+        → AreMarksOf mark_rows.new (G (graph.now).traces) }
 {
-    board.begin();
-    seed(board, links, graph);
-    spread(board, links, graph, everywhere());
+    mark_rows.begin();
+    seed(mark_rows, links, graph);
+    propagate(mark_rows, links, graph, everywhere());
 }
 
-/// Finds all marks of the graph, where each mark so far tells what is so and only those at p have not spread.
-pub(crate) fn grow_from(board: &mut Board, links: &[Link], graph: &PartGraph, p: u32)
+/// Finds all marks of the graph, where each mark so far tells what is so and only those at p have not propagated.
+pub(crate) fn grow_from(mark_rows: &mut MarkRows, links: &[Link], graph: &PartGraph, p: u32)
     requires links { AreLinksOf links.now (G (graph.now).traces) }
     requires id { p < MAX_PARTITIONS }
 
     // The invariants stay, and all marks are found.
-    ensures invs { (board.new).invs ≡ (board.old).invs }
-    ensures marks { IsTyped (graph.now).traces → AreSound board.old (G (graph.now).traces)
-        → HasBegun board.old (G (graph.now).traces) → AreEntered board.old (G (graph.now).traces)
-        → IsClosedBeside board.old (G (graph.now).traces) p
-        → AreMarksOf board.new (G (graph.now).traces) }
+    ensures invs { (mark_rows.new).invs ≡ (mark_rows.old).invs }
+    ensures marks { IsTyped (graph.now).traces → AreSound mark_rows.old (G (graph.now).traces)
+        → HasBegun mark_rows.old (G (graph.now).traces) → AreEntered mark_rows.old (G (graph.now).traces)
+        → IsClosedBeside mark_rows.old (G (graph.now).traces) p
+        → AreMarksOf mark_rows.new (G (graph.now).traces) }
 {
     let mut recent = nowhere();
     recent[p as usize] = true;
-    spread(board, links, graph, recent);
+    propagate(mark_rows, links, graph, recent);
 }
 
-/// Spreads marks along the links of the graph, from the ids where they are new, until nothing changes.
-fn spread(board: &mut Board, links: &[Link], graph: &PartGraph, mut recent: [bool; IDS])
+/// Propagates marks along the links of the graph, from the ids where they are new, until nothing changes.
+fn propagate(mark_rows: &mut MarkRows, links: &[Link], graph: &PartGraph, mut recent: [bool; IDS])
     requires links { AreLinksOf links.now (G (graph.now).traces) }
     requires room { length recent ≡ MAX_PARTITIONS }
-    ensures grown { IsGrown board.old board.new (G (graph.now).traces) }
-    ensures closed { IsClosedBut board.old (G (graph.now).traces) recent
-        → IsClosed board.new (G (graph.now).traces) }
+    ensures grown { IsGrown mark_rows.old mark_rows.new (G (graph.now).traces) }
+    ensures closed { IsClosedBut mark_rows.old (G (graph.now).traces) recent
+        → IsClosed mark_rows.new (G (graph.now).traces) }
 {
     let mut now = nowhere();
-    'passes: while pass(board, links, graph, &recent, &mut now) {
+    'passes: while pass(mark_rows, links, graph, &recent, &mut now) {
         recent = now;
         now = nowhere();
     }
@@ -74,20 +74,20 @@ fn everywhere() -> [bool; IDS]
 }
 
 /// Gives the ends of each link the marks that it brings at once.
-fn seed(board: &mut Board, links: &[Link], graph: &PartGraph)
+fn seed(mark_rows: &mut MarkRows, links: &[Link], graph: &PartGraph)
     requires { AreLinksOf links.now (G (graph.now).traces) }
-    ensures grown { IsGrown board.old board.new (G (graph.now).traces) }
-    ensures entered { AreEntered board.new (G (graph.now).traces) }
+    ensures grown { IsGrown mark_rows.old mark_rows.new (G (graph.now).traces) }
+    ensures entered { AreEntered mark_rows.new (G (graph.now).traces) }
 {
     for link in links {
-        board.enter(link.from, link.to, graph.type_of(link.to));
+        mark_rows.enter(link.from, link.to, graph.type_of(link.to));
     }
 }
 
 /// Takes marks along each link once where they are new at one of its ends, and says whether that changed any.
 /// `recent` tells at which ids they are new before this pass, and `now` at which since.
 fn pass(
-    board: &mut Board,
+    mark_rows: &mut MarkRows,
     links: &[Link],
     graph: &PartGraph,
     recent: &[bool],
@@ -99,32 +99,32 @@ fn pass(
     requires none { (p : ℕ) → IsStill now.old p }
 
     // Marks are only added, and it is told whether any were.
-    ensures grown { IsGrown board.old board.new (G (graph.now).traces) }
-    ensures tells { TellsGrowth board.old board.new result }
+    ensures grown { IsGrown mark_rows.old mark_rows.new (G (graph.now).traces) }
+    ensures tells { TellsGrowth mark_rows.old mark_rows.new result }
 
-    // Where marks may still spread.
-    ensures after { IsClosedBut board.old (G (graph.now).traces) recent.now
-        → IsClosedBut board.new (G (graph.now).traces) now.new }
+    // Where marks may still propagate.
+    ensures after { IsClosedBut mark_rows.old (G (graph.now).traces) recent.now
+        → IsClosedBut mark_rows.new (G (graph.now).traces) now.new }
     ensures still { result ≡ false → (p : ℕ) → IsStill now.new p }
 {
     let mut changed = false;
     for link in links {
-        let more = follow(board, *link, graph.type_of(link.to), recent, now);
+        let more = follow(mark_rows, *link, graph.type_of(link.to), recent, now);
         changed = changed | more;
     }
     changed
 }
 
 /// Takes marks along a link where they are new at one of its ends.
-fn follow(board: &mut Board, link: Link, typ: u16, recent: &[bool], now: &mut [bool]) -> bool
+fn follow(mark_rows: &mut MarkRows, link: Link, typ: u16, recent: &[bool], now: &mut [bool]) -> bool
     requires ids { HasIds link }
     requires recent_room { length recent.now ≡ MAX_PARTITIONS }
     requires now_room { length now.old ≡ MAX_PARTITIONS }
 
     // What goes along the link.
     ensures followed { IsFollowedIfNew
-        board.old board.new link.from link.to typ recent.now now.old }
-    ensures tells { TellsGrowth board.old board.new result }
+        mark_rows.old mark_rows.new link.from link.to typ recent.now now.old }
+    ensures tells { TellsGrowth mark_rows.old mark_rows.new result }
 
     // At which ids marks are new.
     ensures noted { result ≡ true → IsNoted now.old now.new link.from link.to }
@@ -134,7 +134,7 @@ fn follow(board: &mut Board, link: Link, typ: u16, recent: &[bool], now: &mut [b
     if !(recent[from] | recent[to] | now[from] | now[to]) {
         return false;
     }
-    if !board.follow(link.from, link.to, typ) {
+    if !mark_rows.follow(link.from, link.to, typ) {
         return false;
     }
     now[from] = true;

@@ -5,10 +5,10 @@
 //! So this crate keeps for each id a row of what is met and a row of what is ahead, with a bit for each invariant.
 #![tactic(auto)]
 
-mod board;
 mod clashes;
 mod growing;
 mod law;
+mod mark_rows;
 mod masks;
 mod places;
 mod rules;

@@ -1,9 +1,10 @@
 //! The masks, which say what each type does to each invariant.
-ghost use Rattle.std.specs.Prelude.{◌≡◌, ◌≢◌, ◌+◌, ◌<◌, ◌≤◌, ℕ, length};
+ghost use Rattle.std.specs.Prelude.{◌≡◌, ◌≢◌, ◌+◌, ◌<◌, ◌≤◌, ℕ, true, false, length};
 ghost use Rattle.limits.specs.declared.TheConstants.{LAST_TYPE};
 ghost use Rattle.bit_rows.specs.Tables.{KeepsShape, HasShape};
-ghost use Rattle.clashes.specs.Rules.{AreNamedBelow, AreNamedUpTo};
-ghost use Rattle.clashes.specs.Layout.{row_count, HasPlace, IsColumn, IsMasked, AreColumns};
+ghost use Rattle.clashes.specs.declared.places.TheConstants.{START, BAD, FIRST_MASK};
+ghost use Rattle.clashes.specs.Rules.{starts, is_bad_itself, AreNamedBelow, AreNamedUpTo};
+ghost use Rattle.clashes.specs.Layout.{row_count, HasPlace, IsIdle, IsColumn, IsMasked, AreColumns};
 ghost use Rattle.clashes.specs.Marks.{on};
 
 use crate::places::{BAD, START, enters_row, falls_row, stays_row};
@@ -34,31 +35,76 @@ fn above(unnamed: u16, number: u16) -> u16
     unnamed.max(number + 1)
 }
 
-/// Writes the masks of all invariants into a table where none are set.
+/// Writes the masks of all invariants into a table where nothing is on.
 pub(crate) fn put_columns(rows: &mut Rows, others: u16, invs: &[Invariant])
     requires low { others ≤ LAST_TYPE + 1 }
+    requires named { AreNamedBelow others invs.now }
     requires shape { HasShape rows.old (row_count others) (length invs.now) }
+    requires blank { (r k : ℕ) → on rows.old r k ≡ false }
     ensures shape { HasShape rows.new (row_count others) (length invs.now) }
     ensures columns { AreColumns rows.new others invs.now (length invs.now) }
 {
+    put_idle(rows, others, invs.len());
     for (k, inv) in invs.iter().enumerate() {
         put_column(rows, others, k, *inv);
     }
 }
 
-/// Writes what each type does to the invariant with number `k`.
+/// Writes into a table where nothing is on that each type leaves each of `count` invariants as it is.
+fn put_idle(rows: &mut Rows, others: u16, count: usize)
+    requires low { others ≤ LAST_TYPE + 1 }
+    requires shape { HasShape rows.old (row_count others) count }
+    requires blank { (r k : ℕ) → on rows.old r k ≡ false }
+    ensures shape { KeepsShape rows.old rows.new }
+    ensures idle { (k : ℕ) → k < count → IsIdle rows.new (others + 1) k }
+{
+    let last = stays_row(others);
+    turn_on(rows, last, count);
+    for x in 0..others {
+        rows.copy_into(stays_row(x), last);
+    }
+}
+
+/// Turns all bits of row `r` on. The other rows stay.
+fn turn_on(rows: &mut Rows, r: usize, count: usize)
+    requires { (n : ℕ) × (r < n) × HasShape rows.old n count }
+    ensures shape { KeepsShape rows.old rows.new }
+    ensures here { (k : ℕ) → k < count → on rows.new r k ≡ true }
+    ensures others { (s k : ℕ) → s ≢ r → on rows.new s k ≡ on rows.old s k }
+{
+    for k in 0..count {
+        rows.put(r, k, true);
+    }
+}
+
+/// Writes what each type does to the invariant with number `k`, where the table says that each leaves it as it is.
 fn put_column(rows: &mut Rows, others: u16, k: usize, inv: Invariant)
     requires low { others ≤ LAST_TYPE + 1 }
+    requires named { (inv.a < others) × (inv.b < others) }
     requires place { HasPlace rows.old others k }
+    requires idle { IsIdle rows.old (others + 1) k }
     ensures column { IsColumn rows.new (others + 1) k inv }
+    ensures places { (r j : ℕ) → j ≢ k → on rows.new r j ≡ on rows.old r j }
+    ensures shape { KeepsShape rows.old rows.new }
+{
+    put_ends(rows, others, k, inv);
+    put_masks(rows, others, k, inv, inv.a);
+    put_masks(rows, others, k, inv, inv.b);
+}
+
+/// Writes whether INITIAL brings the invariant with number `k` into its critical state, and whether that is the bad one.
+fn put_ends(rows: &mut Rows, others: u16, k: usize, inv: Invariant)
+    requires { HasPlace rows.old others k }
+    ensures starts { on rows.new START k ≡ starts inv }
+    ensures bad { on rows.new BAD k ≡ is_bad_itself inv }
+
+    // The masks and the other invariants stay.
+    ensures masks { (r j : ℕ) → FIRST_MASK ≤ r → on rows.new r j ≡ on rows.old r j }
     ensures places { (r j : ℕ) → j ≢ k → on rows.new r j ≡ on rows.old r j }
     ensures shape { KeepsShape rows.old rows.new }
 {
     rows.put(START, k, starts(inv));
     rows.put(BAD, k, is_bad_itself(inv));
-    for x in 0..others + 1 {
-        put_masks(rows, others, k, inv, x);
-    }
 }
 
 /// Writes what the type `x` does to the invariant with number `k`.

@@ -28,7 +28,7 @@ use Rattle.infer_core.specs.declared.workbench.InferLimit.{InferLimit}
 use Rattle.infer_core.specs.declared.workbench.InferLimit.TheVariants.{Partitions, Evidence}
 use Rattle.infer_core.specs.Runs.{CountsAtMost, PassesNumbers, PassesPartitions}
 use Rattle.infer_core.specs.Ends.{BeginsWith, HasEnded, RunGives}
-use Rattle.infer_core.specs.Benches.{whole_of, IsAtStart, IsAtEnd}
+use Rattle.infer_core.specs.Workbenches.{whole_of, IsAtStart, IsAtEnd}
 use Rattle.infer_core.proofs.Sharing.{Alike, all-alike, event-over, word-over, words-as, events-count, mined-as, hold-over, graph-over, refines-over, splits-over, next-over, coarsens-over}
 
 -- the words of the graph, with the kinds that are asked for and the types of the log

@@ -23,7 +23,7 @@ use Rattle.partition_graph.specs.Spread.{SharesWords}
 use Rattle.labelling.specs.Labelled.{Labelling}
 use Rattle.splitter.specs.Refining.{IsOpened}
 use Rattle.splitter.proofs.Mining.{mined-hold}
-use Rattle.infer_core.specs.Benches.{IsAtStart}
+use Rattle.infer_core.specs.Workbenches.{IsAtStart}
 use Rattle.infer_core.proofs.Distinct.{hold-few, opened-few}
 
 -- the words of a log, put between their ends

@@ -234,7 +234,7 @@ hold-over vs ws (inv ∷ invs) f a = (
 )
 
 -- one step of refinement
-next-split-over : (invs : List Invariant) (h k : Assignment) (s : Split) → Alike h k → IsTyped h → IsNextSplit invs h s → IsNextSplit invs k s
+pub next-split-over : (invs : List Invariant) (h k : Assignment) (s : Split) → Alike h k → IsTyped h → IsNextSplit invs h s → IsNextSplit invs k s
 next-split-over invs h k s a t n =
     let g : G h ≡ G k = graph-over h k a t in
     record {
@@ -243,7 +243,7 @@ next-split-over invs h k s a t n =
       place = n.place ∙ stitch-over h k a s.path;
     }
 
-run-on : (words : List (List ℕ)) (invs : List Invariant) (h : Assignment) (n : ℕ) (s : Split) → IsRun words h n → 2 ≤ n → HoldAll words invs → IsNextSplit invs h s → IsRun words (after_split n s h) (suc n)
+pub run-on : (words : List (List ℕ)) (invs : List Invariant) (h : Assignment) (n : ℕ) (s : Split) → IsRun words h n → 2 ≤ n → HoldAll words invs → IsNextSplit invs h s → IsRun words (after_split n s h) (suc n)
 run-on words invs h n s r l a w =
     let b : (inv : Invariant) × (slice_get invs s.inv ≡ Some inv) × (Satisfies (G h) inv → ⊥) = broken (G h) invs s.inv w.first in
     let r1 : IsRun words (after_split n s h) (n + 1) = next-run words invs h n s b.0 r l a b.1 (w.least b.0 b.1) w.place in
@@ -290,7 +290,7 @@ pub next-over : (invs : List Invariant) (ks : List ℕ) (h : Assignment) (s : Sp
 next-over invs ks h s all t n = next-split-over invs h (spread ks h) s (all-alike ks h all) t n
 
 -- one step of coarsening
-typed-merge : (h : Assignment) (p q : ℕ) → IsTyped h → IsPair (G h) p q → IsTyped (merge p q h)
+pub typed-merge : (h : Assignment) (p q : ℕ) → IsTyped h → IsPair (G h) p q → IsTyped (merge p q h)
 typed-merge h p q t i = typed_from (λ x. type_of h x) (merge p q h) (merge_typed h p q t i)
 
 merged-graph : (ks : List ℕ) (h : Assignment) (p q : ℕ) → AreAllOf ks h → IsTyped h → IsPair (G h) p q → G (merge p q h) ≡ G (merge p q (spread ks h))
@@ -299,7 +299,7 @@ merged-graph ks h p q all t i =
     let g : G (merge p q h) ≡ G (spread ks (merge p q h)) = graph-over (merge p q h) (spread ks (merge p q h)) (all-alike ks (merge p q h) (all-merge ks p q h all)) (typed-merge h p q t i) in
     g ∙ ap (λ (x : Assignment). G x) (spread-merge ks p q h)
 
-pair-over : (h k : Assignment) → Alike h k → IsTyped h → (p q : ℕ) → IsPair (G k) p q → IsPair (G h) p q
+pub pair-over : (h k : Assignment) → Alike h k → IsTyped h → (p q : ℕ) → IsPair (G k) p q → IsPair (G h) p q
 pair-over h k a t p q i = subst (λ (x : Graph). IsPair x p q) (sym (graph-over h k a t)) i
 
 next-merge-over : (invs : List Invariant) (ks : List ℕ) (h : Assignment) (m : Merge) → AreAllOf ks h → IsTyped h → IsNextMerge invs h m → IsNextMerge invs (spread ks h) m

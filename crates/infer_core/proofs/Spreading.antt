@@ -6,7 +6,7 @@ use Rattle.std.proofs.lemmas.List.Elements.{All-get_or}
 use Rattle.partition_model.specs.Assignments.{Assignment}
 use Rattle.partition_graph.specs.Parts.{Parts}
 use Rattle.partition_graph.specs.Spread.{spread, AreAllOf}
-use Rattle.infer_core.specs.Benches.{whole_of}
+use Rattle.infer_core.specs.Workbenches.{whole_of}
 
 -- all traces have a number, each number is that of a trace, and each is that of its place: so there are as many of both
 as-many : (ks : List ℕ) (h : Assignment) → AreAllOf ks h → ((k : ℕ) → k < length ks → slice_index ks k ≡ k) → length ks ≡ length h

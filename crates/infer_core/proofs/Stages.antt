@@ -15,20 +15,20 @@ use Rattle.infer_core.specs.declared.workbench.Stage.{Stage}
 use Rattle.infer_core.specs.declared.workbench.Stage.TheVariants.{Opened, Inferred}
 use Rattle.infer_core.specs.Runs.{PassesNumbers, PassesPartitions}
 use Rattle.infer_core.specs.Ends.{RunGives}
-use Rattle.infer_core.specs.Benches.{Bench, IsAtStart, IsAtEnd, Stands}
+use Rattle.infer_core.specs.Workbenches.{WorkbenchView, IsAtStart, IsAtEnd, Stands}
 use Rattle.infer_core.proofs.Excluding.{both-exclude, numbers-exclude, partitions-exclude}
 
 -- what stands in an opened workbench
-pub stands-opened : (b : Bench) (stage : Stage) (kinds : Kinds) (log : Log) (invs : List Invariant) (graph : Parts) (numbers : List ℕ) (stitcher : ℕ) (planes : Labelling) (spans : Numbers) (run : RunLists)
+pub stands-opened : (b : WorkbenchView) (stage : Stage) (kinds : Kinds) (log : Log) (invs : List Invariant) (graph : Parts) (numbers : List ℕ) (stitcher : ℕ) (planes : Labelling) (spans : Numbers) (run : RunLists)
     → record { kinds = kinds; log = log; stage = stage } ≡ b → b.stage ≡ Opened → Stands stage kinds log invs graph numbers stitcher planes spans run → IsAtStart kinds log invs graph numbers stitcher planes spans run
 stands-opened b stage kinds log invs graph numbers stitcher planes spans run e o s =
-    subst (λ (x : Stage). Stands x kinds log invs graph numbers stitcher planes spans run) (ap (λ (x : Bench). x.stage) e ∙ o) s
+    subst (λ (x : Stage). Stands x kinds log invs graph numbers stitcher planes spans run) (ap (λ (x : WorkbenchView). x.stage) e ∙ o) s
 
 -- and in one whose inference is done
-pub stands-inferred : (b : Bench) (stage : Stage) (kinds : Kinds) (log : Log) (invs : List Invariant) (graph : Parts) (numbers : List ℕ) (stitcher : ℕ) (planes : Labelling) (spans : Numbers) (run : RunLists)
+pub stands-inferred : (b : WorkbenchView) (stage : Stage) (kinds : Kinds) (log : Log) (invs : List Invariant) (graph : Parts) (numbers : List ℕ) (stitcher : ℕ) (planes : Labelling) (spans : Numbers) (run : RunLists)
     → record { kinds = kinds; log = log; stage = stage } ≡ b → b.stage ≡ Inferred → Stands stage kinds log invs graph numbers stitcher planes spans run → IsAtEnd kinds log invs graph numbers planes spans run
 stands-inferred b stage kinds log invs graph numbers stitcher planes spans run e o s =
-    subst (λ (x : Stage). Stands x kinds log invs graph numbers stitcher planes spans run) (ap (λ (x : Bench). x.stage) e ∙ o) s
+    subst (λ (x : Stage). Stands x kinds log invs graph numbers stitcher planes spans run) (ap (λ (x : WorkbenchView). x.stage) e ∙ o) s
 
 -- each limit comes exactly where it is passed
 pub partitions-told : (r : Result (Unit {0}) InferLimit) (words : TypedWords) (graph : Parts) (planes : Labelling) (spans : Numbers) (run : RunLists)

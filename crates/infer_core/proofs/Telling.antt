@@ -35,7 +35,7 @@ use Rattle.partition_graph.specs.Parts.{Parts}
 use Rattle.labelling.specs.Labelled.{Labelling, AreLabelsOf, digit}
 use Rattle.infer_core.specs.Runs.{AreFinal}
 use Rattle.infer_core.specs.Ends.{HasEnded}
-use Rattle.infer_core.specs.Benches.{Tells}
+use Rattle.infer_core.specs.Workbenches.{Tells}
 
 -- the ids of the listed partitions are below the bound
 pub listed-below : (n : ℕ) (h : Assignment) (k : ℕ) (x : Partition) → slice_get (partitions_below n h) k ≡ Some x → x.id < n

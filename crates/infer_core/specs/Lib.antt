@@ -1,5 +1,5 @@
 pub mod Runs
 pub mod Ends
-pub mod Benches
+pub mod Workbenches
 pub mod Laws
 pub mod Windows

@@ -2,14 +2,15 @@
 //!
 //! In memory the labels of all invariants at one partition lie together, and in the model those of one invariant at all
 //! partitions. So they are read for many invariants at once, one partition after another.
-ghost use Rattle.std.specs.Prelude.{◌≡◌, ◌<◌, ◌≤◌, ◌+◌, ◌^◌, ℕ, IfOk, Some, length, map, slice_get, slice_index};
+ghost use Rattle.std.specs.Prelude.{◌≡◌, ◌<◌, ◌+◌, ◌*◌, ℕ, IfOk, Some, length, map, slice_get, slice_index};
+ghost use Rattle.std.specs.Int.{bit_at};
 ghost use Rattle.std.specs.List.{AllByRecursion};
 ghost use Rattle.limits.specs.declared.TheConstants.{MAX_PARTITIONS};
 ghost use Rattle.invariants.specs.declared.records.Partition.{Partition};
 ghost use Rattle.partition_model.specs.Assignments.{Assignment, G};
 ghost use Rattle.partition_model.specs.Listings.{ArePartitions};
 ghost use Rattle.models.specs.Models.{AreReached};
-ghost use Rattle.labelling.specs.Labelled.{digit, AreLabelsOf};
+ghost use Rattle.labelling.specs.Labelled.{digit, AreLabelsOf, SaysSwapped};
 ghost use Rattle.infer_core.specs.declared.labels.TheConstants.{TOGETHER};
 ghost use Rattle.infer_core.specs.Windows.{IsWindowOf};
 
@@ -18,7 +19,8 @@ use labelling::Planes;
 use limits::MAX_PARTITIONS;
 use std::alloc::{AllocError, Global};
 
-/// The labels of how many invariants are read at once: a word of memory has a bit of each.
+/// The labels of how many invariants are read at once: a word of memory has a bit of each. The first of them has a number
+/// that is a multiple of this.
 pub(crate) const TOGETHER: usize = 64;
 
 /// The labels of some invariants, whose numbers follow one another, at each of some partitions.
@@ -32,17 +34,29 @@ pub struct Window {
     digits: Vec<[u8; TOGETHER]>,
 }
 
-/// The labels at p of this many invariants, from the one with this number on.
-fn digits_at(planes: &Planes, first: usize, len: usize, p: u32) -> [u8; TOGETHER]
-    requires numbers { first + len ≤ length (planes.now).invs }
-    requires fits { first + len < 2 ^ 64 }
-    requires few { len ≤ TOGETHER }
-    requires id { p < MAX_PARTITIONS }
-    ensures { (k : ℕ) → k < len → slice_index result k ≡ digit planes.now (first + k) p }
+/// The set of those states whose word has bit k, as a label.
+fn digit_of(zeroth: u64, first: u64, second: u64, k: u32) -> u8
+    requires { k < 64 }
+    ensures { result ≡ bit_at zeroth k + 2 * bit_at first k + 4 * bit_at second k }
 {
+    let low = (zeroth >> k) & 1;
+    let middle = (first >> k) & 1;
+    let high = (second >> k) & 1;
+    (low + 2 * middle + 4 * high) as u8
+}
+
+/// The labels at p of the invariants from number `TOGETHER * place` on.
+fn digits_at(planes: &Planes, place: usize, swapped: u64, p: u32) -> [u8; TOGETHER]
+    requires place { place * TOGETHER < length (planes.now).invs }
+    requires swapped { SaysSwapped (planes.now).invs place swapped }
+    requires id { p < MAX_PARTITIONS }
+    ensures { (k : ℕ) → k < TOGETHER → place * TOGETHER + k < length (planes.now).invs
+        → slice_index result k ≡ digit planes.now (place * TOGETHER + k) p }
+{
+    let [zeroth, first, second] = planes.words(place, p, swapped);
     let mut digits = [0; TOGETHER];
-    for k in 0..len {
-        digits[k] = planes.states(first + k, p);
+    for k in 0..TOGETHER {
+        digits[k] = digit_of(zeroth, first, second, k as u32);
     }
     digits
 }
@@ -60,26 +74,31 @@ impl Window {
         })
     }
 
-    /// Reads the labels at these partitions of the invariants from this number on, as many as there is room for.
-    fn read(&mut self, planes: &Planes, first: usize, count: usize, partitions: &[Partition])
+    /// Reads the labels at these partitions of the invariants from number `TOGETHER * place` on, as many as there is room
+    /// for.
+    fn read(&mut self, planes: &Planes, place: usize, count: usize, partitions: &[Partition])
         requires count { count ≡ length (planes.now).invs }
-        requires number { first < count }
+        requires place { place * TOGETHER < count }
         requires ids { (k : ℕ) (x : Partition) → slice_get partitions.now k ≡ Some x
             → x.id < MAX_PARTITIONS }
         requires size { length (self.old).digits.items ≡ length partitions.now }
         ensures window { IsWindowOf planes.now partitions.now self.new }
-        ensures first { (self.new).first ≡ first }
-        ensures some { 0 < (self.new).len }
+        ensures first { (self.new).first ≡ place * TOGETHER }
+        ensures full { (k : ℕ) → k < TOGETHER → place * TOGETHER + k < count
+            → k < (self.new).len }
     {
+        let swapped = planes.swapped(place);
+        let first = place * TOGETHER;
         let len = TOGETHER.min(count - first);
         self.first = first;
         self.len = len;
         for (j, partition) in partitions.iter().enumerate() {
-            self.digits[j] = digits_at(planes, first, len, partition.id);
+            self.digits[j] = digits_at(planes, place, swapped, partition.id);
         }
     }
 
-    /// Which of the window's invariants the one with this number is. Where it is none of them, the window is read from it on.
+    /// Which of the window's invariants the one with this number is. Where it is none of them, those are read that
+    /// share a word with it.
     fn place_of(
         &mut self,
         planes: &Planes,
@@ -99,8 +118,8 @@ impl Window {
         if self.first <= number && number - self.first < self.len {
             return number - self.first;
         }
-        self.read(planes, number, count, partitions);
-        0
+        self.read(planes, number / TOGETHER, count, partitions);
+        number % TOGETHER
     }
 }
 

@@ -3,7 +3,7 @@ ghost use Rattle.std.specs.Prelude.{◌≡◌, IfOk};
 ghost use Rattle.run_history.specs.Records.{HoldsPaths};
 ghost use Rattle.partition_model.specs.Assignments.{G};
 ghost use Rattle.labelling.specs.Labelled.{AreLabelsOf};
-ghost use Rattle.infer_core.specs.Benches.{Tells};
+ghost use Rattle.infer_core.specs.Workbenches.{Tells};
 
 use crate::labels::listed;
 use crate::tools::{Tools, both};
@@ -38,9 +38,9 @@ pub fn model_of(
 ) -> Result<Model, AllocError>
     requires list { tools.now.planes.invs ≡ invs.now }
     requires labels { AreLabelsOf tools.now.planes (G (graph.now).traces) }
-    requires paths { HoldsPaths tools.now.log tools.now.spans }
+    requires paths { HoldsPaths tools.now.run_log tools.now.spans }
     ensures { IfOk result
-        (λ m. Tells m kinds traces.now invs.now graph.now tools.now.spans tools.now.log) }
+        (λ m. Tells m kinds traces.now invs.now graph.now tools.now.spans tools.now.run_log) }
 {
     prove!(graph.ids_used() <= MAX_PARTITIONS);
     let partitions = graph.partitions(alloc)?;
@@ -48,10 +48,10 @@ pub fn model_of(
     let named = both(copy_of(alloc, traces.types()), listing);
     let shown = both(graph.edges(alloc), named);
     let joins = both(
-        merges(alloc, &tools.log),
-        blocks(alloc, &tools.log, &tools.spans),
+        merges(alloc, &tools.run_log),
+        blocks(alloc, &tools.run_log, &tools.spans),
     );
-    let told = both(splits(alloc, &tools.log, &tools.spans), joins);
+    let told = both(splits(alloc, &tools.run_log, &tools.spans), joins);
     let ((edges, (types, invariants)), (splits, (merges, blocks))) = both(shown, told)?;
     Ok(Model {
         types,

@@ -49,24 +49,24 @@ fn refine_broken<L: Ledger>(
     steps: &mut Steps<L>,
 ) -> Result<(), PartitionLimit>
     requires ready { IsReady invs.now graph.old
-        tools.old.stitcher tools.old.planes tools.old.spans tools.old.log }
+        tools.old.stitcher tools.old.planes tools.old.spans tools.old.run_log }
     requires flags { length flags.old ≡ length invs.now }
     ensures list { tools.new.planes.invs ≡ tools.old.planes.invs }
-    ensures writes { WritesSplits tools.old.log tools.new.log tools.old.spans tools.new.spans }
+    ensures writes { WritesSplits tools.old.run_log tools.new.run_log tools.old.spans tools.new.spans }
 
     // The whole run, and how many steps it counts: at most one for each invariant and each split, and one more where it
     // makes a split.
     ensures ok { OnOk result (EndsRefined invs.now graph.old
-        (splits_of tools.new.log tools.new.spans) graph.new) }
+        (splits_of tools.new.run_log tools.new.spans) graph.new) }
     ensures more { OnOk result (steps.old ≤ steps.new) }
     ensures few { OnOk result (steps.new ≤ steps.old + length invs.now
-        + length (splits_of tools.new.log tools.new.spans)
-        + min 1 (length (splits_of tools.new.log tools.new.spans))) }
+        + length (splits_of tools.new.run_log tools.new.spans)
+        + min 1 (length (splits_of tools.new.run_log tools.new.spans))) }
 
     // When the limit comes, and what it leaves.
     ensures full { OnErr result (IsFull invs.now graph.new) }
     ensures stands { OnErr result (IsStopped invs.now graph.old graph.new
-        (splits_of tools.new.log tools.new.spans)
+        (splits_of tools.new.run_log tools.new.spans)
         (steps.new - (steps.old + min 1 (length invs.now)))) }
 {
     tell_known(graph, &mut tools.planes, flags, steps);
@@ -77,7 +77,7 @@ fn refine_broken<L: Ledger>(
         invs,
         flags,
         &mut tools.spans,
-        &mut tools.log,
+        &mut tools.run_log,
         steps,
     )
 }
@@ -94,12 +94,12 @@ pub fn run<L: Ledger>(
     steps: &mut Steps<L>,
 ) -> Result<(), InferLimit>
     requires ready { IsReady invs.now graph.old
-        tools.old.stitcher tools.old.planes tools.old.spans tools.old.log }
+        tools.old.stitcher tools.old.planes tools.old.spans tools.old.run_log }
     requires flags { length flags.old ≡ length invs.now }
 
     // What the run gives, for the words of which the graph is the first and the invariants are mined.
     ensures gives { (words : TypedWords) → BeginsWith words invs.now graph.old
-        → RunGives result words graph.new tools.new.planes tools.new.spans tools.new.log }
+        → RunGives result words graph.new tools.new.planes tools.new.spans tools.new.run_log }
 
     // How many steps are counted.
     ensures counted { OnOk result ((words : TypedWords) → BeginsWith words invs.now graph.old
@@ -110,14 +110,14 @@ pub fn run<L: Ledger>(
         return Err(InferLimit::Partitions);
     };
     prove!(graph.ids_used() <= MAX_PARTITIONS);
-    coarsen(graph, &mut tools.planes, &mut tools.log, steps);
+    coarsen(graph, &mut tools.planes, &mut tools.run_log, steps);
     let Ok(()) = blocks_marked(
         graph,
         &mut tools.finder,
         &mut tools.planes,
         invs,
         &mut tools.spans,
-        &mut tools.log,
+        &mut tools.run_log,
         steps,
     ) else {
         return Err(InferLimit::Evidence);

@@ -35,7 +35,7 @@ pub struct Tools {
     /// The paths of splits and blocks.
     pub spans: Spans,
     /// The splits, merges and blocks.
-    pub log: RunLog,
+    pub run_log: RunLog,
 }
 
 impl Tools {
@@ -53,7 +53,7 @@ impl Tools {
         // Nothing is written yet, and there is room for all that may be.
         ensures spans { IfOk result
             (λ tools. tools.spans ≡ record { numbers = []; room = MAX_PATH_NUMBERS }) }
-        ensures log { IfOk result (λ tools. tools.log ≡ record {
+        ensures run_log { IfOk result (λ tools. tools.run_log ≡ record {
           splits = [];
           merges = [];
           blocks = [];
@@ -64,16 +64,16 @@ impl Tools {
     {
         let finds = both(Finder::make(alloc), Stitcher::make(alloc, graph));
         let spans = Spans::make(alloc, MAX_PATH_NUMBERS);
-        let log = RunLog::make(alloc, MAX_STEPS, MAX_STEPS, MAX_PAIRS);
-        let writes = both(spans, log);
+        let run_log = RunLog::make(alloc, MAX_STEPS, MAX_STEPS, MAX_PAIRS);
+        let writes = both(spans, run_log);
         let keeps = both(Planes::make(alloc, invs), writes);
-        let ((finder, stitcher), (planes, (spans, log))) = both(finds, keeps)?;
+        let ((finder, stitcher), (planes, (spans, run_log))) = both(finds, keeps)?;
         Ok(Tools {
             finder,
             stitcher,
             planes,
             spans,
-            log,
+            run_log,
         })
     }
 }

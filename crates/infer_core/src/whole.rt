@@ -4,7 +4,7 @@ ghost use Rattle.std.specs.Bool.{OnTrue};
 ghost use Rattle.limits.specs.declared.TheConstants.{MAX_EVENTS};
 ghost use Rattle.partition_model.specs.Assignments.{events};
 ghost use Rattle.partition_graph.specs.Spread.{spread, AreAllOf};
-ghost use Rattle.infer_core.specs.Benches.{whole_of};
+ghost use Rattle.infer_core.specs.Workbenches.{whole_of};
 
 use partition_graph::PartGraph;
 use std::alloc::{AllocError, Global};

@@ -58,15 +58,15 @@ pub struct Workbench {
 
 impl std::marker::Model for Workbench {
     ghost use Rattle.std.specs.Prelude.{◌≡◌, length};
-    ghost use Rattle.infer_core.specs.Benches.{Bench, Stands};
+    ghost use Rattle.infer_core.specs.Workbenches.{WorkbenchView, Stands};
 
-    ghost Value = { Bench };
+    ghost Value = { WorkbenchView };
 
     ghost view = { λ b. record { kinds = b.kinds; log = b.traces; stage = b.stage } };
 
     ghost invariant = { λ b.
         Stands b.stage b.kinds b.traces b.invs b.graph b.numbers.items
-        b.tools.stitcher b.tools.planes b.tools.spans b.tools.log
+        b.tools.stitcher b.tools.planes b.tools.spans b.tools.run_log
         × (length b.flags.items ≡ length b.invs) };
 }
 
@@ -96,7 +96,7 @@ fn equip(
     // Nothing is written yet, and there is room for all that may be.
     ensures spans { IfOk result
         (λ pair. pair.0.spans ≡ record { numbers = []; room = MAX_PATH_NUMBERS }) }
-    ensures log { IfOk result (λ pair. pair.0.log ≡ record {
+    ensures run_log { IfOk result (λ pair. pair.0.run_log ≡ record {
       splits = [];
       merges = [];
       blocks = [];

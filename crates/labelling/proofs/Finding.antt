@@ -1,6 +1,6 @@
 -- What is found when a row has got what another one passes.
 use Rattle.std.proofs.Common.{◌≡◌, ◌≢◌, ◌↔◌, ℕ, ◌+◌, ◌<◌, ◌≤◌, ◌==◌, Bool, true, false, not, cond, List, [], ◌∷◌, ◌++◌, slice_get, Some, refl, sym, ap, ◌∙◌, subst, subst₂, arith, inl, inr}
-use Rattle.std.proofs.lemmas.Bool.{cases_eq, or_cases, and_parts, or_left, or_right, and_from, eqb-true, eq-eqb}
+use Rattle.std.proofs.lemmas.Bool.{cases_eq, cases_lt, or_cases, and_parts, or_left, or_right, and_from, eqb-true, eq-eqb}
 use Rattle.limits.specs.declared.TheConstants.{MAX_PARTITIONS, INITIAL, TERMINAL}
 use Rattle.invariants.specs.declared.Kind.{Kind}
 use Rattle.invariants.specs.declared.Kind.TheVariants.{AF, NF, AP, IB}
@@ -11,10 +11,10 @@ use Rattle.partition_model.specs.Labels.{Reached}
 use Rattle.partition_model.proofs.Labelling.{walk_more, run_more}
 use Rattle.bit_rows.specs.Tables.{row_at, is_set, KeepsShape}
 use Rattle.labelling.specs.declared.layout.TheConstants.{STATES, LAST_PHASE, LABEL_ROWS, BROKEN_ROW, ALL_ROW}
-use Rattle.labelling.specs.Boards.{found_in}
+use Rattle.labelling.specs.PhaseRows.{found_in}
 use Rattle.labelling.specs.Carried.{passes, IsPassed}
-use Rattle.labelling.specs.Found.{Found, Grows, StartsAt, FollowsAlong, HasStart, IsCarried, IsSameBut, AreNoted}
-use Rattle.labelling.specs.Layout.{is_on, label_row, bad_row, first_row, move_place, move_row, AreMarked}
+use Rattle.labelling.specs.Found.{Found, Grows, StartsAt, FollowsAlong, HasStart, IsCarried, IsNothing, IsSameBut, AreNoted}
+use Rattle.labelling.specs.Layout.{is_on, label_row, bad_row, first_row, move_place, move_row, AreMarked, IsBlankFrom}
 use Rattle.labelling.specs.Phases.{phase_of, first_phase, turn, ReachedIn}
 use Rattle.labelling.proofs.Marking.{marked_same}
 use Rattle.labelling.proofs.Passing.{IsBadBelow}
@@ -39,6 +39,36 @@ pub passed_marked : (bound : ℕ) (invs : List Invariant) (old new : List (List 
     → IsPassed old new from to mask back changed → AreMarked bound invs old → AreMarked bound invs new
 passed_marked bound invs old new from to mask back changed low h =
     kept_marked bound invs old new h.shape (λ r above other. h.others r (λ e. absurd (omega (arith, above, e, low))))
+
+-- the rows behind those in use stay blank where one in use gets what another row passes
+pub passed_blank : (used last : ℕ) (old new : List (List Bool)) (from to mask : ℕ) (back changed : Bool) → used ≤ last → to < last → last ≤ LABEL_ROWS
+    → IsPassed old new from to mask back changed → IsBlankFrom used old → IsBlankFrom last new
+passed_blank used last old new from to mask back changed more within limit h before = record {
+  limit = limit;
+  blank = λ r k above low. ap (λ (x : List Bool). is_set x k) (h.others r (λ e. absurd (omega (arith, e, above, within)))) ∙ before.blank r k (omega (arith, more, above)) low;
+}
+
+-- the rows behind those in use stay blank where the rows of phases stay
+pub kept_blank : (used : ℕ) (old new : List (List Bool)) → ((r : ℕ) → r < LABEL_ROWS → row_at new r ≡ row_at old r) → IsBlankFrom used old → IsBlankFrom used new
+kept_blank used old new same before = record {
+  limit = before.limit;
+  blank = λ r k above low. ap (λ (x : List Bool). is_set x k) (same r low) ∙ before.blank r k above low;
+}
+
+-- once the rows in use are cleared, all rows of phases are blank
+pub cleared_all : (used : ℕ) (old new : List (List Bool)) → ((r k : ℕ) → r < used → is_on new r k ≡ false) → ((r : ℕ) → used ≤ r → row_at new r ≡ row_at old r)
+    → IsBlankFrom used old → IsBlankFrom 0 new
+cleared_all used old new cleared same before = record {
+  limit = omega arith;
+  blank = λ r k above low. elim (cases_lt r used) [
+    | inl less ↦ cleared r k less
+    | inr more ↦ ap (λ (x : List Bool). is_set x k) (same r (omega (arith, more))) ∙ before.blank r k (omega (arith, more)) low
+  ];
+}
+
+-- where all rows of phases are blank, nothing is found
+pub blank_nothing : (invs : List Invariant) (table : List (List Bool)) → IsBlankFrom 0 table → IsNothing (found_in invs table)
+blank_nothing invs table h = record { has = λ k p s in_p low. h.blank (label_row p s) k (omega arith) (omega (arith, in_p, low)) }
 
 module _ (invs : List Invariant) (old new : List (List Bool)) (from to mask : ℕ) (back changed : Bool) (h : IsPassed old new from to mask back changed) where
   -- what is on stays on

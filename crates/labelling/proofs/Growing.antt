@@ -13,9 +13,9 @@ use Rattle.partition_graph.specs.declared.view.View.TheVariants.{Plain, Merged}
 use Rattle.partition_graph.specs.Links.{AreLinksOf, HasIds}
 use Rattle.partition_graph.specs.Seen.{seen}
 use Rattle.labelling.specs.declared.layout.TheConstants.{STATES, LAST_PHASE}
-use Rattle.labelling.specs.Found.{Found, IsReachedIn, IsExact, Grows, HasStart, IsCarried, IsFollowed, IsNothing, IsSameBut, IsSpread, IsStill, KeepsSpread}
+use Rattle.labelling.specs.Found.{Found, IsReachedIn, IsExact, Grows, HasStart, IsCarried, IsFollowed, IsNothing, IsSameBut, IsPropagated, IsStill, KeepsPropagated}
 use Rattle.labelling.specs.Phases.{phase_of, first_phase, turn}
-use Rattle.labelling.specs.Rounds.{AreSpread}
+use Rattle.labelling.specs.Rounds.{ArePropagated}
 use Rattle.labelling.proofs.Turning.{phase_phase, turn_low, first_low, last_stays}
 
 -- where nothing is found, what is found is the same
@@ -49,10 +49,10 @@ moves_on p q typ place first old new changed more a b before here m below = elim
   | inr ne ↦ carried_on first first old new false more p (m / STATES) typ q (m % STATES) (grows_none first) (before m (omega (arith, below, ne))) b
 ]
 
--- where all moves along a link are carried, what was found at its beginning is spread
-pub spread_of_moves : (p q typ : ℕ) (old new : Found) → IsCarried p LAST_PHASE typ q LAST_PHASE old new
-    → ((m : ℕ) → m < 6 → IsCarried p (m / STATES) typ q (m % STATES) old new) → IsSpread p typ q old new
-spread_of_moves p q typ old new last h s t low next stays = elim (cases_eq s LAST_PHASE) [
+-- where all moves along a link are carried, what was found at its beginning is propagated
+pub propagated_of_moves : (p q typ : ℕ) (old new : Found) → IsCarried p LAST_PHASE typ q LAST_PHASE old new
+    → ((m : ℕ) → m < 6 → IsCarried p (m / STATES) typ q (m % STATES) old new) → IsPropagated p typ q old new
+propagated_of_moves p q typ old new last h s t low next stays = elim (cases_eq s LAST_PHASE) [
   | inl same ↦ subst₂ (λ (y z : ℕ). IsCarried p y typ q z old new) (sym same) (sym (stays same)) last
   | inr ne ↦
       let first : (s * STATES + t) / STATES ≡ s = omega arith in
@@ -69,21 +69,21 @@ module _ (p q x : ℕ) (recent was : List Bool) (old new : Found) where
   pub skipped : IsStill recent p → IsStill was p → IsFollowed p x q recent was was old old
   skipped a b h _ = h a b
 
-  -- where nothing is found, what was spread is spread still
-  pub skipped_keeps : KeepsSpread was was old old
+  -- where nothing is found, what was propagated is propagated still
+  pub skipped_keeps : KeepsPropagated was was old old
   skipped_keeps r y z still = (still, λ h. h)
 
   -- a link along which nothing more is found is followed, and its end is not marked
-  pub followed_still : new ≡ old → IsSpread p x q old new → IsFollowed p x q recent was was old new
-  followed_still same h _ _ = subst (λ (f : Found). IsSpread p x q f new) (sym same) h
+  pub followed_still : new ≡ old → IsPropagated p x q old new → IsFollowed p x q recent was was old new
+  followed_still same h _ _ = subst (λ (f : Found). IsPropagated p x q f new) (sym same) h
 
-  -- where nothing more is found along a link, what was spread is spread still
-  pub still_keeps : new ≡ old → KeepsSpread was was old new
-  still_keeps same r y z still = (still, λ h. subst (λ (f : Found). IsSpread r y z f f) (sym same) h)
+  -- where nothing more is found along a link, what was propagated is propagated still
+  pub still_keeps : new ≡ old → KeepsPropagated was was old new
+  still_keeps same r y z still = (still, λ h. subst (λ (f : Found). IsPropagated r y z f f) (sym same) h)
 
-  -- what was spread from another id than the end is spread still
-  spread_again : (r y z : ℕ) (changed : Bool) → Grows old new changed → IsSameBut q old new → r ≢ q → IsSpread r y z old new → IsSpread r y z new new
-  spread_again r y z changed grows but ne h s t low next stays k inv at on =
+  -- what was propagated from another id than the end is propagated still
+  propagated_again : (r y z : ℕ) (changed : Bool) → Grows old new changed → IsSameBut q old new → r ≢ q → IsPropagated r y z old new → IsPropagated r y z new new
+  propagated_again r y z changed grows but ne h s t low next stays k inv at on =
       h s t low next stays k inv (subst (λ (is : List Invariant). slice_get is k ≡ Some inv) grows.same at) (but k r s ne low on)
 
   -- an id without a mark is another than the one that was marked
@@ -91,33 +91,33 @@ module _ (p q x : ℕ) (recent was : List Bool) (old new : Found) where
   marked_apart r inside still e = true≢false (sym (ap (λ (z : ℕ). get_or (set was q true) z false) e ∙ get_or-set_same was q true false inside) ∙ still)
 
   -- a link along which more is found is followed, and its end is marked
-  pub followed_more : (changed : Bool) → q < length was → Grows old new changed → IsSameBut q old new → IsSpread p x q old new
+  pub followed_more : (changed : Bool) → q < length was → Grows old new changed → IsSameBut q old new → IsPropagated p x q old new
       → IsFollowed p x q recent was (set was q true) old new
-  followed_more changed inside grows but h _ still = spread_again p x q changed grows but (marked_apart p inside still) h
+  followed_more changed inside grows but h _ still = propagated_again p x q changed grows but (marked_apart p inside still) h
 
-  -- where more is found at the end of a link, what was spread from ids without a mark is spread still
-  pub more_keeps : (changed : Bool) → q < length was → Grows old new changed → IsSameBut q old new → KeepsSpread was (set was q true) old new
+  -- where more is found at the end of a link, what was propagated from ids without a mark is propagated still
+  pub more_keeps : (changed : Bool) → q < length was → Grows old new changed → IsSameBut q old new → KeepsPropagated was (set was q true) old new
   more_keeps changed inside grows but r y z still =
       let ne : r ≢ q = marked_apart r inside still in (
         sym (get_or-set_other was q r true false ne) ∙ still,
-        λ h. spread_again r y z changed grows but ne (λ s t low next stays k inv at on made. grows.keeps k z t (h s t low next stays k inv at on made)),
+        λ h. propagated_again r y z changed grows but ne (λ s t low next stays k inv at on made. grows.keeps k z t (h s t low next stays k inv at on made)),
       )
 
 -- what is found at the beginning of a link was followed, but at ids that are marked, and from a place on at those that were new
-abbrev pub AreSpreadFrom : List Link → Graph → ℕ → List Bool → List Bool → Found → Type 0
-AreSpreadFrom links g index recent marks found =
+abbrev pub ArePropagatedFrom : List Link → Graph → ℕ → List Bool → List Bool → Found → Type 0
+ArePropagatedFrom links g index recent marks found =
     (i : ℕ) (link : Link) → i < length links → get_or links i link ≡ link → IsStill marks link.from → (index ≤ i → IsStill recent link.from)
-    → IsSpread link.from (g.typ link.to) link.to found found
+    → IsPropagated link.from (g.typ link.to) link.to found found
 
 -- with one more link followed, all links before the next place are
 pub links_more : (links : List Link) (g : Graph) (index : ℕ) (link none : Link) (recent was marks : List Bool) (old new : Found)
-    → index < length links → link ≡ get_or links index none → KeepsSpread was marks old new → IsFollowed link.from (g.typ link.to) link.to recent was marks old new
-    → AreSpreadFrom links g index recent was old → AreSpreadFrom links g (index + 1) recent marks new
+    → index < length links → link ≡ get_or links index none → KeepsPropagated was marks old new → IsFollowed link.from (g.typ link.to) link.to recent was marks old new
+    → ArePropagatedFrom links g index recent was old → ArePropagatedFrom links g (index + 1) recent marks new
 links_more links g index link none recent was marks old new inside is keeps here before i other below at still later = elim (cases_eq i index) [
   | inl same ↦
       let e : link ≡ other = is ∙ get_or_default links index none other inside ∙ ap (λ (z : ℕ). get_or links z other) (sym same) ∙ at in
       let own : get_or links index link ≡ link = sym (is ∙ get_or_default links index none link inside) in
-      subst (λ (z : Link). IsSpread z.from (g.typ z.to) z.to new new) e
+      subst (λ (z : Link). IsPropagated z.from (g.typ z.to) z.to new new) e
       (here (λ rec w. before index link inside own w (λ _. rec)) (subst (λ (z : Link). IsStill marks z.from) (sym e) still))
   | inr ne ↦
       let k = keeps other.from (g.typ other.to) other.to still in
@@ -125,25 +125,25 @@ links_more links g index link none recent was marks old new inside is keeps here
 ]
 
 -- before the first link all is followed but what was new
-pub links_begin : (links : List Link) (g : Graph) (recent marks : List Bool) (found : Found) → AreSpread links g recent found → AreSpreadFrom links g 0 recent marks found
+pub links_begin : (links : List Link) (g : Graph) (recent marks : List Bool) (found : Found) → ArePropagated links g recent found → ArePropagatedFrom links g 0 recent marks found
 links_begin links g recent marks found h i link below at still rec = h link (i, below, at) (rec (omega arith))
 
 -- behind the last link all is followed but what is marked
-pub links_all : (links : List Link) (g : Graph) (index : ℕ) (recent marks : List Bool) (found : Found) → length links ≤ index → AreSpreadFrom links g index recent marks found → AreSpread links g marks found
+pub links_all : (links : List Link) (g : Graph) (index : ℕ) (recent marks : List Bool) (found : Found) → length links ≤ index → ArePropagatedFrom links g index recent marks found → ArePropagated links g marks found
 links_all links g index recent marks found past h link there still =
     let inside : there.0 < length links = there.1 in
     h there.0 link inside there.2 still (λ le. absurd (omega (arith, le, inside, past)))
 
 -- at first only INITIAL is new
-pub first_spread : (links : List Link) (g : Graph) (none begun : Found) (marks : List Bool) → AreLinksOf links g → IsNothing none → begun.invs ≡ none.invs → IsSameBut INITIAL none begun
-    → INITIAL < length marks → AreSpread links g (set marks INITIAL true) begun
-first_spread links g none begun marks are nothing same but inside link there still s t low next stays k inv at on made =
+pub first_propagated : (links : List Link) (g : Graph) (none begun : Found) (marks : List Bool) → AreLinksOf links g → IsNothing none → begun.invs ≡ none.invs → IsSameBut INITIAL none begun
+    → INITIAL < length marks → ArePropagated links g (set marks INITIAL true) begun
+first_propagated links g none begun marks are nothing same but inside link there still s t low next stays k inv at on made =
     let ids : HasIds link = All-contains HasIds links link are.ids there in
     let ne : link.from ≢ INITIAL = λ e. true≢false (sym (ap (λ (z : ℕ). get_or (set marks INITIAL true) z false) e ∙ get_or-set_same marks INITIAL true false inside) ∙ still) in
     absurd (false≢true (sym (nothing.has k link.from s ids.0 low) ∙ but k link.from s ne low on))
 
 module _ (g : Graph) (links : List Link) (found : Found) (are : AreLinksOf links g) (sound : IsReachedIn g found)
-    (closed : (link : Link) → Contains links link → IsSpread link.from (g.typ link.to) link.to found found) where
+    (closed : (link : Link) → Contains links link → IsPropagated link.from (g.typ link.to) link.to found found) where
   along : (k : ℕ) (inv : Invariant) → slice_get found.invs k ≡ Some inv → (p : ℕ) (walk : List ℕ) (q s : ℕ) → p < MAX_PARTITIONS → s < STATES
       → Walk g p walk q → found.has k p s ≡ true → found.has k q (phase_of inv.kind (run inv (phase_of inv.kind s) (word g walk))) ≡ true
   along k inv at p [] q s in_p low w on = subst₂ (λ (x y : ℕ). found.has k x y ≡ true) w (sym (phase_phase inv.kind s)) on

@@ -4,3 +4,4 @@ pub mod Marking
 pub mod Finding
 pub mod Growing
 pub mod Telling
+pub mod Words

@@ -17,7 +17,7 @@ use Rattle.clashes.specs.Marks.{Marks}
 use Rattle.models.specs.Models.{has_state}
 use Rattle.bit_rows.specs.Tables.{is_set}
 use Rattle.labelling.specs.declared.layout.TheConstants.{STATES, LABEL_ROWS, BROKEN_ROW}
-use Rattle.labelling.specs.Boards.{found_in}
+use Rattle.labelling.specs.PhaseRows.{found_in}
 use Rattle.labelling.specs.Found.{IsExact, AreNoted}
 use Rattle.labelling.specs.Labelled.{Labelling, AreLabelsOf, digit, is_found, number_of, labelling_in, SaysSatisfied}
 use Rattle.labelling.specs.Layout.{is_on, label_row}

@@ -61,8 +61,8 @@ IsCarried p s x q t old new =
     → turn inv s x ≡ t → new.has k q t ≡ true
 
 -- for each phase that was found at p that one is found at q into which x turns it, where nothing leads out of the last
-abbrev pub IsSpread : ℕ → ℕ → ℕ → Found → Found → Type 0
-IsSpread p x q old new =
+abbrev pub IsPropagated : ℕ → ℕ → ℕ → Found → Found → Type 0
+IsPropagated p x q old new =
     (s t : ℕ) → s < STATES → t < STATES → (s ≡ LAST_PHASE → t ≡ LAST_PHASE) → IsCarried p s x q t old new
 
 -- what is found at all ids but q was found before
@@ -73,15 +73,15 @@ IsSameBut q old new = (k p s : ℕ) → p ≢ q → s < STATES → new.has k p s
 abbrev pub IsStill : List Bool → ℕ → Type 0
 IsStill marks p = slice_index_or marks p false ≡ false
 
--- an id that is not marked was not marked before, and what was spread from it is spread still
-abbrev pub KeepsSpread : List Bool → List Bool → Found → Found → Type 0
-KeepsSpread was marks old new =
-    (p x q : ℕ) → IsStill marks p → IsStill was p × (IsSpread p x q old old → IsSpread p x q new new)
+-- an id that is not marked was not marked before, and what was propagated from it is propagated still
+abbrev pub KeepsPropagated : List Bool → List Bool → Found → Found → Type 0
+KeepsPropagated was marks old new =
+    (p x q : ℕ) → IsStill marks p → IsStill was p × (IsPropagated p x q old old → IsPropagated p x q new new)
 
--- where p was not marked, what is found there had been spread to q; and if p is not marked now, it is spread now
+-- where p was not marked, what is found there had been propagated to q; and if p is not marked now, it is propagated now
 abbrev pub IsFollowed : ℕ → ℕ → ℕ → List Bool → List Bool → List Bool → Found → Found → Type 0
 IsFollowed p x q recent was marks old new =
-    (IsStill recent p → IsStill was p → IsSpread p x q old old) → IsStill marks p → IsSpread p x q new new
+    (IsStill recent p → IsStill was p → IsPropagated p x q old old) → IsStill marks p → IsPropagated p x q new new
 
 -- those are broken for which the bad phase is found at TERMINAL; it has the number of the bad state
 abbrev pub AreNoted : Found → Type 0

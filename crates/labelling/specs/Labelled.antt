@@ -1,5 +1,6 @@
 -- The labels of invariants: at each id the states that a monitor reaches there, as a number.
-use Rattle.std.specs.Prelude.{◌≡◌, ◌↔◌, ℕ, ◌+◌, ◌<◌, ◌≤◌, Bool, true, false, if◌then◌else◌, List, take, slice_get, slice_index_or, Some}
+use Rattle.std.specs.Prelude.{◌≡◌, ◌↔◌, ℕ, ◌+◌, ◌*◌, ◌<◌, ◌≤◌, ◌==◌, Bool, true, false, if◌then◌else◌, List, length, take, slice_get, slice_index, slice_index_or, Some}
+use Rattle.std.specs.Int.{bit_at}
 use Rattle.limits.specs.declared.TheConstants.{MAX_PARTITIONS}
 use Rattle.invariants.specs.declared.Invariant.{Invariant}
 use Rattle.partition_model.specs.Graphs.{Graph, Satisfies}
@@ -29,6 +30,18 @@ number_of zeroth first second =
 -- the label of the invariant with number k at p: the set of the states that are found there
 abbrev pub digit : Labelling → ℕ → ℕ → ℕ
 digit labels k p = number_of (is_found labels k p 0) (is_found labels k p 1) (is_found labels k p 2)
+
+-- the bits of the word say which of the 64 invariants from number 64 * place on have the states 0 and 1 for the phases 1
+-- and 0
+abbrev pub SaysSwapped : List Invariant → ℕ → ℕ → Type 0
+SaysSwapped invs place word =
+    (k : ℕ) → k < 64 → place * 64 + k < length invs → (bit_at word k == 1) ≡ (phase_at invs (place * 64 + k) 0 == 1)
+
+-- the bits of three words, one for each state, say for which of these invariants it is found at p
+abbrev pub AreStatesAt : Labelling → ℕ → ℕ → List ℕ → Type 0
+AreStatesAt labels place p words =
+    (k s : ℕ) → k < 64 → place * 64 + k < length labels.invs → s < 3
+    → (bit_at (slice_index words s) k == 1) ≡ is_found labels (place * 64 + k) p s
 
 -- the labels say the states that are reached in the graph, and no more
 pub record AreLabelsOf (labels : Labelling) (g : Graph) : Type 0 where

@@ -1,5 +1,5 @@
 -- A table of rows of truth values, one for each invariant: which row says what.
-use Rattle.std.specs.Prelude.{◌≡◌, ◌≢◌, ◌⊎◌, ℕ, ◌+◌, ◌*◌, ◌<◌, ◌≤◌, ◌==◌, Bool, true, not, if◌then◌else◌, List, length, slice_get, Some}
+use Rattle.std.specs.Prelude.{◌≡◌, ◌≢◌, ◌⊎◌, ℕ, ◌+◌, ◌*◌, ◌<◌, ◌≤◌, ◌==◌, Bool, true, false, not, if◌then◌else◌, List, length, slice_get, Some}
 use Rattle.limits.specs.declared.TheConstants.{LAST_TYPE}
 use Rattle.invariants.specs.declared.Invariant.{Invariant}
 use Rattle.invariants.specs.Monitors.{is_bad}
@@ -68,3 +68,8 @@ pub record AreMarked (bound : ℕ) (invs : List Invariant) (table : List (List B
   pub named : AreNamedBelow bound invs
   pub shape : HasShape table (MOVE_ROWS + (bound + 1) * MOVES) (length invs)
   pub marked : (k : ℕ) (inv : Invariant) → slice_get invs k ≡ Some inv → IsMarked bound table k inv
+
+-- nothing is on in the rows of phases from this one on
+pub record IsBlankFrom (used : ℕ) (table : List (List Bool)) : Type 0 where
+  pub limit : used ≤ LABEL_ROWS
+  pub blank : (r k : ℕ) → used ≤ r → r < LABEL_ROWS → is_on table r k ≡ false

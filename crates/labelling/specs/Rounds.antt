@@ -2,10 +2,10 @@
 use Rattle.std.specs.Prelude.{Bool, List, Contains}
 use Rattle.partition_model.specs.Graphs.{Graph}
 use Rattle.partition_graph.specs.declared.links.Link.{Link}
-use Rattle.labelling.specs.Found.{Found, IsSpread, IsStill}
+use Rattle.labelling.specs.Found.{Found, IsPropagated, IsStill}
 
 -- what is found at the beginning of a link was followed to its end, but at ids that are marked
-abbrev pub AreSpread : List Link → Graph → List Bool → Found → Type 0
-AreSpread links g marks found =
+abbrev pub ArePropagated : List Link → Graph → List Bool → Found → Type 0
+ArePropagated links g marks found =
     (link : Link) → Contains links link → IsStill marks link.from
-    → IsSpread link.from (g.typ link.to) link.to found found
+    → IsPropagated link.from (g.typ link.to) link.to found found

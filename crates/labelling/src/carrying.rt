@@ -5,7 +5,7 @@ ghost use Rattle.bit_rows.specs.Tables.{row_at, HasShape, KeepsShape};
 ghost use Rattle.labelling.specs.Carried.{IsPassed};
 ghost use Rattle.labelling.specs.Layout.{is_on, label_row, bad_row};
 
-use crate::layout::{BROKEN_ROW, LABEL_ROWS, bad_row, label_row};
+use crate::layout::{BROKEN_ROW, bad_row, label_row};
 use bit_rows::Rows;
 use limits::TERMINAL;
 
@@ -28,14 +28,14 @@ pub(crate) fn pass(rows: &mut Rows, from: usize, to: usize, mask: usize, back: b
     rows.or_and_into(to, from, mask)
 }
 
-/// Leaves no phase at any id.
-pub(crate) fn clear_labels(rows: &mut Rows)
-    requires { LABEL_ROWS ≤ length rows.old }
+/// Leaves nothing on in the rows below this number.
+pub(crate) fn clear_below(rows: &mut Rows, bound: usize)
+    requires { bound ≤ length rows.old }
     ensures shape { KeepsShape rows.old rows.new }
-    ensures labels { (r k : ℕ) → r < LABEL_ROWS → is_on rows.new r k ≡ false }
-    ensures others { (r : ℕ) → LABEL_ROWS ≤ r → row_at rows.new r ≡ row_at rows.old r }
+    ensures blank { (r k : ℕ) → r < bound → is_on rows.new r k ≡ false }
+    ensures others { (r : ℕ) → bound ≤ r → row_at rows.new r ≡ row_at rows.old r }
 {
-    for row in 0..LABEL_ROWS {
+    for row in 0..bound {
         rows.clear(row);
     }
 }

@@ -8,6 +8,9 @@ use limits::MAX_PARTITIONS;
 /// How many states a monitor has, and how many phases.
 pub(crate) const STATES: usize = 3;
 
+/// The bits of a word, which are of as many invariants.
+pub(crate) const WORD_BITS: usize = 64;
+
 /// The last phase.
 pub(crate) const LAST_PHASE: u8 = 2;
 

@@ -5,12 +5,12 @@
 //! takes four rows. The marks of crate `clashes`, which tell what a merge loses, are kept beside them.
 #![tactic(auto)]
 
-mod board;
 mod carrying;
 mod layout;
 mod marks;
+mod phase_rows;
 mod phases;
 mod planes;
-mod spreading;
+mod propagation;
 
 pub use planes::Planes;

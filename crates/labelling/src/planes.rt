@@ -1,17 +1,17 @@
 //! The labels.
-ghost use Rattle.std.specs.Prelude.{◌≡◌, ◌≢◌, ◌≤◌, ◌<◌, ◌+◌, ℕ, IfOk, MatchOption, length, slice_get, Some};
+ghost use Rattle.std.specs.Prelude.{◌≡◌, ◌≢◌, ◌≤◌, ◌<◌, ◌+◌, ◌*◌, ℕ, IfOk, MatchOption, length, slice_get, Some};
 ghost use Rattle.limits.specs.declared.TheConstants.{LAST_TYPE, MAX_INVARIANTS, MAX_PARTITIONS};
 ghost use Rattle.invariants.specs.declared.Invariant.{Invariant};
 ghost use Rattle.partition_model.specs.Graphs.{Graph};
 ghost use Rattle.partition_model.specs.Refinement.{IsFirstBroken, SatisfiesAll};
 ghost use Rattle.partition_graph.specs.Seen.{seen, IsSound};
-ghost use Rattle.labelling.specs.Labelled.{AreLabelsOf, digit, number_of, KeepsLabels, SaysSatisfied};
+ghost use Rattle.labelling.specs.Labelled.{AreLabelsOf, AreStatesAt, digit, number_of, KeepsLabels, SaysSatisfied, SaysSwapped};
 ghost use Rattle.clashes.specs.Marks.{AreMarksOf, NoClash, IsFirstClash};
 ghost use Rattle.partition_model.specs.Assignments.{Assignment, G, IsTyped};
 ghost use Rattle.partition_model.specs.Coarsening.{merge, IsPair};
 
-use crate::board::Board;
-use crate::spreading::label;
+use crate::phase_rows::PhaseRows;
+use crate::propagation::label;
 use clashes::Clashes;
 use invariants::Invariant;
 use partition_graph::{Links, PartGraph, View};
@@ -25,7 +25,7 @@ use steps::Steps;
 /// for each invariant and each id, and the marks (crate `clashes`).
 #[derive(Drop)]
 pub struct Planes {
-    board: Board,
+    phase_rows: PhaseRows,
     links: Links,
     clashes: Clashes,
 }
@@ -33,16 +33,16 @@ pub struct Planes {
 impl Model for Planes {
     ghost use Rattle.std.specs.Prelude.{◌≡◌, ◌≤◌, length};
     ghost use Rattle.limits.specs.declared.TheConstants.{MAX_INVARIANTS};
-    ghost use Rattle.labelling.specs.Boards.{found};
+    ghost use Rattle.labelling.specs.PhaseRows.{found};
     ghost use Rattle.labelling.specs.Found.{AreNoted};
     ghost use Rattle.labelling.specs.Labelled.{Labelling, labelling_in};
 
     ghost Value = { Labelling };
 
-    ghost view = { λ p. labelling_in p.board.invs.items p.board.rows p.clashes };
+    ghost view = { λ p. labelling_in p.phase_rows.invs.items p.phase_rows.rows p.clashes };
 
-    ghost invariant = { λ p. AreNoted (found p.board) × (p.clashes.invs ≡ p.board.invs.items)
-        × (length p.board.invs.items ≤ MAX_INVARIANTS) };
+    ghost invariant = { λ p. AreNoted (found p.phase_rows) × (p.clashes.invs ≡ p.phase_rows.invs.items)
+        × (length p.phase_rows.invs.items ≤ MAX_INVARIANTS) };
 }
 
 impl Planes {
@@ -55,11 +55,11 @@ impl Planes {
         ensures list { IfOk result (λ made. made.invs ≡ invs.now) }
         ensures listed { IfOk result (λ made. made.clashes.invs ≡ made.invs) }
     {
-        let board = Board::make(alloc, invs)?;
+        let phase_rows = PhaseRows::make(alloc, invs)?;
         let links = Links::make(alloc)?;
         let clashes = Clashes::make(alloc, invs)?;
         Ok(Planes {
-            board,
+            phase_rows,
             links,
             clashes,
         })
@@ -77,7 +77,7 @@ impl Planes {
     {
         steps.tick();
         self.links.gather(view);
-        label(&mut self.board, view, self.links.as_slice());
+        label(&mut self.phase_rows, view, self.links.as_slice());
     }
 
     /// Says of each invariant of the list, in their order, whether the graph that is viewed satisfies it, by labelling it for
@@ -96,7 +96,7 @@ impl Planes {
         ensures counted { steps.new ≡ steps.old + 1 }
     {
         self.label_all(view, steps);
-        self.board.tell_unnoted(flags);
+        self.phase_rows.tell_unnoted(flags);
     }
 
     /// The label of the invariant with this number at p: 1 for the state 0, plus 2 for the state 1, plus 4 for the
@@ -108,10 +108,30 @@ impl Planes {
         ensures small { result ≤ 7 }
     {
         number_of(
-            self.board.has(inv, p, 0),
-            self.board.has(inv, p, 1),
-            self.board.has(inv, p, 2),
+            self.phase_rows.has(inv, p, 0),
+            self.phase_rows.has(inv, p, 1),
+            self.phase_rows.has(inv, p, 2),
         )
+    }
+
+    /// What `words` has to know of the 64 invariants from number `64 * place` on: a bit for each, which is the same for each
+    /// partition and each labelling.
+    pub fn swapped(&self, place: usize) -> u64
+        requires { place * 64 < length (self.now).invs }
+        ensures { SaysSwapped (self.now).invs place result }
+    {
+        self.phase_rows.swapped(place)
+    }
+
+    /// The labels at p of the 64 invariants from number `64 * place` on, or of as many as there are: a word for each state,
+    /// with a bit for each invariant, the first as the lowest. `swapped` is what the call of this name gives for the place.
+    pub fn words(&self, place: usize, p: u32, swapped: u64) -> [u64; 3]
+        requires place { place * 64 < length (self.now).invs }
+        requires id { p < MAX_PARTITIONS }
+        requires swapped { SaysSwapped (self.now).invs place swapped }
+        ensures { AreStatesAt self.now place p result }
+    {
+        self.phase_rows.words(place, p, swapped)
     }
 
     /// The number of the first invariant that the labelled graph does not satisfy, and `None` where it satisfies them
@@ -121,7 +141,7 @@ impl Planes {
             (SatisfiesAll g (self.now).invs)
             (λ k. IsFirstBroken g (self.now).invs k) }
     {
-        self.board.first_noted()
+        self.phase_rows.first_noted()
     }
 
     /// Finds the marks of this graph, which tell what merges lose. The labels stay. It counts one step.

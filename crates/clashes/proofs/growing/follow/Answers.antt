@@ -16,13 +16,13 @@ pub returns-then-not-follow-clause-followed : goal.returns-then-not-follow-claus
 returns-then-not-follow-clause-followed c = record { new_or_still = inl c.follow.ensures.marks }
 
 pub returns-then-not-follow-clause-tells : goal.returns-then-not-follow-clause-tells
-returns-then-not-follow-clause-tells c = subst (λ (b : Bool). TellsGrowth c.args.board.now c.follow.new.self b) c.if-not-follow.true c.follow.ensures.tells
+returns-then-not-follow-clause-tells c = subst (λ (b : Bool). TellsGrowth c.args.mark_rows.now c.follow.new.self b) c.if-not-follow.true c.follow.ensures.tells
 
 pub returns-clause-followed : goal.returns-clause-followed
 returns-clause-followed c = record { new_or_still = inl c.follow.ensures.marks }
 
 pub returns-clause-tells : goal.returns-clause-tells
-returns-clause-tells c = subst (λ (b : Bool). TellsGrowth c.args.board.now c.follow.new.self b) c.if-not-follow.false c.follow.ensures.tells
+returns-clause-tells c = subst (λ (b : Bool). TellsGrowth c.args.mark_rows.now c.follow.new.self b) c.if-not-follow.false c.follow.ensures.tells
 
 pub returns-clause-noted : goal.returns-clause-noted
 returns-clause-noted c = λ e. noted_at_both c.args.now.now c.args.link.from c.args.link.to (omega (arith, c.requires.ids.0, c.requires.now_room)) (omega (arith, c.requires.ids.1, c.requires.now_room))

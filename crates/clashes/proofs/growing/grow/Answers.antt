@@ -12,9 +12,9 @@ pub returns-clause-marks : goal.returns-clause-marks
 returns-clause-marks c typed sound =
     let g : Graph = G c.args.graph.now.traces in
     let paths : HasEndsOnPaths g = has_ends c.args.graph.now.traces typed (edges_below c.args.links.now g c.requires) in
-    let one : IsGrown c.args.board.now c.begin.new.self g = begun_grown g c.args.board.now c.begin.new.self refl c.begin.ensures in
-    let begun : HasBegun c.seed.new.board g = begun_stays c.begin.new.self c.seed.new.board g c.seed.ensures.grown (begun_has c.args.board.now c.begin.new.self g c.begin.ensures) in
-    let closed : IsClosed c.spread.new.board g =
-    c.spread.ensures.closed (λ u v edge from to. absurd (both_ways (is_set c.everywhere.result u) from (c.everywhere.ensures.fresh u (edges_below c.args.links.now g c.requires u v edge).0))) in
-    all_told c.spread.new.board g refl (c.spread.ensures.grown.sound paths (c.seed.ensures.grown.sound paths (one.sound paths sound)))
-    (begun_stays c.seed.new.board c.spread.new.board g c.spread.ensures.grown begun) (entered_stays c.seed.new.board c.spread.new.board g c.spread.ensures.grown c.seed.ensures.entered) closed
+    let one : IsGrown c.args.mark_rows.now c.begin.new.self g = begun_grown g c.args.mark_rows.now c.begin.new.self refl c.begin.ensures in
+    let begun : HasBegun c.seed.new.mark_rows g = begun_stays c.begin.new.self c.seed.new.mark_rows g c.seed.ensures.grown (begun_has c.args.mark_rows.now c.begin.new.self g c.begin.ensures) in
+    let closed : IsClosed c.propagate.new.mark_rows g =
+    c.propagate.ensures.closed (λ u v edge from to. absurd (both_ways (is_set c.everywhere.result u) from (c.everywhere.ensures.fresh u (edges_below c.args.links.now g c.requires u v edge).0))) in
+    all_told c.propagate.new.mark_rows g refl (c.propagate.ensures.grown.sound paths (c.seed.ensures.grown.sound paths (one.sound paths sound)))
+    (begun_stays c.seed.new.mark_rows c.propagate.new.mark_rows g c.propagate.ensures.grown begun) (entered_stays c.seed.new.mark_rows c.propagate.new.mark_rows g c.propagate.ensures.grown c.seed.ensures.entered) closed

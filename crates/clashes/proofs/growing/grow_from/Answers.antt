@@ -19,6 +19,6 @@ returns-clause-marks c typed sound begun entered beside =
     let paths : HasEndsOnPaths g = has_ends c.args.graph.now.traces typed (edges_below c.args.links.now g c.requires.links) in
     let fresh : List Bool = set c.nowhere-recent.result c.args.p true in
     let hit : is_set fresh c.args.p ≡ true = get_or-set_same c.nowhere-recent.result c.args.p true false (omega (arith, c.nowhere-recent.ensures.room, c.requires.id)) in
-    let closed : IsClosed c.spread.new.board g = c.spread.ensures.closed (λ u v edge from to. beside u v edge (another fresh c.args.p u hit from) (another fresh c.args.p v hit to)) in
-    all_told c.spread.new.board g refl (c.spread.ensures.grown.sound paths sound)
-    (begun_stays c.args.board.now c.spread.new.board g c.spread.ensures.grown begun) (entered_stays c.args.board.now c.spread.new.board g c.spread.ensures.grown entered) closed
+    let closed : IsClosed c.propagate.new.mark_rows g = c.propagate.ensures.closed (λ u v edge from to. beside u v edge (another fresh c.args.p u hit from) (another fresh c.args.p v hit to)) in
+    all_told c.propagate.new.mark_rows g refl (c.propagate.ensures.grown.sound paths sound)
+    (begun_stays c.args.mark_rows.now c.propagate.new.mark_rows g c.propagate.ensures.grown begun) (entered_stays c.args.mark_rows.now c.propagate.new.mark_rows g c.propagate.ensures.grown entered) closed

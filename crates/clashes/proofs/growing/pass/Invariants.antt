@@ -5,4 +5,4 @@ use Rattle.clashes.proofs.Passing.{IsPassing}
 use Rattle.clashes.proofs.growing.pass.Given as goal
 
 abbrev pub invariant-loop-link : goal.invariant-loop-link
-invariant-loop-link l = IsPassing (G l.graph.traces) l.fn.board l.board l.changed l.links l.recent l.now l.link-index × (length l.now ≡ MAX_PARTITIONS)
+invariant-loop-link l = IsPassing (G l.graph.traces) l.fn.mark_rows l.mark_rows l.changed l.links l.recent l.now l.link-index × (length l.now ≡ MAX_PARTITIONS)

@@ -6,13 +6,13 @@ use Rattle.clashes.proofs.Passing.{seed_step, along_edges}
 use Rattle.clashes.proofs.growing.seed.Goals as goal
 
 pub loop-link-init : goal.loop-link-init
-loop-link-init c = (grown_none c.args.board.now (G c.args.graph.now.traces), λ k d l. absurd (omega arith))
+loop-link-init c = (grown_none c.args.mark_rows.now (G c.args.graph.now.traces), λ k d l. absurd (omega arith))
 
 pub loop-link-preserved : goal.loop-link-preserved
 loop-link-preserved c =
-    seed_step (G c.args.graph.now.traces) c.args.links.now c.loop-link.link-index _ c.args.board.now c.loop-link.board c.enter.new.self c.type_of.result c.requires c.loop-link-test.true
+    seed_step (G c.args.graph.now.traces) c.args.links.now c.loop-link.link-index _ c.args.mark_rows.now c.loop-link.mark_rows c.enter.new.self c.type_of.result c.requires c.loop-link-test.true
     c.enter.ensures c.type_of.ensures c.loop-link.invariant
 
 pub returns-clause-entered : goal.returns-clause-entered
 returns-clause-entered c =
-    along_edges c.args.links.now (G c.args.graph.now.traces) c.loop-link.link-index (λ u v. HasEntered c.loop-link.board (G c.args.graph.now.traces) u v) c.requires (omega (arith, c.loop-link-test.false)) c.loop-link.invariant.1
+    along_edges c.args.links.now (G c.args.graph.now.traces) c.loop-link.link-index (λ u v. HasEntered c.loop-link.mark_rows (G c.args.graph.now.traces) u v) c.requires (omega (arith, c.loop-link-test.false)) c.loop-link.invariant.1

@@ -5,4 +5,4 @@ use Rattle.clashes.proofs.Passing.{AreEnteredSoFar}
 use Rattle.clashes.proofs.growing.seed.Given as goal
 
 abbrev pub invariant-loop-link : goal.invariant-loop-link
-invariant-loop-link l = IsGrown l.fn.board l.board (G l.graph.traces) × AreEnteredSoFar (G l.graph.traces) l.board (take l.link-index l.links)
+invariant-loop-link l = IsGrown l.fn.mark_rows l.mark_rows (G l.graph.traces) × AreEnteredSoFar (G l.graph.traces) l.mark_rows (take l.link-index l.links)

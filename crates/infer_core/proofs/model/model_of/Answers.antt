@@ -57,7 +57,7 @@ returns c =
       listing = listing;
       labels = subst (λ (xs : List Partition). AllByRecursion (λ l. AreReached l.inv h xs l.labels) c.in_ok-edges.invariants) (given d ∙ sym c.in_ok-partitions.ensures)
           (labels h (subst (λ (xs : List Partition). ArePartitions xs h) (sym (given d)) partitions) c.requires.labels);
-      splits = subst (λ r. IfOk r (λ (list : List Split). list ≡ splits_of c.args.tools.now.log c.args.tools.now.spans)) (subst (λ r. IfOk r (λ pair. c.splits.result ≡ Ok pair.0)) told c.both-told.ensures.first) c.splits.ensures;
-      merges = subst (λ r. IfOk r (λ (list : List Merge). list ≡ merges_of c.args.tools.now.log)) (subst (λ r. IfOk r (λ pair. c.merges.result ≡ Ok pair.0)) joins c.both-joins.ensures.first) c.merges.ensures;
-      blocks = subst (λ r. IfOk r (λ (list : List Block). list ≡ blocks_of c.args.tools.now.log c.args.tools.now.spans)) (subst (λ r. IfOk r (λ pair. c.blocks-2.result ≡ Ok pair.1)) joins c.both-joins.ensures.second) c.blocks-2.ensures;
+      splits = subst (λ r. IfOk r (λ (list : List Split). list ≡ splits_of c.args.tools.now.run_log c.args.tools.now.spans)) (subst (λ r. IfOk r (λ pair. c.splits.result ≡ Ok pair.0)) told c.both-told.ensures.first) c.splits.ensures;
+      merges = subst (λ r. IfOk r (λ (list : List Merge). list ≡ merges_of c.args.tools.now.run_log)) (subst (λ r. IfOk r (λ pair. c.merges.result ≡ Ok pair.0)) joins c.both-joins.ensures.first) c.merges.ensures;
+      blocks = subst (λ r. IfOk r (λ (list : List Block). list ≡ blocks_of c.args.tools.now.run_log c.args.tools.now.spans)) (subst (λ r. IfOk r (λ pair. c.blocks-2.result ≡ Ok pair.1)) joins c.both-joins.ensures.second) c.blocks-2.ensures;
     }

@@ -20,7 +20,7 @@ returns-clause-few g c =
     let told : SaysSatisfied (G c.args.graph.now.traces) c.args.invs.now c.tell_known.new.flags =
     subst (λ (invs : List Invariant). SaysSatisfied (G c.args.graph.now.traces) invs c.tell_known.new.flags) (c.tell_known.ensures.same ∙ c.requires.ready.listed) c.tell_known.ensures.told in
     ok-both c.refine_skipping.result
-    (λ ends e. told-few c.args.invs.now c.args.graph.now c.refine_skipping.new.graph (splits_of c.refine_skipping.new.log c.refine_skipping.new.spans) c.tell_known.new.flags c.args.steps.now c.tell_known.new.steps
+    (λ ends e. told-few c.args.invs.now c.args.graph.now c.refine_skipping.new.graph (splits_of c.refine_skipping.new.run_log c.refine_skipping.new.spans) c.tell_known.new.flags c.args.steps.now c.tell_known.new.steps
     c.refine_skipping.new.steps ends told (omega (arith, c.tell_known.ensures.counted, ap (λ (invs : List Invariant). length invs) c.requires.ready.listed)) e)
     c.refine_skipping.ensures.ok c.refine_skipping.ensures.counted
 
@@ -29,5 +29,5 @@ returns-clause-stands g c =
     let told : c.tell_known.new.steps ≡ c.args.steps.now + min 1 (length c.args.invs.now) =
     omega (arith, c.tell_known.ensures.counted, ap (λ (invs : List Invariant). length invs) c.requires.ready.listed) in
     on_err_weaker c.refine_skipping.result
-    (λ s. subst (λ (n : ℕ). IsStopped c.args.invs.now c.args.graph.now c.refine_skipping.new.graph (splits_of c.refine_skipping.new.log c.refine_skipping.new.spans) (c.refine_skipping.new.steps - n)) told s)
+    (λ s. subst (λ (n : ℕ). IsStopped c.args.invs.now c.args.graph.now c.refine_skipping.new.graph (splits_of c.refine_skipping.new.run_log c.refine_skipping.new.spans) (c.refine_skipping.new.steps - n)) told s)
     c.refine_skipping.ensures.stands

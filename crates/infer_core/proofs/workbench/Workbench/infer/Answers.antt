@@ -3,7 +3,7 @@ use Rattle.std.proofs.lemmas.List.{with_items_is}
 use Rattle.invariants.specs.declared.Invariant.{Invariant}
 use Rattle.infer_core.specs.declared.workbench.InferLimit.{InferLimit}
 use Rattle.infer_core.specs.declared.workbench.InferLimit.TheVariants.{Partitions, Evidence}
-use Rattle.infer_core.specs.Benches.{whole_of, Bench, IsAtEnd, IsAtStart}
+use Rattle.infer_core.specs.Workbenches.{whole_of, WorkbenchView, IsAtEnd, IsAtStart}
 use Rattle.infer_core.specs.Ends.{BeginsWith, HasEnded, IsReady, RunGives}
 use Rattle.models.specs.Models.{TypedWords, typed_words}
 use Rattle.infer_core.specs.Runs.{CountsAtMost, PassesNumbers, PassesPartitions}
@@ -14,22 +14,22 @@ use Rattle.infer_core.proofs.workbench.Workbench.infer.Goals as goal
 pub run-end-requires-clause-ready : goal.run-end-requires-clause-ready
 run-end-requires-clause-ready g c =
     let b = c.self.inside in
-    let s : IsAtStart b.kinds b.traces b.invs b.graph b.numbers.items b.tools.stitcher b.tools.planes b.tools.spans b.tools.log =
-    stands-opened c.args.self.now b.stage b.kinds b.traces b.invs b.graph b.numbers.items b.tools.stitcher b.tools.planes b.tools.spans b.tools.log c.self.view_is c.requires c.self.invariant.0 in
-    subst (λ (invs : List Invariant). IsReady invs b.graph b.tools.stitcher b.tools.planes b.tools.spans b.tools.log) (sym c.as_slice.ensures) s.ready
+    let s : IsAtStart b.kinds b.traces b.invs b.graph b.numbers.items b.tools.stitcher b.tools.planes b.tools.spans b.tools.run_log =
+    stands-opened c.args.self.now b.stage b.kinds b.traces b.invs b.graph b.numbers.items b.tools.stitcher b.tools.planes b.tools.spans b.tools.run_log c.self.view_is c.requires c.self.invariant.0 in
+    subst (λ (invs : List Invariant). IsReady invs b.graph b.tools.stitcher b.tools.planes b.tools.spans b.tools.run_log) (sym c.as_slice.ensures) s.ready
 
 pub invariant_of-self : goal.invariant_of-self
 invariant_of-self g c =
     let b = c.self.inside in
-    let s : IsAtStart b.kinds b.traces b.invs b.graph b.numbers.items b.tools.stitcher b.tools.planes b.tools.spans b.tools.log =
-    stands-opened c.args.self.now b.stage b.kinds b.traces b.invs b.graph b.numbers.items b.tools.stitcher b.tools.planes b.tools.spans b.tools.log c.self.view_is c.requires c.self.invariant.0 in
-    let same : typed_words b.kinds b.traces ≡ typed_words c.args.self.now.kinds c.args.self.now.log = ap (λ (x : Bench). typed_words x.kinds x.log) c.self.view_is in
-    let begins : BeginsWith (distinct b.kinds b.traces b.graph) c.as_slice.result.now b.graph = subst (λ (invs : List Invariant). BeginsWith (distinct b.kinds b.traces b.graph) invs b.graph) (sym c.as_slice.ensures) (start-begins b.kinds b.traces b.invs b.graph b.numbers.items b.tools.stitcher b.tools.planes b.tools.spans b.tools.log s) in
-    let few : RunGives c.run-end.result (distinct b.kinds b.traces b.graph) c.run-end.new.graph c.run-end.new.tools.planes c.run-end.new.tools.spans c.run-end.new.tools.log = c.run-end.ensures.gives (distinct b.kinds b.traces b.graph) begins in
-    let ended : HasEnded (distinct b.kinds b.traces b.graph) c.run-end.new.graph c.run-end.new.tools.planes c.run-end.new.tools.spans c.run-end.new.tools.log =
-    subst (λ (r : Result (Unit {0}) InferLimit). RunGives r (distinct b.kinds b.traces b.graph) c.run-end.new.graph c.run-end.new.tools.planes c.run-end.new.tools.spans c.run-end.new.tools.log) c.in-Ok.is few in
-    let stands : IsAtEnd b.kinds b.traces b.invs c.run-end.new.graph b.numbers.items c.run-end.new.tools.planes c.run-end.new.tools.spans c.run-end.new.tools.log =
-    start-ends b.kinds b.traces b.invs b.graph b.numbers.items b.tools.stitcher b.tools.planes b.tools.spans b.tools.log s c.run-end.new.graph c.run-end.new.tools.planes c.run-end.new.tools.spans c.run-end.new.tools.log ended in
+    let s : IsAtStart b.kinds b.traces b.invs b.graph b.numbers.items b.tools.stitcher b.tools.planes b.tools.spans b.tools.run_log =
+    stands-opened c.args.self.now b.stage b.kinds b.traces b.invs b.graph b.numbers.items b.tools.stitcher b.tools.planes b.tools.spans b.tools.run_log c.self.view_is c.requires c.self.invariant.0 in
+    let same : typed_words b.kinds b.traces ≡ typed_words c.args.self.now.kinds c.args.self.now.log = ap (λ (x : WorkbenchView). typed_words x.kinds x.log) c.self.view_is in
+    let begins : BeginsWith (distinct b.kinds b.traces b.graph) c.as_slice.result.now b.graph = subst (λ (invs : List Invariant). BeginsWith (distinct b.kinds b.traces b.graph) invs b.graph) (sym c.as_slice.ensures) (start-begins b.kinds b.traces b.invs b.graph b.numbers.items b.tools.stitcher b.tools.planes b.tools.spans b.tools.run_log s) in
+    let few : RunGives c.run-end.result (distinct b.kinds b.traces b.graph) c.run-end.new.graph c.run-end.new.tools.planes c.run-end.new.tools.spans c.run-end.new.tools.run_log = c.run-end.ensures.gives (distinct b.kinds b.traces b.graph) begins in
+    let ended : HasEnded (distinct b.kinds b.traces b.graph) c.run-end.new.graph c.run-end.new.tools.planes c.run-end.new.tools.spans c.run-end.new.tools.run_log =
+    subst (λ (r : Result (Unit {0}) InferLimit). RunGives r (distinct b.kinds b.traces b.graph) c.run-end.new.graph c.run-end.new.tools.planes c.run-end.new.tools.spans c.run-end.new.tools.run_log) c.in-Ok.is few in
+    let stands : IsAtEnd b.kinds b.traces b.invs c.run-end.new.graph b.numbers.items c.run-end.new.tools.planes c.run-end.new.tools.spans c.run-end.new.tools.run_log =
+    start-ends b.kinds b.traces b.invs b.graph b.numbers.items b.tools.stitcher b.tools.planes b.tools.spans b.tools.run_log s c.run-end.new.graph c.run-end.new.tools.planes c.run-end.new.tools.spans c.run-end.new.tools.run_log ended in
     let long : length c.run-end.new.flags ≡ b.flags.len =
     omega (arith, c.run-end.auto.flags, ap (λ (flags : List Bool). length flags) c.as_mut_slice.ensures.value, b.flags.ok.0) in
     (stands, ap (λ (flags : List Bool). length flags) (with_items_is b.flags c.run-end.new.flags long) ∙ (long ∙ (b.flags.ok.0 ∙ c.self.invariant.1)))
@@ -37,64 +37,64 @@ invariant_of-self g c =
 pub returns-in-Ok-clause-partitions : goal.returns-in-Ok-clause-partitions
 returns-in-Ok-clause-partitions g c =
     let b = c.self.inside in
-    let s : IsAtStart b.kinds b.traces b.invs b.graph b.numbers.items b.tools.stitcher b.tools.planes b.tools.spans b.tools.log =
-    stands-opened c.args.self.now b.stage b.kinds b.traces b.invs b.graph b.numbers.items b.tools.stitcher b.tools.planes b.tools.spans b.tools.log c.self.view_is c.requires c.self.invariant.0 in
-    let same : typed_words b.kinds b.traces ≡ typed_words c.args.self.now.kinds c.args.self.now.log = ap (λ (x : Bench). typed_words x.kinds x.log) c.self.view_is in
-    let begins : BeginsWith (distinct b.kinds b.traces b.graph) c.as_slice.result.now b.graph = subst (λ (invs : List Invariant). BeginsWith (distinct b.kinds b.traces b.graph) invs b.graph) (sym c.as_slice.ensures) (start-begins b.kinds b.traces b.invs b.graph b.numbers.items b.tools.stitcher b.tools.planes b.tools.spans b.tools.log s) in
-    let few : RunGives c.run-end.result (distinct b.kinds b.traces b.graph) c.run-end.new.graph c.run-end.new.tools.planes c.run-end.new.tools.spans c.run-end.new.tools.log = c.run-end.ensures.gives (distinct b.kinds b.traces b.graph) begins in
-    let gives : RunGives c.run-end.result (typed_words b.kinds b.traces) (whole_of b.numbers.items c.run-end.new.graph) c.run-end.new.tools.planes c.run-end.new.tools.spans c.run-end.new.tools.log =
-    start-gives b.kinds b.traces b.invs b.graph b.numbers.items b.tools.stitcher b.tools.planes b.tools.spans b.tools.log s c.run-end.result c.run-end.new.graph c.run-end.new.tools.planes c.run-end.new.tools.spans c.run-end.new.tools.log few in
+    let s : IsAtStart b.kinds b.traces b.invs b.graph b.numbers.items b.tools.stitcher b.tools.planes b.tools.spans b.tools.run_log =
+    stands-opened c.args.self.now b.stage b.kinds b.traces b.invs b.graph b.numbers.items b.tools.stitcher b.tools.planes b.tools.spans b.tools.run_log c.self.view_is c.requires c.self.invariant.0 in
+    let same : typed_words b.kinds b.traces ≡ typed_words c.args.self.now.kinds c.args.self.now.log = ap (λ (x : WorkbenchView). typed_words x.kinds x.log) c.self.view_is in
+    let begins : BeginsWith (distinct b.kinds b.traces b.graph) c.as_slice.result.now b.graph = subst (λ (invs : List Invariant). BeginsWith (distinct b.kinds b.traces b.graph) invs b.graph) (sym c.as_slice.ensures) (start-begins b.kinds b.traces b.invs b.graph b.numbers.items b.tools.stitcher b.tools.planes b.tools.spans b.tools.run_log s) in
+    let few : RunGives c.run-end.result (distinct b.kinds b.traces b.graph) c.run-end.new.graph c.run-end.new.tools.planes c.run-end.new.tools.spans c.run-end.new.tools.run_log = c.run-end.ensures.gives (distinct b.kinds b.traces b.graph) begins in
+    let gives : RunGives c.run-end.result (typed_words b.kinds b.traces) (whole_of b.numbers.items c.run-end.new.graph) c.run-end.new.tools.planes c.run-end.new.tools.spans c.run-end.new.tools.run_log =
+    start-gives b.kinds b.traces b.invs b.graph b.numbers.items b.tools.stitcher b.tools.planes b.tools.spans b.tools.run_log s c.run-end.result c.run-end.new.graph c.run-end.new.tools.planes c.run-end.new.tools.spans c.run-end.new.tools.run_log few in
     subst₂ (λ (r : Result (Unit {0}) InferLimit) (words : TypedWords). (r ≡ Err Partitions) ↔ PassesPartitions words) c.in-Ok.is same
-    (partitions-told c.run-end.result (typed_words b.kinds b.traces) (whole_of b.numbers.items c.run-end.new.graph) c.run-end.new.tools.planes c.run-end.new.tools.spans c.run-end.new.tools.log gives)
+    (partitions-told c.run-end.result (typed_words b.kinds b.traces) (whole_of b.numbers.items c.run-end.new.graph) c.run-end.new.tools.planes c.run-end.new.tools.spans c.run-end.new.tools.run_log gives)
 
 pub returns-in-Ok-clause-evidence : goal.returns-in-Ok-clause-evidence
 returns-in-Ok-clause-evidence g c =
     let b = c.self.inside in
-    let s : IsAtStart b.kinds b.traces b.invs b.graph b.numbers.items b.tools.stitcher b.tools.planes b.tools.spans b.tools.log =
-    stands-opened c.args.self.now b.stage b.kinds b.traces b.invs b.graph b.numbers.items b.tools.stitcher b.tools.planes b.tools.spans b.tools.log c.self.view_is c.requires c.self.invariant.0 in
-    let same : typed_words b.kinds b.traces ≡ typed_words c.args.self.now.kinds c.args.self.now.log = ap (λ (x : Bench). typed_words x.kinds x.log) c.self.view_is in
-    let begins : BeginsWith (distinct b.kinds b.traces b.graph) c.as_slice.result.now b.graph = subst (λ (invs : List Invariant). BeginsWith (distinct b.kinds b.traces b.graph) invs b.graph) (sym c.as_slice.ensures) (start-begins b.kinds b.traces b.invs b.graph b.numbers.items b.tools.stitcher b.tools.planes b.tools.spans b.tools.log s) in
-    let few : RunGives c.run-end.result (distinct b.kinds b.traces b.graph) c.run-end.new.graph c.run-end.new.tools.planes c.run-end.new.tools.spans c.run-end.new.tools.log = c.run-end.ensures.gives (distinct b.kinds b.traces b.graph) begins in
-    let gives : RunGives c.run-end.result (typed_words b.kinds b.traces) (whole_of b.numbers.items c.run-end.new.graph) c.run-end.new.tools.planes c.run-end.new.tools.spans c.run-end.new.tools.log =
-    start-gives b.kinds b.traces b.invs b.graph b.numbers.items b.tools.stitcher b.tools.planes b.tools.spans b.tools.log s c.run-end.result c.run-end.new.graph c.run-end.new.tools.planes c.run-end.new.tools.spans c.run-end.new.tools.log few in
+    let s : IsAtStart b.kinds b.traces b.invs b.graph b.numbers.items b.tools.stitcher b.tools.planes b.tools.spans b.tools.run_log =
+    stands-opened c.args.self.now b.stage b.kinds b.traces b.invs b.graph b.numbers.items b.tools.stitcher b.tools.planes b.tools.spans b.tools.run_log c.self.view_is c.requires c.self.invariant.0 in
+    let same : typed_words b.kinds b.traces ≡ typed_words c.args.self.now.kinds c.args.self.now.log = ap (λ (x : WorkbenchView). typed_words x.kinds x.log) c.self.view_is in
+    let begins : BeginsWith (distinct b.kinds b.traces b.graph) c.as_slice.result.now b.graph = subst (λ (invs : List Invariant). BeginsWith (distinct b.kinds b.traces b.graph) invs b.graph) (sym c.as_slice.ensures) (start-begins b.kinds b.traces b.invs b.graph b.numbers.items b.tools.stitcher b.tools.planes b.tools.spans b.tools.run_log s) in
+    let few : RunGives c.run-end.result (distinct b.kinds b.traces b.graph) c.run-end.new.graph c.run-end.new.tools.planes c.run-end.new.tools.spans c.run-end.new.tools.run_log = c.run-end.ensures.gives (distinct b.kinds b.traces b.graph) begins in
+    let gives : RunGives c.run-end.result (typed_words b.kinds b.traces) (whole_of b.numbers.items c.run-end.new.graph) c.run-end.new.tools.planes c.run-end.new.tools.spans c.run-end.new.tools.run_log =
+    start-gives b.kinds b.traces b.invs b.graph b.numbers.items b.tools.stitcher b.tools.planes b.tools.spans b.tools.run_log s c.run-end.result c.run-end.new.graph c.run-end.new.tools.planes c.run-end.new.tools.spans c.run-end.new.tools.run_log few in
     subst₂ (λ (r : Result (Unit {0}) InferLimit) (words : TypedWords). (r ≡ Err Evidence) ↔ PassesNumbers words) c.in-Ok.is same
-    (evidence-told c.run-end.result (typed_words b.kinds b.traces) (whole_of b.numbers.items c.run-end.new.graph) c.run-end.new.tools.planes c.run-end.new.tools.spans c.run-end.new.tools.log gives)
+    (evidence-told c.run-end.result (typed_words b.kinds b.traces) (whole_of b.numbers.items c.run-end.new.graph) c.run-end.new.tools.planes c.run-end.new.tools.spans c.run-end.new.tools.run_log gives)
 
 pub returns-in-Err-clause-partitions : goal.returns-in-Err-clause-partitions
 returns-in-Err-clause-partitions g c =
     let b = c.self.inside in
-    let s : IsAtStart b.kinds b.traces b.invs b.graph b.numbers.items b.tools.stitcher b.tools.planes b.tools.spans b.tools.log =
-    stands-opened c.args.self.now b.stage b.kinds b.traces b.invs b.graph b.numbers.items b.tools.stitcher b.tools.planes b.tools.spans b.tools.log c.self.view_is c.requires c.self.invariant.0 in
-    let same : typed_words b.kinds b.traces ≡ typed_words c.args.self.now.kinds c.args.self.now.log = ap (λ (x : Bench). typed_words x.kinds x.log) c.self.view_is in
-    let begins : BeginsWith (distinct b.kinds b.traces b.graph) c.as_slice.result.now b.graph = subst (λ (invs : List Invariant). BeginsWith (distinct b.kinds b.traces b.graph) invs b.graph) (sym c.as_slice.ensures) (start-begins b.kinds b.traces b.invs b.graph b.numbers.items b.tools.stitcher b.tools.planes b.tools.spans b.tools.log s) in
-    let few : RunGives c.run-end.result (distinct b.kinds b.traces b.graph) c.run-end.new.graph c.run-end.new.tools.planes c.run-end.new.tools.spans c.run-end.new.tools.log = c.run-end.ensures.gives (distinct b.kinds b.traces b.graph) begins in
-    let gives : RunGives c.run-end.result (typed_words b.kinds b.traces) (whole_of b.numbers.items c.run-end.new.graph) c.run-end.new.tools.planes c.run-end.new.tools.spans c.run-end.new.tools.log =
-    start-gives b.kinds b.traces b.invs b.graph b.numbers.items b.tools.stitcher b.tools.planes b.tools.spans b.tools.log s c.run-end.result c.run-end.new.graph c.run-end.new.tools.planes c.run-end.new.tools.spans c.run-end.new.tools.log few in
+    let s : IsAtStart b.kinds b.traces b.invs b.graph b.numbers.items b.tools.stitcher b.tools.planes b.tools.spans b.tools.run_log =
+    stands-opened c.args.self.now b.stage b.kinds b.traces b.invs b.graph b.numbers.items b.tools.stitcher b.tools.planes b.tools.spans b.tools.run_log c.self.view_is c.requires c.self.invariant.0 in
+    let same : typed_words b.kinds b.traces ≡ typed_words c.args.self.now.kinds c.args.self.now.log = ap (λ (x : WorkbenchView). typed_words x.kinds x.log) c.self.view_is in
+    let begins : BeginsWith (distinct b.kinds b.traces b.graph) c.as_slice.result.now b.graph = subst (λ (invs : List Invariant). BeginsWith (distinct b.kinds b.traces b.graph) invs b.graph) (sym c.as_slice.ensures) (start-begins b.kinds b.traces b.invs b.graph b.numbers.items b.tools.stitcher b.tools.planes b.tools.spans b.tools.run_log s) in
+    let few : RunGives c.run-end.result (distinct b.kinds b.traces b.graph) c.run-end.new.graph c.run-end.new.tools.planes c.run-end.new.tools.spans c.run-end.new.tools.run_log = c.run-end.ensures.gives (distinct b.kinds b.traces b.graph) begins in
+    let gives : RunGives c.run-end.result (typed_words b.kinds b.traces) (whole_of b.numbers.items c.run-end.new.graph) c.run-end.new.tools.planes c.run-end.new.tools.spans c.run-end.new.tools.run_log =
+    start-gives b.kinds b.traces b.invs b.graph b.numbers.items b.tools.stitcher b.tools.planes b.tools.spans b.tools.run_log s c.run-end.result c.run-end.new.graph c.run-end.new.tools.planes c.run-end.new.tools.spans c.run-end.new.tools.run_log few in
     subst₂ (λ (r : Result (Unit {0}) InferLimit) (words : TypedWords). (r ≡ Err Partitions) ↔ PassesPartitions words) c.in-Err.is same
-    (partitions-told c.run-end.result (typed_words b.kinds b.traces) (whole_of b.numbers.items c.run-end.new.graph) c.run-end.new.tools.planes c.run-end.new.tools.spans c.run-end.new.tools.log gives)
+    (partitions-told c.run-end.result (typed_words b.kinds b.traces) (whole_of b.numbers.items c.run-end.new.graph) c.run-end.new.tools.planes c.run-end.new.tools.spans c.run-end.new.tools.run_log gives)
 
 pub returns-in-Err-clause-evidence : goal.returns-in-Err-clause-evidence
 returns-in-Err-clause-evidence g c =
     let b = c.self.inside in
-    let s : IsAtStart b.kinds b.traces b.invs b.graph b.numbers.items b.tools.stitcher b.tools.planes b.tools.spans b.tools.log =
-    stands-opened c.args.self.now b.stage b.kinds b.traces b.invs b.graph b.numbers.items b.tools.stitcher b.tools.planes b.tools.spans b.tools.log c.self.view_is c.requires c.self.invariant.0 in
-    let same : typed_words b.kinds b.traces ≡ typed_words c.args.self.now.kinds c.args.self.now.log = ap (λ (x : Bench). typed_words x.kinds x.log) c.self.view_is in
-    let begins : BeginsWith (distinct b.kinds b.traces b.graph) c.as_slice.result.now b.graph = subst (λ (invs : List Invariant). BeginsWith (distinct b.kinds b.traces b.graph) invs b.graph) (sym c.as_slice.ensures) (start-begins b.kinds b.traces b.invs b.graph b.numbers.items b.tools.stitcher b.tools.planes b.tools.spans b.tools.log s) in
-    let few : RunGives c.run-end.result (distinct b.kinds b.traces b.graph) c.run-end.new.graph c.run-end.new.tools.planes c.run-end.new.tools.spans c.run-end.new.tools.log = c.run-end.ensures.gives (distinct b.kinds b.traces b.graph) begins in
-    let gives : RunGives c.run-end.result (typed_words b.kinds b.traces) (whole_of b.numbers.items c.run-end.new.graph) c.run-end.new.tools.planes c.run-end.new.tools.spans c.run-end.new.tools.log =
-    start-gives b.kinds b.traces b.invs b.graph b.numbers.items b.tools.stitcher b.tools.planes b.tools.spans b.tools.log s c.run-end.result c.run-end.new.graph c.run-end.new.tools.planes c.run-end.new.tools.spans c.run-end.new.tools.log few in
+    let s : IsAtStart b.kinds b.traces b.invs b.graph b.numbers.items b.tools.stitcher b.tools.planes b.tools.spans b.tools.run_log =
+    stands-opened c.args.self.now b.stage b.kinds b.traces b.invs b.graph b.numbers.items b.tools.stitcher b.tools.planes b.tools.spans b.tools.run_log c.self.view_is c.requires c.self.invariant.0 in
+    let same : typed_words b.kinds b.traces ≡ typed_words c.args.self.now.kinds c.args.self.now.log = ap (λ (x : WorkbenchView). typed_words x.kinds x.log) c.self.view_is in
+    let begins : BeginsWith (distinct b.kinds b.traces b.graph) c.as_slice.result.now b.graph = subst (λ (invs : List Invariant). BeginsWith (distinct b.kinds b.traces b.graph) invs b.graph) (sym c.as_slice.ensures) (start-begins b.kinds b.traces b.invs b.graph b.numbers.items b.tools.stitcher b.tools.planes b.tools.spans b.tools.run_log s) in
+    let few : RunGives c.run-end.result (distinct b.kinds b.traces b.graph) c.run-end.new.graph c.run-end.new.tools.planes c.run-end.new.tools.spans c.run-end.new.tools.run_log = c.run-end.ensures.gives (distinct b.kinds b.traces b.graph) begins in
+    let gives : RunGives c.run-end.result (typed_words b.kinds b.traces) (whole_of b.numbers.items c.run-end.new.graph) c.run-end.new.tools.planes c.run-end.new.tools.spans c.run-end.new.tools.run_log =
+    start-gives b.kinds b.traces b.invs b.graph b.numbers.items b.tools.stitcher b.tools.planes b.tools.spans b.tools.run_log s c.run-end.result c.run-end.new.graph c.run-end.new.tools.planes c.run-end.new.tools.spans c.run-end.new.tools.run_log few in
     subst₂ (λ (r : Result (Unit {0}) InferLimit) (words : TypedWords). (r ≡ Err Evidence) ↔ PassesNumbers words) c.in-Err.is same
-    (evidence-told c.run-end.result (typed_words b.kinds b.traces) (whole_of b.numbers.items c.run-end.new.graph) c.run-end.new.tools.planes c.run-end.new.tools.spans c.run-end.new.tools.log gives)
+    (evidence-told c.run-end.result (typed_words b.kinds b.traces) (whole_of b.numbers.items c.run-end.new.graph) c.run-end.new.tools.planes c.run-end.new.tools.spans c.run-end.new.tools.run_log gives)
 
 pub returns-in-Ok-clause-counted : goal.returns-in-Ok-clause-counted
 returns-in-Ok-clause-counted g c =
     let b = c.self.inside in
-    let s : IsAtStart b.kinds b.traces b.invs b.graph b.numbers.items b.tools.stitcher b.tools.planes b.tools.spans b.tools.log =
-    stands-opened c.args.self.now b.stage b.kinds b.traces b.invs b.graph b.numbers.items b.tools.stitcher b.tools.planes b.tools.spans b.tools.log c.self.view_is c.requires c.self.invariant.0 in
-    let same : typed_words b.kinds b.traces ≡ typed_words c.args.self.now.kinds c.args.self.now.log = ap (λ (x : Bench). typed_words x.kinds x.log) c.self.view_is in
-    let begins : BeginsWith (distinct b.kinds b.traces b.graph) c.as_slice.result.now b.graph = subst (λ (invs : List Invariant). BeginsWith (distinct b.kinds b.traces b.graph) invs b.graph) (sym c.as_slice.ensures) (start-begins b.kinds b.traces b.invs b.graph b.numbers.items b.tools.stitcher b.tools.planes b.tools.spans b.tools.log s) in
+    let s : IsAtStart b.kinds b.traces b.invs b.graph b.numbers.items b.tools.stitcher b.tools.planes b.tools.spans b.tools.run_log =
+    stands-opened c.args.self.now b.stage b.kinds b.traces b.invs b.graph b.numbers.items b.tools.stitcher b.tools.planes b.tools.spans b.tools.run_log c.self.view_is c.requires c.self.invariant.0 in
+    let same : typed_words b.kinds b.traces ≡ typed_words c.args.self.now.kinds c.args.self.now.log = ap (λ (x : WorkbenchView). typed_words x.kinds x.log) c.self.view_is in
+    let begins : BeginsWith (distinct b.kinds b.traces b.graph) c.as_slice.result.now b.graph = subst (λ (invs : List Invariant). BeginsWith (distinct b.kinds b.traces b.graph) invs b.graph) (sym c.as_slice.ensures) (start-begins b.kinds b.traces b.invs b.graph b.numbers.items b.tools.stitcher b.tools.planes b.tools.spans b.tools.run_log s) in
     subst (λ (words : TypedWords). CountsAtMost words c.args.steps.now c.run-end.new.steps) same
-    (start-counts b.kinds b.traces b.invs b.graph b.numbers.items b.tools.stitcher b.tools.planes b.tools.spans b.tools.log s c.args.steps.now c.run-end.new.steps (c.in-Ok.ensures.counted (distinct b.kinds b.traces b.graph) begins))
+    (start-counts b.kinds b.traces b.invs b.graph b.numbers.items b.tools.stitcher b.tools.planes b.tools.spans b.tools.run_log s c.args.steps.now c.run-end.new.steps (c.in-Ok.ensures.counted (distinct b.kinds b.traces b.graph) begins))
 
 pub returns-in-Err-clause-stage : goal.returns-in-Err-clause-stage
 returns-in-Err-clause-stage g c = search rules

@@ -7,7 +7,7 @@ use Rattle.partition_model.specs.Assignments.{events}
 use Rattle.partition_graph.specs.Spread.{SharesWords}
 use Rattle.infer_core.proofs.Opening.{at-start, mined-few, mined-named}
 use Rattle.infer_core.specs.declared.workbench.Stage.{Stage}
-use Rattle.infer_core.specs.Benches.{Bench}
+use Rattle.infer_core.specs.Workbenches.{WorkbenchView}
 use Rattle.infer_core.proofs.workbench.Workbench.open.Goals as goal
 use Rattle.infer_core.proofs.workbench.Workbench.open.Goals.{In_ok-traces}
 
@@ -67,15 +67,15 @@ invariant_of-result c =
     subst (λ r. IfOk r (λ pair. SharesWords c.args.traces pair.0 pair.1.items)) (subst (λ r. IfOk r (λ pair. c.open_shared-shared.result ≡ Ok pair.0)) opened c.both-opened.ensures.first) c.open_shared-shared.ensures in
     let made = t.ensures.second in
     rw (sym same) (
-      at-start c.args.kinds c.args.traces t.invs t.graph t.numbers.items t.tools.stitcher t.tools.planes t.tools.spans t.tools.log
+      at-start c.args.kinds c.args.traces t.invs t.graph t.numbers.items t.tools.stitcher t.tools.planes t.tools.spans t.tools.run_log
           c.start_is_opened.ensures (c.log_is_typed.ensures.within c.args.kinds) shares are_mined
           (subst (λ r. IfOk r (λ o. t.tools.stitcher ≡ length (events o.0.0.traces))) opened (subst (λ r. IfOk r (λ pair. IfOk c.both-opened.result (λ o. pair.0.stitcher ≡ length (events o.0.0.traces)))) made c.equip-equipped.ensures.stitcher))
           (subst (λ r. IfOk r (λ o. t.tools.planes.invs ≡ o.1)) opened (subst (λ r. IfOk r (λ pair. IfOk c.both-opened.result (λ o. pair.0.planes.invs ≡ o.1))) made c.equip-equipped.ensures.planes))
           (subst (λ r. IfOk r (λ pair. pair.0.spans ≡ record { numbers = []; room = MAX_PATH_NUMBERS })) made c.equip-equipped.ensures.spans)
-          (subst (λ r. IfOk r (λ pair. pair.0.log ≡ record { splits = []; merges = []; blocks = []; split_room = MAX_STEPS; merge_room = MAX_STEPS; block_room = MAX_PAIRS })) made c.equip-equipped.ensures.log),
+          (subst (λ r. IfOk r (λ pair. pair.0.run_log ≡ record { splits = []; merges = []; blocks = []; split_room = MAX_STEPS; merge_room = MAX_STEPS; block_room = MAX_PAIRS })) made c.equip-equipped.ensures.run_log),
       subst (λ r. IfOk r (λ o. length t.flags.items ≡ length o.1)) opened (subst (λ r. IfOk r (λ pair. IfOk c.both-opened.result (λ o. length pair.1.items ≡ length o.1))) made c.equip-equipped.ensures.flags),
     )
 
 pub returns : goal.returns
 returns c =
-    ap (λ (log : Log). let b : Bench = record { kinds = c.args.kinds; log = log; stage = Stage.Opened } in b) (sym (log-stays c))
+    ap (λ (log : Log). let b : WorkbenchView = record { kinds = c.args.kinds; log = log; stage = Stage.Opened } in b) (sym (log-stays c))

@@ -10,9 +10,9 @@ by_cases (Some k) P R Q S f g h = g k h
 
 pub returns : goal.returns
 returns c = λ g labels.
-    let board = c.self.inside.board in
+    let phase_rows = c.self.inside.phase_rows in
     let at : AreLabelsOf _ g = subst (λ (x : Labelling). AreLabelsOf x g) (sym c.self.view_is) labels in
     subst (λ (x : Labelling). MatchOption c.first_noted.result (SatisfiesAll g x.invs) (λ k. IsFirstBroken g x.invs k)) c.self.view_is
-    (by_cases c.first_noted.result _ (SatisfiesAll g board.invs.items) _ (λ k. IsFirstBroken g board.invs.items k)
-    (λ off. none_broken g board.invs.items board.rows c.self.inside.clashes at c.self.invariant.0 off)
-    (λ k h. first_broken g board.invs.items board.rows c.self.inside.clashes at c.self.invariant.0 k h.0 h.1 h.2) c.first_noted.ensures)
+    (by_cases c.first_noted.result _ (SatisfiesAll g phase_rows.invs.items) _ (λ k. IsFirstBroken g phase_rows.invs.items k)
+    (λ off. none_broken g phase_rows.invs.items phase_rows.rows c.self.inside.clashes at c.self.invariant.0 off)
+    (λ k h. first_broken g phase_rows.invs.items phase_rows.rows c.self.inside.clashes at c.self.invariant.0 k h.0 h.1 h.2) c.first_noted.ensures)

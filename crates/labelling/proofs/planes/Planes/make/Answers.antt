@@ -8,9 +8,9 @@ use Rattle.labelling.proofs.planes.Planes.make.Goals as goal
 
 pub invariant_of-result : goal.invariant_of-result
 invariant_of-result c = (
-  λ k inv at. c.in_ok-board.ensures.unbroken k ∙ sym (c.in_ok-board.ensures.nothing.has k TERMINAL (bad_of inv.kind) (omega arith) (bad_low inv.kind)),
-  c.in_ok-clashes.ensures ∙ sym c.in_ok-board.ensures.list,
-  omega (arith, c.requires.few, ap (λ (invs : List Invariant). length invs) c.in_ok-board.ensures.list),
+  λ k inv at. c.in_ok-phase_rows.ensures.unbroken k ∙ sym (c.in_ok-phase_rows.ensures.nothing.has k TERMINAL (bad_of inv.kind) (omega arith) (bad_low inv.kind)),
+  c.in_ok-clashes.ensures ∙ sym c.in_ok-phase_rows.ensures.list,
+  omega (arith, c.requires.few, ap (λ (invs : List Invariant). length invs) c.in_ok-phase_rows.ensures.list),
 )
 
 pub make-requires-3-clause-named : goal.make-requires-3-clause-named

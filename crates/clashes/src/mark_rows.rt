@@ -1,0 +1,152 @@
+//! Two rows of marks for each id, and the masks by which they propagate.
+ghost use Rattle.std.specs.Prelude.{◌≡◌, ◌≢◌, ◌<◌, ◌≤◌, length, IfOk, MatchOption};
+ghost use Rattle.limits.specs.declared.TheConstants.{LAST_TYPE, MAX_INVARIANTS};
+ghost use Rattle.clashes.specs.Rules.{AreNamedUpTo};
+
+use crate::masks::{first_unnamed, put_columns};
+use crate::places::{
+    BAD, SCRATCH, START, back_row, enters_row, falls_row, fore_row, row_count, stays_row,
+};
+use bit_rows::Rows;
+use invariants::Invariant;
+use limits::{INITIAL, MAX_PARTITIONS, TERMINAL};
+use std::alloc::{AllocError, Global};
+use std::marker::Model;
+
+/// Invariants, and for each id two rows of bits, with a bit for each of them. Contracts see the list and these rows.
+#[derive(Drop)]
+pub(crate) struct MarkRows {
+    invs: Vec<Invariant>,
+    /// The first number above all that the invariants name: its masks stand for each type from it on.
+    others: u16,
+    rows: Rows,
+}
+
+impl Model for MarkRows {
+    ghost use Rattle.clashes.specs.Marks.{Marks};
+    ghost use Rattle.clashes.specs.Layout.{marks_in, IsLaid};
+
+    ghost Value = { Marks };
+
+    ghost view = { λ s. marks_in s.invs.items s.rows };
+
+    ghost invariant = { λ s. IsLaid s.invs.items s.others s.rows };
+}
+
+impl MarkRows {
+    ghost use Rattle.clashes.specs.Marks.{NoClash, IsFirstClash};
+    ghost use Rattle.clashes.specs.Changes.{IsBegun, IsBlankBelow, IsEntered, IsFollowed, IsJoined};
+    ghost use Rattle.clashes.specs.Changes.{IsTakenUp, IsUnmarked, TellsGrowth};
+
+    /// The rows of these invariants. It takes the memory for `MAX_PARTITIONS` ids.
+    pub fn make(alloc: Global, invs: &[Invariant]) -> Result<MarkRows, AllocError>
+        requires few { length invs.now ≤ MAX_INVARIANTS }
+        requires named { AreNamedUpTo LAST_TYPE invs.now }
+        ensures { IfOk result (λ mark_rows. mark_rows.invs ≡ invs.now) }
+    {
+        let others = first_unnamed(invs);
+        let list = Vec::from_slice(alloc, invs)?;
+        let mut rows = Rows::make(alloc, row_count(others), invs.len())?;
+        put_columns(&mut rows, others, invs);
+        Ok(MarkRows {
+            invs: list,
+            others,
+            rows,
+        })
+    }
+
+    /// Turns the marks of all ids below this number off.
+    pub fn clear(&mut self, ids: u32)
+        requires { ids ≤ MAX_PARTITIONS }
+        ensures invs { (self.new).invs ≡ (self.old).invs }
+        ensures blank { IsBlankBelow self.new ids }
+    {
+        for p in 0..ids {
+            self.unmark(p);
+        }
+    }
+
+    /// Turns the marks of an id off.
+    fn unmark(&mut self, p: u32)
+        requires { p < MAX_PARTITIONS }
+        ensures { IsUnmarked self.old self.new p }
+    {
+        self.rows.clear(fore_row(p));
+        self.rows.clear(back_row(p));
+    }
+
+    /// Moves the marks of q to p.
+    pub fn join(&mut self, p: u32, q: u32)
+        requires to { p < MAX_PARTITIONS }
+        requires from { q < MAX_PARTITIONS }
+        requires apart { p ≢ q }
+        ensures { IsJoined self.old self.new p q }
+    {
+        self.take_up(p, q);
+        self.unmark(q);
+    }
+
+    /// Gives p the marks of q.
+    fn take_up(&mut self, p: u32, q: u32)
+        requires to { p < MAX_PARTITIONS }
+        requires from { q < MAX_PARTITIONS }
+        requires apart { p ≢ q }
+        ensures { IsTakenUp self.old self.new p q }
+    {
+        self.rows.or_into(fore_row(p), fore_row(q));
+        self.rows.or_into(back_row(p), back_row(q));
+    }
+
+    /// Gives the two ends the marks from which all others come.
+    pub fn begin(&mut self)
+        ensures { IsBegun self.old self.new }
+    {
+        self.rows.or_into(fore_row(INITIAL), START);
+        self.rows.or_into(back_row(TERMINAL), BAD);
+    }
+
+    /// Gives the ends of an edge to an id of this type the marks that it brings at once.
+    pub fn enter(&mut self, from: u32, to: u32, typ: u16)
+        requires from_id { from < MAX_PARTITIONS }
+        requires to_id { to < MAX_PARTITIONS }
+        ensures { IsEntered self.old self.new from to typ }
+    {
+        let x = typ.min(self.others);
+        self.rows.or_into(fore_row(to), enters_row(x));
+        self.rows.or_into(back_row(from), falls_row(x));
+    }
+
+    /// Takes marks along an edge to an id of this type, and says whether that changed any.
+    pub fn follow(&mut self, from: u32, to: u32, typ: u16) -> bool
+        requires from_id { from < MAX_PARTITIONS }
+        requires to_id { to < MAX_PARTITIONS }
+        ensures marks { IsFollowed self.old self.new from to typ }
+        ensures tells { TellsGrowth self.old self.new result }
+    {
+        if from == to {
+            return false;
+        }
+        let x = typ.min(self.others);
+        let met = self
+            .rows
+            .or_and_into(fore_row(to), fore_row(from), stays_row(x));
+        let ahead = self
+            .rows
+            .or_and_into(back_row(from), back_row(to), stays_row(x));
+        met | ahead
+    }
+
+    /// The number of the first invariant for which the two ids clash. No mark changes.
+    pub fn first_clash(&mut self, p: u32, q: u32) -> Option<usize>
+        requires one { p < MAX_PARTITIONS }
+        requires other { q < MAX_PARTITIONS }
+        ensures same { self.new ≡ self.old }
+        ensures first { MatchOption result
+            (NoClash self.old p q) (IsFirstClash self.old p q) }
+    {
+        self.rows.clear(SCRATCH);
+        self.rows.or_and_into(SCRATCH, fore_row(p), back_row(q));
+        self.rows.or_and_into(SCRATCH, fore_row(q), back_row(p));
+        self.rows.first_set(SCRATCH)
+    }
+}

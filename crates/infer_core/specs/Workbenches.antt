@@ -1,0 +1,70 @@
+-- What contracts see of a workbench, and what stands in it at each stage.
+use Rattle.std.specs.Prelude.{◌≡◌, ◌≤◌, ℕ, List, length}
+use Rattle.std.specs.List.{AllByRecursion}
+use Rattle.limits.specs.declared.TheConstants.{MAX_EVENTS}
+use Rattle.invariants.specs.declared.Invariant.{Invariant}
+use Rattle.invariants.specs.declared.Kinds.{Kinds}
+use Rattle.invariants.specs.declared.records.Model.{Model}
+use Rattle.traces.specs.Words.{Log}
+use Rattle.cell_pool.specs.Numbers.{Numbers}
+use Rattle.cell_pool.specs.RunLists.{RunLists}
+use Rattle.run_history.specs.Records.{splits_of, merges_of, blocks_of}
+use Rattle.partition_model.specs.Assignments.{events}
+use Rattle.partition_model.specs.Listings.{ArePartitions, AreEdges}
+use Rattle.model_shape.specs.Shapes.{listing_of}
+use Rattle.models.specs.Limits.{IsWithinLimits}
+use Rattle.models.specs.Models.{mined_of, typed_words, AreReached}
+use Rattle.partition_graph.specs.Parts.{Parts}
+use Rattle.partition_graph.specs.Spread.{spread, AreAllOf, SharesWords}
+use Rattle.labelling.specs.Labelled.{Labelling}
+use Rattle.infer_core.specs.declared.workbench.Stage.{Stage}
+use Rattle.infer_core.specs.declared.workbench.Stage.TheVariants.{Opened, Inferred, Refused}
+use Rattle.infer_core.specs.Ends.{IsReady, HasEnded}
+
+-- the kinds of invariants that are asked for, the log, and how far its inference is
+pub record WorkbenchView : Type 0 where
+  pub kinds : Kinds
+  pub log : Log
+  pub stage : Stage
+
+-- the graph of all traces of a log, of which each has its number here
+abbrev pub whole_of : List ℕ → Parts → Parts
+whole_of numbers graph = record { traces = spread numbers graph.traces; used = graph.used }
+
+-- the invariants of these kinds that are mined of the log and the first graph of its distinct words stand ready for a run
+pub record IsAtStart (kinds : Kinds) (log : Log) (invs : List Invariant) (graph : Parts) (numbers : List ℕ) (stitcher : ℕ)
+    (planes : Labelling) (spans : Numbers) (run : RunLists) : Type 0 where
+  pub mined : invs ≡ mined_of (typed_words kinds log)
+  pub within : IsWithinLimits (typed_words kinds log)
+  pub shares : SharesWords log graph numbers
+  pub ready : IsReady invs graph stitcher planes spans run
+
+-- the invariants of these kinds that are mined of the log stand beside its run, whose graph becomes that of the log where it is spread over all traces
+pub record IsAtEnd (kinds : Kinds) (log : Log) (invs : List Invariant) (graph : Parts) (numbers : List ℕ)
+    (planes : Labelling) (spans : Numbers) (run : RunLists) : Type 0 where
+  pub mined : invs ≡ mined_of (typed_words kinds log)
+  pub all : AreAllOf numbers graph.traces
+  pub few : length (events (spread numbers graph.traces)) ≤ MAX_EVENTS
+  pub ended : HasEnded (typed_words kinds log) (whole_of numbers graph) planes spans run
+
+-- what stands at each stage; after a refusal it is good for nothing
+abbrev pub Stands : Stage → Kinds → Log → List Invariant → Parts → List ℕ → ℕ
+    → Labelling → Numbers → RunLists → Type 0
+Stands Opened kinds log invs graph numbers stitcher planes spans run =
+    IsAtStart kinds log invs graph numbers stitcher planes spans run
+Stands Inferred kinds log invs graph numbers stitcher planes spans run =
+    IsAtEnd kinds log invs graph numbers planes spans run
+Stands Refused kinds log invs graph numbers stitcher planes spans run = Unit {0}
+
+-- the model says the types of the log, the kinds that are asked for, what the graph is and what is reached there, and what the run tells
+pub record Tells (m : Model) (asked : Kinds) (log : Log) (invs : List Invariant) (graph : Parts)
+    (spans : Numbers) (run : RunLists) : Type 0 where
+  pub types : m.types ≡ log.types
+  pub kinds : m.kinds ≡ asked
+  pub partitions : ArePartitions m.partitions graph.traces
+  pub edges : AreEdges m.edges graph.traces
+  pub listing : listing_of m ≡ invs
+  pub labels : AllByRecursion (λ l. AreReached l.inv graph.traces m.partitions l.labels) m.invariants
+  pub splits : m.splits ≡ splits_of run spans
+  pub merges : m.merges ≡ merges_of run
+  pub blocks : m.blocks ≡ blocks_of run spans

@@ -1,6 +1,0 @@
-use Rattle.limits.specs.declared.TheConstants.{MAX_PARTITIONS}
-use Rattle.labelling.proofs.Passing.{blank}
-use Rattle.labelling.proofs.spreading.no_marks.Goals as goal
-
-pub returns-clause-none : goal.returns-clause-none
-returns-clause-none c = blank MAX_PARTITIONS

@@ -1,0 +1,22 @@
+-- What the rows of phases have found.
+use Rattle.std.specs.Prelude.{List, Bool}
+use Rattle.invariants.specs.declared.Invariant.{Invariant}
+use Rattle.labelling.specs.declared.layout.TheConstants.{BROKEN_ROW}
+use Rattle.labelling.specs.declared.phase_rows.PhaseRows.{PhaseRows}
+use Rattle.labelling.specs.Carried.{off_count}
+use Rattle.labelling.specs.Found.{Found}
+use Rattle.labelling.specs.Layout.{is_on, label_row}
+
+-- what the rows say of the invariants
+abbrev pub found_in : List Invariant → List (List Bool) → Found
+found_in invs rows =
+    record {
+      invs = invs;
+      has = λ k p s. is_on rows (label_row p s) k;
+      broken = λ k. is_on rows BROKEN_ROW k;
+      off = off_count rows;
+    }
+
+-- what the rows say
+abbrev pub found : PhaseRows → Found
+found b = found_in b.invs.items b.rows

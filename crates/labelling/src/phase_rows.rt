@@ -1,0 +1,228 @@
+//! The rows of all invariants.
+ghost use Rattle.std.specs.Prelude.{◌≡◌, ◌≢◌, ◌≤◌, ◌<◌, ◌+◌, ◌*◌, ◌==◌, ℕ, true, false, length, not, IfOk, MatchOption, slice_get, slice_index, slice_index_or, Some};
+ghost use Rattle.std.specs.Int.{bit_at};
+ghost use Rattle.limits.specs.declared.TheConstants.{INITIAL, LAST_TYPE, MAX_INVARIANTS, MAX_PARTITIONS};
+ghost use Rattle.invariants.specs.declared.Invariant.{Invariant};
+ghost use Rattle.labelling.specs.declared.layout.TheConstants.{LAST_PHASE, STATES};
+ghost use Rattle.labelling.specs.Layout.{AreMarked, IsBlankFrom};
+ghost use Rattle.labelling.specs.Labelled.{SaysSwapped};
+
+use crate::carrying::{clear_below, note_broken, pass};
+use crate::layout::{
+    ALL_ROW, BROKEN_ROW, LAST_PHASE, MOVE_ROWS, MOVES, STATES, WORD_BITS, first_row, label_row,
+    move_row,
+};
+use crate::marks::{bound_of, mark_all};
+use crate::phases::phase_of;
+use bit_rows::Rows;
+use invariants::Invariant;
+use limits::INITIAL;
+use std::alloc::{AllocError, Global};
+
+/// The phases that are found of the monitors of invariants, and what each type does to phases.
+#[derive(Drop)]
+pub(crate) struct PhaseRows {
+    rows: Rows,
+    invs: Vec<Invariant>,
+    /// Types from this number on leave each phase of each invariant as it is.
+    bound: usize,
+    /// From this number on, nothing is on in the rows that say which phases are found.
+    used: usize,
+    ghost marked: { AreMarked bound invs.items rows },
+    ghost blank: { IsBlankFrom used rows },
+}
+
+impl PhaseRows {
+    ghost use Rattle.invariants.specs.Monitors.{step};
+    ghost use Rattle.labelling.specs.PhaseRows.{found};
+    ghost use Rattle.labelling.specs.Phases.{phase_at};
+    ghost use Rattle.labelling.specs.Found.{AreNoted, FollowsAlong, Grows, HasStart, IsCarried, IsNothing, IsSameBut, StartsAt};
+
+    /// The rows of these invariants, with nothing found.
+    pub fn make(alloc: Global, invs: &[Invariant]) -> Result<PhaseRows, AllocError>
+        requires few { length invs.now ≤ MAX_INVARIANTS }
+        requires named { (k : ℕ) (inv : Invariant) → slice_get invs.now k ≡ Some inv
+            → (inv.a ≤ LAST_TYPE) × (inv.b ≤ LAST_TYPE) }
+        ensures list { IfOk result (λ phase_rows. (found phase_rows).invs ≡ invs.now) }
+        ensures nothing { IfOk result (λ phase_rows. IsNothing (found phase_rows)) }
+        ensures unbroken { IfOk result (λ phase_rows. (k : ℕ) → (found phase_rows).broken k ≡ false) }
+    {
+        let bound = bound_of(invs);
+        let count = MOVE_ROWS + (bound + 1) * MOVES;
+        let mut rows = Rows::make(alloc, count, invs.len())?;
+        let list = Vec::from_slice(alloc, invs)?;
+        mark_all(&mut rows, &list, bound);
+        Ok(PhaseRows {
+            rows,
+            invs: list,
+            bound,
+            used: 0,
+        })
+    }
+
+    /// Whether the state is found at p for the invariant with number k.
+    pub fn has(&self, k: usize, p: u32, state: u8) -> bool
+        requires number { k < length (found self.now).invs }
+        requires id { p < MAX_PARTITIONS }
+        requires state { state < STATES }
+        ensures { result ≡ (found self.now).has k p (phase_at (found self.now).invs k state) }
+    {
+        let phase = phase_of(self.invs[k].kind, state);
+        self.rows.get(label_row(p, phase), k)
+    }
+
+    /// For which of the 64 invariants from number `64 * place` on the states 0 and 1 are the phases 1 and 0, with a bit for
+    /// each, the first as the lowest. Each other state is the phase of its number.
+    pub fn swapped(&self, place: usize) -> u64
+        requires { place * 64 < length (found self.now).invs }
+        ensures { SaysSwapped (found self.now).invs place result }
+    {
+        let first = place * WORD_BITS;
+        let mut swapped = 0;
+        for k in 0..WORD_BITS.min(self.invs.len() - first) {
+            swapped = with_bit(
+                swapped,
+                k as u32,
+                phase_of(self.invs[first + k].kind, 0) == 1,
+            );
+        }
+        swapped
+    }
+
+    /// For which of the 64 invariants from number `64 * place` on each state is found at p: a word for each state, with a
+    /// bit for each invariant.
+    pub fn words(&self, place: usize, p: u32, swapped: u64) -> [u64; STATES]
+        requires place { place * 64 < length (found self.now).invs }
+        requires id { p < MAX_PARTITIONS }
+        requires swapped { SaysSwapped (found self.now).invs place swapped }
+        ensures { (k s : ℕ) → k < 64 → place * 64 + k < length (found self.now).invs → s < STATES
+            → (bit_at (slice_index result s) k == 1)
+            ≡ (found self.now).has (place * 64 + k) p
+            (phase_at (found self.now).invs (place * 64 + k) s) }
+    {
+        let zeroth = self.rows.word(label_row(p, 0), place);
+        let first = self.rows.word(label_row(p, 1), place);
+        let second = self.rows.word(label_row(p, 2), place);
+        [
+            (zeroth & !swapped) | (first & swapped),
+            (first & !swapped) | (zeroth & swapped),
+            second,
+        ]
+    }
+
+    /// Leaves nothing found.
+    pub fn clear(&mut self)
+        ensures same { (found self.new).invs ≡ (found self.old).invs }
+        ensures nothing { IsNothing (found self.new) }
+    {
+        clear_below(&mut self.rows, self.used);
+        self.used = 0;
+    }
+
+    /// Finds the phase at INITIAL for those invariants that are in it there.
+    pub fn start(&mut self, phase: u8)
+        requires { phase < STATES }
+        ensures same { (found self.new).invs ≡ (found self.old).invs }
+        ensures keeps { (k p s : ℕ) → (found self.old).has k p s ≡ true
+            → (found self.new).has k p s ≡ true }
+
+        // What is new is at INITIAL alone and is reached there, and all that begins so is found.
+        ensures sound { StartsAt (found self.old) (found self.new) }
+        ensures start { HasStart phase (found self.new) }
+        ensures others { IsSameBut INITIAL (found self.old) (found self.new) }
+    {
+        let to = label_row(INITIAL, phase);
+        self.used = self.used.max(to + 1);
+        pass(&mut self.rows, first_row(phase), to, ALL_ROW, false);
+    }
+
+    /// Finds the phase `next` at q for those invariants that have `phase` at p, which is not the last, and which the
+    /// type of q brings from there to `next`. It says whether that is more than was found.
+    pub fn carry(&mut self, p: u32, phase: u8, typ: u16, q: u32, next: u8) -> bool
+        requires from { p < MAX_PARTITIONS }
+        requires phase { phase < LAST_PHASE }
+        requires to { q < MAX_PARTITIONS }
+        requires next { next < STATES }
+
+        // What is found, and where.
+        ensures grows { Grows (found self.old) (found self.new) result }
+        ensures sound { FollowsAlong p q typ (found self.old) (found self.new) }
+        ensures carried { IsCarried p phase typ q next (found self.old) (found self.new) }
+        ensures others { IsSameBut q (found self.old) (found self.new) }
+    {
+        if next > phase + 1 {
+            return false;
+        }
+        let mask = move_row(self.row_type(typ), phase, next);
+        let to = label_row(q, next);
+        self.used = self.used.max(to + 1);
+        pass(&mut self.rows, label_row(p, phase), to, mask, phase == next)
+    }
+
+    /// Finds the last phase at q for those invariants that have it at p: nothing leaves it. It says whether that is more
+    /// than was found.
+    pub fn keep_last(&mut self, p: u32, q: u32) -> bool
+        requires from { p < MAX_PARTITIONS }
+        requires to { q < MAX_PARTITIONS }
+        ensures grows { Grows (found self.old) (found self.new) result }
+        ensures sound { (typ : ℕ) → FollowsAlong p q typ (found self.old) (found self.new) }
+        ensures carried { (typ : ℕ)
+            → IsCarried p LAST_PHASE typ q LAST_PHASE (found self.old) (found self.new) }
+        ensures others { IsSameBut q (found self.old) (found self.new) }
+    {
+        let to = label_row(q, LAST_PHASE);
+        self.used = self.used.max(to + 1);
+        pass(&mut self.rows, label_row(p, LAST_PHASE), to, ALL_ROW, false)
+    }
+
+    /// The type whose rows tell what this one does.
+    fn row_type(&self, typ: u16) -> usize
+        ensures within { result ≤ self.now.bound }
+        ensures acts { (k : ℕ) (inv : Invariant) (s : ℕ)
+            → slice_get self.now.invs.items k ≡ Some inv
+            → step inv s result ≡ step inv s typ }
+    {
+        usize::from(typ).min(self.bound)
+    }
+
+    /// Notes for which invariants a bad phase is found at TERMINAL.
+    pub fn note(&mut self)
+        ensures same { (found self.new).invs ≡ (found self.old).invs }
+        ensures labels { (k p s : ℕ) → p < MAX_PARTITIONS → s < STATES
+            → (found self.new).has k p s ≡ (found self.old).has k p s }
+        ensures noted { AreNoted (found self.new) }
+    {
+        note_broken(&mut self.rows);
+    }
+
+    /// The first invariant that was noted.
+    pub fn first_noted(&self) -> Option<usize>
+        ensures { MatchOption result
+            ((k : ℕ) → (found self.now).broken k ≡ false)
+            (λ k. (k < length (found self.now).invs) × ((found self.now).broken k ≡ true)
+            × ((j : ℕ) → j < k → (found self.now).broken j ≡ false)) }
+    {
+        self.rows.first_set(BROKEN_ROW)
+    }
+
+    /// Says of each invariant, in their order, whether it was not noted.
+    pub fn tell_unnoted(&self, flags: &mut [bool])
+        requires { length flags.old ≡ length (found self.now).invs }
+        ensures { (k : ℕ) → k < length (found self.now).invs
+            → slice_index_or flags.new k false ≡ not ((found self.now).broken k) }
+    {
+        for k in 0..flags.len() {
+            flags[k] = !self.rows.get(BROKEN_ROW, k);
+        }
+    }
+}
+
+/// The word, and this bit of it, which is off, turned on or left.
+fn with_bit(word: u64, place: u32, on: bool) -> u64
+    requires place { place < 64 }
+    requires off { bit_at word place ≡ 0 }
+    ensures there { (bit_at result place == 1) ≡ on }
+    ensures others { (i : ℕ) → i ≢ place → bit_at result i ≡ bit_at word i }
+{
+    if on { word | (1 << place) } else { word }
+}
