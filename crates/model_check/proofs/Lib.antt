@@ -7,7 +7,6 @@ pub mod Advancing
 pub mod Building
 pub mod Failing
 pub mod Inductive
-pub mod Breaking
 pub mod Opening
 pub mod Reading
 pub mod Numbers

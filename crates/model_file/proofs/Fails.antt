@@ -40,10 +40,6 @@ pub Gives-err : {A : Type 0} (r read : Result A FileError) → Gives r read → 
 Gives-err (Ok x) read h = tt
 Gives-err (Err e) read h = h
 
--- what a part of the reading gives of the whole
-pub Gives-whole : {A : Type 0} (r read whole : Result A FileError) → whole ≡ read → Gives r read → Gives r whole
-Gives-whole r read whole is h = subst (λ x. Gives r x) (sym is) h
-
 -- bytes that are not too long are read as a value, and this as a model
 pub reads-short : (version : Version) (bytes : List ℕ) → length bytes ≤ max_bytes version → reads_as version bytes ≡ (or_not_json (value_of bytes) >>= model_in version)
 unfolding reads_as

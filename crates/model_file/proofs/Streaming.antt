@@ -53,10 +53,6 @@ number-answers depth s ts r e =
 pub after-read : {A : Type 0} (f : Data → A) (o : Option (Data × List Token)) (x : A) (r : List Token) → parse_map f o ≡ Some (x, r) → after o ≡ Some r
 after-read f o x r e = sym (left-parse_map f o) ∙ ap after e
 
-pub none-read : {A : Type 0} (f : Data → A) (o : Option (Data × List Token)) → parse_map f o ≡ None → o ≡ None
-none-read f None e = refl
-none-read f (Some p) e = absurd cc
-
 number-gone : (depth : ℕ) (s : List ℕ) (ts : List Token) (stop : Stop) (o : Option Num) → whole_from o ≡ Err stop → data_at depth (Token.number s ∷ ts) ≡ option_map (λ b. (b, ts)) (option_map number o) → data_at depth (Token.number s ∷ ts) ≡ None
 number-gone depth s ts stop None e is = is
 number-gone depth s ts stop (Some n) e is = absurd cc

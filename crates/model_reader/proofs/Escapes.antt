@@ -1,9 +1,9 @@
 -- Bytes that are written without escapes.
-use Rattle.std.proofs.Common.{◌≡◌, ℕ, ◌+◌, ◌-◌, ◌<◌, ◌≤◌, List, [], ◌∷◌, ◌++◌, map, take, length, get_or, refl, sym, ap, ap₂, ◌∙◌, arith, append_assoc}
+use Rattle.std.proofs.Common.{◌≡◌, ℕ, ◌+◌, ◌-◌, ◌<◌, ◌≤◌, List, [], ◌∷◌, ◌++◌, map, take, length, get_or, refl, sym, ap, ap₂, ◌∙◌, arith}
 use Rattle.std.proofs.lemmas.Grind.{flat_map-append, take_at_read}
 use Rattle.std.proofs.lemmas.List.Elements.{recursion_from_All}
 use Rattle.std.specs.List.{All, AllByRecursion}
-use Rattle.json.specs.Print.{escape, escape_byte, quoted}
+use Rattle.json.specs.Print.{escape, escape_byte}
 use Rattle.json.proofs.Printed.Strings.{escape_byte_plain}
 use Rattle.model_file.specs.Labels.{IsLabelDigit}
 use Rattle.model_file.specs.Tree.{digit_of}
@@ -22,10 +22,6 @@ pub escape_step : (xs : List ℕ) (i d : ℕ) → i < length xs → 32 ≤ get_o
 escape_step xs i d l low quote slash e =
     let more = (take_at_read xs i d l).1 in
     ap escape more ∙ (escape_more (take i xs) (get_or xs i d) low quote slash e ∙ sym more)
-
--- a string of bytes that stand for themselves was taken
-pub quoted_taken : (inside whole rest : List ℕ) → escape inside ≡ inside → whole ≡ 34 ∷ (inside ++ 34 ∷ rest) → whole ≡ quoted inside ++ rest
-quoted_taken inside whole rest plain e = e ∙ ap (λ text. 34 ∷ text) (ap (λ text. text ++ 34 ∷ rest) (sym plain) ∙ sym (append_assoc (escape inside) (34 ∷ []) rest))
 
 labels-themselves : (bytes : List ℕ) → AllByRecursion IsLabelDigit bytes → escape bytes ≡ bytes
 labels-themselves [] all = refl

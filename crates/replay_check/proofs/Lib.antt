@@ -1,8 +1,6 @@
 pub mod Laying
 pub mod Showing
 pub mod Steps
-pub mod Breaking
-pub mod Listed
 pub mod Same
 pub mod Starting
 pub mod Counting

@@ -1,7 +1,7 @@
 -- How far a path is followed, place by place.
-use Rattle.std.proofs.Common.{◌≡◌, ◌≢◌, ℕ, suc, ◌+◌, ◌≤◌, ◌<◌, ◌==◌, max, if◌then◌else◌, true, false, List, [], ◌∷◌, length, drop, get_or, refl, sym, ◌∙◌, ap, ap₂, arith, eq-eqb, ne_eqb}
+use Rattle.std.proofs.Common.{◌≡◌, ◌≢◌, ℕ, suc, ◌+◌, ◌≤◌, ◌<◌, ◌==◌, if◌then◌else◌, true, false, List, [], ◌∷◌, length, drop, get_or, refl, sym, ◌∙◌, ap, ap₂, arith, eq-eqb, ne_eqb}
 use Rattle.std.proofs.lemmas.List.{drop_more, drop_all}
-use Rattle.replay_check.specs.Laid.{common_in_trace, longest}
+use Rattle.replay_check.specs.Laid.{common_in_trace}
 
 -- the path before a place is followed
 abbrev pub IsCommon : List ℕ → List ℕ → ℕ → ℕ → Type 0
@@ -54,29 +54,4 @@ common-on path ids from k l m n t i =
     let a : from + (k + 1) ≡ (from + k) + 1 = omega arith in
     let e : common_in_trace (drop k path) (drop (from + k) ids) ≡ suc (common_in_trace (drop (k + 1) path) (drop (from + (k + 1)) ids)) =
     here path ids from k l m ∙ rw (f, g) (ap (λ z. suc (common_in_trace (drop (k + 1) path) (drop z ids))) (sym a)) in
-    omega arith
-
--- the most over the traces that begin from a place on
-abbrev pub most_at : List ℕ → List ℕ → ℕ → ℕ
-most_at path ids k = if get_or ids k 0 == 0 then common_in_trace path (drop k ids) else 0
-
-longest-more : (path ids : List ℕ) (k : ℕ) → k < length ids → longest path (drop k ids) ≡ max (most_at path ids k) (longest path (drop (k + 1) ids))
-longest-more path ids k l =
-    ap (λ (xs : List ℕ). longest path xs) (drop_more ids k 0 l)
-    ∙ ap (λ (xs : List ℕ). max (if get_or ids k 0 == 0 then common_in_trace path xs else 0) (longest path (drop (k + 1) ids))) (sym (drop_more ids k 0 l))
-
--- the trace that begins here has this much in common
-pub longest-here : (path ids : List ℕ) (k most now n : ℕ) → k < length ids → get_or ids k 0 ≡ 0 → n ≡ common_in_trace path (drop k ids) → now ≡ max n most
-    → max most (longest path (drop k ids)) ≡ longest path ids → max now (longest path (drop (k + 1) ids)) ≡ longest path ids
-longest-here path ids k most now n l z c e i =
-    let a : most_at path ids k ≡ n = rw (eq-eqb (get_or ids k 0) 0 z) (sym c) in
-    let b = longest-more path ids k l in
-    omega arith
-
--- no trace begins here
-pub longest-other : (path ids : List ℕ) (k most : ℕ) → k < length ids → get_or ids k 0 ≢ 0
-    → max most (longest path (drop k ids)) ≡ longest path ids → max most (longest path (drop (k + 1) ids)) ≡ longest path ids
-longest-other path ids k most l z i =
-    let a : most_at path ids k ≡ 0 = rw (ne_eqb (get_or ids k 0) 0 z) refl in
-    let b = longest-more path ids k l in
     omega arith

@@ -17,6 +17,7 @@ use crate::merges::first_wrong_merge;
 use crate::splits::first_wrong_split;
 use crate::words::gather;
 use invariants::Model;
+use limits::FIRST_TYPE;
 use models::ReplayPart;
 use std::alloc::{AllocError, Global};
 use traces::TraceSet;
@@ -79,25 +80,32 @@ fn follow_traces(
     follow_merges(alloc, model, all.as_mut_slice(), types, &mut counts)
 }
 
-/// Follows the splits over the words of the log, from its first assignment, where the first new id is `first`, and then the merges over all traces.
+/// The first new id of a split of the first assignment of the log.
+fn first_new(traces: &TraceSet) -> u32
+    ensures value { result ≡ length (traces.now).types + FIRST_TYPE }
+    ensures few { result ≤ MAX_PARTITIONS }
+{
+    traces.types().len() as u32 + FIRST_TYPE
+}
+
+/// Follows the splits over the words of the log, from its first assignment, and then the merges over all traces.
 pub fn follow(
     alloc: Global,
     model: &Model,
-    first: u32,
     traces: &TraceSet,
     ids: &mut [u16],
     places: &[usize],
     types: &mut [u16],
 ) -> Result<Replay, AllocError>
     requires shaped { IsWellShaped model.now }
-    requires first { first ≡ length (traces.now).types + FIRST_TYPE }
-    requires few { first ≤ MAX_PARTITIONS }
     requires laid { AreIdsOf (inner_words_of traces.now) ids.old places.now }
     requires below { HaveIdsBelow (length (traces.now).types + FIRST_TYPE) (by_type (inner_words_of traces.now)) }
     requires types_size { length types.old ≡ MAX_PARTITIONS }
     requires types_are { AreOwnPlaces types.old }
-    ensures { IfOk result (IsFollowed model.now (by_type (inner_words_of traces.now)) first) }
+    ensures { IfOk result (IsFollowed model.now (by_type (inner_words_of traces.now))
+        (length (traces.now).types + FIRST_TYPE)) }
 {
+    let first = first_new(traces);
     let mut edges = EdgeRows::make(alloc)?;
     if let Some(k) = first_wrong_split(model, first, ids, types, &mut edges) {
         return Ok(Replay::No(ReplayPart::Split(k)));

@@ -24,7 +24,6 @@ pub use answer::Replay;
 use follow::follow;
 use ids::own_places;
 use invariants::Model;
-use limits::FIRST_TYPE;
 use listing::are_same;
 pub use models::ReplayPart;
 use std::alloc::{AllocError, Global};
@@ -40,14 +39,12 @@ pub fn replay(alloc: Global, model: &Model, traces: &TraceSet) -> Result<Replay,
     if !are_same(model.types.as_slice(), types.as_slice()) {
         return Ok(Replay::No(ReplayPart::Types));
     }
-    let first_new = types.len() as u32 + FIRST_TYPE;
     let mut places = Vec::new(alloc);
     let mut ids = lay_words(alloc, traces, &mut places)?;
     let mut id_types = own_places(alloc)?;
     follow(
         alloc,
         model,
-        first_new,
         traces,
         ids.as_mut_slice(),
         places.as_slice(),

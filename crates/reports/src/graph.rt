@@ -93,7 +93,7 @@ pub fn graph_report(
     ensures { IfOk result (λ text. text ≡ graph_report types.now partitions.now edges.now) }
 {
     let places = by_id(alloc, partitions)?;
-    let names = Names::new(alloc, types)?;
+    let names = Names::make(alloc, types)?;
     let mut text = Vec::new(alloc);
     for edge in edges {
         push_line(&mut text, &names, &places, *edge)?;

@@ -38,7 +38,7 @@ pub fn invariant_report(
 ) -> Result<Seq<u8>, AllocError>
     ensures { IfOk result (λ text. text ≡ invariant_report types.now invs.now) }
 {
-    let names = Names::new(alloc, types)?;
+    let names = Names::make(alloc, types)?;
     let mut text = Vec::new(alloc);
     for inv in invs {
         push_line(&mut text, &names, *inv)?;

@@ -53,7 +53,7 @@ fn quote_all(alloc: Global, types: &Seq<Text>) -> Result<Vec<Text>, AllocError>
 
 impl<'a> Names<'a> {
     /// The names of these types. The one error is want of memory.
-    pub fn new(alloc: Global, types: &'a Seq<Text>) -> Result<Names<'a>, AllocError>
+    pub fn make(alloc: Global, types: &'a Seq<Text>) -> Result<Names<'a>, AllocError>
         ensures { IfOk result (λ names. names ≡ types.now) }
     {
         let quoted = quote_all(alloc, types)?;

@@ -65,7 +65,7 @@ pub fn path_report(alloc: Global, traces: &TraceSet, parts: &[u32]) -> Result<Se
     ensures { IfOk result (λ text. text ≡ path_report traces.now parts.now) }
 {
     let paths = taken_paths(alloc, traces, parts)?;
-    let names = Names::new(alloc, traces.types())?;
+    let names = Names::make(alloc, traces.types())?;
     let mut text = Vec::new(alloc);
     for path in &paths {
         push_line(&mut text, &names, path)?;

@@ -1,11 +1,9 @@
-use Rattle.std.proofs.Common.{◌≡◌, ◌+◌, ℕ, List, length, sym, ◌∙◌, ap, subst, subst₂, arith}
+use Rattle.std.proofs.Common.{ℕ, List, sym, ◌∙◌, subst, subst₂}
 use Rattle.std.proofs.lemmas.Result.{IfOk-weaker}
-use Rattle.partition_model.specs.Assignments.{by_type}
 use Rattle.models.specs.Models.{typed_words}
 use Rattle.replay_check.specs.Laid.{inner_words_of}
 use Rattle.replay_check.specs.Sharing.{AreIdsOf}
 use Rattle.replay_check.specs.Shown.{AreOwnPlaces}
-use Rattle.replay_check.specs.Answers.{IsFollowed}
 use Rattle.replay_check.proofs.Following.{replay-from}
 use Rattle.replay_check.proofs.replay.Goals as goal
 
@@ -19,11 +17,5 @@ follow-requires-clause-types_are c = subst (λ (xs : List ℕ). AreOwnPlaces xs)
 pub returns : goal.returns
 returns c =
     let log = typed_words c.args.model.now.kinds c.args.traces.now in
-    let n : ℕ = c.len.result + 2 in
-    let count : c.len.result ≡ length c.types-types.result.now = omega (arith, c.len.ensures) in
-    let same : length c.types-types.result.now ≡ length c.args.traces.now.types = ap length c.types-types.ensures.value in
-    let e : n ≡ length c.args.traces.now.types + 2 = omega arith in
     let t = sym c.as_slice.ensures ∙ c.are_same.ensures.0 c.if-not-are_same.false ∙ c.as_slice-2.ensures ∙ c.types-types.ensures.value in
-    IfOk-weaker c.follow.result _ _
-    (λ answer f. replay-from c.args.model.now log answer t (subst (λ x. IsFollowed c.args.model.now (by_type (inner_words_of c.args.traces.now)) x answer) e f))
-    c.follow.ensures
+    IfOk-weaker c.follow.result _ _ (λ answer f. replay-from c.args.model.now log answer t f) c.follow.ensures

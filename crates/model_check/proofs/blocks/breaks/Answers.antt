@@ -4,7 +4,7 @@ use Rattle.limits.specs.declared.TheConstants.{INITIAL}
 use Rattle.invariants.specs.Monitors.{step}
 use Rattle.partition_model.specs.Graphs.{Graph, Merged}
 use Rattle.model_check.specs.Rows.{shown}
-use Rattle.model_check.proofs.Breaking.{IsFollowing, begins, following_start, following_more}
+use Rattle.partition_model.proofs.Breaking.{IsFollowing, begins, following_start, following_more}
 use Rattle.model_check.proofs.blocks.breaks.Goals as goal
 
 pub loop-id-init : goal.loop-id-init

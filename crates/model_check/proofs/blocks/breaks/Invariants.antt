@@ -1,7 +1,7 @@
 use Rattle.std.proofs.Common.{◌≤◌, drop}
 use Rattle.partition_model.specs.Graphs.{Merged}
 use Rattle.model_check.specs.Rows.{shown}
-use Rattle.model_check.proofs.Breaking.{IsFollowing}
+use Rattle.partition_model.proofs.Breaking.{IsFollowing}
 use Rattle.model_check.proofs.blocks.breaks.Given as goal
 
 abbrev pub invariant-loop-id : goal.invariant-loop-id

@@ -1,12 +1,13 @@
-use Rattle.std.proofs.Common.{◌≡◌, ◌<◌, ◌+◌, [], ℕ, List, length, get_or, sym, ◌∙◌, ap, subst, arith}
+use Rattle.std.proofs.Common.{◌≡◌, ◌<◌, ◌≤◌, ◌+◌, [], ℕ, List, IfOk, length, get_or, sym, ◌∙◌, ap, subst, arith}
 use Rattle.std.specs.List.{All}
 use Rattle.std.proofs.lemmas.List.{length-map}
 use Rattle.std.proofs.lemmas.Result.{IfOk-weaker}
-use Rattle.limits.specs.declared.TheConstants.{MAX_PARTITIONS}
+use Rattle.limits.specs.declared.TheConstants.{FIRST_TYPE, MAX_PARTITIONS}
 use Rattle.invariants.specs.declared.records.Model.{Model}
 use Rattle.traces.specs.Words.{Trace}
 use Rattle.partition_model.specs.Assignments.{by_type}
-use Rattle.models.specs.Histories.{SplitInTurn, split_by}
+use Rattle.models.specs.Histories.{IsFirstWrongSplit, SplitInTurn, split_by}
+use Rattle.replay_check.specs.Answers.{IsFollowed}
 use Rattle.replay_check.specs.Laid.{inner_words_of}
 use Rattle.replay_check.specs.Sharing.{gathered}
 use Rattle.replay_check.specs.Shown.{Shows}
@@ -20,26 +21,27 @@ use Rattle.replay_check.proofs.follow.follow.Goals as goal
 use Rattle.replay_check.proofs.follow.follow.Goals.{Start}
 
 -- the words that are laid are those of the log
-alike : (c : Start) → AreAlike (by_type c.requires.laid.words) (by_type (inner_words_of c.args.traces.now)) c.args.first
-alike c = laid-alike c.args.first (length c.args.traces.now.types) (inner_words_of c.args.traces.now) c.args.ids.now c.args.places.now c.requires.laid c.requires.first c.requires.below
+alike : (c : Start) (n : ℕ) → n ≡ length c.args.traces.now.types + FIRST_TYPE → AreAlike (by_type c.requires.laid.words) (by_type (inner_words_of c.args.traces.now)) n
+alike c n is = laid-alike n (length c.args.traces.now.types) (inner_words_of c.args.traces.now) c.args.ids.now c.args.places.now c.requires.laid is c.requires.below
 
 -- what is shown of them at first
-shown : (c : Start) → Shows (by_type c.requires.laid.words) c.args.first c.args.ids.now c.args.types.now
-shown c =
-    start-shows c.args.first c.requires.laid.words c.args.ids.now c.args.types.now (alike c).one.high c.requires.few c.requires.laid.laid_are (alike c).one.below c.requires.types_are
+shown : (c : Start) (n : ℕ) → n ≡ length c.args.traces.now.types + FIRST_TYPE → n ≤ MAX_PARTITIONS → Shows (by_type c.requires.laid.words) n c.args.ids.now c.args.types.now
+shown c n is few =
+    start-shows n c.requires.laid.words c.args.ids.now c.args.types.now (alike c n is).one.high few c.requires.laid.laid_are (alike c n is).one.below c.requires.types_are
 
 pub first_wrong_split-requires-clause-within : goal.first_wrong_split-requires-clause-within
 first_wrong_split-requires-clause-within c =
     let s : Start = (goal.at.first_wrong_split-requires-clause-within c).Start in
     subst (λ (xs : List ℕ). All (λ p. p < MAX_PARTITIONS) xs) (sym c.requires.laid.laid_are)
-    (laid-within c.args.first MAX_PARTITIONS (omega arith) c.requires.few (by_type c.requires.laid.words) (alike s).one.below)
+    (laid-within c.first_new-first.result MAX_PARTITIONS (omega arith) c.first_new-first.ensures.few (by_type c.requires.laid.words) (alike s c.first_new-first.result c.first_new-first.ensures.value).one.below)
 
 pub returns-in-Some : goal.returns-in-Some
 returns-in-Some c =
     let s : Start = (goal.at.returns-in-Some c).Start in
     let m : Model = c.args.model.now in
-    alike-wrong m (by_type c.requires.laid.words) (by_type (inner_words_of c.args.traces.now)) c.args.first m.splits c.in-Some.k (shaped-ids m c.requires.shaped) (alike s)
-    (c.in-Some.ensures.first (by_type c.requires.laid.words) (shown s))
+    let inner : List (List ℕ) = inner_words_of c.args.traces.now in
+    subst (λ (n : ℕ). IsFirstWrongSplit m (by_type inner) n m.splits c.in-Some.k) c.first_new-first.ensures.value
+    (alike-wrong m (by_type c.requires.laid.words) (by_type inner) c.first_new-first.result m.splits c.in-Some.k (shaped-ids m c.requires.shaped) (alike s c.first_new-first.result c.first_new-first.ensures.value) (c.in-Some.ensures.first (by_type c.requires.laid.words) (shown s c.first_new-first.result c.first_new-first.ensures.value c.first_new-first.ensures.few)))
 
 pub follow_traces-requires-clause-count : goal.follow_traces-requires-clause-count
 follow_traces-requires-clause-count c =
@@ -56,12 +58,12 @@ pub follow_traces-requires-clause-within : goal.follow_traces-requires-clause-wi
 follow_traces-requires-clause-within c =
     let s : Start = (goal.at.follow_traces-requires-clause-within c).Start in
     let m : Model = c.args.model.now in
-    let n : ℕ = c.args.first in
+    let n : ℕ = c.first_new-first.result in
     let words : List (List ℕ) = c.requires.laid.words in
     let inner : List (List ℕ) = inner_words_of c.args.traces.now in
-    let o = c.in_default.ensures.first (by_type words) (shown s) in
+    let o = c.in_default.ensures.first (by_type words) (shown s c.first_new-first.result c.first_new-first.ensures.value c.first_new-first.ensures.few) in
     let w : Shows (split_by n m.splits (by_type inner)) (n + length m.splits) (gathered c.first_wrong_split.new.ids c.args.places.now inner) c.first_wrong_split.new.types =
-    spread-shows n m.splits words inner c.first_wrong_split.new.ids c.args.places.now c.first_wrong_split.new.types c.requires.laid.placed (alike s) o.2 in
+    spread-shows n m.splits words inner c.first_wrong_split.new.ids c.args.places.now c.first_wrong_split.new.types c.requires.laid.placed (alike s c.first_new-first.result c.first_new-first.ensures.value) o.2 in
     subst (λ (xs : List ℕ). All (λ p. p < MAX_PARTITIONS) xs) (sym w.ids_are)
     (laid-within (n + length m.splits) MAX_PARTITIONS (omega arith) o.1 (split_by n m.splits (by_type inner)) w.below)
 
@@ -69,13 +71,12 @@ pub returns : goal.returns
 returns c =
     let s : Start = (goal.at.returns c).Start in
     let m : Model = c.args.model.now in
-    let n : ℕ = c.args.first in
+    let n : ℕ = c.first_new-first.result in
     let words : List (List ℕ) = c.requires.laid.words in
     let inner : List (List ℕ) = inner_words_of c.args.traces.now in
-    let o = c.in_default.ensures.first (by_type words) (shown s) in
+    let o = c.in_default.ensures.first (by_type words) (shown s c.first_new-first.result c.first_new-first.ensures.value c.first_new-first.ensures.few) in
     let w : Shows (split_by n m.splits (by_type inner)) (n + length m.splits) (gathered c.first_wrong_split.new.ids c.args.places.now inner) c.first_wrong_split.new.types =
-    spread-shows n m.splits words inner c.first_wrong_split.new.ids c.args.places.now c.first_wrong_split.new.types c.requires.laid.placed (alike s) o.2 in
-    let turns : SplitInTurn m (by_type inner) n m.splits = alike-all m (by_type words) (by_type inner) n m.splits (shaped-ids m c.requires.shaped) (alike s) o.0 in
-    IfOk-weaker c.follow_traces.result _ _
-    (λ answer merged. followed-from m (by_type inner) n answer turns (merged (split_by n m.splits (by_type inner)) (n + length m.splits) w o.1))
-    c.follow_traces.ensures
+    spread-shows n m.splits words inner c.first_wrong_split.new.ids c.args.places.now c.first_wrong_split.new.types c.requires.laid.placed (alike s c.first_new-first.result c.first_new-first.ensures.value) o.2 in
+    let turns : SplitInTurn m (by_type inner) n m.splits = alike-all m (by_type words) (by_type inner) n m.splits (shaped-ids m c.requires.shaped) (alike s c.first_new-first.result c.first_new-first.ensures.value) o.0 in
+    subst (λ (x : ℕ). IfOk c.follow_traces.result (IsFollowed m (by_type inner) x)) c.first_new-first.ensures.value
+    (IfOk-weaker c.follow_traces.result _ _ (λ answer merged. followed-from m (by_type inner) n answer turns (merged (split_by n m.splits (by_type inner)) (n + length m.splits) w o.1)) c.follow_traces.ensures)

@@ -1,4 +1,4 @@
-use Rattle.replay_check.proofs.Listed.{edges_more}
+use Rattle.partition_model.proofs.OneMore.{edges_more}
 use Rattle.replay_check.proofs.graph.edges_of.Goals as goal
 
 pub loop-p-preserved : goal.loop-p-preserved

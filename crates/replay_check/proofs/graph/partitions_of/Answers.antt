@@ -1,6 +1,6 @@
 use Rattle.std.proofs.Common.{◌<◌, sym, ◌∙◌, arith}
 use Rattle.limits.specs.declared.TheConstants.{MAX_PARTITIONS}
-use Rattle.replay_check.proofs.Listed.{live_more, dead_more}
+use Rattle.partition_model.proofs.OneMore.{live_more, dead_more}
 use Rattle.replay_check.proofs.graph.partitions_of.Goals as goal
 use Rattle.replay_check.proofs.graph.partitions_of.Goals.{then-live-p+in_ok-push, else-live-p}
 

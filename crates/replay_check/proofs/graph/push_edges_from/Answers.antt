@@ -1,5 +1,5 @@
 use Rattle.std.proofs.Common.{◌∙◌, arith}
-use Rattle.replay_check.proofs.Listed.{edge_more, no_edge_more}
+use Rattle.partition_model.proofs.OneMore.{edge_more, no_edge_more}
 use Rattle.replay_check.proofs.graph.push_edges_from.Goals as goal
 use Rattle.replay_check.proofs.graph.push_edges_from.Goals.{then-count-gt0+in_ok-push, else-count-gt0}
 

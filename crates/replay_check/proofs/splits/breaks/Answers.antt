@@ -6,7 +6,7 @@ use Rattle.limits.specs.declared.TheConstants.{INITIAL, MAX_PARTITIONS}
 use Rattle.invariants.specs.Monitors.{step}
 use Rattle.partition_model.specs.Graphs.{Graph}
 use Rattle.replay_check.specs.Shown.{graph_in}
-use Rattle.replay_check.proofs.Breaking.{IsFollowing, begins, following_start, following_more}
+use Rattle.partition_model.proofs.Breaking.{IsFollowing, begins, following_start, following_more}
 use Rattle.replay_check.proofs.splits.breaks.Goals as goal
 
 pub loop-id-init : goal.loop-id-init

@@ -1,7 +1,7 @@
 use Rattle.std.proofs.Common.{◌≤◌, ◌<◌, drop}
 use Rattle.limits.specs.declared.TheConstants.{MAX_PARTITIONS}
 use Rattle.replay_check.specs.Shown.{graph_in}
-use Rattle.replay_check.proofs.Breaking.{IsFollowing}
+use Rattle.partition_model.proofs.Breaking.{IsFollowing}
 use Rattle.replay_check.proofs.splits.breaks.Given as goal
 
 abbrev pub invariant-loop-id : goal.invariant-loop-id
