@@ -21,7 +21,7 @@ def decoded(word):
     return word.replace("%", "").replace("~", "\n").replace("^", "\r").replace("_", " ")
 
 
-def mark(data):
+def checksum(data):
     """A number that tells long texts apart."""
     number = 7
     for byte in data:
@@ -30,9 +30,9 @@ def mark(data):
 
 
 def shown(data):
-    """Bytes: the text of a few, and of more how many they are, and their mark."""
+    """Bytes: the text of a few, and of more how many they are, and their checksum."""
     if len(data) > 99:
-        return "%d bytes, %d" % (len(data), mark(data))
+        return "%d bytes, %d" % (len(data), checksum(data))
     return quoted(data.decode())
 
 
@@ -74,7 +74,7 @@ def made(parts):
         lines += ["%d %s\n" % (session, call) for call in ["open"] + calls + sync + ["close"]]
     text = "".join(lines)
     ends = quoted(text[:size]), quoted(text[-size:] if size else "")
-    return ["%d lines, %s %s %d" % ((len(lines),) + ends + (mark(text.encode()),))]
+    return ["%d lines, %s %s %d" % ((len(lines),) + ends + (checksum(text.encode()),))]
 
 
 # Candidates and monitors. An invariant is its kind and two numbers of types.
@@ -385,7 +385,7 @@ def called(inputs, steps):
         elif verb == "make":
             data = bytes(place % 251 for place in range(int(number)))
             inputs.files[name] = data
-            lines.append("true %d" % mark(data))
+            lines.append("true %d" % checksum(data))
         else:
             del inputs.files[name]
             lines.append("true")

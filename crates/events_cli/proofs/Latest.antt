@@ -3,7 +3,7 @@ use Rattle.std.proofs.Common.{◌≡◌, ℕ, suc, ◌+◌, ◌<◌, ◌≤◌, 
 use Rattle.std.specs.Prelude.{if◌then◌else◌}
 use Rattle.std.specs.Option.{option_or}
 use Rattle.std.proofs.Math.Seq.{drop-cons}
-use Rattle.std.proofs.lemmas.List.{drop_all, take_more}
+use Rattle.std.proofs.lemmas.List.{take_more}
 use Rattle.std.proofs.lemmas.Bool.{cond-true, cond-false}
 use Rattle.std.proofs.lemmas.Bool.Decides.{nat_tests}
 use Rattle.events.specs.declared.located.Located.{Located}
@@ -104,7 +104,3 @@ faults-hit types events i d fault in-events some =
     let e = get_or events i d in
     ap (faults_after types (take i events)) (drop-cons events i d in-events)
     ∙ ap (λ (o : Option PlainFault). option_or o (faults_after types (take i events ++ e ∷ []) (drop (suc i) events))) some
-
--- behind all events there is none
-pub faults-end : (types : List (List ℕ)) (events : List Located) (i : ℕ) → length events ≤ i → faults_after types (take i events) (drop i events) ≡ None
-faults-end types events i all = ap (faults_after types (take i events)) (drop_all i events all)

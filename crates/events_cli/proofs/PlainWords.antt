@@ -12,8 +12,8 @@ use Rattle.std.specs.List.{AllByRecursion, fold, list_all, list_any, position_or
 use Rattle.std.specs.Option.{option_or}
 use Rattle.std.specs.Str.{IsUtf8, bytes_eq}
 use Rattle.limits.specs.declared.TheConstants.{FIRST_TYPE, INITIAL, TERMINAL}
-use Rattle.key_table.proofs.Keys.{any-stands, key-at, same_key-refl, same_key-≡}
-use Rattle.key_table.proofs.Positions.{position-hit, position-le, position-miss}
+use Rattle.trace_keys.proofs.Keys.{any-stands, key-at, same_key-refl, same_key-≡}
+use Rattle.trace_keys.proofs.Positions.{position-hit, position-le, position-miss}
 use Rattle.traces.specs.Words.{AreApart, AreOrderedBy, Event, Key, events_of_key, first_met, in_time, keys_of, log_of, number_of, same_key, trace_of, types_of, with_new, word_of, words_of}
 use Rattle.traces.proofs.FirstMet.{keys-first_met, types-first_met}
 use Rattle.traces.proofs.Timed.{in_time-still, ordered_by-still}

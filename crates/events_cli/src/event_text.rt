@@ -18,6 +18,17 @@ use traces::TraceSet;
 /// How many parts a time has in the unit of the log.
 const PARTS: u128 = 1_000_000_000;
 
+/// A log whose events are reported: what their lines have in common.
+#[derive(Clone, Copy)]
+struct ReportedLog<'a, 't> {
+    task: &'a Task<'t>,
+    traces: &'a TraceSet,
+    /// The names of the types of the log.
+    names: &'a Names<'a>,
+    /// Whether the lines have a column of times.
+    timed: bool,
+}
+
 /// Puts the text at the end, as a JSON string.
 pub fn push_quoted(alloc: Global, all: &mut Vec<u8>, text: &str) -> Result<(), AllocError>
     ensures { OnOk result (all.new.items ≡ all.old.items ++ quoted text.now) }
@@ -95,18 +106,16 @@ fn push_where(all: &mut Vec<u8>, task: &Task<'_>, event: &Located) -> Result<(),
 fn push_what(
     alloc: Global,
     all: &mut Vec<u8>,
-    traces: &TraceSet,
-    names: &Names<'_>,
-    timed: bool,
+    log: &ReportedLog<'_, '_>,
     event: &Located,
 ) -> Result<(), AllocError>
-    ensures { OnOk result (all.new.items
-        ≡ all.old.items ++ what_part (traces.now).traces names.now timed event.now) }
+    ensures { OnOk result (all.new.items ≡ all.old.items
+        ++ what_part (log.now.traces.now).traces log.now.names.now log.now.timed event.now) }
 {
-    push_trace(alloc, all, traces, event.trace)?;
+    push_trace(alloc, all, log.traces, event.trace)?;
     all.extend_from_slice(b"\t")?;
-    names.push_name(all, event.number)?;
-    push_time_column(all, timed, event.time)?;
+    log.names.push_name(all, event.number)?;
+    push_time_column(all, log.timed, event.time)?;
     all.extend_from_slice(b"\n")
 }
 
@@ -114,18 +123,15 @@ fn push_what(
 fn push_event(
     alloc: Global,
     all: &mut Vec<u8>,
-    task: &Task<'_>,
-    traces: &TraceSet,
-    names: &Names<'_>,
-    timed: bool,
+    log: &ReportedLog<'_, '_>,
     event: &Located,
 ) -> Result<(), AllocError>
-    requires { names.now ≡ (traces.now).types }
-    ensures { OnOk result (all.new.items
-        ≡ all.old.items ++ event_line (task_held task.now) traces.now timed event.now) }
+    requires { log.now.names.now ≡ (log.now.traces.now).types }
+    ensures { OnOk result (all.new.items ≡ all.old.items
+        ++ event_line (task_held log.now.task.now) log.now.traces.now log.now.timed event.now) }
 {
-    push_where(all, task, event)?;
-    push_what(alloc, all, traces, names, timed, event)?;
+    push_where(all, log.task, event)?;
+    push_what(alloc, all, log, event)?;
     Ok(())
 }
 
@@ -145,11 +151,16 @@ pub fn event_report(
 ) -> Result<Seq<u8>, AllocError>
     ensures { IfOk result (λ text. text ≡ event_report (task_held task.now) traces.now events.now) }
 {
-    let names = Names::new(alloc, traces.types())?;
-    let timed = have_times(events);
+    let names = Names::make(alloc, traces.types())?;
+    let log = ReportedLog {
+        task,
+        traces,
+        names: &names,
+        timed: have_times(events),
+    };
     let mut all = Vec::new(alloc);
     for event in events {
-        push_event(alloc, &mut all, task, traces, &names, timed, event)?;
+        push_event(alloc, &mut all, &log, event)?;
     }
     Ok(Seq::from_vec(all))
 }

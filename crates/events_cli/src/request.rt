@@ -8,6 +8,15 @@ use crate::mode::{Mode, lists_undecided, mode_of, others};
 use command_line::{ParseError, Task, parse};
 use std::alloc::{AllocError, Global};
 
+/// What the words ask for.
+#[derive(Clone, Copy)]
+pub struct Asked<'a> {
+    /// What is to be written of the log.
+    pub mode: Mode,
+    /// The words that `synoptic` would be given.
+    pub given: &'a [String],
+}
+
 /// Puts copies of the words at the end.
 fn push_words(alloc: Global, all: &mut Vec<String>, words: &[String]) -> Result<(), AllocError>
     ensures { OnOk result (map string_bytes all.new.items

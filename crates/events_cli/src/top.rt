@@ -18,7 +18,7 @@ use crate::answer::{Answer, Halt};
 use crate::ending::Ending;
 use crate::message::tell;
 use crate::mode::{Mode, mode_of};
-use crate::request::{given_words, task_for};
+use crate::request::{Asked, given_words, task_for};
 use crate::rules::read_form;
 use crate::show::show;
 use command_line::{ParseError, Task};
@@ -129,19 +129,18 @@ fn ending_without_task(error: ParseError) -> Ending
     }
 }
 
-/// Does what the words ask, where these are the words that `synoptic` would be given, and writes a message where it refuses.
+/// Does what is asked, and writes a message where it refuses.
 fn run_given<I: Inputs, P: Patterns, O: Sink, E: ErrorStream>(
     alloc: Global,
-    mode: Mode,
-    given: &[String],
+    asked: Asked<'_>,
     inputs: &mut I,
     patterns: &mut P,
     out: &mut O,
     err: &mut E,
 ) -> Ending
-    // What the ending says, for all words of this mode that give these.
-    ensures cause { (words : List (List ℕ)) → mode_of words ≡ mode
-        → given_words words ≡ map string_bytes given.now
+    // What the ending says, for all words that ask for this.
+    ensures cause { (words : List (List ℕ)) → mode_of words ≡ asked.entry.mode
+        → given_words words ≡ map string_bytes asked.entry.given.now
         → HasCause result words
         (world (I.state inputs.old) (P.state patterns.old) (O.state out.old))
         (world (I.state inputs.new) (P.state patterns.new) (O.state out.new)) }
@@ -155,13 +154,13 @@ fn run_given<I: Inputs, P: Patterns, O: Sink, E: ErrorStream>(
         (world (I.state inputs.new) (P.state patterns.new) (O.state out.new)) }
 
     // Which inputs were opened, and what is told of the ending.
-    ensures turn { OpensFirst (names_of (map string_bytes given.now))
+    ensures turn { OpensFirst (names_of (map string_bytes asked.entry.given.now))
         (I.state inputs.old) (I.state inputs.new) }
-    ensures told { (words : List (List ℕ)) → mode_of words ≡ mode
-        → given_words words ≡ map string_bytes given.now
+    ensures told { (words : List (List ℕ)) → mode_of words ≡ asked.entry.mode
+        → given_words words ≡ map string_bytes asked.entry.given.now
         → Tells (message_of words result) (E.heard err.old) (E.heard err.new) }
 {
-    let task = match task_for(alloc, mode, given) {
+    let task = match task_for(alloc, asked.mode, asked.given) {
         Ok(task) => task,
         Err(error) => {
             let ending = ending_without_task(error);
@@ -169,7 +168,7 @@ fn run_given<I: Inputs, P: Patterns, O: Sink, E: ErrorStream>(
             return ending;
         }
     };
-    let ending = answer(alloc, mode, &task, inputs, patterns, out);
+    let ending = answer(alloc, asked.mode, &task, inputs, patterns, out);
     tell(Some(&task), ending, err);
     ending
 }
@@ -234,5 +233,9 @@ pub fn run<I: Inputs, P: Patterns, O: Sink, E: ErrorStream>(
             return ending;
         }
     };
-    run_given(alloc, mode_of(words), &given, inputs, patterns, out, err)
+    let asked = Asked {
+        mode: mode_of(words),
+        given: &given,
+    };
+    run_given(alloc, asked, inputs, patterns, out, err)
 }

@@ -1,14 +1,12 @@
 -- What a bench tells of a made log.
-use Rattle.std.proofs.Common.{◌≡◌, ℕ, List, Ok, ap, sym, subst, ◌∙◌}
+use Rattle.std.proofs.Common.{◌≡◌, ℕ, List, Ok, ap, subst, ◌∙◌}
 use Rattle.traces.specs.Words.{Log}
 use Rattle.invariants.specs.declared.Kinds.{Kinds}
 use Rattle.invariants.specs.declared.Kinds.TheVariants.{Three}
 use Rattle.invariants.specs.declared.records.Model.{Model}
 use Rattle.models.specs.Models.{typed_words}
 use Rattle.models.specs.Checks.{IsValid}
-use Rattle.models.specs.Laws.{FirstPartFails}
-use Rattle.models.specs.declared.parts.Part.{Part}
-use Rattle.model_check.specs.declared.verdict.Verdict.TheVariants.{Yes, No}
+use Rattle.model_check.specs.declared.verdict.Verdict.TheVariants.{Yes}
 use Rattle.model_file.specs.Reading.{reads}
 use Rattle.synoptic_cli.specs.declared.answer.Answer.{Answer}
 use Rattle.synoptic_cli.specs.Commands.Answered.{done}
@@ -34,11 +32,3 @@ run-told log file read text written checked said =
       promises = written.promises;
       value = ap done (said ∙ ap (summary log) same);
     }
-
--- and no other verdict comes of it
-pub run-is-valid : FirstPartFails → (log : Log) (file : Answer) (read : Model) (part : Part) → WritesModel (typed_words Three log) file → IsChecked file.text (typed_words read.kinds log) read (No part) → ⊥
-run-is-valid fails log file read part written checked =
-    let m = written.model in
-    let same : read ≡ m = same-model file.text read m checked.model written.reads_back in
-    let here : IsValid m (typed_words m.kinds log) = subst (λ (kinds : Kinds). IsValid m (typed_words kinds log)) (sym written.inferred.kinds) written.valid in
-    fails read (typed_words read.kinds log) part checked.verdict (subst (λ (x : Model). IsValid x (typed_words x.kinds log)) (sym same) here)

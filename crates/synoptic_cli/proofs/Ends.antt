@@ -1,13 +1,12 @@
 -- What a task reads, and why a run ends where its log is refused.
-use Rattle.std.proofs.Common.{◌≡◌, ◌∙◌, ◌⊎◌, ◌+◌, ◌≤◌, ℕ, Bool, List, [], ◌∷◌, length, sym, ap, subst, ⊎_elim, inl, inr, arith, Option, None, Some, Err, IsTrue, slice_get, refl}
+use Rattle.std.proofs.Common.{◌≡◌, ◌∙◌, ◌⊎◌, ◌+◌, ◌≤◌, ℕ, Bool, List, [], ◌∷◌, length, sym, ap, subst, ⊎_elim, inl, inr, arith, Option, None, Some, Err, IsTrue, slice_get, take, refl}
 use Rattle.std.specs.Prelude.{IsSome}
 use Rattle.std.specs.Option.{IsSomeAnd}
 use Rattle.outside.specs.Inputs.{Files, InputState, Stays}
 use Rattle.outside.specs.Turns.{OpensFirst}
-use Rattle.limits.specs.declared.TheConstants.{MAX_INPUT_BYTES}
 use Rattle.line_rules.specs.Patterns.{PatternsState}
 use Rattle.log_reader.specs.Reading.{Setting}
-use Rattle.log_reader.specs.Inputs.{StopsAnywhere as LogAnywhere, RefusesLog, Fails as LogFails, IsMissing as LogMissing, IsLacking, HasReadCause, StopsBefore, StopsWithin, inputs_of}
+use Rattle.log_reader.specs.Inputs.{StopsAnywhere as LogAnywhere, RefusesLog, Fails as LogFails, IsMissing as LogMissing, IsLacking, HasReadCause, LeavesRoom, StopsBefore, StopsWithin, inputs_of}
 use Rattle.log_reader.specs.declared.refusal.ReadError.{ReadError}
 use Rattle.log_reader.specs.declared.refusal.ReadError.TheVariants as refused
 use Rattle.command_line.specs.Task.{Task, task_of}
@@ -42,12 +41,16 @@ pub record Before (task : Task) (s : Setting) (old mid : InputState) : Type 0 wh
   pub alike : AreReadAlike s (setting_by so_far task.ignore task.join)
   pub log : log_stages task ≡ LogFiles (inputs_of task.files) task.ignore task.join ∷ []
 
+-- the room for a file of the log, from before the first stage on
+room-since : (task : Task) (number room : ℕ) (old mid : InputState) → Stays old mid → LeavesRoom mid.files (take number (inputs_of task.files)) room → LeavesRoom old.files (take number (inputs_of task.files)) room
+room-since task number room old mid stays before = subst (λ (files : Option Files). LeavesRoom files (take number (inputs_of task.files)) room) stays.files before
+
 -- the file at which reading stopped is open
-open-within : (o : Option (List ℕ)) (count number : ℕ) (old mid new : InputState) → ReadAll count old mid → Stays old mid → IsSomeAnd o (StopsWithin number mid new)
-    → IsSomeAnd o (LeavesOpen (count + number) MAX_INPUT_BYTES old new)
-open-within None count number old mid new read stays within = absurd within
-open-within (Some name) count number old mid new read stays within =
-    open-through count number MAX_INPUT_BYTES old mid new name read stays (record { opens = within.opens; mark = within.mark; left = within.left })
+open-within : (task : Task) (o : Option (List ℕ)) (number : ℕ) (old mid new : InputState) → ReadAll (input_count (first_stages task)) old mid → Stays old mid
+    → IsSomeAnd o (StopsWithin (inputs_of task.files) number mid new) → IsSomeAnd o (LeavesOpen task (sources.Log number) old new)
+open-within task None number old mid new read stays within = absurd within
+open-within task (Some name) number old mid new read stays within =
+    open-through task (sources.Log number) (input_count (first_stages task)) number within.room old mid new name read stays refl (room-since task number within.room old mid stays within.before) within.opens within.mark within.left
 
 -- the log is refused
 refuses : (task : Task) (s : Setting) (old new : World) (mid : InputState) (e : ReadError) → Before task s old.inputs mid → new.out ≡ old.out
@@ -67,7 +70,7 @@ refuses task s old new mid e before silent refusal =
         silent = silent;
       };
       number = refusal.number;
-      within = open-within (slice_get (inputs_of task.files) refusal.number) (input_count (first_stages task)) refusal.number old.inputs mid new.inputs before.read.inputs before.stays refusal.stops;
+      within = open-within task (slice_get (inputs_of task.files) refusal.number) refusal.number old.inputs mid new.inputs before.read.inputs before.stays refusal.stops;
     }
 
 -- a file of the log is not there
@@ -95,13 +98,15 @@ fails task s old new mid number before silent cause =
           ⊎_elim
           (λ (failed : LogFails (inputs_of task.files) mid new.inputs number).
           inl (record {
-            rose = rose-since old.inputs.faults mid.faults new.inputs.faults before.stays.faults failed.0.0;
-            may_fail = subst (λ (may_fail : List ℕ → Bool). IsSomeAnd (slice_get (inputs_of task.files) number) (λ name. IsTrue (may_fail name))) before.stays.may_fail failed.0.1;
+            rose = rose-since old.inputs.faults mid.faults new.inputs.faults before.stays.faults failed.fault.0;
+            may_fail = subst (λ (may_fail : List ℕ → Bool). IsSomeAnd (slice_get (inputs_of task.files) number) (λ name. IsTrue (may_fail name))) before.stays.may_fail failed.fault.1;
+            room = failed.room;
+            is_room = room-since task number failed.room old.inputs mid before.stays failed.before;
             opened =
                 ⊎_elim (λ (none : StopsBefore number mid new.inputs). inl (stops-through count number old.inputs mid new.inputs before.read.inputs none))
-                (λ (within : IsSomeAnd (slice_get (inputs_of task.files) number) (StopsWithin number mid new.inputs)).
-                inr (open-within (slice_get (inputs_of task.files) number) count number old.inputs mid new.inputs before.read.inputs before.stays within))
-                failed.1;
+                (λ (within : IsSomeAnd (slice_get (inputs_of task.files) number) (StopsWithin (inputs_of task.files) number mid new.inputs)).
+                inr (open-within task (slice_get (inputs_of task.files) number) number old.inputs mid new.inputs before.read.inputs before.stays within))
+                failed.stops;
           }))
           (λ (missing : LogMissing s (inputs_of task.files) mid new.inputs number).
           inr (record {
@@ -125,8 +130,8 @@ stops-anywhere task s old mid new before cause =
     let count = input_count (first_stages task) in
     ⊎_elim
     (λ (same : new ≡ mid). inl (count, omega (arith, inputs-are task s old mid before), subst (λ (t : InputState). ReadAll count old t) (sym same) before.read.inputs))
-    (λ (within : (number : ℕ) × IsSomeAnd (slice_get (inputs_of task.files) number) (StopsWithin number mid new)).
-    inr (sources.Log within.0, open-within (slice_get (inputs_of task.files) within.0) count within.0 old mid new before.read.inputs before.stays within.1))
+    (λ (within : (number : ℕ) × IsSomeAnd (slice_get (inputs_of task.files) number) (StopsWithin (inputs_of task.files) number mid new)).
+    inr (sources.Log within.0, open-within task (slice_get (inputs_of task.files) within.0) within.0 old mid new before.read.inputs before.stays within.1))
     cause
 
 -- the run ends by the refusal of its log

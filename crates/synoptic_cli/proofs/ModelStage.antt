@@ -195,13 +195,14 @@ one-more task name named =
     omega (arith, one, input_count-append (rules_stages task) (model_stages task), input_count-append (first_stages task) (log_stages task))
 
 -- the model's file is open
-stays-open : (task : Task) (name : List ℕ) (count : ℕ) (old mid new : InputState) → ReadAll count old mid → Stays old mid → task.model ≡ Some name → OpensNamed mid new name (max_bytes (version_of task.command))
-    → IsSomeAnd task.model (LeavesOpen count (max_bytes (version_of task.command)) old new)
-stays-open task name count old mid new read stays named within =
-    let most = max_bytes (version_of task.command) in
-    let here : LeavesOpen 0 most mid new name = record { opens = within.opens; mark = within.mark; left = within.left } in
-    subst (λ (w : Option (List ℕ)). IsSomeAnd w (LeavesOpen count most old new)) (sym named)
-    (subst (λ (n : ℕ). LeavesOpen n most old new name) (omega arith) (open-through count 0 most old mid new name read stays here))
+stays-open : (task : Task) (name : List ℕ) (old mid new : InputState) → ReadAll (input_count (rules_stages task)) old mid → Stays old mid → task.model ≡ Some name → OpensNamed mid new name (max_bytes (version_of task.command))
+    → IsSomeAnd task.model (LeavesOpen task sources.ModelFile old new)
+stays-open task name old mid new read stays named within =
+    let count = input_count (rules_stages task) in
+    let same : count + 0 ≡ count = omega arith in
+    let here : LeavesOpen task sources.ModelFile old new name =
+    open-through task sources.ModelFile count 0 (max_bytes (version_of task.command)) old mid new name read stays same refl within.opens within.mark within.left in
+    subst (λ (w : Option (List ℕ)). IsSomeAnd w (LeavesOpen task sources.ModelFile old new)) (sym named) here
 
 -- the run ends so where the model's file gives none
 model-ends : (task : Task) (name : List ℕ) (old mid new : InputState) (before after : PatternsState) (halt : ModelHalt) → BeforeModel task name old mid → ModelHalts (version_of task.command) mid new name halt
@@ -227,11 +228,13 @@ model-ends task name old mid new before after halts.Fault here cause = λ words 
         inl (record {
           rose = rose-since old.faults mid.faults new.faults here.stays.faults cause.0;
           may_fail = subst (λ (w : Option (List ℕ)). IsSomeAnd w (λ n. IsTrue (old.may_fail n))) (sym here.named) (subst (λ (may_fail : List ℕ → Bool). IsTrue (may_fail name)) here.stays.may_fail cause.1);
+          room = max_bytes (version_of task.command);
+          is_room = refl;
           opened =
               ⊎_elim
               (λ (none : OpensNone mid new). inl (subst (λ (n : ℕ). StopsBefore n old new) (omega arith) (stops-through (input_count (rules_stages task)) 0 old mid new here.read.inputs (record { opens = none.opens; closed = none.closed }))))
               (λ (named : OpensNamed mid new name (max_bytes (version_of task.command))).
-              inr (stays-open task name (input_count (rules_stages task)) old mid new here.read.inputs here.stays here.named named))
+              inr (stays-open task name old mid new here.read.inputs here.stays here.named named))
               cause.2;
         });
     silent = refl;
@@ -250,7 +253,7 @@ model-ends task name old mid new before after (halts.Refused e) here cause = λ 
 )
 model-ends task name old mid new before after halts.Memory here cause =
     memory-ends task old new before after (omega (arith, cause.opens, read-most (input_count (rules_stages task)) old mid here.read.inputs, one-more task name here.named))
-    (inr (sources.ModelFile, stays-open task name (input_count (rules_stages task)) old mid new here.read.inputs here.stays here.named cause))
+    (inr (sources.ModelFile, stays-open task name old mid new here.read.inputs here.stays here.named cause))
 
 -- the same over what the task has
 model-ends-of : (task : Task) (w : Option (List ℕ)) (old mid new : InputState) (before after : PatternsState) (halt : ModelHalt) → task.model ≡ w → ((name : List ℕ) → task.model ≡ Some name → BeforeModel task name old mid)

@@ -1,11 +1,11 @@
 -- The file of rules: what was read of it, and how a run ends by its refusal.
-use Rattle.std.proofs.Common.{◌≡◌, ◌≢◌, ℕ, ◌+◌, ◌<◌, ◌≤◌, ◌⊎◌, List, [], ◌∷◌, ◌++◌, length, take, drop, take-append-drop, nat_lt, true, sym, ap, ◌∙◌, subst, ⊎_elim, inl, inr, arith, Option, Some, None, Result, Ok, Err, take_all, length-take, refl}
+use Rattle.std.proofs.Common.{◌≡◌, ◌≢◌, ℕ, ◌+◌, ◌<◌, ◌≤◌, ◌⊎◌, List, [], ◌∷◌, ◌++◌, length, take, drop, take-append-drop, nat_lt, true, sym, ap, ◌∙◌, subst, ⊎_elim, inl, inr, arith, Option, Some, None, Result, Ok, Err, IsTrue, take_all, length-take, refl}
 use Rattle.std.proofs.lemmas.Bool.{cond-true, cases_lt}
 use Rattle.std.proofs.lemmas.Bool.Decides.{nat_tests}
 use Rattle.std.specs.Option.{IsSomeAnd, option_map_or}
-use Rattle.outside.specs.Inputs.{Files, InputState}
+use Rattle.outside.specs.Inputs.{Files, InputState, Lacks}
 use Rattle.std.specs.Io.KnownBytes.{Consumes}
-use Rattle.outside.specs.Reading.{IfTold, InputGives, LosesFront, OpensNamed, ReadsInput}
+use Rattle.outside.specs.Reading.{IfTold, InputGives, LosesFront, OpensNamed, OpensNone, ReadsInput}
 use Rattle.outside.specs.declared.reading.InputError.{InputError}
 use Rattle.outside.specs.declared.reading.InputError.TheVariants as input_error
 use Rattle.line_rules.specs.Rules.{Rule, AreAlike}
@@ -16,13 +16,14 @@ use Rattle.line_rules.specs.Files.{rules_of, AreRead, IsBuilt, IsRefused}
 use Rattle.line_rules.specs.declared.line_rules.RuleError.{RuleError}
 use Rattle.line_rules.specs.declared.line_rules.RuleError.TheVariants as refused
 use Rattle.model_file.specs.declared.version.Version.{Version}
+use Rattle.log_reader.specs.Inputs.{with_content}
 use Rattle.log_reader.specs.Reading as form
 use Rattle.command_line.specs.Task.{Task}
 use Rattle.synoptic_cli.specs.Task.{file_stage, input_count, log_stages, model_stages, rules_name, RulesFile, stages_of}
-use Rattle.synoptic_cli.specs.Stages.{SoFar, and_then, reads, with_rules}
-use Rattle.synoptic_cli.specs.Endings.{IsTold}
+use Rattle.synoptic_cli.specs.Stages.{SoFar, and_then, at_start, reads, reads_rules, stop_after, with_rules}
+use Rattle.synoptic_cli.specs.Endings.{IsFirstLacking, IsTold, told_stages}
 use Rattle.synoptic_cli.specs.Causes.{LeavesOpen, RefusesRules, StopsAnywhere, StopsSomewhere, world}
-use Rattle.synoptic_cli.specs.declared.status.Status.TheVariants.{Expressions, Memory}
+use Rattle.synoptic_cli.specs.declared.status.Status.TheVariants.{Expressions, Memory, ReadFault}
 use Rattle.synoptic_cli.specs.declared.status.Source.TheVariants as sources
 use Rattle.synoptic_cli.specs.declared.stages.SoFar as rust
 use Rattle.synoptic_cli.specs.Halts.{rules_answer, Ends, EndsByRules, HasRead, IsOfRules, Reads, ReadsRules}
@@ -136,17 +137,81 @@ one-input : (task : Task) (name : List ℕ) → rules_name task.form ≡ Some na
 one-input task name is =
     subst (λ (w : Option (List ℕ)). 1 ≤ input_count ((file_stage RulesFile w ++ model_stages task) ++ log_stages task)) (sym is) (omega arith)
 
+-- the file of rules is open
+rules-open : (task : Task) (old new : InputState) (name : List ℕ) → rules_name task.form ≡ Some name → OpensNamed old new name 65536 → IsSomeAnd (rules_name task.form) (LeavesOpen task sources.Expressions old new)
+rules-open task old new name is named =
+    let here : LeavesOpen task sources.Expressions old new name = record { opens = named.opens; mark = named.mark; room = 65536; is_room = refl; left = named.left } in
+    subst (λ (w : Option (List ℕ)). IsSomeAnd w (LeavesOpen task sources.Expressions old new)) (sym is) here
+
 -- where memory was wanted at the file of rules, each task with this file ends by that
 pub memory-by-rules : (old new : InputState) (before after : PatternsState) (name : List ℕ) → OpensNamed old new name 65536 → EndsByRules Memory name old new before after
 memory-by-rules old new before after name named = λ task is.
-    let here : LeavesOpen 0 65536 old new name = record { opens = named.opens; mark = named.mark; left = named.left } in
-    memory-ends task old new before after (omega (arith, named.opens, one-input task name is)) (inr (sources.Expressions, subst (λ (w : Option (List ℕ)). IsSomeAnd w (LeavesOpen 0 65536 old new)) (sym is) here))
+    memory-ends task old new before after (omega (arith, named.opens, one-input task name is)) (inr (sources.Expressions, rules-open task old new name is named))
 
 -- the same by the answer of what read the file
 pub memory-given : (old new : InputState) (before after : PatternsState) (name : List ℕ) (e : InputError) → e ≡ input_error.Memory → InputGives old name 65536 (Err e) new → EndsByRules Memory name old new before after
 memory-given old new before after name e is gives =
     let wants : InputGives old name 65536 (Err input_error.Memory) new = subst (λ (x : InputError). InputGives old name 65536 (Err x) new) is gives in
     memory-by-rules old new before after name wants.0
+
+-- where the file of rules could not be read, each task with this file ends by that
+fault-by-rules : (old new : InputState) (before : PatternsState) (name : List ℕ) → InputGives old name 65536 (Err input_error.Fault) new → EndsByRules (ReadFault sources.Expressions) name old new before before
+fault-by-rules old new before name gives = λ task is words out asks. (
+  task,
+  asks,
+  record {
+    why =
+        inl (record {
+          rose = gives.0;
+          may_fail = subst (λ (w : Option (List ℕ)). IsSomeAnd w (λ n. IsTrue (old.may_fail n))) (sym is) gives.1;
+          room = 65536;
+          is_room = refl;
+          opened =
+              ⊎_elim
+              (λ (none : OpensNone old new). inl (record { opens = none.opens; closed = none.closed }))
+              (λ (named : OpensNamed old new name 65536). inr (rules-open task old new name is named))
+              gives.2;
+        });
+    silent = refl;
+  },
+)
+
+-- the same by the answer of what read the file
+pub fault-given : (old new : InputState) (before : PatternsState) (name : List ℕ) (e : InputError) → e ≡ input_error.Fault → InputGives old name 65536 (Err e) new → EndsByRules (ReadFault sources.Expressions) name old new before before
+fault-given old new before name e is gives =
+    let fault : InputGives old name 65536 (Err input_error.Fault) new = subst (λ (x : InputError). InputGives old name 65536 (Err x) new) is gives in
+    fault-by-rules old new before name fault
+
+-- a file of rules that is not there is the first
+rules-lack : (told : Option Files) (task : Task) (name : List ℕ) → rules_name task.form ≡ Some name → Lacks told name → IsFirstLacking told task sources.Expressions
+rules-lack None task name is lacks = absurd lacks
+rules-lack (Some files) task name is lacks = (
+  0,
+  subst (λ (w : Option (List ℕ)). reads at_start (told_stages files ((file_stage RulesFile w ++ model_stages task) ++ log_stages task)) ≡ Err (stop_after 0 (ReadFault sources.Expressions))) (sym is)
+      (ap (λ (o : Option (List ℕ)). and_then (reads_rules at_start (with_content o [])) 1 (λ next. reads next (told_stages files (model_stages task ++ log_stages task)))) lacks),
+)
+
+-- where the file of rules is not there, each task with this file ends by that
+missing-by-rules : (old new : InputState) (before : PatternsState) (name : List ℕ) → InputGives old name 65536 (Err input_error.Missing) new → EndsByRules (ReadFault sources.Expressions) name old new before before
+missing-by-rules old new before name gives = λ task is words out asks. (
+  task,
+  asks,
+  record {
+    why =
+        inr (record {
+          lacking = rules-lack old.files task name is gives.0;
+          opened = record { opens = gives.1.opens; closed = gives.1.closed };
+          faults = gives.2;
+        });
+    silent = refl;
+  },
+)
+
+-- the same by the answer of what read the file
+pub missing-given : (old new : InputState) (before : PatternsState) (name : List ℕ) (e : InputError) → e ≡ input_error.Missing → InputGives old name 65536 (Err e) new → EndsByRules (ReadFault sources.Expressions) name old new before before
+missing-given old new before name e is gives =
+    let missing : InputGives old name 65536 (Err input_error.Missing) new = subst (λ (x : InputError). InputGives old name 65536 (Err x) new) is gives in
+    missing-by-rules old new before name missing
 
 -- each task with this file of rules ends by its refusal, want of memory among the refusals
 pub rules-end : (old new : InputState) (before after : PatternsState) (name bytes : List ℕ) (e : RuleError) → ReadsInput old new name 65536 bytes → IsRefused bytes before after e

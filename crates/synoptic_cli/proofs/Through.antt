@@ -1,7 +1,7 @@
 -- Stages that were read one after another.
 use Rattle.std.proofs.Common.{Bool, Some, ◌≡◌, ℕ, zero, suc, refl, ◌+◌, ◌-◌, ◌^◌, ◌<◌, ◌≤◌, min, List, [], ◌∷◌, ◌++◌, append-nil, length, take, Option, Result, Ok, Err, sym, ap, ◌∙◌, subst, arith, inl, inr, ⊎_elim}
 use Rattle.std.proofs.Math.Seq.{take-append-add, take-append_seam}
-use Rattle.std.proofs.lemmas.List.{append_assoc, length-append, take-append-le, take_all}
+use Rattle.std.proofs.lemmas.List.{append_assoc, length-append, take-append-le}
 use Rattle.std.specs.Io.KnownBytes.{IsAtEnd}
 use Rattle.outside.specs.Inputs.{Files, InputState, Stays}
 use Rattle.outside.specs.Reading.{IfTold, LosesFront}
@@ -10,11 +10,13 @@ use Rattle.outside.proofs.Turns.{turn-both}
 use Rattle.std.proofs.lemmas.Bool.{cases_lt}
 use Rattle.model_file.specs.declared.version.Version.{Version}
 use Rattle.log_reader.specs.Inputs.{Opened, StopsBefore, opens_after}
-use Rattle.synoptic_cli.specs.Task.{Stage, input_count, input_names, stage_names}
+use Rattle.command_line.specs.Task.{Task}
+use Rattle.synoptic_cli.specs.declared.status.Source.{Source}
+use Rattle.synoptic_cli.specs.Task.{Stage, input_count, input_names, inputs_before, stage_names}
 use Rattle.synoptic_cli.specs.Stages.{SoFar, Stop, after, reads}
 use Rattle.synoptic_cli.specs.Endings.{SomeBytes, OpenedAll, OpensAll, ReadAll}
 use Rattle.synoptic_cli.specs.declared.stages.SoFar as rust
-use Rattle.synoptic_cli.specs.Causes.{LeavesOpen}
+use Rattle.synoptic_cli.specs.Causes.{IsRoom, LeavesOpen}
 use Rattle.synoptic_cli.specs.Halts.{HasRead, Reads}
 use Rattle.synoptic_cli.proofs.Bytes.{bytes-both, bytes-count, bytes-first, filled_count, input_count-append, later, reads-append, reads-stop}
 
@@ -107,12 +109,17 @@ pub stops-through : (a b : ℕ) (old mid new : InputState) → ReadAll a old mid
 stops-through a b old mid new read stops = record { opens = opens-through a b new.opens old mid read stops.opens; closed = stops.closed }
 
 -- an input that is open behind more inputs is open behind these and those that were read before them
-pub open-through : (a b limit : ℕ) (old mid new : InputState) (name : List ℕ) → ReadAll a old mid → Stays old mid → LeavesOpen b limit mid new name → LeavesOpen (a + b) limit old new name
-open-through a b limit old mid new name read stays within = record {
-  opens = subst (λ (n : ℕ). new.opens ≡ opens_after old.opens n) (omega arith) (opens-through a (b + 1) new.opens old mid read within.opens);
-  mark = within.mark ∙ ap (λ (may_fail : List ℕ → Bool). may_fail name) stays.may_fail;
-  left = subst (λ (files : Option Files). IfTold files name (λ content. LosesFront (Some content) new.rest limit)) stays.files within.left;
-}
+pub open-through : (task : Task) (source : Source) (a b room : ℕ) (old mid new : InputState) (name : List ℕ) → ReadAll a old mid → Stays old mid → a + b ≡ inputs_before task source → IsRoom old.files task source room
+    → new.opens ≡ opens_after mid.opens (b + 1) → new.mark ≡ mid.may_fail name → IfTold mid.files name (λ content. LosesFront (Some content) new.rest room) → LeavesOpen task source old new name
+open-through task source a b room old mid new name read stays before is_room opens mark left =
+    let all : a + (b + 1) ≡ inputs_before task source + 1 = omega (arith, before) in
+    record {
+      opens = subst (λ (n : ℕ). new.opens ≡ opens_after old.opens n) all (opens-through a (b + 1) new.opens old mid read opens);
+      mark = mark ∙ ap (λ (may_fail : List ℕ → Bool). may_fail name) stays.may_fail;
+      room = room;
+      is_room = is_room;
+      left = subst (λ (files : Option Files). IfTold files name (λ content. LosesFront (Some content) new.rest room)) stays.files left;
+    }
 
 -- the names of stages and of more stages
 pub names-append : (a b : List Stage) → input_names (a ++ b) ≡ input_names a ++ input_names b
@@ -182,17 +189,6 @@ first-more a b old new first =
     ))
     first
 
--- where all were opened in turn, the first of them were
-pub all-first : (names : List (List ℕ)) (old new : InputState) → ReadAll (length names) old new → OpensAll names old new → OpensFirst names old new
-all-first [] old new read all = inl all
-all-first (x ∷ names) old new read all =
-    inr (
-      length (x ∷ names),
-      omega arith,
-      read-count (length (x ∷ names)) old new (omega arith) read,
-      subst (λ (first : List (List ℕ)). OpensInTurn first old new) (sym (take_all (length (x ∷ names)) (x ∷ names) (omega arith))) all,
-    )
-
 -- the same for the inputs of stages
 named : (stages : List Stage) (old new : InputState) → ReadAll (input_count stages) old new → ReadAll (length (input_names stages)) old new
 named stages old new read = subst (λ (n : ℕ). ReadAll n old new) (sym (names-count stages)) read
@@ -208,9 +204,6 @@ stages-first a b old mid new stays read first second =
 pub stages-more : (a b : List Stage) (old new : InputState) → OpensFirst (input_names a) old new → OpensFirst (input_names (a ++ b)) old new
 stages-more a b old new first =
     subst (λ (names : List (List ℕ)). OpensFirst names old new) (sym (names-append a b)) (first-more (input_names a) (input_names b) old new first)
-
-pub stages-opened : (stages : List Stage) (old new : InputState) → ReadAll (input_count stages) old new → OpensAll (input_names stages) old new → OpensFirst (input_names stages) old new
-stages-opened stages old new read all = all-first (input_names stages) old new (named stages old new read) all
 
 -- stages that were read, and then those after them, were read together
 pub read-more : (first second : List Stage) (old mid new : InputState) (a b c : SoFar) → Stays old mid → HasRead first old mid a b → HasRead second mid new b c

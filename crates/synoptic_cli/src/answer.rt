@@ -1,7 +1,10 @@
 //! What a command answers.
+ghost use Rattle.std.specs.Prelude.{◌≡◌};
+ghost use Rattle.synoptic_cli.specs.declared.answer.NoAnswer.TheVariants.{Memory};
 
 use crate::status::{LimitKind, Status};
 use invariants::Seq;
+use std::alloc::AllocError;
 
 /// A command's answer.
 #[derive(Drop)]
@@ -19,4 +22,12 @@ pub enum NoAnswer {
     Limit(LimitKind),
     /// Memory was wanted.
     Memory,
+}
+
+impl From<AllocError> for NoAnswer {
+    ghost from_gives = { λ _ e. e ≡ Memory };
+
+    fn from(_: AllocError) -> NoAnswer {
+        NoAnswer::Memory
+    }
 }

@@ -72,35 +72,41 @@ fn status_without_task(error: ParseError) -> Status
     }
 }
 
-/// Does the task that the words ask for, and tells its status: what `run` promises of words with a task.
+/// Does the task, and tells its status.
 fn run_task<I: Inputs, P: Patterns, O: Sink, E: ErrorStream>(
     alloc: Global,
-    _words: &[String],
     task: &Task<'_>,
     inputs: &mut I,
     patterns: &mut P,
     out: &mut O,
     err: &mut E,
 ) -> Status
-    requires asked { task_of (map string_bytes _words.now) ≡ Some (task_held task.now) }
     requires sessions { HasSessions (task_held task.now) }
     requires few { length (task_held task.now).files < 2 ^ 32 }
-    ensures cause { HasCause result (map string_bytes _words.now)
+
+    // What the status says, for all words that ask for the task.
+    ensures cause { (words : List (List ℕ)) → task_of words ≡ Some (task_held task.now)
+        → HasCause result words
         (world (I.state inputs.old) (P.state patterns.old) (O.state out.old))
         (world (I.state inputs.new) (P.state patterns.new) (O.state out.new)) }
-    ensures expected { IsExpected result (map string_bytes _words.now)
+    ensures expected { (words : List (List ℕ)) → task_of words ≡ Some (task_held task.now)
+        → IsExpected result words
         (world (I.state inputs.old) (P.state patterns.old) (O.state out.old))
         (world (I.state inputs.new) (P.state patterns.new) (O.state out.new)) }
+
+    // What is counted of faults and refused patterns, and what stays.
     ensures memory { result ≡ Status.Memory
         → (I.state inputs.new).faults ≡ (I.state inputs.old).faults }
     ensures count { KeepsCount result (P.state patterns.old) (P.state patterns.new) }
     ensures stays { Stays
         (world (I.state inputs.old) (P.state patterns.old) (O.state out.old))
         (world (I.state inputs.new) (P.state patterns.new) (O.state out.new)) }
-    ensures turn { OpensFirst (names_of (map string_bytes _words.now))
+
+    // Which inputs were opened, and what is told of the status.
+    ensures turn { OpensFirst (input_names (stages_of (task_held task.now)))
         (I.state inputs.old) (I.state inputs.new) }
-    ensures told { Tells (message_of (map string_bytes _words.now) result)
-        (E.heard err.old) (E.heard err.new) }
+    ensures told { (words : List (List ℕ)) → task_of words ≡ Some (task_held task.now)
+        → Tells (message_of words result) (E.heard err.old) (E.heard err.new) }
 {
     let status = answer(alloc, task, inputs, patterns, out);
     tell(Some(task), status, err);
@@ -113,7 +119,9 @@ fn run_task<I: Inputs, P: Patterns, O: Sink, E: ErrorStream>(
 /// steps. It reads the inputs of its task in this order, as far as the task has them: the file of rules, the file of a model,
 /// the files of the log, or standard input. Then the task's command answers what was read. Then the answer is written.
 ///
-/// - `cause`: why the run ended with its status. Of the inputs, it says how many were opened, from the first on.
+/// - `cause`: why the run ended with its status. Of the inputs, it says how many were opened, from the first on. Of one that
+///   is still open, at most one byte past the room for it was read. The room for the file of rules, or for the file of a
+///   model, is its limit. For an input of the log it is what those before it leave of the limit on all input.
 ///   - `Done`: `out` has the whole answer of the command, and counted no fault. All inputs of the task were opened without a
 ///     fault, and the last was read to its end. For each command, a file of `specs/Commands/` says what the answer is and
 ///     what is promised of it. Invariants are of the kinds that the words ask for (`invariants`, `infer`, `paths`), of
@@ -196,5 +204,5 @@ pub fn run<I: Inputs, P: Patterns, O: Sink, E: ErrorStream>(
             return status;
         }
     };
-    run_task(alloc, words, &task, inputs, patterns, out, err)
+    run_task(alloc, &task, inputs, patterns, out, err)
 }

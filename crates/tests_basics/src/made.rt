@@ -1,16 +1,16 @@
 //! Logs that are made.
 
-use crate::words::{halves, mark, number, text};
+use crate::words::{checksum, halves, number, text};
 use limits::MAX_SESSIONS;
 use load_maker::make_log;
 use std::alloc::{AllocError, Global};
 
-/// How many lines the bytes have, some bytes at either end, and the mark of all.
+/// How many lines the bytes have, some bytes at either end, and the checksum of all.
 fn ends(alloc: Global, bytes: &[u8], some: usize) -> Result<String, AllocError> {
     let lines = bytes.iter().filter(|byte| **byte == 10).count();
     let some = some.min(bytes.len());
     let (first, last) = (text(&bytes[..some]), text(&bytes[bytes.len() - some..]));
-    format!(in alloc; "{lines} lines, {first:?} {last:?} {}", mark(bytes))
+    format!(in alloc; "{lines} lines, {first:?} {last:?} {}", checksum(bytes))
 }
 
 /// `made SESSIONS SOME`

@@ -60,16 +60,16 @@ pub fn spans(alloc: Global) -> Result<String, AllocError> {
 /// `entries`
 pub fn entries(alloc: Global) -> Result<String, AllocError> {
     let path = Span { from: 3, len: 2 };
-    let mut log = RunLog::make(alloc, 1, 2, 1)?;
-    log.add_merge(4, 6);
-    log.add_split(5, 1, path);
-    log.add_merge(2, 3);
-    log.add_block(2, 4, 9, path);
+    let mut run_log = RunLog::make(alloc, 1, 2, 1)?;
+    run_log.add_merge(4, 6);
+    run_log.add_split(5, 1, path);
+    run_log.add_merge(2, 3);
+    run_log.add_block(2, 4, 9, path);
     format!(in alloc;
         "{:?}\n{:?}\n{:?}",
-        log.splits(),
-        log.merges(),
-        log.blocks()
+        run_log.splits(),
+        run_log.merges(),
+        run_log.blocks()
     )
 }
 
@@ -114,21 +114,21 @@ fn put_merges(told: &mut String, list: &[Merge]) -> Result<(), AllocError> {
 pub fn history(alloc: Global) -> Result<String, AllocError> {
     let mut told = String::new(alloc);
     let mut spans = Spans::make(alloc, 9)?;
-    let mut log = RunLog::make(alloc, 2, 2, 1)?;
+    let mut run_log = RunLog::make(alloc, 2, 2, 1)?;
     let Some(first) = spans.push(&[0, 2, 3, 1]) else {
         return Ok(told);
     };
     let Some(second) = spans.push(&[0, 4, 1]) else {
         return Ok(told);
     };
-    log.add_split(5, 2, first);
-    log.add_merge(4, 6);
-    log.add_split(7, 1, second);
-    log.add_merge(2, 3);
-    log.add_block(2, 4, 9, second);
-    put_splits(&mut told, splits(alloc, &log, &spans)?.as_slice())?;
-    put_merges(&mut told, merges(alloc, &log)?.as_slice())?;
-    put_blocks(&mut told, blocks(alloc, &log, &spans)?.as_slice())?;
+    run_log.add_split(5, 2, first);
+    run_log.add_merge(4, 6);
+    run_log.add_split(7, 1, second);
+    run_log.add_merge(2, 3);
+    run_log.add_block(2, 4, 9, second);
+    put_splits(&mut told, splits(alloc, &run_log, &spans)?.as_slice())?;
+    put_merges(&mut told, merges(alloc, &run_log)?.as_slice())?;
+    put_blocks(&mut told, blocks(alloc, &run_log, &spans)?.as_slice())?;
     Ok(told)
 }
 

@@ -1,7 +1,7 @@
 //! Inputs in memory, of files and of streams.
 ghost use Rattle.std.specs.Prelude.{◌≤◌};
 
-use crate::words::{halves, mark, number, plain, shown};
+use crate::words::{checksum, halves, number, plain, shown};
 use outside::{Inputs, MemInputs, RealInputs, read_input};
 use std::alloc::{AllocError, Global};
 use std::io::{ErrorKind, Read};
@@ -43,7 +43,7 @@ fn bytes_of(alloc: Global, count: u32) -> Result<Vec<u8>, AllocError> {
 fn make<R: Files>(rt: &R, alloc: Global, name: &str, count: &str) -> Result<String, AllocError> {
     let bytes = bytes_of(alloc, number(count))?;
     let made = fs::write(rt, name, bytes.as_slice()).is_ok();
-    format!(in alloc; "{made} {}", mark(&bytes))
+    format!(in alloc; "{made} {}", checksum(&bytes))
 }
 
 /// What comes of one call.

@@ -36,16 +36,18 @@ pub fn text(bytes: &[u8]) -> &str {
 }
 
 /// A number that tells long texts apart.
-pub fn mark(bytes: &[u8]) -> u64 {
-    bytes.iter().fold(7, |mark: u64, byte| {
-        mark.wrapping_mul(1_000_003).wrapping_add(u64::from(*byte))
+pub fn checksum(bytes: &[u8]) -> u64 {
+    bytes.iter().fold(7, |checksum: u64, byte| {
+        checksum
+            .wrapping_mul(1_000_003)
+            .wrapping_add(u64::from(*byte))
     })
 }
 
-/// The bytes where they are few, and else how many there are, and their mark.
+/// The bytes where they are few, and else how many there are, and their checksum.
 pub fn shown(alloc: Global, bytes: &[u8]) -> Result<String, AllocError> {
     if bytes.len() > 99 {
-        return format!(in alloc; "{} bytes, {}", bytes.len(), mark(bytes));
+        return format!(in alloc; "{} bytes, {}", bytes.len(), checksum(bytes));
     }
     format!(in alloc; "{:?}", text(bytes))
 }

@@ -28,18 +28,18 @@ fn small_log(alloc: Global) -> Result<TraceSet, AddError> {
 }
 
 /// Writes the inferred model, reads it back and checks it.
-fn recheck(alloc: Global, bench: &Workbench) -> Result<Verdict, AllocError>
-    requires { (bench.now).stage ≡ Stage.Inferred }
+fn recheck(alloc: Global, workbench: &Workbench) -> Result<Verdict, AllocError>
+    requires { (workbench.now).stage ≡ Stage.Inferred }
 {
     models_are_shaped();
-    log_is_typed(bench.traces());
-    let model = bench.model(alloc)?;
+    log_is_typed(workbench.traces());
+    let model = workbench.model(alloc)?;
     let written = write_model(alloc, &model);
     drop(model);
     let text = written?;
     // What was written reads back, so only memory can be missing.
     match read_model(alloc, text.as_slice()) {
-        Ok(read) => check(alloc, &read, bench.traces()),
+        Ok(read) => check(alloc, &read, workbench.traces()),
         Err(_) => Err(AllocError),
     }
 }
@@ -51,15 +51,15 @@ fn verdict<L: Ledger>(alloc: Global, blank: Blank) -> Option<Verdict>
     requires stands { 0 < blank.parts }
 {
     let traces = small_log(alloc).ok()?;
-    let Ok(mut bench) = Workbench::open(alloc, Kinds::Three, traces) else {
+    let Ok(mut workbench) = Workbench::open(alloc, Kinds::Three, traces) else {
         return None;
     };
     let mut steps = Steps::<L>::open(blank);
-    let verdict = match bench.infer(&mut steps) {
-        Ok(()) => recheck(alloc, &bench).ok(),
+    let verdict = match workbench.infer(&mut steps) {
+        Ok(()) => recheck(alloc, &workbench).ok(),
         Err(_) => None,
     };
-    drop(bench);
+    drop(workbench);
     verdict
 }
 

@@ -1,5 +1,5 @@
 //! The desk: a log with its graph, invariants with their labels and marks, and a finder, of which steps ask.
-use crate::board::{Board, board_of};
+use crate::labels_and_marks::{LabelsAndMarks, labels_and_marks_of};
 use crate::logs::log_of;
 use crate::moves::{put_chain_of, put_moves};
 use crate::paths::{put_paths, put_places};
@@ -19,7 +19,7 @@ pub struct Desk {
     /// The graph, and for each trace the number of the one that has its word there, where words are shared.
     graph: Option<(PartGraph, Vec<u32>)>,
     finder: Option<Finder>,
-    board: Option<Board>,
+    labels_and_marks: Option<LabelsAndMarks>,
 }
 
 /// How many traces and events the graph has, and the numbers of its words.
@@ -38,7 +38,7 @@ impl Desk {
             log: None,
             graph: None,
             finder: None,
-            board: None,
+            labels_and_marks: None,
         }
     }
 
@@ -64,7 +64,7 @@ impl Desk {
                 self.open(alloc, false)
             }
             "shared" => self.open(alloc, true),
-            "invs" => put(&mut self.board, board_of(alloc, text)),
+            "invs" => put(&mut self.labels_and_marks, labels_and_marks_of(alloc, text)),
             "paths" if self.finder.is_none() => put(&mut self.finder, Finder::make(alloc)),
             _ => Ok(()),
         }
@@ -75,17 +75,17 @@ impl Desk {
         let Some((graph, _)) = &self.graph else {
             return Ok(());
         };
-        let Some(board) = &self.board else {
+        let Some(labels_and_marks) = &self.labels_and_marks else {
             return Ok(());
         };
         match &mut self.finder {
-            Some(finder) => put_paths(told, finder, graph, &board.invs, text),
+            Some(finder) => put_paths(told, finder, graph, &labels_and_marks.invs, text),
             None => Ok(()),
         }
     }
 
     /// Asks the labels and the marks.
-    fn ask_board(
+    fn ask_labels_and_marks(
         &mut self,
         alloc: Global,
         told: &mut String,
@@ -95,19 +95,19 @@ impl Desk {
         let Some((graph, _)) = &mut self.graph else {
             return Ok(());
         };
-        let Some(board) = &mut self.board else {
+        let Some(labels_and_marks) = &mut self.labels_and_marks else {
             return Ok(());
         };
         match word {
-            "label" => board.put_labels(told, graph, text),
-            "labels" => board.put_states(told),
-            "satisfied" => board.put_satisfied(alloc, told, graph),
-            "clashes" => board.put_clashes(told, graph, text),
+            "label" => labels_and_marks.put_labels(told, graph, text),
+            "labels" => labels_and_marks.put_states(told),
+            "satisfied" => labels_and_marks.put_satisfied(alloc, told, graph),
+            "clashes" => labels_and_marks.put_clashes(told, graph, text),
             "marks" => {
-                board.find(graph);
+                labels_and_marks.find(graph);
                 Ok(())
             }
-            _ => write!(told, " {}", board.invs.len()),
+            _ => write!(told, " {}", labels_and_marks.invs.len()),
         }
     }
 
@@ -162,7 +162,7 @@ impl Desk {
             "infer" => self.run(alloc, told, text, true),
             "paths" => self.ask_finder(told, text),
             "invs" | "label" | "labels" | "satisfied" | "marks" | "clashes" => {
-                self.ask_board(alloc, told, word, text)
+                self.ask_labels_and_marks(alloc, told, word, text)
             }
             _ => self.ask_graph(alloc, told, word, text),
         }

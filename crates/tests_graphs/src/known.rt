@@ -1,4 +1,4 @@
-//! What has to be known before a graph, a view or a board is asked.
+//! What has to be known before a graph, a view, or labels and marks are asked.
 ghost use Rattle.std.specs.Prelude.{◌≡◌, ◌≤◌, ◌<◌, ℕ, All, Some, length, slice_get};
 ghost use Rattle.std.specs.Bool.{OnTrue};
 ghost use Rattle.limits.specs.declared.TheConstants.{LAST_TYPE, MAX_EVENTS, MAX_INVARIANTS};

@@ -19,9 +19,9 @@
 //! The cases stand in the folder `cases`. The script `make` makes `stdin` and `stdout` of them and never runs this program.
 #![tactic(auto)]
 
-mod board;
 mod desk;
 mod known;
+mod labels_and_marks;
 mod logs;
 mod moves;
 mod paths;

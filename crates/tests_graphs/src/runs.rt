@@ -39,7 +39,7 @@ struct Tools {
     stitcher: Stitcher,
     planes: Planes,
     spans: Spans,
-    log: RunLog,
+    run_log: RunLog,
 }
 
 /// The tools for this graph and these invariants.
@@ -51,7 +51,7 @@ fn tools_for(alloc: Global, graph: &PartGraph, invs: &[Invariant]) -> Result<Too
     ensures listed { IfOk result (λ tools. tools.planes.invs ≡ invs.now) }
     ensures spans { IfOk result
         (λ tools. tools.spans ≡ record { numbers = []; room = MAX_PATH_NUMBERS }) }
-    ensures log { IfOk result (λ tools. tools.log ≡ record {
+    ensures run_log { IfOk result (λ tools. tools.run_log ≡ record {
       splits = [];
       merges = [];
       blocks = [];
@@ -62,16 +62,16 @@ fn tools_for(alloc: Global, graph: &PartGraph, invs: &[Invariant]) -> Result<Too
 {
     let finds = both(Finder::make(alloc), Stitcher::make(alloc, graph));
     let spans = Spans::make(alloc, MAX_PATH_NUMBERS);
-    let log = RunLog::make(alloc, MAX_STEPS, MAX_STEPS, MAX_PAIRS);
-    let writes = both(spans, log);
+    let run_log = RunLog::make(alloc, MAX_STEPS, MAX_STEPS, MAX_PAIRS);
+    let writes = both(spans, run_log);
     let keeps = both(Planes::make(alloc, invs), writes);
-    let ((finder, stitcher), (planes, (spans, log))) = both(finds, keeps)?;
+    let ((finder, stitcher), (planes, (spans, run_log))) = both(finds, keeps)?;
     Ok(Tools {
         finder,
         stitcher,
         planes,
         spans,
-        log,
+        run_log,
     })
 }
 
@@ -106,7 +106,7 @@ fn run<L: Ledger>(
     requires made { tools.old.stitcher ≡ length (events (graph.old).traces) }
     requires listed { tools.old.planes.invs ≡ invs.now }
     requires spans { tools.old.spans ≡ record { numbers = []; room = MAX_PATH_NUMBERS } }
-    requires log { tools.old.log ≡ record {
+    requires run_log { tools.old.run_log ≡ record {
       splits = [];
       merges = [];
       blocks = [];
@@ -117,7 +117,7 @@ fn run<L: Ledger>(
     requires name { blank.name ≡ L.name }
     requires parts { blank.parts ≡ L.parts }
     requires stands { 0 < blank.parts }
-    ensures { HoldsPaths tools.new.log tools.new.spans }
+    ensures { HoldsPaths tools.new.run_log tools.new.spans }
 {
     let mut steps = Steps::<L>::open(blank);
     let Ok(()) = refine(
@@ -126,16 +126,16 @@ fn run<L: Ledger>(
         &mut tools.stitcher,
         invs,
         &mut tools.spans,
-        &mut tools.log,
+        &mut tools.run_log,
         &mut steps,
     ) else {
         return Err(Stop::PartitionLimit);
     };
-    let count = stands_at(&steps, invs.len() + tools.log.splits().len());
+    let count = stands_at(&steps, invs.len() + tools.run_log.splits().len());
     if !is_whole {
         return Ok(count);
     }
-    coarsen(graph, &mut tools.planes, &mut tools.log, &mut steps);
+    coarsen(graph, &mut tools.planes, &mut tools.run_log, &mut steps);
     prove!(graph.ids_used() <= MAX_PARTITIONS);
     let end = blocks(
         graph,
@@ -143,7 +143,7 @@ fn run<L: Ledger>(
         &mut tools.planes,
         invs,
         &mut tools.spans,
-        &mut tools.log,
+        &mut tools.run_log,
         &mut steps,
     );
     ended(end, count)
@@ -151,9 +151,9 @@ fn run<L: Ledger>(
 
 /// Puts the splits behind the text, each with its invariant, its place and its path.
 fn put_splits(alloc: Global, told: &mut String, tools: &Tools) -> Result<(), AllocError>
-    requires { HoldsPaths tools.now.log tools.now.spans }
+    requires { HoldsPaths tools.now.run_log tools.now.spans }
 {
-    let splits = run_history::splits(alloc, &tools.log, &tools.spans)?;
+    let splits = run_history::splits(alloc, &tools.run_log, &tools.spans)?;
     for split in splits.as_slice() {
         write!(told, "; {}@{}:", split.inv, split.place)?;
         put_ids(told, split.path.as_slice())?;
@@ -163,7 +163,7 @@ fn put_splits(alloc: Global, told: &mut String, tools: &Tools) -> Result<(), All
 
 /// Puts the merges behind the text.
 fn put_merges(alloc: Global, told: &mut String, tools: &Tools) -> Result<(), AllocError> {
-    let merges = run_history::merges(alloc, &tools.log)?;
+    let merges = run_history::merges(alloc, &tools.run_log)?;
     for merge in merges.as_slice() {
         write!(told, "; {}+{}", merge.p, merge.q)?;
     }
@@ -172,9 +172,9 @@ fn put_merges(alloc: Global, told: &mut String, tools: &Tools) -> Result<(), All
 
 /// Puts the blocks behind the text, each with its pair, its invariant and its path.
 fn put_blocks(alloc: Global, told: &mut String, tools: &Tools) -> Result<(), AllocError>
-    requires { HoldsPaths tools.now.log tools.now.spans }
+    requires { HoldsPaths tools.now.run_log tools.now.spans }
 {
-    let blocks = run_history::blocks(alloc, &tools.log, &tools.spans)?;
+    let blocks = run_history::blocks(alloc, &tools.run_log, &tools.spans)?;
     for block in blocks.as_slice() {
         write!(told, "; {}-{} {}:", block.p, block.q, block.inv)?;
         put_ids(told, block.path.as_slice())?;
@@ -196,7 +196,7 @@ fn put_written(
     graph: &PartGraph,
     tools: &Tools,
 ) -> Result<(), AllocError>
-    requires { HoldsPaths tools.now.log tools.now.spans }
+    requires { HoldsPaths tools.now.run_log tools.now.spans }
 {
     put_splits(alloc, told, tools)?;
     put_merges(alloc, told, tools)?;

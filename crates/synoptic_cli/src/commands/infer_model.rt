@@ -42,8 +42,5 @@ pub fn answer(alloc: Global, kinds: Kinds, material: Material) -> Result<Answer,
     let workbench = inferred(alloc, kinds, log)?;
     let written = write(alloc, &workbench);
     drop(workbench);
-    match written {
-        Ok(answer) => Ok(answer),
-        Err(_) => Err(NoAnswer::Memory),
-    }
+    Ok(written?)
 }

@@ -32,8 +32,5 @@ pub fn answer(alloc: Global, material: Material) -> Result<Answer, NoAnswer>
 {
     let printed = print(alloc, &material);
     drop(material);
-    match printed {
-        Ok(answer) => Ok(answer),
-        Err(_) => Err(NoAnswer::Memory),
-    }
+    Ok(printed?)
 }

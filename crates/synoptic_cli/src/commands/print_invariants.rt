@@ -33,8 +33,5 @@ pub fn answer(alloc: Global, kinds: Kinds, material: Material) -> Result<Answer,
 {
     let printed = print(alloc, kinds, &material);
     drop(material);
-    match printed {
-        Ok(answer) => Ok(answer),
-        Err(_) => Err(NoAnswer::Memory),
-    }
+    Ok(printed?)
 }

@@ -42,8 +42,5 @@ pub fn answer(alloc: Global, kinds: Kinds, material: Material) -> Result<Answer,
     let workbench = inferred(alloc, kinds, log)?;
     let printed = print(alloc, &workbench);
     drop(workbench);
-    match printed {
-        Ok(answer) => Ok(answer),
-        Err(_) => Err(NoAnswer::Memory),
-    }
+    Ok(printed?)
 }

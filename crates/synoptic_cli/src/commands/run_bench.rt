@@ -124,10 +124,7 @@ fn tell_of(alloc: Global, traces: TraceSet) -> Result<Answer, NoAnswer>
     let workbench = inferred(alloc, Kinds::Three, traces)?;
     let told = tell(alloc, &workbench);
     drop(workbench);
-    match told {
-        Ok(answer) => Ok(answer),
-        Err(_) => Err(NoAnswer::Memory),
-    }
+    Ok(told?)
 }
 
 /// How large the made log of so many sessions and its model are, and that the check accepts it.
@@ -138,8 +135,6 @@ pub fn answer(alloc: Global, number: Option<u32>) -> Result<Answer, NoAnswer>
     let Some(sessions) = number else {
         unreachable!()
     };
-    match read_made_log(alloc, sessions) {
-        Ok(traces) => tell_of(alloc, traces),
-        Err(_) => Err(NoAnswer::Memory),
-    }
+    let traces = read_made_log(alloc, sessions)?;
+    tell_of(alloc, traces)
 }

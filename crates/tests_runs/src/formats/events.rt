@@ -5,7 +5,7 @@ use crate::formats::said::write_log;
 use limits::{MAX_TRACE_BYTES, MAX_TYPE_BYTES};
 use std::alloc::{AllocError, Global};
 use std::fmt::Write;
-use trace_builder::{AddError, Builder, Worded};
+use trace_builder::{AddError, Builder, PackedText};
 use traces::TraceSet;
 
 /// Adds an event whose texts are within the limits, and no other; one without a time by the words of its texts.
@@ -19,7 +19,7 @@ pub fn add(
         return Ok(());
     }
     let added = if time == 0 {
-        builder.add_worded(key.0, key.1, &Worded::of(key.2), &Worded::of(typ))
+        builder.add_packed(key.0, key.1, &PackedText::of(key.2), &PackedText::of(typ))
     } else {
         builder.add(key.0, key.1, key.2, typ, time)
     };

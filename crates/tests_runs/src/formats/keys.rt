@@ -1,9 +1,10 @@
 //! Keys in a table: where each is put or found, and then all keys.
 
 use crate::formats::notation::{number_of, write_bytes};
-use key_table::{KeyParts, KeyTable, Worded};
+use key_table::KeyTable;
 use std::alloc::{AllocError, Global};
 use std::fmt::Write;
+use trace_keys::{KeyParts, PackedText};
 
 /// Where the key of file 0 stands, or is put: by the words of its text where the place that is near is odd.
 fn place(
@@ -17,8 +18,8 @@ fn place(
         return Ok(None);
     }
     if near % 2 == 1 {
-        let worded = Worded::of(text);
-        let found = table.place_or_put_worded(alloc, near, 0, section, &worded)?;
+        let packed = PackedText::of(text);
+        let found = table.place_or_put_packed(alloc, near, 0, section, &packed)?;
         return Ok(Some(found));
     }
     let parts = KeyParts {
@@ -42,7 +43,7 @@ fn take_step(
     let near = usize::try_from(near).unwrap_or(0);
     let section = u32::try_from(section).unwrap_or(0);
     let found = place(alloc, table, near, section, text)?;
-    let short = table.short_place_of(0, section, &Worded::of(text));
+    let short = table.short_place_of(0, section, &PackedText::of(text));
     if short.is_some() && short != found {
         writeln!(out, "but {short:?} by its words")?;
     }

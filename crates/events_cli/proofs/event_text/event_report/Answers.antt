@@ -9,5 +9,5 @@ returns c =
     let task = task_held c.args.task.now in
     c.from_vec.ensures
     ∙ (c.loop-event.invariant
-    ∙ (ap (flat_map (event_line task c.args.traces.now c.have_times-timed.result)) (take_all c.loop-event.event-index c.args.events.now c.loop-event-test.false)
-    ∙ ap (λ timed. flat_map (event_line task c.args.traces.now timed) c.args.events.now) c.have_times-timed.ensures))
+    ∙ (ap (flat_map (event_line task c.args.traces.now c.have_times.result)) (take_all c.loop-event.event-index c.args.events.now c.loop-event-test.false)
+    ∙ ap (λ timed. flat_map (event_line task c.args.traces.now timed) c.args.events.now) c.have_times.ensures))

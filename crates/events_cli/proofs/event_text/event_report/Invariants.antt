@@ -4,4 +4,4 @@ use Rattle.events_cli.specs.Texts.{event_line}
 use Rattle.events_cli.proofs.event_text.event_report.Given as goal
 
 abbrev pub invariant-loop-event : goal.invariant-loop-event
-invariant-loop-event l = l.all.items ≡ flat_map (event_line (task_held l.task) l.traces l.timed) (take l.event-index l.events)
+invariant-loop-event l = l.all.items ≡ flat_map (event_line (task_held l.log.task.now) l.log.traces.now l.log.timed) (take l.event-index l.events)

@@ -20,7 +20,7 @@ returns-in-Err-clause-cause g c = λ words of given.
     (no-task-cause c.in-Err.error words same
     (λ is.
     ap (λ (m : Mode). fitting m (task_of (given_words words))) of
-    ∙ (ap (λ (ws : List (List ℕ)). fitting c.args.mode (task_of ws)) given ∙ c.in-Err.ensures.usage (ap Err is))))
+    ∙ (ap (λ (ws : List (List ℕ)). fitting c.args.asked.mode (task_of ws)) given ∙ c.in-Err.ensures.usage (ap Err is))))
 
 pub returns-in-Err-clause-told : goal.returns-in-Err-clause-told
 returns-in-Err-clause-told g c = λ words of given.
@@ -48,4 +48,4 @@ returns-clause-turn g c =
 pub returns-clause-told : goal.returns-clause-told
 returns-clause-told g c = λ words of given.
     subst (λ (asks : Option Task). Tells (task_message_of asks c.answer-ending.result) (g.E.ErrorStream.heard c.args.err.now) (g.E.ErrorStream.heard c.tell-2.new.err))
-    (sym (asked words c.args.mode (task_held c.in-Ok.task) of (ap task_of given ∙ c.in-Ok.ensures.task) c.in-Ok.ensures.fits)) c.tell-2.ensures
+    (sym (asked words c.args.asked.mode (task_held c.in-Ok.task) of (ap task_of given ∙ c.in-Ok.ensures.task) c.in-Ok.ensures.fits)) c.tell-2.ensures

@@ -3,7 +3,7 @@ use Rattle.line_rules.specs.Files.{AreRead, IsRefused}
 use Rattle.line_rules.specs.Views.{rules_in}
 use Rattle.synoptic_cli.specs.Halts.{EndsByRules, IsOfRules}
 use Rattle.synoptic_cli.specs.declared.status.Status.{Status}
-use Rattle.synoptic_cli.proofs.Rules.{memory-given, rules-read, rules-end, rules-status}
+use Rattle.synoptic_cli.proofs.Rules.{fault-given, memory-given, missing-given, rules-read, rules-end, rules-status}
 use Rattle.synoptic_cli.proofs.reading.read_rules.Goals as goal
 
 pub returns-in-Ok-read-clause-ok : goal.returns-in-Ok-read-clause-ok
@@ -23,6 +23,16 @@ returns-clause-err g c =
     subst (λ (status : Status). EndsByRules status name old new before after) (sym c.rules_answer.ensures)
     (rules-end old new before after name c.in-Ok.bytes.items c.in-Err.error c.in-Ok.ensures.gives
     (subst (λ (bytes : List ℕ). IsRefused bytes before after c.in-Err.error) c.deref.ensures.value c.in-Err.ensures.err))
+
+pub returns-in-Err-Missing-clause-err : goal.returns-in-Err-Missing-clause-err
+returns-in-Err-Missing-clause-err g c =
+    missing-given (g.I.Inputs.state c.args.inputs.now) (g.I.Inputs.state c.read_input.new.inputs) (g.P.Patterns.state c.args.patterns.now) c.args.name.now c.in-Err-Missing.field-0
+    (assumption (c.in-Err-Missing.field-0-is, sym c.in-Err-Missing.field-0-is)) c.in-Err-Missing.ensures.gives
+
+pub returns-in-Err-Fault-clause-err : goal.returns-in-Err-Fault-clause-err
+returns-in-Err-Fault-clause-err g c =
+    fault-given (g.I.Inputs.state c.args.inputs.now) (g.I.Inputs.state c.read_input.new.inputs) (g.P.Patterns.state c.args.patterns.now) c.args.name.now c.in-Err-Fault.field-0
+    (assumption (c.in-Err-Fault.field-0-is, sym c.in-Err-Fault.field-0-is)) c.in-Err-Fault.ensures.gives
 
 pub returns-in-Err-Fault-clause-memory : goal.returns-in-Err-Fault-clause-memory
 returns-in-Err-Fault-clause-memory g c = λ is. cc

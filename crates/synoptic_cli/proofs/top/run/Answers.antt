@@ -1,7 +1,11 @@
-use Rattle.std.proofs.Common.{Err, ap, map, subst, sym}
+use Rattle.std.proofs.Common.{[], Err, Option, ap, map, subst, sym}
+use Rattle.std.specs.Option.{option_map_or}
 use Rattle.std.specs.String.{string_bytes}
+use Rattle.outside.specs.Turns.{OpensFirst}
+use Rattle.command_line.specs.Task.{Task}
 use Rattle.synoptic_cli.specs.declared.status.Status.{Status}
 use Rattle.synoptic_cli.specs.Causes.{HasCause, world}
+use Rattle.synoptic_cli.specs.Task.{input_names, stages_of}
 use Rattle.synoptic_cli.proofs.Expected.{cause-expected, no-task-ends}
 use Rattle.synoptic_cli.proofs.top.run.Goals as goal
 
@@ -19,10 +23,10 @@ returns-in-Err-clause-expected g c =
     (subst (λ (status : Status). HasCause status words same same) (sym c.status_without_task-status.ensures) (no-task-ends c.in-Err.error words same (λ is. c.in-Err.ensures.usage (ap Err is))))
 
 pub returns-clause-cause : goal.returns-clause-cause
-returns-clause-cause g c = c.run_task.ensures.cause
+returns-clause-cause g c = c.run_task.ensures.cause (map string_bytes c.args.words.now) c.in-Ok.ensures.ok
 
 pub returns-clause-expected : goal.returns-clause-expected
-returns-clause-expected g c = c.run_task.ensures.expected
+returns-clause-expected g c = c.run_task.ensures.expected (map string_bytes c.args.words.now) c.in-Ok.ensures.ok
 
 pub returns-clause-memory : goal.returns-clause-memory
 returns-clause-memory g c = c.run_task.ensures.memory
@@ -34,7 +38,9 @@ pub returns-clause-stays : goal.returns-clause-stays
 returns-clause-stays g c = c.run_task.ensures.stays
 
 pub returns-clause-turn : goal.returns-clause-turn
-returns-clause-turn g c = c.run_task.ensures.turn
+returns-clause-turn g c =
+    subst (λ (asked : Option Task). OpensFirst (option_map_or (λ task. input_names (stages_of task)) asked []) (g.I.Inputs.state c.args.inputs.now) (g.I.Inputs.state c.run_task.new.inputs)) (sym c.in-Ok.ensures.ok)
+    c.run_task.ensures.turn
 
 pub returns-clause-told : goal.returns-clause-told
-returns-clause-told g c = c.run_task.ensures.told
+returns-clause-told g c = c.run_task.ensures.told (map string_bytes c.args.words.now) c.in-Ok.ensures.ok

@@ -14,16 +14,16 @@ use Rattle.tests_graphs.proofs.runs.run.Goals as goal
 pub coarsen-requires-clause-satisfied : goal.coarsen-requires-clause-satisfied
 coarsen-requires-clause-satisfied g c =
     subst (λ (invs : List Invariant). SatisfiesAll (G c.refine.new.graph.traces) invs) (sym c.requires.listed)
-    (refined-satisfies c.args.invs.now (splits_of c.refine.new.log c.refine.new.spans) c.args.graph.now.traces c.args.graph.now.used c.refine.new.graph.traces c.in-Ok.ensures.ok.run)
+    (refined-satisfies c.args.invs.now (splits_of c.refine.new.run_log c.refine.new.spans) c.args.graph.now.traces c.args.graph.now.used c.refine.new.graph.traces c.in-Ok.ensures.ok.run)
 
 pub coarsen-requires-clause-begun : goal.coarsen-requires-clause-begun
 coarsen-requires-clause-begun g c =
-    ap (λ (log : RunLists). log.merges) c.in-Ok.ensures.writes.log_is ∙ ap (λ (log : RunLists). log.merges) c.requires.log
+    ap (λ (run_log : RunLists). run_log.merges) c.in-Ok.ensures.writes.log_is ∙ ap (λ (run_log : RunLists). run_log.merges) c.requires.run_log
 
 pub blocks-end-requires-clause-ended : goal.blocks-end-requires-clause-ended
 blocks-end-requires-clause-ended g c =
-    coarsened-none c.args.invs.now (merges_of c.coarsen.new.log) c.refine.new.graph.traces c.coarsen.new.graph.traces
-    (subst (λ (invs : List Invariant). Coarsens invs c.refine.new.graph.traces (merges_of c.coarsen.new.log) c.coarsen.new.graph.traces) c.requires.listed c.coarsen.ensures.run)
+    coarsened-none c.args.invs.now (merges_of c.coarsen.new.run_log) c.refine.new.graph.traces c.coarsen.new.graph.traces
+    (subst (λ (invs : List Invariant). Coarsens invs c.refine.new.graph.traces (merges_of c.coarsen.new.run_log) c.coarsen.new.graph.traces) c.requires.listed c.coarsen.ensures.run)
 
 pub blocks-end-requires-clause-numbers : goal.blocks-end-requires-clause-numbers
 blocks-end-requires-clause-numbers g c =
@@ -31,8 +31,8 @@ blocks-end-requires-clause-numbers g c =
 
 pub blocks-end-requires-clause-begun : goal.blocks-end-requires-clause-begun
 blocks-end-requires-clause-begun g c =
-    ap (λ (log : RunLists). log.blocks) c.coarsen.ensures.others
-    ∙ (ap (λ (log : RunLists). log.blocks) c.in-Ok.ensures.writes.log_is ∙ ap (λ (log : RunLists). log.blocks) c.requires.log)
+    ap (λ (run_log : RunLists). run_log.blocks) c.coarsen.ensures.others
+    ∙ (ap (λ (run_log : RunLists). run_log.blocks) c.in-Ok.ensures.writes.log_is ∙ ap (λ (run_log : RunLists). run_log.blocks) c.requires.run_log)
 
 pub blocks-end-requires-clause-room : goal.blocks-end-requires-clause-room
 blocks-end-requires-clause-room g c =
@@ -40,11 +40,11 @@ blocks-end-requires-clause-room g c =
     omega (
       arith,
       pairs_within_limit (G c.coarsen.new.graph.traces) c.coarsen.new.graph.used few,
-      ap (λ (log : RunLists). log.block_room) c.coarsen.ensures.others,
-      ap (λ (log : RunLists). log.block_room) c.in-Ok.ensures.writes.log_is,
-      ap (λ (log : RunLists). log.block_room) c.requires.log,
+      ap (λ (run_log : RunLists). run_log.block_room) c.coarsen.ensures.others,
+      ap (λ (run_log : RunLists). run_log.block_room) c.in-Ok.ensures.writes.log_is,
+      ap (λ (run_log : RunLists). run_log.block_room) c.requires.run_log,
     )
 
 pub returns : goal.returns
 returns g c =
-    c.blocks-end.ensures.holds (holds-merged c.refine.new.log c.coarsen.new.log c.refine.new.spans c.coarsen.ensures.others c.in-Ok.ensures.writes.paths)
+    c.blocks-end.ensures.holds (holds-merged c.refine.new.run_log c.coarsen.new.run_log c.refine.new.spans c.coarsen.ensures.others c.in-Ok.ensures.writes.paths)

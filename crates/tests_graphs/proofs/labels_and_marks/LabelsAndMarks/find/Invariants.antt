@@ -1,4 +1,4 @@
-use Rattle.tests_graphs.proofs.board.Board.find.Given as goal
+use Rattle.tests_graphs.proofs.labels_and_marks.LabelsAndMarks.find.Given as goal
 
 -- the ledger of a counter that nobody reads
 abbrev pub ghosts-find_counted : goal.ghosts-find_counted

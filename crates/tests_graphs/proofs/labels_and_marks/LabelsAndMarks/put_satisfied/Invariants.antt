@@ -1,4 +1,4 @@
-use Rattle.tests_graphs.proofs.board.Board.put_satisfied.Given as goal
+use Rattle.tests_graphs.proofs.labels_and_marks.LabelsAndMarks.put_satisfied.Given as goal
 
 -- the ledger of a counter that nobody reads
 abbrev pub ghosts-tell_counted : goal.ghosts-tell_counted

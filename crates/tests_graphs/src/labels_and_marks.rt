@@ -19,7 +19,7 @@ use steps::Steps;
 
 /// Invariants, with their labels and their marks: those that the labels keep beside them, and marks of their own.
 #[derive(Drop)]
-pub struct Board {
+pub struct LabelsAndMarks {
     pub invs: Vec<Invariant>,
     planes: Planes,
     clashes: Clashes,
@@ -67,11 +67,11 @@ fn named_of(alloc: Global, text: &str) -> Result<Vec<Invariant>, AllocError>
     Ok(Vec::new(alloc))
 }
 
-/// The board of the invariants between commas.
-pub fn board_of(alloc: Global, text: &str) -> Result<Board, AllocError> {
+/// The labels and the marks of the invariants between commas.
+pub fn labels_and_marks_of(alloc: Global, text: &str) -> Result<LabelsAndMarks, AllocError> {
     let invs = named_of(alloc, text)?;
     let (planes, clashes) = both(Planes::make(alloc, &invs), Clashes::make(alloc, &invs))?;
-    Ok(Board {
+    Ok(LabelsAndMarks {
         invs,
         planes,
         clashes,
@@ -167,7 +167,7 @@ fn put_number(told: &mut String, number: Option<usize>) -> Result<(), AllocError
     }
 }
 
-impl Board {
+impl LabelsAndMarks {
     /// Labels the graph, or the merge of a pair, as `2+5`, and says whether that is one.
     fn label(&mut self, graph: &PartGraph, pair: &str) -> bool {
         let Some((p, q)) = pair_of(pair, '+') else {

@@ -4,7 +4,7 @@ use Rattle.std.specs.Option.{option_map}
 use Rattle.command_line.specs.Task.{form_held, task_held}
 use Rattle.synoptic_cli.specs.Task.{version_of}
 use Rattle.synoptic_cli.proofs.LogStage.{ReadAlike, log-first, log-held}
-use Rattle.synoptic_cli.proofs.stages.read_log_stage.Goals as goal
+use Rattle.synoptic_cli.proofs.stages.log_stage.read_log_stage.Goals as goal
 
 pub returns-in-Ok-clause-ok : goal.returns-in-Ok-clause-ok
 returns-in-Ok-clause-ok g c =

@@ -1,4 +1,4 @@
-use Rattle.tests_graphs.proofs.board.Board.join.Given as goal
+use Rattle.tests_graphs.proofs.labels_and_marks.LabelsAndMarks.join.Given as goal
 
 -- the ledger of a counter that nobody reads
 abbrev pub ghosts-join_counted : goal.ghosts-join_counted

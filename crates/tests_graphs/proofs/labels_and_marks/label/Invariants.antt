@@ -1,4 +1,4 @@
-use Rattle.tests_graphs.proofs.board.label.Given as goal
+use Rattle.tests_graphs.proofs.labels_and_marks.label.Given as goal
 
 -- the ledger of a counter that nobody reads
 abbrev pub ghosts-label_counted : goal.ghosts-label_counted
