@@ -28,25 +28,33 @@ def followers(edges):
     return after
 
 
-def leaves(model, types):
-    """How many events of a trace some path goes along with, and the types with which these paths go on; None if a path
-    has all of the trace."""
-    after, here = followers(model.edges), {0}
-    for at, typ in enumerate((*types, 1)):
-        onward = {q for p in here for q in after.get(p, ())}
-        here = {q for q in onward if model.type_of[q] == typ}
-        if not here:
-            return at, sorted({model.type_of[q] for q in onward})
-    return None
-
-
 def onward(model, after, here):
-    """The sets of partitions to which a set leads, by the name of their type."""
+    """The sets of partitions to which a set leads, by their type."""
     sets = {}
     for p in here:
         for q in after.get(p, ()):
-            sets.setdefault(model.names[model.type_of[q]], set()).add(q)
-    return sets
+            sets.setdefault(model.type_of[q], set()).add(q)
+    return {typ: frozenset(led) for typ, led in sets.items()}
+
+
+class Walks:
+    """Goes along the paths of a model with traces."""
+
+    def __init__(self, model):
+        self.model, self.after, self.led = model, followers(model.edges), {}
+
+    def leaves(self, types):
+        """How many events of a trace some path goes along with, and the types with which these paths go on; None if a path
+        has all of the trace."""
+        here = frozenset([0])
+        for at, typ in enumerate((*types, 1)):
+            if here not in self.led:
+                self.led[here] = onward(self.model, self.after, here)
+            led = self.led[here]
+            if typ not in led:
+                return at, sorted(led)
+            here = led[typ]
+        return None
 
 
 def only_paths(old, new):
@@ -58,9 +66,10 @@ def only_paths(old, new):
     for pair in row:
         if None not in found or len(row) > MOST_PAIRS:
             break
-        led = [onward(model, after, here) for (model, after), here in zip(graphs, pair)]
+        led = [{model.names[typ]: to for typ, to in onward(model, after, here).items()}
+               for (model, after), here in zip(graphs, pair)]
         for name in dict.fromkeys([*led[0], *led[1]]):
-            then = tuple(frozenset(sets.get(name, ())) for sets in led)
+            then = tuple(sets.get(name, frozenset()) for sets in led)
             only = 0 if not then[1] else 1 if not then[0] else None
             if only is not None and found[only]:
                 continue

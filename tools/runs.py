@@ -1,5 +1,5 @@
-"""Runs `synoptic` for the scripts beside it: the program that the variable SYNOPTIC names, or else `./synoptic` of the
-folder above."""
+"""Runs `synoptic` and `synoptic-events` for the scripts beside it: the programs that the variables SYNOPTIC and
+SYNOPTIC_EVENTS name, or else those of the folder above."""
 import os
 import shutil
 import subprocess
@@ -8,16 +8,18 @@ import tempfile
 
 import models
 
-PROGRAM = os.environ.get("SYNOPTIC") or os.path.join(
-    os.path.dirname(os.path.dirname(os.path.realpath(__file__))), "synoptic")
+TOP = os.path.dirname(os.path.dirname(os.path.realpath(__file__)))
+PROGRAM = os.environ.get("SYNOPTIC") or os.path.join(TOP, "synoptic")
+EVENTS = os.environ.get("SYNOPTIC_EVENTS") or os.path.join(TOP, "synoptic-events")
 
 
 def is_pipe(file):
-    return os.path.exists(file) and not os.path.isfile(file) and not os.path.isdir(file)
+    """Whether a file is one that a second run may not read again, as a pipe or /dev/stdin."""
+    return os.path.exists(file) and (file.startswith(("/dev/", "/proc/")) or not (os.path.isfile(file) or os.path.isdir(file)))
 
 
-def percent_of(words, option, usual, usage):
-    """Takes an option with a whole number of percent out of the words; if it is not there, the usual number."""
+def number_of(words, option, usual, usage):
+    """Takes an option with a whole number out of the words; if it is not there, the usual number."""
     if option not in words[: words.index("--") if "--" in words else len(words)]:
         return usual
     at = words.index(option)
@@ -27,12 +29,21 @@ def percent_of(words, option, usual, usage):
     return int(words.pop(at))
 
 
+def copied(source):
+    """A copy of what comes from a pipe, which can be read more than once."""
+    copy = tempfile.NamedTemporaryFile()
+    shutil.copyfileobj(source, copy)
+    copy.flush()
+    return copy
+
+
 class Arguments:
     """What follows the name of the script: options as `synoptic` takes them, and the files of a log. `flags` has the
-    letters of options, `valued` of those with a value, and `given` the value of each that is given, or True."""
+    letters of options, `valued` of those with a value, and `given` the value of each that is given, or True. If no file is
+    named, standard input is read here, once, and each run gets a copy of it."""
 
     def __init__(self, words, flags, valued, usage):
-        self.given, self.files, self.usage, words = {}, [], usage, list(words)
+        self.given, self.files, self.copies, self.usage, words = {}, [], [], usage, list(words)
         while words:
             word = words.pop(0)
             if word == "--":
@@ -44,16 +55,14 @@ class Arguments:
                 self.files.append(word)
         if ("p" in self.given) == ("e" in self.given) or ("m" in valued and "m" not in self.given):
             models.fail(usage)
-        for file in self.files + [self.given[letter] for letter in "e" if letter in self.given]:
-            if is_pipe(file):
-                models.fail(f"{models.bare(file)} is read more than once: write it to a file first")
-        if is_pipe(self.given.get("m", "")):
-            self.copy = tempfile.NamedTemporaryFile()
-            with open(self.given["m"], "rb") as opened:
-                shutil.copyfileobj(opened, self.copy)
-            self.copy.flush()
-            self.given["m"] = self.copy.name
-        self.input = b"" if self.files else sys.stdin.buffer.read()
+        for file in filter(is_pipe, self.files):
+            models.fail(f"{models.bare(file)} is read more than once: write it to a file first")
+        for letter in "em":
+            if is_pipe(self.given.get(letter, "")):
+                with open(self.given[letter], "rb") as opened:
+                    self.copies.append(copied(opened))
+                self.given[letter] = self.copies[-1].name
+        self.input = None if self.files else copied(sys.stdin.buffer)
 
     def options(self, letters, words, flags, valued):
         """Takes the letters after one `-`; the last may have its value after it or in the next word."""
@@ -68,31 +77,35 @@ class Arguments:
                     models.fail(self.usage)
                 self.given[letter], letters = value, ""
 
-    def run(self, command, letters, part=None):
-        """Runs a command over the log, or over a part of it, with those of these options that are given."""
-        words = [command]
+    def start(self, program, words, letters):
+        """Starts a program on the log, with those of these options that are given."""
         for letter in letters:
             if letter in self.given:
                 words.append(f"-{letter}" if self.given[letter] is True else f"-{letter}={self.given[letter]}")
+        if self.input:
+            self.input.seek(0)
         try:
-            return subprocess.run([PROGRAM, *words, "--", *(self.files if part is None else [])],
-                                  input=self.input if part is None else part, stdout=subprocess.PIPE)
+            return subprocess.Popen([program, *words, "--", *self.files], stdin=self.input or subprocess.DEVNULL,
+                                    stdout=subprocess.PIPE)
         except OSError:
-            models.fail(f"there is no program {models.bare(PROGRAM)}")
+            models.fail(f"there is no program {models.bare(program)}")
+
+    def run(self, command, letters):
+        """The output and the status of a run of `synoptic`; status 2 if a signal ended it."""
+        with self.start(PROGRAM, [command], letters) as started:
+            output = started.stdout.read()
+        return output, started.returncode if started.returncode >= 0 else 2
 
     def report(self, command, letters="epij"):
         """The lines of a report. If there is none, the message of `synoptic` is shown, and the script ends as it did."""
-        done = self.run(command, letters)
-        if done.returncode:
-            sys.exit(done.returncode if done.returncode > 0 else 2)
-        return done.stdout.decode("utf-8").split("\n")[:-1]
+        output, status = self.run(command, letters)
+        if status:
+            sys.exit(status)
+        return output.decode("utf-8").split("\n")[:-1]
 
-    def contents(self):
-        """The bytes of each file, or of standard input."""
-        if not self.files:
-            return [self.input]
-        found = []
-        for file in self.files:
-            with open(file, "rb") as opened:
-                found.append(opened.read())
-        return found
+    def events(self, *mode):
+        """The lines of `synoptic-events`, as bytes, one after the other. If it refuses, the script ends as it did."""
+        with self.start(EVENTS, list(mode), "epij") as started:
+            yield from started.stdout
+        if started.returncode:
+            sys.exit(started.returncode if started.returncode > 0 else 2)

@@ -1,11 +1,15 @@
 """The distinct sequences of types of a log, and which invariants each of them breaks, for the scripts beside it."""
 
 
+KEPT = 4  # traces of a word
+
+
 class Word:
-    """A sequence of types, and the traces that have it. A set of types is a number with a bit for each type."""
+    """A sequence of types, how many traces have it, and the first of them. A set of types is a number with a bit for each
+    type."""
 
     def __init__(self, types):
-        self.types, self.traces = types, []
+        self.types, self.count, self.traces = types, 0, []
         # By type: what comes after the last event of it, what after the first, and what before the first.
         self.after_last, self.after_first, self.before, self.between = {}, {}, {}, None
         seen = 0
@@ -55,21 +59,23 @@ class Word:
 def words_of(log):
     """The words of a log, in the order in which it first has them."""
     words = {}
-    for trace in log.traces:
-        key = trace.types.tobytes()
-        if key not in words:
-            words[key] = Word(trace.types)
-        words[key].traces.append(trace)
+    for trace in log.traces():
+        word = words.get(trace.types)
+        if not word:
+            word = words[trace.types] = Word(trace.types)
+        word.count += 1
+        if word.count <= KEPT:
+            word.traces.append(trace)
     return list(words.values())
 
 
-def exception(log, words, names, kind, a, b):
+def exception(log, words, kind, a, b):
     """Which traces break an invariant, and where the first of them does; empty if none does."""
     found = [word for word in words if word.breaks(kind, a, b)]
     if not found:
         return ""
-    trace = found[0].traces[0]
-    count = sum(len(word.traces) for word in found)
+    names, trace = log.names, found[0].traces[0]
+    count = sum(word.count for word in found)
     at = [log.place(trace.places[place]) for place in found[0].places(kind, a, b)]
     if kind == "AP":
         how = f"{names[b]} ({at[0]}) has no earlier {names[a]}"
