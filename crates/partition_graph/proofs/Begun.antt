@@ -1,11 +1,11 @@
 -- What is copied, gathered and shared where a loop over traces begins, and where it ends.
-use Rattle.std.proofs.Common.{◌≡◌, ℕ, ◌≤◌, List, [], length, take, arith, ap, ◌∙◌, refl, ◌+◌, Bor}
+use Rattle.std.proofs.Common.{◌≡◌, ℕ, ◌≤◌, List, [], length, take, arith, ap, ◌∙◌, refl, ◌+◌}
 use Rattle.std.proofs.lemmas.List.{take_all}
 use Rattle.limits.specs.declared.TheConstants.{FIRST_TYPE}
 use Rattle.traces.specs.Words.{Log}
 use Rattle.partition_graph.specs.declared.cells.Cell.{Cell}
 use Rattle.partition_graph.specs.Cells.{IsGathered}
-use Rattle.partition_graph.specs.Shared.{joined_traces, words_in, AreShared, Begin}
+use Rattle.partition_graph.specs.Shared.{joined_traces, AreShared, Begin}
 use Rattle.partition_graph.proofs.Copied.{IsCopying}
 
 -- nothing is copied yet
@@ -40,8 +40,8 @@ nothing_gathered bound words cells firsts none no_firsts =
     }
 
 -- no word is noted yet
-pub nothing_shared : (log : Log) (keys : List (Bor (List ℕ))) (cells : List Cell) (firsts numbers : List ℕ) → keys ≡ [] → cells ≡ [] → firsts ≡ [] → numbers ≡ [] → AreShared log 0 (words_in keys) cells firsts numbers
-nothing_shared log keys cells firsts numbers no_keys no_cells no_firsts no_numbers = rw (no_keys, no_cells, no_firsts, no_numbers) none
+pub nothing_shared : (log : Log) (cells : List Cell) (firsts numbers : List ℕ) → cells ≡ [] → firsts ≡ [] → numbers ≡ [] → AreShared log 0 [] cells firsts numbers
+nothing_shared log cells firsts numbers no_cells no_firsts no_numbers = rw (no_cells, no_firsts, no_numbers) none
   where
     none : AreShared log 0 [] [] [] []
     none =

@@ -21,7 +21,7 @@ pub mod Sorting
 pub mod Dividing
 pub mod Copied
 pub mod Sharing
-pub mod Seeding
 pub mod Begun
+pub mod Looking
 pub mod SetCounts
 pub mod CountSteps

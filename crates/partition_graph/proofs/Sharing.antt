@@ -1,74 +1,23 @@
--- Words that are noted once each.
-use Rattle.std.proofs.Common.{◌≡◌, ℕ, suc, ◌+◌, ◌<◌, ◌≤◌, ◌||◌, Bool, true, false, not, cond, List, [], ◌∷◌, ◌++◌, length, map, take, get_or, slice_get, Some, All, Contains, bytes_eq, arith, ap, sym, ◌∙◌, refl, subst, inl, inr, length-append, true≢false}
+-- Words that traces share.
+use Rattle.std.proofs.Common.{◌≡◌, ℕ, ◌+◌, ◌<◌, ◌≤◌, List, [], ◌∷◌, ◌++◌, length, map, take, get_or, Option, None, Some, All, Contains, arith, ap, sym, ◌∙◌, refl, subst, inl, inr, length-append}
 use Rattle.std.proofs.Math.Seq.{take-append-le}
 use Rattle.std.proofs.lemmas.Bool.{cases_lt}
-use Rattle.std.proofs.lemmas.List.{length-map, map-append, take_more, take_all, length_push, get_or_push, get_or_append_left, append-nil, get_or-map}
+use Rattle.std.proofs.lemmas.List.{length-map, length-take-le, map-append, take_more, take_all, length_push, get_or_push, get_or_append_left, append-nil, get_or-map, get_or-take}
 use Rattle.std.proofs.lemmas.List.Concat.{flat_map-append}
 use Rattle.std.proofs.lemmas.List.Elements.{All-push, All-tail, All-head, Contains-push, Contains-append_left}
-use Rattle.std.proofs.lemmas.Option.{slice_get_within, get_or_from_slice_get}
-use Rattle.std.proofs.lemmas.Slice.Eq.{bytes_eq-Decides}
-use Rattle.std.specs.Borrow.{Bor}
-use Rattle.std.specs.List.{flat_map, list_any, position_or_len, AllByRecursion}
+use Rattle.std.specs.List.{flat_map, AllByRecursion}
+use Rattle.std.specs.Option.{IfSome}
 use Rattle.limits.specs.declared.TheConstants.{FIRST_TYPE}
 use Rattle.traces.specs.Words.{Log}
 use Rattle.partition_model.specs.Assignments.{Event, Assignment, by_type, inner_words}
 use Rattle.partition_model.proofs.Runs.{words-typed}
 use Rattle.partition_graph.specs.declared.cells.Cell.{Cell}
+use Rattle.partition_graph.specs.declared.cells.SharedCells.{SharedCells}
 use Rattle.partition_graph.specs.Cells.{cells_of, IsGathered}
 use Rattle.partition_graph.specs.Parts.{Parts, inner_words_of}
-use Rattle.partition_graph.specs.Shared.{words_in, IsNoted, AreShared}
+use Rattle.partition_graph.specs.Shared.{IsNoted, AreShared}
 use Rattle.partition_graph.specs.Spread.{spread, SharesWords}
 use Rattle.partition_graph.proofs.WordCells.{more_gathered, named}
-
--- what a test says where its opposite is known
-pub not-false : (n b : Bool) → n ≡ not b → n ≡ true → b ≡ false
-not-false n true is yes-n = absurd (true≢false (sym yes-n ∙ is))
-not-false n false is yes-n = refl
-
-pub not-true : (n b : Bool) → n ≡ not b → n ≡ false → b ≡ true
-not-true n true is no-n = refl
-not-true n false is no-n = absurd (true≢false (sym is ∙ no-n))
-
-neither : (a b : Bool) → (a || b) ≡ false → (a ≡ false) × (b ≡ false)
-neither true b h = absurd (true≢false h)
-neither false b h = (refl, h)
-
--- where none passes the test, the first one would stand behind them all
-pub none-passes : {X : Type 0} (p : X → Bool) (xs : List X) → list_any p xs ≡ false → position_or_len p xs ≡ length xs
-none-passes p [] none = refl
-none-passes p (x ∷ xs) none =
-    let both : (p x ≡ false) × (list_any p xs ≡ false) = neither (p x) (list_any p xs) none in
-    let i : position_or_len p xs ≡ length xs = none-passes p xs both.1 in
-    ap (λ b. cond (not b) (1 + position_or_len p xs) 0) both.0 ∙ (let r : 1 + position_or_len p xs ≡ suc (length xs) = omega arith in r)
-
--- the word at a place where it is found
-pub found-word : (keys : List (Bor (List ℕ))) (place : ℕ) (word : List ℕ) → ((k : Bor (List ℕ)) × (slice_get keys place ≡ Some k) × (bytes_eq word k.now ≡ true)) → (place < length (words_in keys)) × (get_or (words_in keys) place [] ≡ word)
-found-word keys place word s =
-    let k : Bor (List ℕ) = s.0 in
-    let inside : place < length keys = slice_get_within keys place k s.1 in
-    let same : word ≡ k.now = (bytes_eq-Decides word k.now).0 s.2 in
-    let n : length (words_in keys) ≡ length keys = length-map keys (λ (b : Bor (List ℕ)). b.now) in
-    (omega arith, get_or-map (λ (b : Bor (List ℕ)). b.now) keys place k [] inside ∙ ap (λ (b : Bor (List ℕ)). b.now) (get_or_from_slice_get keys place k k s.1) ∙ sym same)
-
--- a word that was noted before
-pub noted-again : (old new : List (Bor (List ℕ))) (place : ℕ) (word : List ℕ) (cells : List Cell) (firsts : List ℕ) → ((k : Bor (List ℕ)) × (slice_get new place ≡ Some k) × (bytes_eq word k.now ≡ true)) → new ≡ old
-    → IsNoted word place (words_in old) (words_in new) cells cells firsts firsts
-noted-again old new place word cells firsts s e =
-    let f : (place < length (words_in new)) × (get_or (words_in new) place [] ≡ word) = found-word new place word s in
-    record { within = f.0; here = f.1; step = inl (ap (λ (ks : List (Bor (List ℕ))). words_in ks) e, refl, refl) }
-
--- a new word
-pub noted-new : (old new : List (Bor (List ℕ))) (place : ℕ) (word : Bor (List ℕ)) (cells more : List Cell) (firsts begins : List ℕ) → ((k : Bor (List ℕ)) × (slice_get new place ≡ Some k) × (bytes_eq word.now k.now ≡ true))
-    → new ≡ old ++ word ∷ [] → place ≡ length old → more ≡ cells ++ cells_of word.now → begins ≡ firsts ++ length cells ∷ []
-    → IsNoted word.now place (words_in old) (words_in new) cells more firsts begins
-noted-new old new place word cells more firsts begins s e at m b =
-    let f : (place < length (words_in new)) × (get_or (words_in new) place [] ≡ word.now) = found-word new place word.now s in
-    let n : length (words_in old) ≡ length old = length-map old (λ (b : Bor (List ℕ)). b.now) in
-    record {
-      within = f.0;
-      here = f.1;
-      step = inr (at ∙ sym n, ap (λ (ks : List (Bor (List ℕ))). words_in ks) e ∙ map-append (λ (b : Bor (List ℕ)). b.now) old (word ∷ []), m, b);
-    }
 
 -- the words at places of the first list are those of the longer one
 longer-same : (words : List (List ℕ)) (w : List ℕ) (numbers : List ℕ) → All (λ k. k < length words) numbers → map (λ k. get_or (words ++ w ∷ []) k []) numbers ≡ map (λ k. get_or words k []) numbers
@@ -144,18 +93,33 @@ share-new log t words cells firsts numbers w l at some numbered a =
       small = (let s : length cells ≤ length (flat_map cells_of (take t (inner_words_of log))) = a.small in omega arith);
     }
 
+-- the number of an earlier trace with a word is that of the word
+earlier-number : (inner words : List (List ℕ)) (t e : ℕ) (numbers : List ℕ) (w : List ℕ) → t ≤ length inner → e < t → get_or inner e [] ≡ w → All (λ k. k < length words) numbers
+    → map (λ k. get_or words k []) numbers ≡ take t inner → (get_or numbers e 0 < length words) × (get_or words (get_or numbers e 0) [] ≡ w)
+earlier-number inner words t e numbers w l before at within spreads =
+    let n : length numbers ≡ t = sym (length-map numbers (λ k. get_or words k [])) ∙ ap (λ (ws : List (List ℕ)). length ws) spreads ∙ length-take-le t inner l in
+    let inside : e < length numbers = omega (arith, before) in (
+      within e 0 inside,
+      sym (get_or-map (λ k. get_or words k []) numbers e 0 [] inside) ∙ ap (λ (ws : List (List ℕ)). get_or ws e []) spreads ∙ get_or-take t inner e [] before ∙ at,
+    )
+
+-- the cells of some words, which the first traces share
+abbrev pub HaveShared : Log → ℕ → SharedCells → Type 0
+HaveShared log traces shared = (words : List (List ℕ)) × AreShared log traces words shared.cells.items shared.firsts.items shared.numbers.items
+
 -- one trace more
-pub share-more : (log : Log) (t : ℕ) (words new : List (List ℕ)) (cells more : List Cell) (firsts begins numbers : List ℕ) (place : ℕ) (w : List ℕ) → t < length (inner_words_of log) → get_or (inner_words_of log) t [] ≡ w
-    → 0 < length w → AllByRecursion (λ n. (2 ≤ n) × (n < length log.types + FIRST_TYPE)) w → IsNoted w place words new cells more firsts begins
-    → AreShared log t words cells firsts numbers → AreShared log (t + 1) new more begins (numbers ++ place ∷ [])
-share-more log t words new cells more firsts begins numbers place w l at some numbered noted a =
-    elim noted.step [
-      | inl s ↦
-          let inside : place < length words = subst (λ (ws : List (List ℕ)). place < length ws) s.0 noted.within in
-          let here : get_or words place [] ≡ w = subst (λ (ws : List (List ℕ)). get_or ws place [] ≡ w) s.0 noted.here in
-          rw (s.0, s.1, s.2) (share-again log t words cells firsts numbers place w l at inside here a)
-      | inr s ↦ rw (s.1, s.2, s.3, s.0) (share-new log t words cells firsts numbers w l at some numbered a)
-    ]
+pub share-more : (log : Log) (t : ℕ) (w : List ℕ) (found : Option ℕ) (old new : SharedCells) → t < length (inner_words_of log) → get_or (inner_words_of log) t [] ≡ w → 0 < length w
+    → AllByRecursion (λ n. (2 ≤ n) × (n < length log.types + FIRST_TYPE)) w → IfSome found (λ e. (e < t) × (get_or (inner_words_of log) e [] ≡ w)) → IsNoted w found old new
+    → HaveShared log t old → HaveShared log (t + 1) new
+share-more log t w None old new l at some numbered known noted s =
+    let words : List (List ℕ) = s.0 in
+    let n : length old.firsts.items ≡ length words = s.1.gathered.count in
+    (words ++ w ∷ [], rw (noted.cells_are, noted.firsts_are, noted.numbers_are, n) (share-new log t words old.cells.items old.firsts.items old.numbers.items w l at some numbered s.1))
+share-more log t w (Some e) old new l at some numbered known noted s =
+    let words : List (List ℕ) = s.0 in
+    let r : (get_or old.numbers.items e 0 < length words) × (get_or words (get_or old.numbers.items e 0) [] ≡ w) =
+    earlier-number (inner_words_of log) words t e old.numbers.items w (omega (arith, l)) known.0 known.1 s.1.within s.1.spreads in
+    (words, rw (noted.cells_are, noted.firsts_are, noted.numbers_are) (share-again log t words old.cells.items old.firsts.items old.numbers.items (get_or old.numbers.items e 0) w l at r.0 r.1 s.1))
 
 typed-words : (words : List (List ℕ)) (numbers : List ℕ) → All (λ k. k < length words) numbers → spread numbers (by_type words) ≡ by_type (map (λ k. get_or words k []) numbers)
 typed-words words [] a = refl

@@ -1,4 +1,4 @@
--- The cells of events, trace after trace.
+-- The cells of events, one trace after another.
 use Rattle.std.specs.Prelude.{ℕ, ◌≡◌, ◌<◌, ◌≤◌, ◌==◌, ◌&&◌, Bool, true, false, ◌+◌, if◌then◌else◌, List, [], ◌∷◌, length, take, slice_index}
 use Rattle.std.specs.List.{flat_map, AllByRecursion}
 use Rattle.limits.specs.declared.TheConstants.{TERMINAL, FIRST_TYPE}
@@ -12,27 +12,27 @@ use Rattle.partition_graph.specs.Parts.{inner_words_of}
 abbrev pub event_of : Cell → Event
 event_of c = record { typ = c.typ; id = c.id }
 
--- an event in front of the first trace
+-- an event prepended to the first trace
 abbrev pub put_before : Event → Assignment → Assignment
 put_before e [] = (e ∷ []) ∷ []
 put_before e (t ∷ h) = (e ∷ t) ∷ h
 
--- the traces of cells, cut behind each cell that is the last of its trace
+-- the traces of cells: a trace ends after each cell marked as its last
 abbrev pub traces_of : List Cell → Assignment
 traces_of [] = []
 traces_of (c ∷ cs) = if c.last then (event_of c ∷ []) ∷ traces_of cs else put_before (event_of c) (traces_of cs)
 
--- the last cell is the last of its trace; where there is none, a trace ended before
+-- the last cell ends its trace; if there are no cells, the flag is true
 abbrev pub IsClosed : Bool → List Cell → Type 0
 IsClosed ended [] = ended ≡ true
 IsClosed ended (c ∷ cs) = IsClosed c.last cs
 
--- whether no number is left
+-- whether the list is empty
 abbrev pub is_end : List ℕ → Bool
 is_end [] = true
 is_end (n ∷ ns) = false
 
--- the cells of a trace, whose ids are the numbers of the types
+-- the cells of a trace, with the types' numbers as ids
 abbrev pub cells_of : List ℕ → List Cell
 cells_of [] = []
 cells_of (n ∷ ns) = record { typ = n; last = is_end ns; id = n } ∷ cells_of ns
@@ -45,28 +45,28 @@ pub record IsGathered (bound : ℕ) (words : List (List ℕ)) (traces : ℕ) (ce
   pub some : AllByRecursion (λ w. 0 < length w) (take traces words)
   pub numbered : AllByRecursion (λ w. AllByRecursion (λ n. (FIRST_TYPE ≤ n) × (n < bound)) w) (take traces words)
 
--- the same for a log, whose types have the numbers from the first number of a type on
+-- the same for a log, whose type numbers start at FIRST_TYPE
 abbrev pub IsGatheredOf : Log → ℕ → List Cell → List ℕ → Type 0
 IsGatheredOf log traces cells firsts = IsGathered (length log.types + FIRST_TYPE) (inner_words_of log) traces cells firsts
 
--- the id of the first cell, or else TERMINAL
+-- the id of the first cell, or TERMINAL if there is none
 abbrev pub first_id : List Cell → ℕ
 first_id [] = TERMINAL
 first_id (c ∷ cs) = c.id
 
--- the id that follows the first cell at once: that of the cell behind it, and TERMINAL where its trace ends
+-- the id directly after the first cell: that of the next cell, or TERMINAL if the trace ends
 abbrev pub id_behind : List Cell → ℕ
 id_behind [] = TERMINAL
 id_behind (c ∷ cs) = if c.last then TERMINAL else first_id cs
 
--- the same cells, where those of p that are followed at once by q have the id n
+-- the same cells, but those of p that are directly followed by q have the id n
 abbrev pub moved_cells : ℕ → ℕ → ℕ → List Cell → List Cell
 moved_cells p q n [] = []
 moved_cells p q n (c ∷ cs) =
     record { typ = c.typ; last = c.last; id = if c.id == p && id_behind (c ∷ cs) == q then n else c.id }
     ∷ moved_cells p q n cs
 
--- the same cells, where those of q have the id p
+-- the same cells, but those of q have the id p
 abbrev pub joined_cells : ℕ → ℕ → List Cell → List Cell
 joined_cells p q [] = []
 joined_cells p q (c ∷ cs) = record { typ = c.typ; last = c.last; id = onto p q c.id } ∷ joined_cells p q cs

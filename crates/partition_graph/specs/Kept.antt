@@ -8,7 +8,7 @@ use Rattle.partition_graph.specs.declared.tables.Tables.{Tables}
 use Rattle.partition_graph.specs.Cells.{traces_of, IsClosed}
 use Rattle.partition_graph.specs.Tables.{type_at, size_at, count_at}
 
--- the numbers of the first events, and for each id its type, its size and the edges to it, are those of the cells' traces
+-- the first events, and the type, size and edge counts of each id, are those of the traces of the cells
 pub record IsKept (cells : List Cell) (firsts : List ℕ) (tables : Tables) (used : ℕ) : Type 0 where
   pub two : FIRST_TYPE ≤ used
   pub limit : used ≤ MAX_PARTITIONS

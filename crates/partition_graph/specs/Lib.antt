@@ -15,3 +15,4 @@ pub mod Types
 pub mod Members
 pub mod Spread
 pub mod Shared
+pub mod Slots

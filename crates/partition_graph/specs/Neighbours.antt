@@ -1,4 +1,4 @@
--- The neighbours of an id in a graph, from some id on.
+-- The neighbours of an id in a graph, from a given id on.
 use Rattle.std.specs.Prelude.{ℕ, ◌≡◌, ◌<◌, ◌≤◌, true, false}
 use Rattle.partition_model.specs.Graphs.{Graph}
 
@@ -16,7 +16,7 @@ pub record IsNextSource (g : Graph) (q from p : ℕ) : Type 0 where
 abbrev pub HasNoTarget : Graph → ℕ → ℕ → Type 0
 HasNoTarget g p from = (q : ℕ) → from ≤ q → g.edge p q ≡ false
 
--- q is the least id at or above this one to which p has an edge
+-- q is the least id at or above this one that p has an edge to
 pub record IsNextTarget (g : Graph) (p from q : ℕ) : Type 0 where
   pub reached : from ≤ q
   pub edge : g.edge p q ≡ true

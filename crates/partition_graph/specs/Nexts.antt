@@ -11,7 +11,7 @@ pub record IsNext (has : ℕ → Bool) (from n : ℕ) : Type 0 where
   pub there : has n ≡ true
   pub first : (k : ℕ) → from ≤ k → k < n → has k ≡ false
 
--- the least such number, or none where there is none
+-- the least such number, or none if there is none
 abbrev pub IsNextAnswer : (ℕ → Bool) → ℕ → Option ℕ → Type 0
 IsNextAnswer has from answer = MatchOption answer (HasNone has from) (λ n. IsNext has from n)
 

@@ -6,7 +6,7 @@ use Rattle.partition_graph.specs.Parts.{Parts}
 use Rattle.partition_graph.specs.declared.view.View.{View}
 use Rattle.partition_graph.specs.declared.view.View.TheVariants.{Plain, Merged}
 
--- the parts of the graph that is viewed
+-- the parts of the viewed graph
 abbrev pub parts_seen : View → Parts
 parts_seen (Plain g) = g.now
 parts_seen (Merged g p q) = g.now
@@ -16,7 +16,7 @@ abbrev pub seen : View → Graph
 seen (Plain g) = G (g.now.traces)
 seen (Merged g p q) = merged_graph (G (g.now.traces)) p q
 
--- a merged view is of a pair
+-- the two ids of a merged view are a pair of the graph
 abbrev pub IsSound : View → Type 0
 IsSound (Plain g) = Unit {0}
 IsSound (Merged g p q) = IsPair (G (g.now.traces)) p q

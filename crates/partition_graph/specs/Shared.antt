@@ -1,24 +1,28 @@
 -- The cells of words that traces share, and of traces that are copied.
-use Rattle.std.specs.Prelude.{ℕ, ◌≡◌, ◌<◌, ◌≤◌, ◌+◌, ◌⊎◌, if◌then◌else◌, List, [], ◌∷◌, ◌++◌, length, map, take, slice_index, slice_index_or, All, Contains}
+use Rattle.std.specs.Prelude.{ℕ, ◌≡◌, ◌<◌, ◌≤◌, ◌+◌, if◌then◌else◌, Option, MatchOption, List, [], ◌∷◌, ◌++◌, length, map, take, slice_index, slice_index_or, All, Contains}
 use Rattle.std.specs.List.{flat_map}
-use Rattle.std.specs.Borrow.{Bor}
 use Rattle.limits.specs.declared.TheConstants.{FIRST_TYPE}
 use Rattle.traces.specs.Words.{Log}
-use Rattle.seeded_hash.specs.Seeds.{list_bytes}
 use Rattle.partition_graph.specs.declared.cells.Cell.{Cell}
+use Rattle.partition_graph.specs.declared.cells.SharedCells.{SharedCells}
 use Rattle.partition_graph.specs.Cells.{cells_of, IsGathered}
 use Rattle.partition_graph.specs.Parts.{inner_words_of}
 
--- the words that are noted
-abbrev pub words_in : List (Bor (List ℕ)) → List (List ℕ)
-words_in keys = map (λ k. k.now) keys
+-- the next trace gets the number of an earlier one, and there are no more cells
+pub record IsMet (t : ℕ) (old new : SharedCells) : Type 0 where
+  pub cells_are : new.cells.items ≡ old.cells.items
+  pub firsts_are : new.firsts.items ≡ old.firsts.items
+  pub numbers_are : new.numbers.items ≡ old.numbers.items ++ slice_index old.numbers.items t ∷ []
 
--- the word stands at this place; it stood there before, or it is the new last one and its cells are behind the others
-pub record IsNoted (word : List ℕ) (place : ℕ) (old new : List (List ℕ)) (cells more : List Cell) (firsts begins : List ℕ) : Type 0 where
-  pub within : place < length new
-  pub here : slice_index_or new place [] ≡ word
-  pub step : ((new ≡ old) × (more ≡ cells) × (begins ≡ firsts))
-      ⊎ ((place ≡ length old) × (new ≡ old ++ word ∷ []) × (more ≡ cells ++ cells_of word) × (begins ≡ firsts ++ length cells ∷ []))
+-- the next trace gets the number of a new word, whose cells follow the others
+pub record IsAdded (word : List ℕ) (old new : SharedCells) : Type 0 where
+  pub cells_are : new.cells.items ≡ old.cells.items ++ cells_of word
+  pub firsts_are : new.firsts.items ≡ old.firsts.items ++ length old.cells.items ∷ []
+  pub numbers_are : new.numbers.items ≡ old.numbers.items ++ length old.firsts.items ∷ []
+
+-- the word of the next trace is that of an earlier one, if one is known, and otherwise a new one
+abbrev pub IsNoted : List ℕ → Option ℕ → SharedCells → SharedCells → Type 0
+IsNoted word earlier old new = MatchOption earlier (IsAdded word old new) (λ t. IsMet t old new)
 
 -- the cells of words, and for each of the first traces of a log the number of its word
 pub record AreShared (log : Log) (traces : ℕ) (words : List (List ℕ)) (cells : List Cell) (firsts numbers : List ℕ) : Type 0 where
@@ -51,7 +55,3 @@ pub record Begin (firsts : List ℕ) (traces : List (List Cell)) : Type 0 where
 -- the traces with these numbers, one for each number
 abbrev pub picked : List ℕ → List (List Cell) → List (List Cell)
 picked numbers traces = map (λ k. slice_index_or traces k []) numbers
-
--- the words of a log as bytes, each with a mark of its end
-abbrev pub words_bytes : Log → List ℕ
-words_bytes log = flat_map list_bytes (inner_words_of log)

@@ -5,10 +5,10 @@ use Rattle.partition_model.specs.Assignments.{inner_words}
 use Rattle.partition_model.specs.Laws.{AreTyped}
 use Rattle.partition_graph.specs.Parts.{Parts, start_of}
 
--- each event of the traces has the number of a type, and each type's number is that of some event
+-- each event has the number of a type, and each type's number occurs
 abbrev pub AreTypedParts : Parts → Type 0
 AreTypedParts parts = AreTyped (inner_words parts.traces) parts.used
 
--- so it is in the first assignment of each log
+-- this holds in the first assignment of each log
 abbrev pub StartsAreTyped : Type 0
 StartsAreTyped = (events : List Event) → AreTypedParts (start_of (log_of events))

@@ -1,4 +1,4 @@
--- Tables of what is counted of cells.
+-- Tables of the counts of cells.
 use Rattle.std.specs.Prelude.{ℕ, ◌≡◌, ◌<◌, ◌+◌, ◌==◌, if◌then◌else◌, List, slice_index}
 use Rattle.limits.specs.declared.TheConstants.{MAX_PARTITIONS, INITIAL}
 use Rattle.partition_graph.specs.declared.cells.Cell.{Cell}
@@ -19,26 +19,26 @@ size_at t p = slice_index t.sizes.items p
 abbrev pub count_at : Tables → ℕ → ℕ → ℕ
 count_at t p q = count_in t.counts p q
 
--- nothing is counted
+-- every type, size and count is 0
 pub record IsClear (t : Tables) : Type 0 where
   pub types : (p : ℕ) → p < MAX_PARTITIONS → type_at t p ≡ 0
   pub sizes : (p : ℕ) → p < MAX_PARTITIONS → size_at t p ≡ 0
   pub counts : (p q : ℕ) → p < MAX_PARTITIONS → q < MAX_PARTITIONS → count_at t p q ≡ 0
 
--- each id has the type and the size that it has in the cells, and each edge its count
+-- the type and size of each id, and the count of each edge, are those of the cells
 pub record IsCountOf (t : Tables) (cells : List Cell) : Type 0 where
   pub types : (p : ℕ) → p < MAX_PARTITIONS → type_at t p ≡ last_type p 0 cells
   pub sizes : (p : ℕ) → p < MAX_PARTITIONS → size_at t p ≡ cells_with p cells
   pub counts : (p q : ℕ) → p < MAX_PARTITIONS → q < MAX_PARTITIONS
       → count_at t p q ≡ edges_along INITIAL cells p q
 
--- the sizes and the counts of edges are those of the cells
+-- the sizes and the edge counts are those of the cells
 pub record HasCountsOf (t : Tables) (cells : List Cell) : Type 0 where
   pub sizes : (p : ℕ) → p < MAX_PARTITIONS → size_at t p ≡ cells_with p cells
   pub counts : (p q : ℕ) → p < MAX_PARTITIONS → q < MAX_PARTITIONS
       → count_at t p q ≡ edges_along INITIAL cells p q
 
--- so they are once the cell at a place is counted too, with the edges to it and from it
+-- the same, once the cell at a place and the edges to and from it are added to the counts
 pub record HasCountsBut (t : Tables) (k : ℕ) (cells : List Cell) : Type 0 where
   pub sizes : (p : ℕ) → p < MAX_PARTITIONS
       → size_at t p + (if id_at cells k == p then 1 else 0) ≡ cells_with p cells

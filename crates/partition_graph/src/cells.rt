@@ -1,15 +1,14 @@
 //! A cell for each event, trace after trace.
-ghost use Rattle.std.specs.Prelude.{◌≡◌, ◌-◌, ◌++◌, ◌<◌, ◌≤◌, ◌^◌, ℕ, List, All, OnOk, IfOk, drop, take, length, slice_index_or, []};
+ghost use Rattle.std.specs.Prelude.{◌≡◌, ◌-◌, ◌++◌, ◌<◌, ◌≤◌, ◌^◌, ℕ, List, All, OnOk, IfOk, IfSome, drop, take, length, slice_index_or, []};
 ghost use Rattle.limits.specs.declared.TheConstants.{INITIAL, MAX_EVENTS};
 ghost use Rattle.partition_model.specs.Coarsening.{onto};
 ghost use Rattle.partition_graph.specs.Cells.{cells_of, id_behind, IsGatheredOf};
 ghost use Rattle.partition_graph.specs.Counts.{before_next, id_before};
-ghost use Rattle.partition_graph.specs.Shared.{joined_traces, picked, trace_cells, words_in, AreShared, Begin, IsNoted};
+ghost use Rattle.partition_graph.specs.Shared.{joined_traces, picked, trace_cells, AreShared, Begin, IsNoted};
+ghost use Rattle.partition_graph.specs.Slots.{AreSlots};
 
-use crate::seed::seed_of;
-use indexmap::IndexSet;
+use crate::word_slots::WordSlots;
 use limits::{INITIAL, TERMINAL};
-use seeded_hash::Seed;
 use std::alloc::{AllocError, Global};
 use traces::TraceSet;
 
@@ -60,72 +59,68 @@ pub struct SharedCells {
     pub numbers: Vec<u32>,
 }
 
-/// The cells of the distinct words of the traces, in the order first met, each with its type's number for its id.
+impl SharedCells {
+    /// Notes the word of the next trace: as that of an earlier trace, or as a new word, whose cells then follow the others.
+    fn note(&mut self, word: &[u16], earlier: Option<u32>) -> Result<(), AllocError>
+        requires cells { length self.old.cells.items < 2 ^ 32 }
+        requires words { length self.old.firsts.items < 2 ^ 32 }
+        requires earlier { IfSome earlier (λ t. t < length self.old.numbers.items) }
+        ensures { OnOk result (IsNoted word.now earlier self.old self.new) }
+    {
+        if let Some(t) = earlier {
+            let number = self.numbers[t as usize];
+            self.numbers.push(number)?;
+            return Ok(());
+        }
+        self.numbers.push(self.firsts.len() as u32)?;
+        self.firsts.push(self.cells.len() as u32)?;
+        push_cells(&mut self.cells, word)
+    }
+}
+
+/// The cells of the words of the traces, in the order first met, each with its type's number for its id. A trace shares the
+/// cells of an earlier one with the same word, if `WordSlots` finds one.
 pub fn gather_shared(alloc: Global, traces: &TraceSet) -> Result<SharedCells, AllocError>
     ensures shared { IfOk result
         (λ s. (words : List (List ℕ)) × AreShared traces.now (length traces.now.traces) words s.cells.items s.firsts.items s.numbers.items) }
     ensures few { IfOk result (λ s. length s.cells.items ≤ MAX_EVENTS) }
 {
-    let seed = seed_of(alloc, traces)?;
     // Room that no event needs is never touched.
-    let mut cells = Vec::with_capacity(alloc, traces.event_count() as usize)?;
-    let mut numbers = Vec::with_capacity(alloc, traces.trace_count() as usize)?;
-    let mut firsts = Vec::new(alloc);
-    let mut words = IndexSet::with_hasher(alloc, seed);
-    let noted = note_all(&mut words, &mut cells, &mut firsts, &mut numbers, traces);
-    drop(words);
-    noted?;
-    Ok(SharedCells {
+    let cells = Vec::with_capacity(alloc, traces.event_count() as usize)?;
+    let numbers = Vec::with_capacity(alloc, traces.trace_count() as usize)?;
+    let mut slots = WordSlots::open(alloc, traces.trace_count())?;
+    let mut shared = SharedCells {
         cells,
-        firsts,
+        firsts: Vec::new(alloc),
         numbers,
-    })
+    };
+    let noted = note_all(&mut shared, &mut slots, traces);
+    drop(slots);
+    noted?;
+    Ok(shared)
 }
 
-/// Notes the word of each trace, and puts its place behind the other numbers.
-fn note_all<'a>(
-    words: &mut IndexSet<&'a [u16], Seed>,
-    cells: &mut Vec<Cell>,
-    firsts: &mut Vec<u32>,
-    numbers: &mut Vec<u32>,
-    traces: &'a TraceSet,
+/// Notes the words of all traces.
+fn note_all(
+    shared: &mut SharedCells,
+    slots: &mut WordSlots,
+    traces: &TraceSet,
 ) -> Result<(), AllocError>
-    requires words { words.old.keys ≡ [] }
-    requires cells { cells.old.items ≡ [] }
-    requires firsts { firsts.old.items ≡ [] }
-    requires numbers { numbers.old.items ≡ [] }
-    ensures shared { OnOk result (AreShared traces.now (length traces.now.traces)
-        (words_in words.new.keys) cells.new.items firsts.new.items numbers.new.items) }
-    ensures few { OnOk result (length cells.new.items ≤ MAX_EVENTS) }
+    requires slots { AreSlots 0 slots.old.slots.items }
+    requires cells { shared.old.cells.items ≡ [] }
+    requires firsts { shared.old.firsts.items ≡ [] }
+    requires numbers { shared.old.numbers.items ≡ [] }
+    ensures shared { OnOk result ((words : List (List ℕ)) × AreShared traces.now (length traces.now.traces)
+        words shared.new.cells.items shared.new.firsts.items shared.new.numbers.items) }
+    ensures few { OnOk result (length shared.new.cells.items ≤ MAX_EVENTS) }
 {
     let event_count = traces.event_count();
     for t in 0..traces.trace_count() {
-        prove!(cells.len() <= event_count as usize);
-        let place = note(words, cells, firsts, traces.events(t))?;
-        numbers.push(place as u32)?;
+        prove!(shared.cells.len() <= event_count as usize);
+        let earlier = slots.earlier_with(traces, t);
+        shared.note(traces.events(t), earlier)?;
     }
     Ok(())
-}
-
-/// The place of a word among those that were noted: where it is new it is noted as the last one, and its cells stand
-/// behind the others.
-fn note<'a>(
-    words: &mut IndexSet<&'a [u16], Seed>,
-    cells: &mut Vec<Cell>,
-    firsts: &mut Vec<u32>,
-    word: &'a [u16],
-) -> Result<usize, AllocError>
-    requires few { length cells.old.items < 2 ^ 32 }
-    ensures { IfOk result (λ place. IsNoted word.now place (words_in words.old.keys) (words_in words.new.keys)
-        cells.old.items cells.new.items firsts.old.items firsts.new.items) }
-{
-    let (place, new) = words.insert_full(word)?;
-    if new {
-        firsts.push(cells.len() as u32)?;
-        push_cells(cells, word)?;
-        return Ok(place);
-    }
-    Ok(place)
 }
 
 /// The cells of the traces with these numbers, one trace behind another, and where each of them begins.

@@ -39,7 +39,8 @@ impl Model for EdgeCounts {
 }
 
 impl EdgeCounts {
-    /// Counts of 0. It takes the memory for all edges, and nothing else here takes any.
+    /// Counts of 0. It allocates for all edges. Only this call allocates; `AllocError` is returned if there is not
+    /// enough memory.
     pub fn make(alloc: Global) -> Result<EdgeCounts, AllocError>
         ensures { IfOk result (λ made. NoneCounted made) }
     {
@@ -115,7 +116,7 @@ impl EdgeCounts {
         self.join_sources(p, q);
     }
 
-    /// Adds the row of the edges from q to that of p, and leaves none in it.
+    /// Adds the counts of the edges from q to those of the edges from p, and leaves no edge from q.
     fn join_targets(&mut self, p: u32, q: u32)
         requires to { p < MAX_PARTITIONS }
         requires from { q < MAX_PARTITIONS }
@@ -134,7 +135,7 @@ impl EdgeCounts {
         }
     }
 
-    /// Adds the column of the edges to q to that of p, and leaves none in it.
+    /// Adds the counts of the edges to q to those of the edges to p, and leaves no edge to q.
     fn join_sources(&mut self, p: u32, q: u32)
         requires to { p < MAX_PARTITIONS }
         requires from { q < MAX_PARTITIONS }
@@ -169,7 +170,7 @@ impl EdgeCounts {
         turn(&mut self.targets, from, to, count > 0);
     }
 
-    /// The least id at or above `from` from which an edge to q is counted, and None where there is none.
+    /// The least id at or above `from` from which an edge to q is counted; `None` if there is none.
     pub fn next_source(&self, q: u32, from: u32) -> Option<u32>
         ensures { IsNextAnswer (λ p. is_counted self.now p q) from result }
     {
@@ -180,7 +181,7 @@ impl EdgeCounts {
         Some(p as u32)
     }
 
-    /// The least id at or above `from` to which an edge from p is counted, and None where there is none.
+    /// The least id at or above `from` to which an edge from p is counted; `None` if there is none.
     pub fn next_target(&self, p: u32, from: u32) -> Option<u32>
         ensures { IsNextAnswer (λ q. is_counted self.now p q) from result }
     {
@@ -192,7 +193,7 @@ impl EdgeCounts {
     }
 }
 
-/// The count at a place, which is 0 behind the last one.
+/// The count at a place; 0 after the last one.
 fn count_at(counts: &[u32], place: usize) -> u32
     ensures { result ≡ slice_index counts.now place }
 {
@@ -203,7 +204,7 @@ fn count_at(counts: &[u32], place: usize) -> u32
     }
 }
 
-/// Fills the list with counts of 0 up to a place for which it has the room.
+/// Appends counts of 0 until the list has this place. The list has the capacity for it.
 fn reach(counts: &mut Vec<u32>, place: usize)
     requires room { place < vec_capacity counts.old }
     ensures reached { place < length counts.new.items }
@@ -215,7 +216,7 @@ fn reach(counts: &mut Vec<u32>, place: usize)
     }
 }
 
-/// So many counts of 0.
+/// `room` counts of 0.
 pub fn no_counts(alloc: Global, room: usize) -> Result<Vec<u32>, AllocError>
     ensures room { IfOk result (λ table. length table.items ≡ room) }
     ensures zero { IfOk result (λ table. (k : ℕ) → slice_index table.items k ≡ 0) }
@@ -223,7 +224,7 @@ pub fn no_counts(alloc: Global, room: usize) -> Result<Vec<u32>, AllocError>
     vec![in alloc; 0; room]
 }
 
-/// Marks an edge, whose count was this so far.
+/// Marks an edge whose count was `count` so far.
 fn mark(sources: &mut Rows, targets: &mut Rows, count: u32, from: usize, to: usize)
     requires from { from < MAX_PARTITIONS }
     requires to { to < MAX_PARTITIONS }
@@ -241,7 +242,7 @@ fn mark(sources: &mut Rows, targets: &mut Rows, count: u32, from: usize, to: usi
     turn(targets, from, to, true);
 }
 
-/// Takes the marks of an edge away, where nothing is left of its count.
+/// Removes the marks of an edge if nothing is left of its count.
 fn unmark(sources: &mut Rows, targets: &mut Rows, left: u32, from: usize, to: usize)
     requires from { from < MAX_PARTITIONS }
     requires to { to < MAX_PARTITIONS }

@@ -11,18 +11,19 @@ use std::alloc::{AllocError, Global};
 use std::marker::Model;
 use traces::TraceSet;
 
-/// A partition for each event of some traces, and the graph that these partitions give: there is an edge from one
-/// to another wherever an event of the first is followed at once by an event of the second. Before each trace
-/// stands INITIAL, and behind it TERMINAL, whose ids have the names of crate `limits`; all other ids are at least `FIRST_TYPE`.
+/// A partition for each event of some traces, and the graph of these partitions. There is an edge from one partition to
+/// another if an event of the first is directly followed by an event of the second. INITIAL stands before each trace
+/// and TERMINAL after it. Their ids are the constants of these names in crate `limits`; all other ids are at least
+/// `FIRST_TYPE`.
 ///
-/// Contracts see the traces, each event with its type and the id of its partition, and how many ids are used.
-/// Events are numbered trace after trace, from 0.
+/// Contracts see the traces, each event with its type and the id of its partition, and how many ids are used. Events
+/// are numbered trace after trace, from 0.
 #[derive(Drop)]
 pub struct PartGraph {
     events: Events,
     /// The number of the first event of each trace.
     firsts: Vec<u32>,
-    /// What is counted of the events.
+    /// What is counted over the events.
     tables: Tables,
     used: u32,
 }
@@ -55,7 +56,8 @@ impl PartGraph {
     ghost use Rattle.std.specs.Prelude.{All};
     ghost use Rattle.std.specs.Bool.{OnTrue};
 
-    /// The graph with one partition for each type, whose id is the type's number. It takes the memory for `MAX_PARTITIONS` ids.
+    /// The graph with one partition for each type. The id of a partition is the number of its type. It allocates for
+    /// `MAX_PARTITIONS` ids. `AllocError` is returned if there is not enough memory.
     pub fn open(alloc: Global, traces: &TraceSet) -> Result<PartGraph, AllocError>
         ensures { IfOk result (λ graph. graph ≡ start_of traces.now) }
     {
@@ -64,8 +66,10 @@ impl PartGraph {
         PartGraph::of_cells(alloc, cells, firsts, used)
     }
 
-    /// The graph of the distinct words of some traces, with one partition for each type as `open` has it, and for each
-    /// of the traces the number of the one that has its word here. It takes the memory for `MAX_PARTITIONS` ids.
+    /// The graph of the words of some traces, with one partition for each type as in `open`. The list gives, for each of
+    /// these traces, the number of the trace in the graph that has its word. A word that several traces have is in the graph
+    /// once, or more often if it was not found again. It allocates for `MAX_PARTITIONS` ids. `AllocError` is returned if
+    /// there is not enough memory.
     pub fn open_shared(
         alloc: Global,
         traces: &TraceSet,
@@ -78,7 +82,8 @@ impl PartGraph {
         Ok((graph, shared.numbers))
     }
 
-    /// The graph of the traces with these numbers, one for each number, whose events have the ids that they have here.
+    /// The graph of the traces with these numbers, one trace for each number. Each event has the id that it has here.
+    /// `AllocError` is returned if there is not enough memory.
     pub fn spread(&self, alloc: Global, numbers: &[u32]) -> Result<PartGraph, AllocError>
         requires within { All (λ k. k < length (self.now).traces) numbers.now }
         requires few { length (events (spread numbers.now (self.now).traces)) ≤ MAX_EVENTS }
@@ -91,8 +96,7 @@ impl PartGraph {
         PartGraph::of_cells(alloc, cells, firsts, self.used)
     }
 
-    /// The graph of these cells, of which so many ids are used, where `firsts` has the number of the first event of each
-    /// trace.
+    /// The graph of these cells, with `used` ids in use. `firsts` has the number of the first event of each trace.
     fn of_cells(
         alloc: Global,
         cells: Vec<Cell>,
@@ -116,9 +120,9 @@ impl PartGraph {
         })
     }
 
-    /// Moves the events of p that are followed at once by one of `next`, or that end their traces where `next` is
-    /// TERMINAL, to a new id, the next one that is not used, and answers it. None comes exactly where `MAX_PARTITIONS`
-    /// ids are used, and then nothing changed. It takes no memory.
+    /// Moves the events of p that are directly followed by an event of `next` to the lowest id that is not used, and
+    /// returns that id. If `next` is TERMINAL, the events of p that end their traces are moved. `None` is returned
+    /// exactly if `MAX_PARTITIONS` ids are used; then nothing is changed. It allocates nothing.
     pub fn split(&mut self, p: u32, next: u32) -> Option<u32>
         ensures { MatchOption result
             (((self.old).used ≡ MAX_PARTITIONS) × (self.new ≡ self.old))
@@ -138,8 +142,8 @@ impl PartGraph {
         Some(n)
     }
 
-    /// Gives the events of q to p, which are two partitions of one type with p before q. No event has the id q then,
-    /// and no split gives it again. It takes no memory.
+    /// Moves the events of q to p. The two are partitions of one type, and p is the lower id. Then no event has the id
+    /// q, and no split returns it again. It allocates nothing.
     pub fn merge(&mut self, p: u32, q: u32)
         requires { IsPair (G (self.old).traces) p q }
         ensures { self.new ≡ joined p q self.old }
@@ -148,13 +152,13 @@ impl PartGraph {
         self.events.join(p, q);
     }
 
-    /// How many ids are used, the two ends counted: each id is less than this number. Some of them may have no events.
+    /// How many ids are used, including the two ends. Each id is below this number. Some of them may have no events.
     pub fn ids_used(&self) -> u32
         ensures value { result ≡ (self.now).used }
         ensures two { FIRST_TYPE ≤ result }
         ensures limit { result ≤ MAX_PARTITIONS }
 
-        // What ids events have, and where edges go.
+        // Which ids events have, and between which ids edges go.
         ensures typed { IsTyped (self.now).traces }
         ensures below { AreBelow result (self.now).traces }
         ensures within { HasEdgesBelow (G (self.now).traces) result }
@@ -162,7 +166,7 @@ impl PartGraph {
         self.used
     }
 
-    /// At how many places of traces an event of p is followed at once by one of q; the two ends stand at the ends
+    /// How often an event of p is directly followed by one of q, over all traces, with INITIAL and TERMINAL at the ends
     /// of each trace. It is 0 for ids that are not used.
     pub fn edge_count(&self, p: u32, q: u32) -> u32
         ensures { result ≡ edge_count (self.now).traces p q }
@@ -184,7 +188,7 @@ impl PartGraph {
         self.tables.count_at(p, q) > 0
     }
 
-    /// The least id at or above `from` that has an edge to q, and None where there is none.
+    /// The least id at or above `from` that has an edge to q; `None` if there is none.
     pub(crate) fn next_source(&self, q: u32, from: u32) -> Option<u32>
         ensures next { IsNextAnswer (λ p. (G (self.now).traces).edge p q) from result }
         ensures within { IfSome result (IsUsed self.now) }
@@ -192,7 +196,7 @@ impl PartGraph {
         self.tables.next_source(q, from)
     }
 
-    /// The least id at or above `from` to which p has an edge, and None where there is none.
+    /// The least id at or above `from` to which p has an edge; `None` if there is none.
     pub(crate) fn next_target(&self, p: u32, from: u32) -> Option<u32>
         ensures next { IsNextAnswer (λ q. (G (self.now).traces).edge p q) from result }
         ensures within { IfSome result (IsUsed self.now) }
@@ -200,7 +204,7 @@ impl PartGraph {
         self.tables.next_target(p, from)
     }
 
-    /// How many events p has; of the two ends, how many traces there are.
+    /// How many events p has. For each of the two ends, it is how many traces there are.
     pub fn size(&self, p: u32) -> u32
         ensures { result ≡ size (self.now).traces p }
     {
@@ -213,7 +217,8 @@ impl PartGraph {
         self.tables.size_at(p)
     }
 
-    /// The type of the events of p, and 0 where it has none. The two ends have types of their own, with the numbers of their ids.
+    /// The type of the events of p, or 0 if it has none. The type of each of the two ends has the same number as its
+    /// id.
     pub fn type_of(&self, p: u32) -> u16
         ensures { result ≡ type_of (self.now).traces p }
     {
@@ -249,7 +254,7 @@ impl PartGraph {
         self.events.count()
     }
 
-    /// The number of the event behind this one in its trace, and None for the last event of a trace.
+    /// The number of the event after this one in its trace; `None` for the last event of a trace.
     pub fn next_event(&self, event: u32) -> Option<u32>
         requires { event < length (events (self.now).traces) }
         ensures { MatchOption result

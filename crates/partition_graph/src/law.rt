@@ -9,7 +9,7 @@ pub fn starts_are_typed()
     ensures { StartsAreTyped }
 {}
 
-/// So it is in the first assignment of each set of traces, wherever it comes from.
+/// The same holds for the first assignment of each set of traces, wherever it comes from.
 pub fn set_is_typed(traces: &TraceSet)
     ensures { AreTypedParts (start_of traces.now) }
 {

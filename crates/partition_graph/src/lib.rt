@@ -8,9 +8,9 @@ mod graph;
 mod law;
 mod links;
 mod merged;
-mod seed;
 mod tables;
 mod view;
+mod word_slots;
 
 pub use graph::PartGraph;
 pub use law::{set_is_typed, starts_are_typed};

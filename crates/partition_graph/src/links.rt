@@ -20,7 +20,7 @@ pub struct Link {
     pub to: u32,
 }
 
-/// The edges of a view, gathered once to be gone over many times. Contracts see a list of links.
+/// The edges of a view, gathered once and then scanned many times. Contracts see a list of links.
 #[derive(Drop)]
 pub struct Links {
     links: Vec<Link>,
@@ -39,8 +39,8 @@ impl Model for Links {
 }
 
 impl Links {
-    /// No links, with room for one from each id to each id. This alone takes memory: `AllocError` comes where there is
-    /// not enough.
+    /// No links, with room for one from each id to each id. Only this call allocates; `AllocError` is returned if there
+    /// is not enough memory.
     pub fn make(alloc: Global) -> Result<Links, AllocError>
         ensures { IfOk result (λ made. made ≡ []) }
     {
@@ -48,8 +48,8 @@ impl Links {
         Ok(Links { links })
     }
 
-    /// Has the links of this view in place of those before, ascending by the ids that they leave and then by those that
-    /// they enter. It takes no memory.
+    /// Replaces the links by those of this view, in ascending order of the ids that they leave and then of those that
+    /// they enter. It allocates nothing.
     pub fn gather(&mut self, view: &View<'_>)
         requires { IsSound view.now }
         ensures { AreLinksOf self.new (seen view.now) }
@@ -68,7 +68,7 @@ impl Links {
     }
 }
 
-/// Puts the links that leave `from` behind those that leave the ids before it.
+/// Appends the links that leave `from`. The links that leave the ids below it are there already.
 fn push_links(links: &mut Vec<Link>, view: &View<'_>, from: u32)
     requires sound { IsSound view.now }
     requires id { from < MAX_PARTITIONS }

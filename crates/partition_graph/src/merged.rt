@@ -1,4 +1,4 @@
-//! What a graph shows where one of its partitions is put into another: q is replaced by p in ids and edges.
+//! A graph as it would be if partition q were merged into partition p: q is replaced by p in ids and edges.
 ghost use Rattle.std.specs.Prelude.{◌≡◌, IfSome};
 ghost use Rattle.partition_model.specs.Graphs.{merged_edge};
 ghost use Rattle.partition_model.specs.Assignments.{G};
@@ -9,7 +9,7 @@ ghost use Rattle.partition_graph.specs.Parts.{IsUsed};
 
 use crate::graph::PartGraph;
 
-/// Whether there is an edge from u to v.
+/// Whether the merged graph has an edge from u to v.
 pub fn has_merged_edge(graph: &PartGraph, p: u32, q: u32, u: u32, v: u32) -> bool
     ensures { result ≡ merged_edge (G (graph.now).traces) p q u v }
 {
@@ -21,7 +21,7 @@ pub fn has_merged_edge(graph: &PartGraph, p: u32, q: u32, u: u32, v: u32) -> boo
             || (u == p && v == p && graph.edge_count(q, q) > 0))
 }
 
-/// The least id at or above `from` that has an edge to v, and None where there is none.
+/// The least id at or above `from` that has an edge to v in the merged graph; `None` if there is none.
 pub fn next_merged_source(graph: &PartGraph, p: u32, q: u32, v: u32, from: u32) -> Option<u32>
     requires { IsPair (G (graph.now).traces) p q }
     ensures next { IsNextAnswer (λ u. merged_edge (G (graph.now).traces) p q u v) from result }
@@ -36,7 +36,7 @@ pub fn next_merged_source(graph: &PartGraph, p: u32, q: u32, v: u32, from: u32) 
     lesser(own, lesser(gained, kept))
 }
 
-/// The least id but q at or above `from` that has an edge to v.
+/// The least id other than q, at or above `from`, that has an edge to v; `None` if there is none.
 fn next_own_source(graph: &PartGraph, q: u32, v: u32, from: u32) -> Option<u32>
     ensures next { IsNextAnswer (own_source (G (graph.now).traces) q v) from result }
     ensures within { IfSome result (IsUsed graph.now) }
@@ -48,7 +48,8 @@ fn next_own_source(graph: &PartGraph, q: u32, v: u32, from: u32) -> Option<u32>
     graph.next_source(v, q + 1)
 }
 
-/// The least id but q at or above `from` that has an edge to q, where v is p.
+/// If v is p, the least id other than q, at or above `from`, that has an edge to q. `None` if there is none, or if v is
+/// not p.
 fn next_gained_source(graph: &PartGraph, p: u32, q: u32, v: u32, from: u32) -> Option<u32>
     ensures next { IsNextAnswer (gained_source (G (graph.now).traces) p q v) from result }
     ensures within { IfSome result (IsUsed graph.now) }
@@ -59,7 +60,7 @@ fn next_gained_source(graph: &PartGraph, p: u32, q: u32, v: u32, from: u32) -> O
     next_own_source(graph, q, q, from)
 }
 
-/// The id p where it is at or above `from`, and q has an edge to v, or to itself where v is p.
+/// The id p, if it is at or above `from` and q has an edge to v, or to itself if v is p. `None` if not.
 fn next_kept_source(graph: &PartGraph, p: u32, q: u32, v: u32, from: u32) -> Option<u32>
     requires { IsPair (G (graph.now).traces) p q }
     ensures next { IsNextAnswer (kept_source (G (graph.now).traces) p q v) from result }
@@ -77,7 +78,7 @@ fn next_kept_source(graph: &PartGraph, p: u32, q: u32, v: u32, from: u32) -> Opt
     None
 }
 
-/// The least id at or above `from` to which u has an edge, and None where there is none.
+/// The least id at or above `from` to which u has an edge in the merged graph; `None` if there is none.
 pub fn next_merged_target(graph: &PartGraph, p: u32, q: u32, u: u32, from: u32) -> Option<u32>
     requires { IsPair (G (graph.now).traces) p q }
     ensures next { IsNextAnswer (λ v. merged_edge (G (graph.now).traces) p q u v) from result }
@@ -92,7 +93,7 @@ pub fn next_merged_target(graph: &PartGraph, p: u32, q: u32, u: u32, from: u32) 
     lesser(own, lesser(gained, kept))
 }
 
-/// The least id but q at or above `from` to which u has an edge.
+/// The least id other than q, at or above `from`, to which u has an edge; `None` if there is none.
 fn next_own_target(graph: &PartGraph, q: u32, u: u32, from: u32) -> Option<u32>
     ensures next { IsNextAnswer (own_target (G (graph.now).traces) q u) from result }
     ensures within { IfSome result (IsUsed graph.now) }
@@ -104,7 +105,8 @@ fn next_own_target(graph: &PartGraph, q: u32, u: u32, from: u32) -> Option<u32>
     graph.next_target(u, q + 1)
 }
 
-/// The least id but q at or above `from` to which q has an edge, where u is p.
+/// If u is p, the least id other than q, at or above `from`, to which q has an edge. `None` if there is none, or if u
+/// is not p.
 fn next_gained_target(graph: &PartGraph, p: u32, q: u32, u: u32, from: u32) -> Option<u32>
     ensures next { IsNextAnswer (gained_target (G (graph.now).traces) p q u) from result }
     ensures within { IfSome result (IsUsed graph.now) }
@@ -115,7 +117,7 @@ fn next_gained_target(graph: &PartGraph, p: u32, q: u32, u: u32, from: u32) -> O
     next_own_target(graph, q, q, from)
 }
 
-/// The id p where it is at or above `from`, and u has an edge to q, or q to itself where u is p.
+/// The id p, if it is at or above `from` and u has an edge to q, or q to itself if u is p. `None` if not.
 fn next_kept_target(graph: &PartGraph, p: u32, q: u32, u: u32, from: u32) -> Option<u32>
     requires { IsPair (G (graph.now).traces) p q }
     ensures next { IsNextAnswer (kept_target (G (graph.now).traces) p q u) from result }

@@ -1,4 +1,4 @@
-//! What is counted of cells: the type and the size of each id, and the edges between ids.
+//! What is counted over cells: the type and the size of each id, and the edges between ids.
 ghost use Rattle.std.specs.Prelude.{◌≡◌, ◌≢◌, ◌+◌, ◌<◌, ◌≤◌, ◌^◌, ℕ, true, length, slice_index, All, IfOk, if◌then◌else◌, ◌==◌};
 ghost use Rattle.limits.specs.declared.TheConstants.{MAX_EVENTS, MAX_PARTITIONS};
 ghost use Rattle.partition_graph.specs.Cells.{IsClosed};
@@ -15,10 +15,10 @@ use std::alloc::{AllocError, Global};
 /// How many ids the tables are made for.
 const IDS: usize = MAX_PARTITIONS as usize;
 
-/// What is counted of cells whose ids are below `MAX_PARTITIONS`.
+/// What is counted over cells whose ids are below `MAX_PARTITIONS`.
 #[derive(Drop)]
 pub struct Tables {
-    /// The type of the last cell of each id, and 0 where no cell has it.
+    /// For each id, the type of its last cell, or 0 if no cell has the id.
     types: Vec<u16>,
     /// How many cells each id has.
     sizes: Vec<u32>,
@@ -32,7 +32,7 @@ impl Tables {
     ghost use Rattle.partition_graph.specs.Tables.{type_at, size_at, count_at, HasCountsBut, HasCountsOf, IsClear, IsCountOf};
     ghost use Rattle.partition_graph.specs.Types.{HaveTypes, KnowsTypes};
 
-    /// The tables of these cells.
+    /// The tables of these cells. Only this call allocates; `AllocError` is returned if there is not enough memory.
     pub fn open(alloc: Global, cells: &[Cell]) -> Result<Tables, AllocError>
         requires ids { All HasId cells.now }
         requires few { length cells.now < 2 ^ 32 }
@@ -43,14 +43,14 @@ impl Tables {
         Ok(tables)
     }
 
-    /// Takes the cell at this place from what is counted, with the edge to it and the edge from it.
+    /// Takes the cell at this place out of the tables, with the edge to it and the edge from it.
     pub fn uncount_around(&mut self, cells: &[Cell], place: usize)
         requires place { place < length cells.now }
         requires ids { All HasId cells.now }
         requires closed { IsClosed true cells.now }
         requires counted { HasCountsOf self.old cells.now }
 
-        // All others are counted still.
+        // All others are still counted.
         ensures counted { HasCountsBut self.new place cells.now }
         ensures types { (types : ℕ → ℕ) → KnowsTypes types self.old → KnowsTypes types self.new }
     {
@@ -60,7 +60,7 @@ impl Tables {
         self.counts.remove(cell.id as u32, id_behind(cells, place));
     }
 
-    /// Counts the cell at this place too, where all the others are counted, with the edge to it and the edge from it.
+    /// Counts the cell at this place, with the edge to it and the edge from it. All other cells are counted already.
     pub fn count_around(&mut self, cells: &[Cell], place: usize)
         requires place { place < length cells.now }
         requires ids { All HasId cells.now }
@@ -100,7 +100,7 @@ impl Tables {
         self.counts.join(p, q);
     }
 
-    /// The type of the cells of p, and 0 where no cell has the id.
+    /// The type of the cells of p, or 0 if no cell has the id.
     pub fn type_at(&self, p: u32) -> u16
         requires { p < MAX_PARTITIONS }
         ensures { result ≡ type_at self.now p }
@@ -116,7 +116,7 @@ impl Tables {
         self.sizes[p as usize]
     }
 
-    /// How often a cell of p is followed at once by one of q, INITIAL and TERMINAL at the ends of traces among them.
+    /// How often a cell of p is directly followed by one of q, with INITIAL and TERMINAL at the ends of each trace.
     pub fn count_at(&self, p: u32, q: u32) -> u32
         requires from { p < MAX_PARTITIONS }
         requires to { q < MAX_PARTITIONS }
@@ -125,14 +125,14 @@ impl Tables {
         self.counts.get(p, q)
     }
 
-    /// The least id at or above `from` from which an edge to q is counted, and None where there is none.
+    /// The least id at or above `from` from which an edge to q is counted; `None` if there is none.
     pub fn next_source(&self, q: u32, from: u32) -> Option<u32>
         ensures { IsNextAnswer (λ p. is_counted (self.now).counts p q) from result }
     {
         self.counts.next_source(q, from)
     }
 
-    /// The least id at or above `from` to which an edge from p is counted, and None where there is none.
+    /// The least id at or above `from` to which an edge from p is counted; `None` if there is none.
     pub fn next_target(&self, p: u32, from: u32) -> Option<u32>
         ensures { IsNextAnswer (λ q. is_counted (self.now).counts p q) from result }
     {
@@ -153,7 +153,7 @@ impl Tables {
         })
     }
 
-    /// Counts the cells, where nothing is counted yet.
+    /// Counts the cells. Nothing is counted yet.
     fn count(&mut self, cells: &[Cell])
         requires ids { All HasId cells.now }
         requires few { length cells.now < 2 ^ 32 }
@@ -182,7 +182,7 @@ impl Tables {
         self.sizes[cell.id as usize] += 1;
     }
 
-    /// Takes a cell from the size of its id, and the id's type where no cell is left.
+    /// Takes a cell out of the size of its id. If no cell of the id is left, its type is 0 again.
     fn uncount_cell(&mut self, cell: Cell)
         requires id { cell.id < MAX_PARTITIONS }
         requires some { 0 < size_at self.old cell.id }
@@ -199,7 +199,7 @@ impl Tables {
         }
     }
 
-    /// Adds the edge that leads to a cell, and the one from it to TERMINAL where its trace ends.
+    /// Adds the edge to a cell and, if its trace ends there, the edge from it to TERMINAL.
     fn count_edges_at(&mut self, before: u32, cell: Cell)
         requires before { before < MAX_PARTITIONS }
         requires id { cell.id < MAX_PARTITIONS }
@@ -219,7 +219,7 @@ impl Tables {
     }
 }
 
-/// So many types, none of them known.
+/// `room` types, all of them 0: none is known.
 fn no_types(alloc: Global, room: usize) -> Result<Vec<u16>, AllocError>
     ensures room { IfOk result (λ table. length table.items ≡ room) }
     ensures zero { IfOk result (λ table. (k : ℕ) → slice_index table.items k ≡ 0) }

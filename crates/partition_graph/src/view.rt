@@ -1,4 +1,4 @@
-//! A graph as it is asked for paths.
+//! Views of a graph: as it is, or as it would be after a merge.
 ghost use Rattle.std.specs.Prelude.{◌≡◌, ◌≤◌, ◌<◌, IfSome, MatchOption};
 ghost use Rattle.partition_graph.specs.Parts.{HasEdgesBelow};
 ghost use Rattle.partition_graph.specs.Neighbours.{HasNoSource, HasNoTarget, IsNextSource, IsNextTarget};
@@ -8,13 +8,13 @@ use crate::graph::PartGraph;
 use crate::merged::{has_merged_edge, next_merged_source, next_merged_target};
 use limits::{FIRST_TYPE, MAX_PARTITIONS};
 
-/// A graph to be asked for paths and for neighbours.
+/// A graph in which edges, neighbours and paths are looked up.
 #[derive(Clone, Copy)]
 pub enum View<'a> {
     /// The graph as it is.
     Plain(&'a PartGraph),
-    /// The graph as it would be after `merge(p, q)`, without the merge: the events of q are those of p. The two are
-    /// partitions of one type, p before q; where they are not, the view still shows q replaced by p in the edges.
+    /// The graph as it would be after `merge(p, q)`; the merge is not made. The two are partitions of one type, and p
+    /// is the lower id. If they are not, the view still shows q replaced by p in the edges.
     Merged(&'a PartGraph, u32, u32),
 }
 
@@ -29,8 +29,8 @@ impl View<'_> {
         }
     }
 
-    /// The type of p, and 0 where p is neither an end nor has events. In a merged view the id that is gone still has the
-    /// type of its events.
+    /// The type of p, or 0 if p is neither an end nor has events. In a merged view, the id that is merged away still
+    /// has the type of its events.
     pub fn type_of(&self, p: u32) -> u16
         ensures { result ≡ (seen self.now).typ p }
     {
@@ -53,7 +53,7 @@ impl View<'_> {
         }
     }
 
-    /// The least id at or above `from` that has an edge to q, and None where there is none.
+    /// The least id at or above `from` that has an edge to q; `None` if there is none.
     pub fn next_source(&self, q: u32, from: u32) -> Option<u32>
         requires { IsSound self.now }
         ensures next { MatchOption result
@@ -66,7 +66,7 @@ impl View<'_> {
         }
     }
 
-    /// The least id at or above `from` to which p has an edge, and None where there is none.
+    /// The least id at or above `from` to which p has an edge; `None` if there is none.
     pub fn next_target(&self, p: u32, from: u32) -> Option<u32>
         requires { IsSound self.now }
         ensures next { MatchOption result

@@ -1,6 +1,7 @@
 pub mod Counted
 pub mod Found
 pub mod Noted
-pub mod Seeding
+pub mod Placing
+pub mod Rest
 pub mod Stepped
 pub mod Traced

@@ -1,14 +1,15 @@
 -- A path that one more trace takes.
 use Rattle.std.proofs.Common.{◌≡◌, ℕ, zero, suc, ◌+◌, ◌<◌, ◌≤◌, Bool, true, false, not, cond, ◌||◌, List, [], ◌∷◌, ◌++◌, map, length, get_or, set, refl, sym, ap, ◌∙◌, arith, ⊎_elim, true≢false}
-use Rattle.std.specs.Borrow.{Bor}
 use Rattle.std.specs.List.{list_any, position_or_len}
 use Rattle.std.specs.Str.{bytes_eq}
 use Rattle.std.proofs.Math.ListN.{get_or-map}
-use Rattle.std.proofs.lemmas.Bool.{cases_Bool, cond-true, cond-false}
-use Rattle.std.proofs.lemmas.List.{length-map}
+use Rattle.std.proofs.lemmas.Bool.{cases_Bool, cond-true, cond-false, not_from_true, not_from_false, true_from_ne_false, or_from}
+use Rattle.std.proofs.lemmas.List.{length-map, map-append}
 use Rattle.std.proofs.lemmas.List.Sums.{get_or-le-sum_by}
+use Rattle.traces.specs.Words.{with_new}
 use Rattle.reports.specs.declared.taken.TakenPath.{TakenPath}
-use Rattle.reports.specs.Paths.{TracePath, Taken, shown, same_ids, total, with_path, AreKeys}
+use Rattle.reports.specs.Paths.{TracePath, Taken, shown, same_ids, total, with_path, AreIdsOf}
+use Rattle.reports.proofs.Placing.{none-length}
 
 -- whether a test holds of something that is made of the members is asked of the members
 pub list_any-map : {X Y : Type 0} (f : X → Y) (p : Y → Bool) (xs : List X) → list_any p (map f xs) ≡ list_any (λ x. p (f x)) xs
@@ -20,20 +21,17 @@ position-map : {X Y : Type 0} (f : X → Y) (p : Y → Bool) (xs : List X) → p
 position-map f p [] = refl
 position-map f p (x ∷ xs) = ap (λ n. cond (not (p (f x))) (1 + n) 0) (position-map f p xs)
 
--- some path has the ids exactly where some key has them
-pub any-key : (keys : List (Bor (List ℕ))) (gs : List TakenPath) (p : TracePath) → AreKeys keys gs
-    → list_any (λ (t : Taken). same_ids p t.path) (map shown gs) ≡ list_any (λ (k : Bor (List ℕ)). bytes_eq p.ids k.now) keys
-any-key keys gs p same =
+-- some path has the ids exactly where some list is the ids
+pub any-list : (lists : List (List ℕ)) (gs : List TakenPath) (p : TracePath) → AreIdsOf lists gs
+    → list_any (λ (t : Taken). same_ids p t.path) (map shown gs) ≡ list_any (bytes_eq p.ids) lists
+any-list lists gs p same =
     list_any-map shown (λ (t : Taken). same_ids p t.path) gs
-    ∙ (sym (list_any-map (λ (g : TakenPath). g.ids.now) (bytes_eq p.ids) gs)
-    ∙ (ap (list_any (bytes_eq p.ids)) (sym same) ∙ list_any-map (λ (k : Bor (List ℕ)). k.now) (bytes_eq p.ids) keys))
+    ∙ (sym (list_any-map (λ (g : TakenPath). g.ids.now) (bytes_eq p.ids) gs) ∙ ap (list_any (bytes_eq p.ids)) (sym same))
 
--- the first key with the ids stands at the place of the first path with them
-pub position-key : (keys : List (Bor (List ℕ))) (gs : List TakenPath) (ids : List ℕ) → AreKeys keys gs
-    → position_or_len (λ (k : Bor (List ℕ)). bytes_eq ids k.now) keys ≡ position_or_len (λ (g : TakenPath). bytes_eq ids g.ids.now) gs
-position-key keys gs ids same =
-    sym (position-map (λ (k : Bor (List ℕ)). k.now) (bytes_eq ids) keys)
-    ∙ (ap (position_or_len (bytes_eq ids)) same ∙ position-map (λ (g : TakenPath). g.ids.now) (bytes_eq ids) gs)
+-- the first list that is the ids stands at the place of the first path with them
+pub position-list : (lists : List (List ℕ)) (gs : List TakenPath) (ids : List ℕ) → AreIdsOf lists gs
+    → position_or_len (bytes_eq ids) lists ≡ position_or_len (λ (g : TakenPath). bytes_eq ids g.ids.now) gs
+position-list lists gs ids same = ap (position_or_len (bytes_eq ids)) same ∙ position-map (λ (g : TakenPath). g.ids.now) (bytes_eq ids) gs
 
 -- of two truth values of which none holds, each is false
 pub neither : (a b : Bool) → (a || b) ≡ false → (a ≡ false) × (b ≡ false)
@@ -67,20 +65,56 @@ present (g ∷ gs) p (suc i) d place inside = ⊎_elim
     cond-false _ _ _ differ ∙ ap (λ ts. shown g ∷ ts) (present gs p i d (omega arith) (omega arith)))
     (cases_Bool (bytes_eq p.ids g.ids.now))
 
--- where the opposite of a truth value holds, it does not
-pub not-false : (n b : Bool) → n ≡ not b → n ≡ true → b ≡ false
-not-false n true is yes-n = absurd (true≢false (sym yes-n ∙ is))
-not-false n false is yes-n = refl
+-- the first list that is the ids stands at most at the end
+position-le : (lists : List (List ℕ)) (ids : List ℕ) → position_or_len (bytes_eq ids) lists ≤ length lists
+position-le [] ids = omega arith
+position-le (l ∷ lists) ids = ⊎_elim
+    (λ hit. let here : position_or_len (bytes_eq ids) (l ∷ lists) ≡ 0 = cond-false _ _ _ (not_from_true _ hit) in omega (arith, here))
+    (λ miss. let later : position_or_len (bytes_eq ids) (l ∷ lists) ≡ 1 + position_or_len (bytes_eq ids) lists = cond-true _ _ _ (not_from_false _ miss) in omega (arith, later, position-le lists ids))
+    (cases_Bool (bytes_eq ids l))
 
--- where the opposite of a truth value does not hold, it does
-pub not-true : (n b : Bool) → n ≡ not b → n ≡ false → b ≡ true
-not-true n true is no-n = refl
-not-true n false is no-n = absurd (true≢false (sym is ∙ no-n))
+-- where it would stand at the end, no list is the ids
+none-any : (lists : List (List ℕ)) (ids : List ℕ) → position_or_len (bytes_eq ids) lists ≡ length lists → list_any (bytes_eq ids) lists ≡ false
+none-any [] ids end = refl
+none-any (l ∷ lists) ids end = ⊎_elim
+    (λ hit. absurd (let here : position_or_len (bytes_eq ids) (l ∷ lists) ≡ 0 = cond-false _ _ _ (not_from_true _ hit) in omega (arith, here, end)))
+    (λ miss.
+    let later : position_or_len (bytes_eq ids) (l ∷ lists) ≡ 1 + position_or_len (bytes_eq ids) lists = cond-true _ _ _ (not_from_false _ miss) in
+    or_from _ _ miss (none-any lists ids (omega (arith, later, end))))
+    (cases_Bool (bytes_eq ids l))
 
--- there are as many keys as paths
-pub many-keys : (keys : List (Bor (List ℕ))) (gs : List TakenPath) → AreKeys keys gs → length keys ≡ length gs
-many-keys keys gs same =
-    sym (length-map keys (λ (k : Bor (List ℕ)). k.now)) ∙ (ap length same ∙ length-map gs (λ (g : TakenPath). g.ids.now))
+-- there are as many lists as paths
+pub many-lists : (lists : List (List ℕ)) (gs : List TakenPath) → AreIdsOf lists gs → length lists ≡ length gs
+many-lists lists gs same = ap length same ∙ length-map gs (λ (g : TakenPath). g.ids.now)
+
+-- where the place is the end, no list is the ids
+pub new-place : (lists : List (List ℕ)) (gs : List TakenPath) (ids : List ℕ) (place end : ℕ) → AreIdsOf lists gs → place ≡ position_or_len (bytes_eq ids) lists → end ≡ length gs
+    → place ≡ end → list_any (bytes_eq ids) lists ≡ false
+new-place lists gs ids place end same is all at_end = none-any lists ids (omega (arith, is, all, at_end, many-lists lists gs same))
+
+-- where it is not, some list is, and the place is that of a path
+pub taken-place : (lists : List (List ℕ)) (gs : List TakenPath) (ids : List ℕ) (place end : ℕ) → AreIdsOf lists gs → place ≡ position_or_len (bytes_eq ids) lists → end ≡ length gs
+    → (place ≡ end → ⊥) → (list_any (bytes_eq ids) lists ≡ true) × (place < length gs)
+taken-place lists gs ids place end same is all other =
+    let many = many-lists lists gs same in
+    let before : place < length gs = omega (arith, is, all, other, position-le lists ids, many) in
+    (true_from_ne_false (list_any (bytes_eq ids) lists) (λ none. absurd (omega (arith, before, is, none-length lists ids none, many))), before)
+
+-- with a new list, the lists are the ids of the paths with a new one
+pub lists-more : (lists after : List (List ℕ)) (gs : List TakenPath) (g : TakenPath) → AreIdsOf lists gs → after ≡ with_new bytes_eq lists g.ids.now
+    → list_any (bytes_eq g.ids.now) lists ≡ false → AreIdsOf after (gs ++ g ∷ [])
+lists-more lists after gs g same is none =
+    is
+    ∙ (cond-false _ _ _ none
+    ∙ (ap (λ (ls : List (List ℕ)). ls ++ g.ids.now ∷ []) same ∙ sym (map-append (λ (t : TakenPath). t.ids.now) gs (g ∷ []))))
+
+-- one trace more adds at most one path
+pub length-with : (ts : List Taken) (p : TracePath) → length (with_path ts p) ≤ length ts + 1
+length-with [] p = omega arith
+length-with (t ∷ ts) p = ⊎_elim
+    (λ is. omega (arith, ap length (cond-true {A = List Taken} _ (record { path = t.path; count = t.count + 1 } ∷ ts) (t ∷ with_path ts p) is)))
+    (λ differ. omega (arith, length-with ts p, ap length (cond-false {A = List Taken} _ (record { path = t.path; count = t.count + 1 } ∷ ts) (t ∷ with_path ts p) differ)))
+    (cases_Bool (same_ids p t.path))
 
 -- one path is taken no more often than all are
 pub counted-le : (gs : List TakenPath) (i : ℕ) (r : TakenPath) → i < length gs → r ≡ get_or gs i r → r.count ≤ total (map shown gs)

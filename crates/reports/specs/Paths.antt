@@ -2,9 +2,7 @@
 use Rattle.std.specs.Prelude.{ℕ, ◌≡◌, ◌+◌, Bool, true, List, [], ◌∷◌, ◌++◌, map, length, take, drop, count_by, sum_by, codes, decimal, if◌then◌else◌, flat_map, Contains}
 use Rattle.std.specs.List.{zip}
 use Rattle.std.specs.Str.{bytes_eq}
-use Rattle.std.specs.Borrow.{Bor}
 use Rattle.traces.specs.Words.{Trace, Log, first_met}
-use Rattle.seeded_hash.specs.Seeds.{list_bytes}
 use Rattle.reports.specs.Reports.{name_of}
 use Rattle.reports.specs.declared.taken.TakenPath.{TakenPath}
 
@@ -76,9 +74,9 @@ pub record PathsTell : Type 0 where
 abbrev pub shown : TakenPath → Taken
 shown t = record { path = trace_path t.types.now t.ids.now; count = t.count }
 
--- the keys are the ids of the paths, in the same order
-abbrev pub AreKeys : List (Bor (List ℕ)) → List TakenPath → Type 0
-AreKeys keys paths = map (λ k. k.now) keys ≡ map (λ t. t.ids.now) paths
+-- the lists are the ids of the paths, in the same order
+abbrev pub AreIdsOf : List (List ℕ) → List TakenPath → Type 0
+AreIdsOf lists paths = lists ≡ map (λ t. t.ids.now) paths
 
 -- the paths after one more trace: with those of its ids, or as the first of a new path at the end
 abbrev pub with_path : List Taken → TracePath → List Taken
@@ -86,7 +84,3 @@ with_path [] p = record { path = p; count = 1 } ∷ []
 with_path (t ∷ ts) p =
     if same_ids p t.path then record { path = t.path; count = t.count + 1 } ∷ ts
     else t ∷ with_path ts p
-
--- the ids of paths as bytes, each list with a mark of its end
-abbrev pub paths_bytes : List TracePath → List ℕ
-paths_bytes paths = flat_map (λ p. list_bytes p.ids) paths

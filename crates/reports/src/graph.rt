@@ -10,7 +10,7 @@ use limits::{INITIAL, TERMINAL};
 use std::alloc::{AllocError, Global};
 use std::collections::BTreeMap;
 
-/// Puts a partition at the end of the text as it is shown: the name of its type and its id, and an end by its name.
+/// Appends a partition to the text: the name of its type, `@`, and its id; for an end, only its name.
 fn push_partition(
     text: &mut Vec<u8>,
     names: &Names<'_>,
@@ -32,7 +32,7 @@ fn push_partition(
     }
 }
 
-/// How many events the partition has, or 0 without one.
+/// The number of events of the partition; 0 if there is none.
 fn count_of(found: Option<Partition>) -> u32
     ensures { result ≡ count_of found }
 {
@@ -42,7 +42,7 @@ fn count_of(found: Option<Partition>) -> u32
     }
 }
 
-/// Puts the line of an edge at the end of the text.
+/// Appends the line of an edge to the text.
 fn push_edge(
     text: &mut Vec<u8>,
     names: &Names<'_>,
@@ -63,7 +63,7 @@ fn push_edge(
     Ok(())
 }
 
-/// Puts the line of an edge, whose partitions are found by their ids, at the end of the text.
+/// Appends the line of an edge to the text. Its partitions are found by their ids.
 fn push_line(
     text: &mut Vec<u8>,
     names: &Names<'_>,
@@ -78,12 +78,14 @@ fn push_line(
     push_edge(text, names, edge, from, to)
 }
 
-/// The text of a graph, one edge a line in the order given, as `"a"@2 -> "b"@3: 2 of 5`: the partitions that it
-/// leaves and enters, each by its type's text as a JSON string and its id, then the edge's count and that of the
-/// partition that it leaves.
+/// The text of a graph, one edge per line in the order given, for example `"a"@2 -> "b"@3: 2 of 5`. A line has the partitions
+/// that the edge leaves and enters, each with the text of its type as a JSON string and its id. The count of the edge and that
+/// of the partition that it leaves follow.
 ///
-/// The two ends are shown as `INITIAL` and `TERMINAL`, without an id. Of an id that no partition has, the type is
-/// shown by no text and the count as 0; where partitions have one id, the first is meant. Each line ends with byte 10.
+/// The two ends are shown as `INITIAL` and `TERMINAL`, without an id. If no partition has an id, its type is shown as the empty
+/// text and its count as 0. If several partitions have one id, the first is shown. Each line ends with byte 10.
+///
+/// The only error is out of memory.
 pub fn graph_report(
     alloc: Global,
     types: &Seq<Text>,

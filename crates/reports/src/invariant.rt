@@ -27,10 +27,12 @@ fn push_line(text: &mut Vec<u8>, names: &Names<'_>, inv: Invariant) -> Result<()
     Ok(())
 }
 
-/// The text of invariants, one a line in the order given, as `"a" AlwaysFollowedBy "b"`.
+/// The text of invariants, one per line in the order given, for example `"a" AlwaysFollowedBy "b"`.
 ///
-/// A type is shown by its text as a JSON string, and the two ends as `INITIAL` and `TERMINAL`. The types are those
-/// with the numbers from `FIRST_TYPE` on; a number that names none of them is shown by no text. Each line ends with byte 10.
+/// A type is shown by its text as a JSON string, and the two ends as `INITIAL` and `TERMINAL`. `types` has the texts of the
+/// types with the numbers from `FIRST_TYPE` on; a number beyond these is shown as the empty text. Each line ends with byte 10.
+///
+/// The only error is out of memory.
 pub fn invariant_report(
     alloc: Global,
     types: &Seq<Text>,

@@ -1,14 +1,15 @@
-//! The reports of the program: what it prints of invariants, of graphs and of the paths of traces.
+//! The reports of the program: the texts of invariants, of graphs and of the paths of traces.
 #![tactic(auto)]
 
 mod graph;
 mod invariant;
 mod law;
+mod lists;
 mod name;
 mod number;
 mod partitions;
 mod path;
-mod seed;
+mod slots;
 mod taken;
 
 pub use graph::graph_report;

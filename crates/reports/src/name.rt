@@ -10,11 +10,11 @@ use serde_json::Value;
 use std::alloc::{AllocError, Global};
 use std::marker::Model;
 
-/// The names of the types of a report: the text of each as a JSON string, made once for all lines. Contracts see the texts
-/// of the types as they are.
+/// The names of the types of a report: the text of each as a JSON string, made once for all lines. Contracts see the texts of
+/// the types themselves.
 #[derive(Drop)]
 pub struct Names<'a> {
-    /// The types, which only contracts read.
+    /// The types. Only contracts read them.
     types: &'a Seq<Text>,
     /// Their texts as JSON strings, in the same order.
     quoted: Vec<Text>,
@@ -52,7 +52,7 @@ fn quote_all(alloc: Global, types: &Seq<Text>) -> Result<Vec<Text>, AllocError>
 }
 
 impl<'a> Names<'a> {
-    /// The names of these types. The one error is want of memory.
+    /// The names of these types. The only error is out of memory.
     pub fn make(alloc: Global, types: &'a Seq<Text>) -> Result<Names<'a>, AllocError>
         ensures { IfOk result (λ names. names ≡ types.now) }
     {
@@ -60,7 +60,8 @@ impl<'a> Names<'a> {
         Ok(Names { types, quoted })
     }
 
-    /// Puts the name of the type with this number at the end of the text: its own text as a JSON string, or that of an end.
+    /// Appends the name of the type with this number to the text: its text as a JSON string, or the name of an end. If no type
+    /// has this number, nothing is appended.
     pub fn push_name(&self, text: &mut Vec<u8>, number: u16) -> Result<(), AllocError>
         ensures { OnOk result (text.new.items ≡ text.old.items ++ name_of self.now number) }
     {

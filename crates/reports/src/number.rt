@@ -4,7 +4,7 @@ ghost use Rattle.std.specs.Prelude.{◌≡◌, ◌++◌, OnOk, decimal};
 use itoa::Buffer;
 use std::alloc::AllocError;
 
-/// Puts a number in decimal digits at the end of the text.
+/// Appends a number in decimal digits to the text.
 pub fn push_number(text: &mut Vec<u8>, number: u32) -> Result<(), AllocError>
     ensures { OnOk result (text.new.items ≡ text.old.items ++ decimal number) }
 {

@@ -6,7 +6,7 @@ use invariants::Partition;
 use std::alloc::{AllocError, Global};
 use std::collections::BTreeMap;
 
-/// Notes a partition under its id, unless one is noted there.
+/// Notes a partition under its id, unless one is already noted there.
 fn note(places: &mut BTreeMap<u32, Partition>, partition: Partition) -> Result<(), AllocError>
     ensures { OnOk result ((id : ℕ)
         → found_at places.new id ≡ or_noted partition id (found_at places.old id)) }
@@ -18,7 +18,7 @@ fn note(places: &mut BTreeMap<u32, Partition>, partition: Partition) -> Result<(
     Ok(())
 }
 
-/// The partitions by their ids; of those with one id the first.
+/// The partitions by their ids. If several have one id, the first counts.
 pub fn by_id(
     alloc: Global,
     partitions: &[Partition],

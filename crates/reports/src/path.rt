@@ -11,7 +11,7 @@ use invariants::Seq;
 use std::alloc::{AllocError, Global};
 use traces::TraceSet;
 
-/// Puts an event at the end of the text: a space, the name of its type, and the id of its partition.
+/// Appends an event to the text: a space, the name of its type, `@`, and the id of its partition.
 fn push_step(text: &mut Vec<u8>, names: &Names<'_>, number: u16, id: u32) -> Result<(), AllocError>
     ensures { OnOk result (text.new.items ≡ text.old.items ++ step_text names.now (number, id)) }
 {
@@ -22,7 +22,7 @@ fn push_step(text: &mut Vec<u8>, names: &Names<'_>, number: u16, id: u32) -> Res
     Ok(())
 }
 
-/// Puts events with these numbers of types and these ids at the end of the text.
+/// Appends the events with these type numbers and ids to the text.
 fn push_steps(
     text: &mut Vec<u8>,
     names: &Names<'_>,
@@ -38,7 +38,7 @@ fn push_steps(
     Ok(())
 }
 
-/// Puts the line of a path at the end of the text.
+/// Appends the line of a path to the text.
 fn push_line(text: &mut Vec<u8>, names: &Names<'_>, taken: &TakenPath<'_>) -> Result<(), AllocError>
     ensures { OnOk result (text.new.items
         ≡ text.old.items ++ path_line names.now (shown taken.now)) }
@@ -50,16 +50,15 @@ fn push_line(text: &mut Vec<u8>, names: &Names<'_>, taken: &TakenPath<'_>) -> Re
     Ok(())
 }
 
-/// The text of the paths that the traces take through partitions, one a line in the order first met, as
-/// `3: INITIAL "a"@2 "b"@3 TERMINAL`: how many traces take the path, and for each of its events the type's text as a
-/// JSON string and the id of its partition.
+/// The text of the paths that the traces take through partitions, one per line in the order first met, for example `3: INITIAL
+/// "a"@2 "b"@3 TERMINAL`. A line has the number of traces that take the path, and for each of its events the text of the type
+/// as a JSON string and the id of the partition.
 ///
-/// `parts` has the id of each event, trace after trace. Two traces take one path where their ids are the same, one by
-/// one. Of each event the type is shown that it has in the first trace which takes the path: in a graph, where the
-/// events of one partition have one type, it is that of the partition. Each line ends with byte 10, and without a
-/// trace there is no line.
+/// `parts` has the id of each event, trace after trace. Two traces take the same path if they have the same list of ids. The
+/// types shown are those of the first trace that takes the path. In a graph the events of one partition have one type, so these
+/// are the types of the partitions. Each line ends with byte 10, and if there are no traces the text is empty.
 ///
-/// The one error is want of memory.
+/// The only error is out of memory.
 pub fn path_report(alloc: Global, traces: &TraceSet, parts: &[u32]) -> Result<Seq<u8>, AllocError>
     requires { length parts.now ≡ event_count_of (traces.now).traces }
     ensures { IfOk result (λ text. text ≡ path_report traces.now parts.now) }

@@ -1,11 +1,9 @@
 //! The paths that traces take, each once and counted.
-ghost use Rattle.std.specs.Prelude.{◌≡◌, ◌+◌, ◌^◌, ◌<◌, OnOk, IfOk, length, map};
+ghost use Rattle.std.specs.Prelude.{◌≡◌, ◌+◌, ◌-◌, ◌^◌, ◌<◌, OnOk, IfOk, length, map};
 ghost use Rattle.traces.specs.Words.{event_count_of};
-ghost use Rattle.reports.specs.Paths.{paths_of, shown, taken, total, trace_path, with_path, AreKeys};
+ghost use Rattle.reports.specs.Paths.{paths_of, shown, taken, total, trace_path, with_path, AreIdsOf};
 
-use crate::seed::seed_of;
-use indexmap::IndexSet;
-use seeded_hash::Seed;
+use crate::lists::IdLists;
 use std::alloc::{AllocError, Global};
 use traces::TraceSet;
 
@@ -23,19 +21,20 @@ pub struct TakenPath<'a> {
 /// Counts one more trace that takes a path: with those of the same ids, or else as the first of a new path at the end.
 /// The lists of ids of the paths stand in `lists`, in the same order.
 fn note<'a>(
-    lists: &mut IndexSet<&'a [u32], Seed>,
+    lists: &mut IdLists<'a>,
     paths: &mut Vec<TakenPath<'a>>,
     types: &'a [u16],
     ids: &'a [u32],
 ) -> Result<(), AllocError>
-    requires keys { AreKeys lists.old.keys paths.old.items }
-    requires few { total (map shown paths.old.items) + 1 < 2 ^ 32 }
-    ensures keys { OnOk result (AreKeys lists.new.keys paths.new.items) }
+    requires lists { AreIdsOf lists.old paths.old.items }
+    requires few { length lists.old < 2 ^ 32 - 1 }
+    requires count { total (map shown paths.old.items) + 1 < 2 ^ 32 }
+    ensures lists { OnOk result (AreIdsOf lists.new paths.new.items) }
     ensures noted { OnOk result (map shown paths.new.items
         ≡ with_path (map shown paths.old.items) (trace_path types.now ids.now)) }
 {
-    let (place, new) = lists.insert_full(ids)?;
-    if new {
+    let place = lists.place_or_put(ids)?;
+    if place == paths.len() {
         paths.push(TakenPath {
             types,
             ids,
@@ -57,7 +56,7 @@ pub fn taken_paths<'a>(
     ensures { IfOk result (λ paths. map shown paths.items
         ≡ taken (paths_of (traces.now).traces parts.now)) }
 {
-    let mut lists = IndexSet::with_hasher(alloc, seed_of(alloc, traces, parts)?);
+    let mut lists = IdLists::for_count(alloc, traces.trace_count())?;
     let mut paths = Vec::new(alloc);
     let mut rest = parts;
     for t in 0..traces.trace_count() {

@@ -21,7 +21,7 @@ impl PartGraph {
     ghost use Rattle.limits.specs.declared.TheConstants.{MAX_EVENTS};
     ghost use Rattle.std.specs.Prelude.{All};
 
-    /// The live partitions, by their ids.
+    /// The live partitions, in the order of their ids. `AllocError` is returned if there is not enough memory.
     pub fn partitions(&self, alloc: Global) -> Result<Seq<Partition>, AllocError>
         ensures { IfOk result (λ list. list ≡ partitions_below (self.now).used (self.now).traces) }
     {
@@ -38,7 +38,8 @@ impl PartGraph {
         Ok(Seq::from_vec(list))
     }
 
-    /// The edges whose count is above 0, by the ids that they leave and then by those that they enter.
+    /// The edges whose count is above 0, in the order of the ids that they leave and then of those that they enter.
+    /// `AllocError` is returned if there is not enough memory.
     pub fn edges(&self, alloc: Global) -> Result<Seq<Edge>, AllocError>
         ensures { IfOk result (λ list. list ≡ edges_below (self.now).used (self.now).traces) }
     {
@@ -49,7 +50,7 @@ impl PartGraph {
         Ok(Seq::from_vec(list))
     }
 
-    /// Puts the edges that leave p behind the others.
+    /// Appends the edges that leave p.
     fn push_edges_from(&self, p: u32, list: &mut Vec<Edge>) -> Result<(), AllocError>
         ensures { OnOk result
             (list.new.items ≡ list.old.items ++ edges_from (self.now).used (self.now).traces p) }
@@ -67,15 +68,15 @@ impl PartGraph {
         Ok(())
     }
 
-    /// The id of each event, trace after trace.
+    /// The id of each event, trace after trace. `AllocError` is returned if there is not enough memory.
     pub fn parts(&self, alloc: Global) -> Result<Seq<u32>, AllocError>
         ensures { IfOk result (λ list. list ≡ parts_of (self.now).traces) }
     {
         ids_of(alloc, self.events.cells())
     }
 
-    /// The id of each event of the traces with these numbers, one trace for each number: those of the graph that
-    /// `spread` makes.
+    /// The id of each event in the graph that `spread` makes of the traces with these numbers, trace after trace.
+    /// `AllocError` is returned if there is not enough memory.
     pub fn spread_parts(&self, alloc: Global, numbers: &[u32]) -> Result<Seq<u32>, AllocError>
         requires within { All (λ k. k < length (self.now).traces) numbers.now }
         requires few { length (events (spread numbers.now (self.now).traces)) ≤ MAX_EVENTS }
