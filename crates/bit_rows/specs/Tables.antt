@@ -4,7 +4,7 @@ use Rattle.std.specs.Int.{bit_at}
 use Rattle.std.specs.List.{range_with_len}
 use Rattle.std.specs.Simd.Lanes.{zip2}
 
--- the row at an index; past the last it has no truth value
+-- the row at an index; past the last row it is empty
 abbrev pub row_at : List (List Bool) → ℕ → List Bool
 row_at rows r = slice_index_or rows r []
 
@@ -31,7 +31,7 @@ pub record IsFirstSet (row : List Bool) (i : ℕ) : Type 0 where
   pub set : is_set row i ≡ true
   pub first : (k : ℕ) → k < i → is_set row k ≡ false
 
--- this truth value of a row is true, at this place or behind it, and those between are false
+-- this truth value of a row is true, at the place `from` or after it, and those between are false
 pub record IsNextSet (row : List Bool) (from i : ℕ) : Type 0 where
   pub behind : from ≤ i
   pub within : i < length row
@@ -50,19 +50,19 @@ both = zip2 (λ x y. x && y)
 abbrev pub without : List Bool → List Bool → List Bool
 without = zip2 (λ x y. x && not y)
 
--- place i of row r, where a row takes this many words
+-- the bit for place i of row r, if each row takes this many words
 abbrev pub bit_of : List ℕ → ℕ → ℕ → ℕ → Bool
 bit_of words width r i = bit_at (slice_index words (r * width + i / 64)) (i % 64) == 1
 
--- the first truth values of row r
+-- the first truth values of row r, this many
 abbrev pub row_of : List ℕ → ℕ → ℕ → ℕ → List Bool
 row_of words width bits r = map (bit_of words width r) (range_with_len 0 bits)
 
--- the rows that lie in the words
+-- the rows that are stored in the words
 abbrev pub table_of : List ℕ → ℕ → ℕ → ℕ → List (List Bool)
 table_of words width rows bits = map (row_of words width bits) (range_with_len 0 rows)
 
--- each row has room for its bits, and no bit behind them is set
+-- each row has room for its bits, and no bit after them is set
 pub record IsLaidOut (words : List ℕ) (width rows bits : ℕ) : Type 0 where
   pub size : length words ≡ rows * width
   pub room : bits ≤ width * 64

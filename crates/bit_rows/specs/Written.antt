@@ -1,7 +1,7 @@
 -- What the loops over words leave.
 use Rattle.std.specs.Prelude.{ℕ, ◌^◌, ◌≡◌, ◌≢◌, ◌+◌, ◌<◌, ◌≤◌, Bool, true, false, List, length, slice_index, ◌⊎◌}
 
--- the word k behind a place
+-- the word at k places after this one
 abbrev pub word : List ℕ → ℕ → ℕ → ℕ
 word words at k = slice_index words (at + k)
 
@@ -13,19 +13,19 @@ AllFit words = (k : ℕ) → slice_index words k < 2 ^ 64
 abbrev pub IsApart : ℕ → ℕ → ℕ → Type 0
 IsApart a b n = (a + n ≤ b) ⊎ (b + n ≤ a)
 
--- n words from a place on are the given ones, and the others stay
+-- n words from a place on are the given ones, and the others are unchanged
 pub record IsWritten (old new : List ℕ) (at n : ℕ) (given : ℕ → ℕ) : Type 0 where
   pub size : length new ≡ length old
   pub inside : (k : ℕ) → k < n → word new at k ≡ given k
   pub before : (k : ℕ) → k < at → slice_index new k ≡ slice_index old k
   pub behind : (k : ℕ) → at + n ≤ k → slice_index new k ≡ slice_index old k
 
--- the number is 0 where the first n words of two runs agree, and only there
+-- the number is 0 exactly if the first n words of two runs are equal
 pub record HasSeen (n : ℕ) (one other : ℕ → ℕ) (more : ℕ) : Type 0 where
   pub none : more ≡ 0 → (k : ℕ) → k < n → one k ≡ other k
   pub some : 0 < more → (k : ℕ) × (k < n) × (one k ≢ other k)
 
--- the answer is true where the first n words of two runs differ, and only there
+-- the answer is true exactly if the first n words of two runs differ
 pub record TellsChange (n : ℕ) (one other : ℕ → ℕ) (changed : Bool) : Type 0 where
   pub none : changed ≡ false → (k : ℕ) → k < n → one k ≡ other k
   pub some : changed ≡ true → (k : ℕ) × (k < n) × (one k ≢ other k)

@@ -6,7 +6,7 @@ ghost use Rattle.bit_rows.specs.Written.{word, AllFit, IsApart, IsWritten, Tells
 
 use std::simd::prelude::*;
 
-/// The words that go through a vector at once.
+/// How many words a vector has.
 const LANES: usize = 8;
 
 /// The word with this bit turned on or off.
@@ -54,7 +54,7 @@ fn zero_blocks(words: &[u64], at: usize, blocks: usize) -> usize
     blocks
 }
 
-/// The index of the first word that is not 0, or how many words there are.
+/// The index of the first of `count` words that is not 0, or `count` if all are 0.
 pub(crate) fn first_word(words: &[u64], at: usize, count: usize) -> usize
     requires { at + count ≤ length words.now }
     ensures within { result ≤ count }
@@ -93,7 +93,7 @@ pub(crate) fn copy_words(words: &mut [u64], to: usize, from: usize, count: usize
     }
 }
 
-/// The same for blocks of words.
+/// Sets the bits that are set in other words, in blocks of `LANES` words, and returns whether that changed any.
 fn or_blocks(words: &mut [u64], to: usize, from: usize, blocks: usize) -> bool
     requires to_in { to + blocks * LANES ≤ length words.old }
     requires from_in { from + blocks * LANES ≤ length words.old }
@@ -118,7 +118,7 @@ fn or_blocks(words: &mut [u64], to: usize, from: usize, blocks: usize) -> bool
     more.reduce_or() != 0
 }
 
-/// The same word by word.
+/// Sets the bits that are set in other words, word by word, and returns whether that changed any.
 fn or_rest(words: &mut [u64], to: usize, from: usize, count: usize) -> bool
     requires to_in { to + count ≤ length words.old }
     requires from_in { from + count ≤ length words.old }
@@ -142,7 +142,7 @@ fn or_rest(words: &mut [u64], to: usize, from: usize, count: usize) -> bool
     more != 0
 }
 
-/// Sets the bits that are set in other words, and says whether that changed any.
+/// Sets the bits that are set in other words, and returns whether that changed any.
 pub(crate) fn or_words(words: &mut [u64], to: usize, from: usize, count: usize) -> bool
     requires to_in { to + count ≤ length words.old }
     requires from_in { from + count ≤ length words.old }
@@ -190,7 +190,7 @@ pub(crate) fn and_not_words(words: &mut [u64], to: usize, from: usize, count: us
     }
 }
 
-/// Sets the bits that are set in words and in a mask, and says whether that changed any.
+/// Sets the bits that are set in words and in a mask, and returns whether that changed any.
 pub(crate) fn or_and_words(
     words: &mut [u64],
     to: usize,
@@ -222,7 +222,7 @@ pub(crate) fn or_and_words(
     more != 0
 }
 
-/// Sets the bits that are set in words and not in a mask, and says whether that changed any.
+/// Sets the bits that are set in words and not in a mask, and returns whether that changed any.
 pub(crate) fn or_and_not_words(
     words: &mut [u64],
     to: usize,

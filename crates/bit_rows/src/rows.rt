@@ -36,8 +36,8 @@ impl Model for Rows {
 }
 
 impl Rows {
-    /// This many rows of this many bits, all of them off. Rows times bits are at most 2^33. Each row takes whole words of 64
-    /// bits. This alone takes memory: `AllocError` comes where there is not enough.
+    /// This many rows of this many bits, all of them off. Rows times bits are at most 2^33. Each row takes whole words
+    /// of 64 bits. Only this call allocates; `AllocError` is returned if there is not enough memory.
     pub fn make(alloc: Global, rows: usize, bits: usize) -> Result<Rows, AllocError>
         requires { rows * bits ≤ 2 ^ 33 }
         ensures rows { IfOk result (λ made. made ≡ replicate rows (replicate bits false)) }
@@ -105,7 +105,7 @@ impl Rows {
         first_word(self.words.as_slice(), r * self.width, self.width) == self.width
     }
 
-    /// The place of the first bit of row `r` that is on; `None` where they are all off.
+    /// The place of the first bit of row `r` that is on; `None` if all are off.
     pub fn first_set(&self, r: usize) -> Option<usize>
         requires { r < length self.now }
         ensures { MatchOption result (IsBlank (row_at self.now r))
@@ -119,7 +119,7 @@ impl Rows {
         Some(k * WORD_BITS + words[r * self.width + k].trailing_zeros() as usize)
     }
 
-    /// The place of the first bit of row `r` that is on at place `from` or behind it; `None` where these are all off.
+    /// The place of the first bit of row `r` that is on, at place `from` or after it; `None` if these are all off.
     /// `from` may lie past the end of the row.
     pub fn next_set(&self, r: usize, from: usize) -> Option<usize>
         requires { r < length self.now }
@@ -144,7 +144,7 @@ impl Rows {
         Some(k * WORD_BITS + words[start + k].trailing_zeros() as usize)
     }
 
-    /// Makes row `to` the same as row `from`, which is another. All rows but `to` stay.
+    /// Makes row `to` the same as row `from`. The two rows are different. All rows but `to` stay.
     pub fn copy_into(&mut self, to: usize, from: usize)
         requires to_row { to < length self.old }
         requires from_row { from < length self.old }
@@ -160,14 +160,14 @@ impl Rows {
         );
     }
 
-    /// Turns on the bits of row `to` that are on in row `from`, which is another, and says whether that changed row `to`.
-    /// All rows but `to` stay.
+    /// Turns on the bits of row `to` that are on in row `from`, and returns whether that changed row `to`. The two rows
+    /// are different. All rows but `to` stay.
     pub fn or_into(&mut self, to: usize, from: usize) -> bool
         requires to_row { to < length self.old }
         requires from_row { from < length self.old }
         requires apart { to ≢ from }
 
-        // The rows after the call, and what the answer says of them.
+        // The rows after the call, and what the result says about them.
         ensures rows { self.new ≡ slice_set self.old to
             (either (row_at self.old to) (row_at self.old from)) }
         ensures shape { KeepsShape self.old self.new }
@@ -182,7 +182,7 @@ impl Rows {
         )
     }
 
-    /// Turns off the bits of row `to` that are off in row `from`, which is another. All rows but `to` stay.
+    /// Turns off the bits of row `to` that are off in row `from`. The two rows are different. All rows but `to` stay.
     pub fn and_into(&mut self, to: usize, from: usize)
         requires to_row { to < length self.old }
         requires from_row { from < length self.old }
@@ -199,7 +199,7 @@ impl Rows {
         );
     }
 
-    /// Turns off the bits of row `to` that are on in row `from`, which is another. All rows but `to` stay.
+    /// Turns off the bits of row `to` that are on in row `from`. The two rows are different. All rows but `to` stay.
     pub fn and_not_into(&mut self, to: usize, from: usize)
         requires to_row { to < length self.old }
         requires from_row { from < length self.old }
@@ -216,8 +216,8 @@ impl Rows {
         );
     }
 
-    /// Turns on the bits of row `to` that are on both in row `a` and in row `mask`, and says whether that changed row `to`.
-    /// Neither is `to`; they may be one row. All rows but `to` stay.
+    /// Turns on the bits of row `to` that are on both in row `a` and in row `mask`, and returns whether that changed
+    /// row `to`. Neither is `to`; they may be the same row. All rows but `to` stay.
     pub fn or_and_into(&mut self, to: usize, a: usize, mask: usize) -> bool
         requires to_row { to < length self.old }
         requires a_row { a < length self.old }
@@ -225,7 +225,7 @@ impl Rows {
         requires a_apart { to ≢ a }
         requires mask_apart { to ≢ mask }
 
-        // The rows after the call, and what the answer says of them.
+        // The rows after the call, and what the result says about them.
         ensures rows { self.new ≡ slice_set self.old to
             (either (row_at self.old to) (both (row_at self.old a) (row_at self.old mask))) }
         ensures shape { KeepsShape self.old self.new }
@@ -241,8 +241,8 @@ impl Rows {
         )
     }
 
-    /// Turns on the bits of row `to` that are on in row `a` and off in row `mask`, and says whether that changed row `to`.
-    /// Neither is `to`; they may be one row. All rows but `to` stay.
+    /// Turns on the bits of row `to` that are on in row `a` and off in row `mask`, and returns whether that changed row
+    /// `to`. Neither is `to`; they may be the same row. All rows but `to` stay.
     pub fn or_and_not_into(&mut self, to: usize, a: usize, mask: usize) -> bool
         requires to_row { to < length self.old }
         requires a_row { a < length self.old }
@@ -250,7 +250,7 @@ impl Rows {
         requires a_apart { to ≢ a }
         requires mask_apart { to ≢ mask }
 
-        // The rows after the call, and what the answer says of them.
+        // The rows after the call, and what the result says about them.
         ensures rows { self.new ≡ slice_set self.old to
             (either (row_at self.old to) (without (row_at self.old a) (row_at self.old mask))) }
         ensures shape { KeepsShape self.old self.new }

@@ -7,13 +7,15 @@ ghost use Rattle.cell_pool.specs.Chains.{next_at_start, prev_at_start};
 use std::alloc::{AllocError, Global};
 use std::marker::Model;
 
-/// Cells in lists. Cells and lists count from 0. Contracts see a list of lists of cells, in which each cell stands exactly
-/// once; what is moved goes to the end of a list. Every call but `make` takes a few steps, however long the lists are.
+/// Cells in lists. Cells and lists count from 0. Contracts see a list of lists of cells, in which each cell stands
+/// exactly once. A cell that is moved goes to the end of a list. Every call but `make` takes a few steps, however long
+/// the lists are.
 #[derive(Drop)]
 pub struct Cells {
-    /// What follows each node. The nodes are the cells and, behind them, a head for each list, where it begins and ends.
+    /// The node after each node. The nodes are the cells and, after them, a head for each list, where it begins and
+    /// ends.
     next: Vec<u32>,
-    /// What each node follows.
+    /// The node before each node.
     prev: Vec<u32>,
     cells: u32,
     lists: u32,
@@ -42,7 +44,7 @@ fn join(next: &mut Vec<u32>, prev: &mut Vec<u32>, a: u32, b: u32)
     prev[b as usize] = a;
 }
 
-/// The node, where it is a cell.
+/// The node if it is a cell; `None` if it is not.
 fn cell_of(node: u32, cells: u32) -> Option<u32>
     ensures { result ≡ (if nat_lt node cells then Some node else None) }
 {
@@ -52,7 +54,7 @@ fn cell_of(node: u32, cells: u32) -> Option<u32>
     None
 }
 
-/// What follows a node when all cells stand in list 0.
+/// The node after a node when all cells stand in list 0.
 fn next_of(cells: u32, node: u32) -> u32
     ensures { result ≡ next_at_start cells node }
 {
@@ -65,7 +67,7 @@ fn next_of(cells: u32, node: u32) -> u32
     node
 }
 
-/// What a node follows when all cells stand in list 0.
+/// The node before a node when all cells stand in list 0.
 fn prev_of(cells: u32, node: u32) -> u32
     ensures { result ≡ prev_at_start cells node }
 {
@@ -78,7 +80,7 @@ fn prev_of(cells: u32, node: u32) -> u32
     node
 }
 
-/// What follows each node when all cells stand in list 0.
+/// The node after each node when all cells stand in list 0.
 fn all_next(alloc: Global, cells: u32, nodes: u32) -> Result<Vec<u32>, AllocError>
     ensures { IfOk result
         (λ next. next.items ≡ map (next_at_start cells) (range_with_len 0 nodes)) }
@@ -86,7 +88,7 @@ fn all_next(alloc: Global, cells: u32, nodes: u32) -> Result<Vec<u32>, AllocErro
     (0..nodes).map(|node| next_of(cells, node)).collect(alloc)
 }
 
-/// What each node follows when all cells stand in list 0.
+/// The node before each node when all cells stand in list 0.
 fn all_prev(alloc: Global, cells: u32, nodes: u32) -> Result<Vec<u32>, AllocError>
     ensures { IfOk result
         (λ prev. prev.items ≡ map (prev_at_start cells) (range_with_len 0 nodes)) }
@@ -95,8 +97,8 @@ fn all_prev(alloc: Global, cells: u32, nodes: u32) -> Result<Vec<u32>, AllocErro
 }
 
 impl Cells {
-    /// This many cells, all of them in list 0 and ascending, and this many lists, at least one. Cells and lists together are
-    /// fewer than 2^32. This alone takes memory: `AllocError` comes only where there is not enough.
+    /// This many cells, all of them in list 0 and ascending, and this many lists, at least one. Cells and lists
+    /// together are fewer than 2^32. Only this call allocates; `AllocError` is returned if there is not enough memory.
     pub fn make(alloc: Global, cells: u32, lists: u32) -> Result<Cells, AllocError>
         requires some { 1 ≤ lists }
         requires few { cells + lists < 2 ^ 32 }
@@ -115,15 +117,15 @@ impl Cells {
         })
     }
 
-    /// Takes a cell out of list `from`, in which it stands, and appends it to list `to`, which is another. The other cells
-    /// of `from` keep their order, and all other lists stay.
+    /// Moves a cell from list `from`, in which it stands, to the end of list `to`. The two lists are different. The
+    /// other cells of `from` keep their order, and all other lists stay.
     pub fn move_to(&mut self, cell: u32, from: u32, to: u32)
         requires from_list { from < length self.old }
         requires to_list { to < length self.old }
         requires apart { from ≢ to }
         requires stands { Contains (row_at self.old from) cell }
 
-        // The lists as they are then, with the same cells in all.
+        // The lists after the call, with the same cells in all.
         ensures lists { self.new ≡ slice_set
             (slice_set self.old from (without (row_at self.old from) cell))
             to (row_at self.old to ++ cell ∷ []) }
@@ -138,7 +140,8 @@ impl Cells {
         join(&mut self.next, &mut self.prev, cell, head);
     }
 
-    /// Appends the whole list `from` to list `to`, which is another, and leaves `from` empty. All other lists stay.
+    /// Appends the whole list `from` to list `to`, and leaves `from` empty. The two lists are different. All other
+    /// lists stay.
     pub fn splice(&mut self, from: u32, to: u32)
         requires from_list { from < length self.old }
         requires to_list { to < length self.old }

@@ -1,4 +1,4 @@
-//! Stores whose memory is taken once, when they are made: cells in lists, spans of numbers, and the log of a run.
+//! Stores whose memory is allocated once, when they are made: cells in lists, spans of numbers, and the log of a run.
 #![tactic(auto)]
 
 mod cells;

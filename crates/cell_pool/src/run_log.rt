@@ -1,4 +1,4 @@
-//! The log of a run: what was split, what was merged, and what stood in the way of each further merge.
+//! The log of a run: what was split, what was merged, and what prevented each further merge.
 ghost use Rattle.std.specs.Prelude.{◌≡◌, ◌<◌, ◌≤◌, [], ◌∷◌, ◌++◌, length, IfOk};
 
 use crate::spans::Span;
@@ -38,8 +38,8 @@ pub struct BlockEntry {
     pub path: Span,
 }
 
-/// The splits, merges and blocks of a run, each in a room that is taken once. Contracts see three lists and three rooms:
-/// how many entries each list may have.
+/// The splits, merges and blocks of a run, in lists whose room is allocated once. Contracts see three lists and three
+/// rooms: how many entries each list may have.
 #[derive(Drop)]
 pub struct RunLog {
     splits: Vec<SplitEntry>,
@@ -70,8 +70,8 @@ impl Model for RunLog {
 }
 
 impl RunLog {
-    /// Three empty lists, with room for this many splits, merges and blocks. This alone takes memory: `AllocError` comes
-    /// where there is not enough.
+    /// Three empty lists, with room for this many splits, merges and blocks. Only this call allocates; `AllocError` is
+    /// returned if there is not enough memory.
     pub fn make(alloc: Global, splits: u32, merges: u32, blocks: u32) -> Result<RunLog, AllocError>
         // Nothing is written yet, and there is the room that is asked for.
         ensures { IfOk result (λ made. made ≡ record {
@@ -93,7 +93,8 @@ impl RunLog {
         })
     }
 
-    /// Appends a split: for the invariant at place `inv` of its list, at a place of a path. Its room is not used up.
+    /// Appends a split: for the invariant at place `inv` of its list, at place `place` of a path. There must be room
+    /// for one more split.
     pub fn add_split(&mut self, inv: u32, place: u32, path: Span)
         requires { length (self.old).splits < (self.old).split_room }
         ensures { self.new ≡ record self.old {
@@ -103,7 +104,7 @@ impl RunLog {
         self.splits.push_reserved(SplitEntry { inv, place, path });
     }
 
-    /// Appends a merge of partition q into partition p. Its room is not used up.
+    /// Appends a merge of partition q into partition p. There must be room for one more merge.
     pub fn add_merge(&mut self, p: u32, q: u32)
         requires { length (self.old).merges < (self.old).merge_room }
         ensures { self.new ≡ record self.old {
@@ -113,8 +114,8 @@ impl RunLog {
         self.merges.push_reserved(MergeEntry { p, q });
     }
 
-    /// Appends a block: partitions p and q stay apart for the invariant at place `inv` of its list, as a path shows. Its
-    /// room is not used up.
+    /// Appends a block: partitions p and q stay apart for the invariant at place `inv` of its list, as a path shows.
+    /// There must be room for one more block.
     pub fn add_block(&mut self, p: u32, q: u32, inv: u32, path: Span)
         requires { length (self.old).blocks < (self.old).block_room }
         ensures { self.new ≡ record self.old {

@@ -1,4 +1,4 @@
-//! Lists of numbers, one behind the other in one block of memory, and the spans by which they are found again.
+//! Lists of numbers, one after another in one block of memory, and the spans that locate them.
 ghost use Rattle.std.specs.Prelude.{◌≡◌, ◌+◌, ◌<◌, ◌≤◌, [], length, IfOk, MatchOption};
 ghost use Rattle.cell_pool.specs.Numbers.{Pushes, KeepsLists, list_at};
 
@@ -14,8 +14,8 @@ pub struct Span {
     pub len: u32,
 }
 
-/// Lists of numbers, in a room that is taken once. Contracts see all their numbers as one list, and the room: how many
-/// numbers there may be. What was pushed stays where it is, so a span gives its list for good.
+/// Lists of numbers, in a room that is allocated once. Contracts see all their numbers as one list, and the room: how
+/// many numbers there may be. What was pushed stays where it is, so a span stays valid.
 #[derive(Drop)]
 pub struct Spans {
     numbers: Vec<u32>,
@@ -35,7 +35,8 @@ impl Model for Spans {
 }
 
 impl Spans {
-    /// No numbers yet, and room for this many. This alone takes memory: `AllocError` comes where there is not enough.
+    /// No numbers yet, and room for this many. Only this call allocates; `AllocError` is returned if there is not
+    /// enough memory.
     pub fn make(alloc: Global, room: u32) -> Result<Spans, AllocError>
         ensures { IfOk result (λ made. made ≡ record { numbers = []; room = room }) }
     {
@@ -43,8 +44,8 @@ impl Spans {
         Ok(Spans { numbers, room })
     }
 
-    /// Appends the numbers, and answers where they stand. `None` comes exactly where the room that is left is too small
-    /// for them; then nothing changed. What was pushed before stays where it is.
+    /// Appends the numbers, and returns where they stand. `None` is returned exactly if the remaining room is too small
+    /// for them; then nothing is changed. What was pushed before stays where it is.
     pub fn push(&mut self, numbers: &[u32]) -> Option<Span>
         ensures push { MatchOption result
             (((self.old).room < length (self.old).numbers + length numbers.now)
@@ -65,7 +66,7 @@ impl Spans {
         })
     }
 
-    /// The numbers at the places of the span, which lie within the numbers pushed so far.
+    /// The numbers at the places of the span. The span must lie within the numbers pushed so far.
     pub fn get(&self, span: Span) -> &[u32]
         requires { span.from + span.len ≤ length (self.now).numbers }
         ensures { result.now ≡ list_at (self.now).numbers span.from span.len }

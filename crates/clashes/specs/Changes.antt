@@ -25,7 +25,7 @@ pub record IsBlankBelow (marks : Marks) (ids : ℕ) : Type 0 where
   pub fores : (k p : ℕ) → p < ids → on marks.fores p k ≡ false
   pub backs : (k p : ℕ) → p < ids → on marks.backs p k ≡ false
 
--- the marks of this id are off, and the others stay
+-- the marks of this id are off, and all others stay
 pub record IsUnmarked (old new : Marks) (p : ℕ) : Type 0 where
   pub invs : new.invs ≡ old.invs
   pub fore : (k : ℕ) → on new.fores p k ≡ false
@@ -41,7 +41,7 @@ pub record IsTakenUp (old new : Marks) (p q : ℕ) : Type 0 where
   pub fores : (k r : ℕ) → r ≢ p → on new.fores r k ≡ on old.fores r k
   pub backs : (k r : ℕ) → r ≢ p → on new.backs r k ≡ on old.backs r k
 
--- the marks of q went to p
+-- the marks of q moved to p
 pub record IsJoined (old new : Marks) (p q : ℕ) : Type 0 where
   pub invs : new.invs ≡ old.invs
   pub fore : (k : ℕ) → on new.fores p k ≡ (on old.fores p k || on old.fores q k)
@@ -51,7 +51,7 @@ pub record IsJoined (old new : Marks) (p q : ℕ) : Type 0 where
   pub fores : (k r : ℕ) → r ≢ p → r ≢ q → on new.fores r k ≡ on old.fores r k
   pub backs : (k r : ℕ) → r ≢ p → r ≢ q → on new.backs r k ≡ on old.backs r k
 
--- the marks at the two ends are there from which all others come
+-- the two ends also have the marks that all others come from; the marks of other ids stay
 pub record IsBegun (old new : Marks) : Type 0 where
   pub invs : new.invs ≡ old.invs
   pub fore : (k : ℕ) (inv : Invariant) → slice_get old.invs k ≡ Some inv
@@ -61,7 +61,7 @@ pub record IsBegun (old new : Marks) : Type 0 where
   pub fores : (k r : ℕ) → r ≢ INITIAL → on new.fores r k ≡ on old.fores r k
   pub backs : (k r : ℕ) → r ≢ TERMINAL → on new.backs r k ≡ on old.backs r k
 
--- the edge from u to v, whose type this is, marks v for what enters there, and u for what falls there
+-- an edge from u to v, with v of this type, marks v for the invariants that enter and u for those that fall
 pub record IsEntered (old new : Marks) (u v typ : ℕ) : Type 0 where
   pub invs : new.invs ≡ old.invs
   pub fore : (k : ℕ) (inv : Invariant) → slice_get old.invs k ≡ Some inv
@@ -71,7 +71,7 @@ pub record IsEntered (old new : Marks) (u v typ : ℕ) : Type 0 where
   pub fores : (k r : ℕ) → r ≢ v → on new.fores r k ≡ on old.fores r k
   pub backs : (k r : ℕ) → r ≢ u → on new.backs r k ≡ on old.backs r k
 
--- the marks went along the edge, for what stays in its critical state
+-- the marks are propagated along the edge, for the invariants that stay critical
 pub record IsFollowed (old new : Marks) (u v typ : ℕ) : Type 0 where
   pub invs : new.invs ≡ old.invs
   pub fore : (k : ℕ) (inv : Invariant) → slice_get old.invs k ≡ Some inv
@@ -81,7 +81,7 @@ pub record IsFollowed (old new : Marks) (u v typ : ℕ) : Type 0 where
   pub fores : (k r : ℕ) → r ≢ v → on new.fores r k ≡ on old.fores r k
   pub backs : (k r : ℕ) → r ≢ u → on new.backs r k ≡ on old.backs r k
 
--- the answer is true where bits went on, and false where nothing changed
+-- if the answer is false, nothing changed; if it is true, fewer bits are off
 pub record TellsGrowth (old new : Marks) (changed : Bool) : Type 0 where
   pub same : changed ≡ false → new ≡ old
   pub fewer : changed ≡ true → off_in new < off_in old

@@ -1,4 +1,4 @@
--- What marks say of merges.
+-- What marks say about merges.
 use Rattle.std.specs.Prelude.{ℕ, ◌≡◌, ◌↔◌, ◌<◌, false, slice_get, Some}
 use Rattle.limits.specs.declared.TheConstants.{MAX_PARTITIONS}
 use Rattle.invariants.specs.declared.Invariant.{Invariant}
@@ -7,7 +7,7 @@ use Rattle.partition_model.specs.Assignments.{Assignment, G, IsTyped}
 use Rattle.partition_model.specs.Coarsening.{IsPair}
 use Rattle.clashes.specs.Marks.{Marks, AreMarksOf, has_clash}
 
--- a merge of partitions keeps an invariant exactly where the two have no clash for it
+-- the merge of a pair keeps a satisfied invariant exactly if the two ids do not clash for it
 abbrev pub ClashesTell : Type 0
 ClashesTell =
     (marks : Marks) (h : Assignment) (p q k : ℕ) (inv : Invariant) → AreMarksOf marks (G h) → IsTyped h

@@ -1,4 +1,4 @@
--- How the rows lie in one table: those of the ids, and masks that say what types do.
+-- How the rows are laid out in one table: those of the ids, and masks for what types do.
 use Rattle.std.specs.Prelude.{ℕ, ◌≡◌, ◌≢◌, ◌+◌, ◌*◌, ◌<◌, ◌≤◌, Bool, true, false, List, length, take, drop, slice_get, Some}
 use Rattle.limits.specs.declared.TheConstants.{LAST_TYPE, MAX_INVARIANTS, MAX_PARTITIONS}
 use Rattle.invariants.specs.declared.Invariant.{Invariant}
@@ -7,49 +7,49 @@ use Rattle.clashes.specs.declared.places.TheConstants.{START, BAD, FIRST_MASK, M
 use Rattle.clashes.specs.Rules.{enters, stays, falls, starts, is_bad_itself, AreNamedBelow}
 use Rattle.clashes.specs.Marks.{Marks, on}
 
--- the row of an id for what is ahead
+-- the row of an id for its marks of a bad end ahead
 abbrev pub back_row : ℕ → ℕ
 back_row p = MAX_PARTITIONS + p
 
--- the mask of a type: which invariants it brings into the critical state
+-- the mask of a type: the invariants that it brings into the critical state
 abbrev pub enters_row : ℕ → ℕ
 enters_row x = FIRST_MASK + x * MASKS
 
--- the mask of a type: which invariants it leaves in the critical state
+-- the mask of a type: the invariants that it leaves in the critical state
 abbrev pub stays_row : ℕ → ℕ
 stays_row x = FIRST_MASK + x * MASKS + 1
 
--- the mask of a type: which invariants fall from the critical state into the bad one
+-- the mask of a type: the invariants that fall from the critical state into the bad one
 abbrev pub falls_row : ℕ → ℕ
 falls_row x = FIRST_MASK + x * MASKS + 2
 
--- how many rows there are, where the last masks stand for each type from this one on
+-- how many rows there are; the last masks are for all types from this one on
 abbrev pub row_count : ℕ → ℕ
 row_count others = FIRST_MASK + (others + 1) * MASKS
 
--- the rows for what is met
+-- the rows for critical states that are reached
 abbrev pub fores_in : List (List Bool) → List (List Bool)
 fores_in rows = take MAX_PARTITIONS rows
 
--- the rows for what is ahead
+-- the rows for bad ends ahead
 abbrev pub backs_in : List (List Bool) → List (List Bool)
 backs_in rows = take MAX_PARTITIONS (drop MAX_PARTITIONS rows)
 
--- what callers see of the table
+-- the marks that the table contains, as callers see them
 abbrev pub marks_in : List Invariant → List (List Bool) → Marks
 marks_in invs rows = record { invs = invs; fores = fores_in rows; backs = backs_in rows }
 
--- the table has this form, and each row has the place k
+-- the table has this layout, and each row has a bit k
 abbrev pub HasPlace : List (List Bool) → ℕ → ℕ → Type 0
 HasPlace rows others k = (bits : ℕ) × (k < bits) × HasShape rows (row_count others) bits
 
--- the bits at the place k say that types below n leave an invariant as it is
+-- bit k of the masks says that types below n leave the invariant in its state
 pub record IsIdle (rows : List (List Bool)) (n k : ℕ) : Type 0 where
   pub enters : (x : ℕ) → x < n → on rows (enters_row x) k ≡ false
   pub stays : (x : ℕ) → x < n → on rows (stays_row x) k ≡ true
   pub falls : (x : ℕ) → x < n → on rows (falls_row x) k ≡ false
 
--- the bits at the place k say what types below n do to this invariant
+-- bit k of each mask says what the type does to this invariant, for types below n
 pub record IsColumn (rows : List (List Bool)) (n k : ℕ) (inv : Invariant) : Type 0 where
   pub enters : (x : ℕ) → x < n → on rows (enters_row x) k ≡ enters inv x
   pub stays : (x : ℕ) → x < n → on rows (stays_row x) k ≡ stays inv x
@@ -57,7 +57,7 @@ pub record IsColumn (rows : List (List Bool)) (n k : ℕ) (inv : Invariant) : Ty
   pub starts : on rows START k ≡ starts inv
   pub bad : on rows BAD k ≡ is_bad_itself inv
 
--- the three bits of the type x at the place k say what it does to this invariant, and the others stay
+-- bit k of the three masks of type x says what it does to this invariant; all other bits stay
 pub record IsMasked (old new : List (List Bool)) (x k : ℕ) (inv : Invariant) : Type 0 where
   pub enters : on new (enters_row x) k ≡ enters inv x
   pub stays : on new (stays_row x) k ≡ stays inv x
@@ -65,12 +65,12 @@ pub record IsMasked (old new : List (List Bool)) (x k : ℕ) (inv : Invariant) :
   pub places : (r j : ℕ) → j ≢ k → on new r j ≡ on old r j
   pub rows : (r j : ℕ) → r ≢ enters_row x → r ≢ stays_row x → r ≢ falls_row x → on new r j ≡ on old r j
 
--- the first invariants of the list have their columns
+-- the first n invariants of the list have their columns
 abbrev pub AreColumns : List (List Bool) → ℕ → List Invariant → ℕ → Type 0
 AreColumns rows others invs n =
     (k : ℕ) (inv : Invariant) → k < n → slice_get invs k ≡ Some inv → IsColumn rows (others + 1) k inv
 
--- a table of this form, with the masks of these invariants
+-- a table of this layout with the masks of these invariants
 pub record IsLaid (invs : List Invariant) (others : ℕ) (rows : List (List Bool)) : Type 0 where
   pub shape : HasShape rows (row_count others) (length invs)
   pub few : length invs ≤ MAX_INVARIANTS

@@ -5,7 +5,7 @@ use Rattle.invariants.specs.declared.Invariant.{Invariant}
 use Rattle.invariants.specs.Monitors.{step, is_bad}
 use Rattle.merge_law.specs.Critical.{critical, calm_of}
 
--- whether the type brings the monitor from its calm state into its critical one
+-- whether the type takes the monitor from its calm state to its critical state
 abbrev pub enters : Invariant → ℕ → Bool
 enters inv x = step inv (calm_of inv.kind) x == critical inv
 
@@ -13,11 +13,11 @@ enters inv x = step inv (calm_of inv.kind) x == critical inv
 abbrev pub stays : Invariant → ℕ → Bool
 stays inv x = step inv (critical inv) x == critical inv
 
--- whether the type brings it from there into the bad state, and that is another one
+-- whether the type takes the monitor from a critical state that is not bad to the bad state
 abbrev pub falls : Invariant → ℕ → Bool
 falls inv x = is_bad inv (step inv (critical inv) x) && not (is_bad inv (critical inv))
 
--- whether INITIAL brings the monitor into its critical state
+-- whether INITIAL takes the monitor to its critical state
 abbrev pub starts : Invariant → Bool
 starts inv = step inv 0 INITIAL == critical inv
 
@@ -25,10 +25,10 @@ starts inv = step inv 0 INITIAL == critical inv
 abbrev pub is_bad_itself : Invariant → Bool
 is_bad_itself inv = is_bad inv (critical inv)
 
--- every number that an invariant of the list names is below this one
+-- both types of each invariant of the list are below this number
 abbrev pub AreNamedBelow : ℕ → List Invariant → Type 0
 AreNamedBelow n invs = All (λ inv. (inv.a < n) × (inv.b < n)) invs
 
--- every number that an invariant of the list names is at most this one
+-- both types of each invariant of the list are at most this number
 abbrev pub AreNamedUpTo : ℕ → List Invariant → Type 0
 AreNamedUpTo n invs = All (λ inv. (inv.a ≤ n) × (inv.b ≤ n)) invs

@@ -15,17 +15,18 @@ use std::marker::Model;
 use std::sync::ledger::Ledger;
 use steps::Steps;
 
-/// For each of some invariants and each id of a graph two marks: whether some walk from INITIAL to the id brings the
-/// monitor into its critical state, and whether some walk from there to TERMINAL brings it from that state into its bad
-/// one. A merge of two ids loses an invariant that the graph satisfies exactly where one of them has the first mark and
-/// the other has the second. Of invariants that the graph does not satisfy, and of ids on no path, marks tell nothing.
+/// Two marks for each of some invariants at each id of a graph. The first says that some walk from INITIAL to the id
+/// brings the monitor into its critical state. The second says that some walk from the id to TERMINAL brings it from
+/// that state into its bad one. A merge of two ids loses an invariant that the graph satisfies exactly if one of them
+/// has the first mark and the other has the second. Marks say nothing about invariants that the graph does not satisfy,
+/// or about ids on no path.
 ///
-/// Contracts see the list of the invariants, and for each id two rows of marks, with one for each of them. Invariants
-/// go by their numbers in the list, which count from 0.
+/// Contracts see the list of the invariants, and for each id two rows of marks, with one mark for each invariant.
+/// Invariants are named by their numbers in the list, which count from 0.
 #[derive(Drop)]
 pub struct Clashes {
     mark_rows: MarkRows,
-    /// The edges of the graph, gathered anew for each call.
+    /// The edges of the graph, gathered again for each call.
     links: Links,
 }
 
@@ -40,8 +41,9 @@ impl Model for Clashes {
 impl Clashes {
     ghost use Rattle.clashes.specs.Marks.{AreMarksOf, NoClash, IsFirstClash};
 
-    /// Room for the marks of at most `MAX_INVARIANTS` invariants, which name numbers of types up to `LAST_TYPE`, at
-    /// `MAX_PARTITIONS` ids. This alone takes memory: `AllocError` comes where there is not enough.
+    /// Room for the marks of at most `MAX_INVARIANTS` invariants at `MAX_PARTITIONS` ids. The types that the invariants
+    /// name have numbers up to `LAST_TYPE`. Only this call allocates; `AllocError` is returned if there is not enough
+    /// memory.
     pub fn make(alloc: Global, invs: &[Invariant]) -> Result<Clashes, AllocError>
         requires few { length invs.now ≤ MAX_INVARIANTS }
         requires named { AreNamedUpTo LAST_TYPE invs.now }
@@ -52,7 +54,7 @@ impl Clashes {
         Ok(Clashes { mark_rows, links })
     }
 
-    /// Finds the marks of this graph. What was marked before plays no part. It counts one step.
+    /// Finds the marks of this graph, in place of those before. It counts one step.
     pub fn find<L: Ledger>(&mut self, graph: &PartGraph, steps: &mut Steps<L>)
         ensures invs { (self.new).invs ≡ (self.old).invs }
         ensures marks { AreMarksOf self.new (G (graph.now).traces) }
@@ -64,8 +66,8 @@ impl Clashes {
         grow(&mut self.mark_rows, self.links.as_slice(), graph);
     }
 
-    /// Where the marks were those of a graph of which `merge(p, q)` made this one, makes them those of this one: the
-    /// marks of q go to p, and propagate from there. It counts one step.
+    /// Updates the marks after a merge: if they were those of the graph before `merge(p, q)`, they become those of this
+    /// graph, which the merge made. The marks of q go to p, and propagate from there. It counts one step.
     pub fn join<L: Ledger>(&mut self, graph: &PartGraph, p: u32, q: u32, steps: &mut Steps<L>)
         requires kept { p < MAX_PARTITIONS }
         requires gone { q < MAX_PARTITIONS }
@@ -84,8 +86,9 @@ impl Clashes {
         grow_from(&mut self.mark_rows, self.links.as_slice(), graph, p);
     }
 
-    /// The number of the first invariant for which p and q clash, and None where they do for none. No mark changes.
-    /// Only invariants that the graph satisfies and ids on its paths count for anything.
+    /// The number of the first invariant for which p and q clash: one of them has the first mark and the other has the
+    /// second. `None` is returned if they clash for none. No mark changes. The result is meaningful only for invariants
+    /// that the graph satisfies and ids on its paths.
     pub fn first_clash(&mut self, p: u32, q: u32) -> Option<usize>
         requires one { p < MAX_PARTITIONS }
         requires other { q < MAX_PARTITIONS }

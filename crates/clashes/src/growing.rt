@@ -13,7 +13,7 @@ use crate::places::IDS;
 use limits::MAX_PARTITIONS;
 use partition_graph::{Link, PartGraph};
 
-/// Finds all marks of the graph, where each mark so far tells what is so.
+/// Finds all marks of the graph, if each mark so far is true of the graph.
 pub(crate) fn grow(mark_rows: &mut MarkRows, links: &[Link], graph: &PartGraph)
     requires { AreLinksOf links.now (G (graph.now).traces) }
     ensures invs { (mark_rows.new).invs ≡ (mark_rows.old).invs }
@@ -25,7 +25,7 @@ pub(crate) fn grow(mark_rows: &mut MarkRows, links: &[Link], graph: &PartGraph)
     propagate(mark_rows, links, graph, everywhere());
 }
 
-/// Finds all marks of the graph, where each mark so far tells what is so and only those at p have not propagated.
+/// Finds all marks of the graph, if each mark so far is true of the graph and only those at p have not propagated.
 pub(crate) fn grow_from(mark_rows: &mut MarkRows, links: &[Link], graph: &PartGraph, p: u32)
     requires links { AreLinksOf links.now (G (graph.now).traces) }
     requires id { p < MAX_PARTITIONS }
@@ -57,7 +57,7 @@ fn propagate(mark_rows: &mut MarkRows, links: &[Link], graph: &PartGraph, mut re
     }
 }
 
-/// Tells marks to be new at no id.
+/// Flags for marks that are new at no id.
 fn nowhere() -> [bool; IDS]
     ensures room { length result ≡ MAX_PARTITIONS }
     ensures still { (p : ℕ) → IsStill result p }
@@ -65,7 +65,7 @@ fn nowhere() -> [bool; IDS]
     [false; IDS]
 }
 
-/// Tells marks to be new at all ids.
+/// Flags for marks that are new at all ids.
 fn everywhere() -> [bool; IDS]
     ensures room { length result ≡ MAX_PARTITIONS }
     ensures fresh { (p : ℕ) → p < MAX_PARTITIONS → is_set result p ≡ true }
@@ -73,7 +73,7 @@ fn everywhere() -> [bool; IDS]
     [true; IDS]
 }
 
-/// Gives the ends of each link the marks that it brings at once.
+/// Gives the ends of each link the marks that the link itself brings.
 fn seed(mark_rows: &mut MarkRows, links: &[Link], graph: &PartGraph)
     requires { AreLinksOf links.now (G (graph.now).traces) }
     ensures grown { IsGrown mark_rows.old mark_rows.new (G (graph.now).traces) }
@@ -84,8 +84,8 @@ fn seed(mark_rows: &mut MarkRows, links: &[Link], graph: &PartGraph)
     }
 }
 
-/// Takes marks along each link once where they are new at one of its ends, and says whether that changed any.
-/// `recent` tells at which ids they are new before this pass, and `now` at which since.
+/// Propagates marks once along each link at one of whose ends they are new, and returns whether that changed any.
+/// `recent` flags the ids at which marks were new before this pass, and `now` those at which they are new since.
 fn pass(
     mark_rows: &mut MarkRows,
     links: &[Link],
@@ -98,7 +98,7 @@ fn pass(
     requires now_room { length now.old ≡ MAX_PARTITIONS }
     requires none { (p : ℕ) → IsStill now.old p }
 
-    // Marks are only added, and it is told whether any were.
+    // Marks are only added, and the result says whether any were.
     ensures grown { IsGrown mark_rows.old mark_rows.new (G (graph.now).traces) }
     ensures tells { TellsGrowth mark_rows.old mark_rows.new result }
 
@@ -115,7 +115,7 @@ fn pass(
     changed
 }
 
-/// Takes marks along a link where they are new at one of its ends.
+/// Propagates marks along a link if they are new at one of its ends, and returns whether that changed any.
 fn follow(mark_rows: &mut MarkRows, link: Link, typ: u16, recent: &[bool], now: &mut [bool]) -> bool
     requires ids { HasIds link }
     requires recent_room { length recent.now ≡ MAX_PARTITIONS }

@@ -1,8 +1,8 @@
-//! Which invariant a merge of two partitions loses, told by two rows of bits and without a search of the merged graph.
+//! Which invariant a merge of two partitions loses, decided by two rows of bits without a search of the merged graph.
 //!
 //! Each monitor has a critical state, from which the bad end is still to come. A merge of two ids loses an invariant
-//! exactly where the critical state meets one of the two and the bad end is ahead of the other (crate `merge_law`).
-//! So this crate keeps for each id a row of what is met and a row of what is ahead, with a bit for each invariant.
+//! exactly if the critical state meets one of the two and the bad end is ahead of the other (crate `merge_law`). So
+//! this crate keeps, for each id, a row of what is met and a row of what is ahead, with a bit for each invariant.
 #![tactic(auto)]
 
 mod clashes;

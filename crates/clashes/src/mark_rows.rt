@@ -38,7 +38,8 @@ impl MarkRows {
     ghost use Rattle.clashes.specs.Changes.{IsBegun, IsBlankBelow, IsEntered, IsFollowed, IsJoined};
     ghost use Rattle.clashes.specs.Changes.{IsTakenUp, IsUnmarked, TellsGrowth};
 
-    /// The rows of these invariants. It takes the memory for `MAX_PARTITIONS` ids.
+    /// The rows of these invariants. It allocates for `MAX_PARTITIONS` ids. `AllocError` is returned if there is not
+    /// enough memory.
     pub fn make(alloc: Global, invs: &[Invariant]) -> Result<MarkRows, AllocError>
         requires few { length invs.now ≤ MAX_INVARIANTS }
         requires named { AreNamedUpTo LAST_TYPE invs.now }
@@ -105,7 +106,7 @@ impl MarkRows {
         self.rows.or_into(back_row(TERMINAL), BAD);
     }
 
-    /// Gives the ends of an edge to an id of this type the marks that it brings at once.
+    /// Gives the ends of an edge the marks that the edge itself brings. `typ` is the type of `to`.
     pub fn enter(&mut self, from: u32, to: u32, typ: u16)
         requires from_id { from < MAX_PARTITIONS }
         requires to_id { to < MAX_PARTITIONS }
@@ -116,7 +117,7 @@ impl MarkRows {
         self.rows.or_into(back_row(from), falls_row(x));
     }
 
-    /// Takes marks along an edge to an id of this type, and says whether that changed any.
+    /// Propagates marks along an edge, and returns whether that changed any. `typ` is the type of `to`.
     pub fn follow(&mut self, from: u32, to: u32, typ: u16) -> bool
         requires from_id { from < MAX_PARTITIONS }
         requires to_id { to < MAX_PARTITIONS }
@@ -136,7 +137,7 @@ impl MarkRows {
         met | ahead
     }
 
-    /// The number of the first invariant for which the two ids clash. No mark changes.
+    /// The number of the first invariant for which the two ids clash; `None` if they clash for none. No mark changes.
     pub fn first_clash(&mut self, p: u32, q: u32) -> Option<usize>
         requires one { p < MAX_PARTITIONS }
         requires other { q < MAX_PARTITIONS }

@@ -25,7 +25,7 @@ pub(crate) fn first_unnamed(invs: &[Invariant]) -> u16
     unnamed
 }
 
-/// The number itself, or else the one behind the other where it is not above that.
+/// The greater of `unnamed` and the number after `number`.
 fn above(unnamed: u16, number: u16) -> u16
     requires { number ≤ LAST_TYPE }
     ensures within { unnamed ≤ LAST_TYPE + 1 → result ≤ LAST_TYPE + 1 }
@@ -35,7 +35,7 @@ fn above(unnamed: u16, number: u16) -> u16
     unnamed.max(number + 1)
 }
 
-/// Writes the masks of all invariants into a table where nothing is on.
+/// Writes the masks of all invariants into a table in which nothing is on.
 pub(crate) fn put_columns(rows: &mut Rows, others: u16, invs: &[Invariant])
     requires low { others ≤ LAST_TYPE + 1 }
     requires named { AreNamedBelow others invs.now }
@@ -50,7 +50,7 @@ pub(crate) fn put_columns(rows: &mut Rows, others: u16, invs: &[Invariant])
     }
 }
 
-/// Writes into a table where nothing is on that each type leaves each of `count` invariants as it is.
+/// Writes, into a table in which nothing is on, that each type leaves each of `count` invariants as it is.
 fn put_idle(rows: &mut Rows, others: u16, count: usize)
     requires low { others ≤ LAST_TYPE + 1 }
     requires shape { HasShape rows.old (row_count others) count }
@@ -77,7 +77,8 @@ fn turn_on(rows: &mut Rows, r: usize, count: usize)
     }
 }
 
-/// Writes what each type does to the invariant with number `k`, where the table says that each leaves it as it is.
+/// Writes what each type does to the invariant with number `k`. So far the table says that each type leaves it as it
+/// is.
 fn put_column(rows: &mut Rows, others: u16, k: usize, inv: Invariant)
     requires low { others ≤ LAST_TYPE + 1 }
     requires named { (inv.a < others) × (inv.b < others) }

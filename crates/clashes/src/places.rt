@@ -62,7 +62,7 @@ pub(crate) fn falls_row(x: u16) -> usize
     FIRST_MASK + usize::from(x) * MASKS + 2
 }
 
-/// How many rows there are, where the last masks are those of `others`.
+/// How many rows there are, if the last masks are those of `others`.
 pub(crate) fn row_count(others: u16) -> usize
     requires { others ≤ LAST_TYPE + 1 }
     ensures { result ≡ row_count others }

@@ -40,7 +40,7 @@ pub(crate) fn stays(inv: Invariant, x: u16) -> bool
     Monitor::step(inv, critical(inv.kind), x) == critical(inv.kind)
 }
 
-/// Whether the type brings it from there into the bad state, and that is another one.
+/// Whether the type brings the monitor from its critical state into the bad one, and the two are different states.
 pub(crate) fn falls(inv: Invariant, x: u16) -> bool
     ensures { result ≡ falls inv x }
 {

@@ -2,6 +2,6 @@
 use Rattle.std.specs.Prelude.{ℕ, Bool, false, get_or, Vec}
 use Rattle.std.specs.declared.alloc.Global.{Global}
 
--- the type at this place stands in the row; past the last one none does
+-- whether the type at this place is in the row; past its end none is
 abbrev pub in_row : Vec Bool Global → ℕ → Bool
 in_row row b = get_or row.items b false

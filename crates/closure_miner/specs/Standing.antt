@@ -1,4 +1,4 @@
--- Which candidates still stand, set by set.
+-- Which candidates still hold, as sets of types.
 use Rattle.std.specs.Prelude.{ℕ, ◌≡◌, ◌<◌, ◌+◌, ◌==◌, if◌then◌else◌, not, Bool, List, [], ◌∷◌, ◌++◌}
 use Rattle.limits.specs.declared.TheConstants.{INITIAL, TERMINAL, FIRST_TYPE}
 use Rattle.invariants.specs.declared.Kind.TheVariants.{AF, NF, AP, IB}
@@ -15,12 +15,12 @@ use Rattle.closure_miner.specs.Rows.{in_row}
 abbrev pub word_with : List ℕ → List ℕ
 word_with events = INITIAL ∷ events ++ TERMINAL ∷ []
 
--- that a type is interrupted by another, where it is a candidate
+-- InterruptedBy between two types, if it is a candidate
 abbrev pub of_interrupted : Kinds → ℕ → ℕ → List Invariant
 of_interrupted Three a b = []
 of_interrupted Four a b = if a == b then [] else invariant IB a b ∷ []
 
--- the sets tell of each candidate whether it holds of each word
+-- the sets say of each candidate whether it holds of each word
 pub record Stands {S : Type 0} (has : S → ℕ → Bool) (standing : Standing S) (words : List (List ℕ)) : Type 0 where
   pub followed : (a b : ℕ) → a < standing.types → b < standing.types
       → has_at has standing.followed.items a b

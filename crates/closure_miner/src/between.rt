@@ -11,21 +11,21 @@ use std::alloc::{AllocError, Global};
 
 /// For each two types, whether the second stands between any two events of the first in every trace that was read.
 ///
-/// Reading a trace takes a few steps for each event, and at an event whose type comes again a step for many types at
-/// once of its row. A row in which nothing stands any more is emptied, and costs nothing from then on.
+/// Reading a trace takes a few steps for each event. An event whose type occurs again also takes one pass over its row,
+/// many types at once. A row in which nothing stands any more is emptied, and costs nothing from then on.
 #[derive(Drop)]
 pub struct Between {
     /// In the row of each type, whether each type stands between any two events of it.
     rows: Vec<Vec<bool>>,
-    /// Of a trace that is read from its end, how many events there are from the next of each type to the end; 0 where it does
-    /// not come.
+    /// While a trace is read from its end: for each type, how many events there are from its next event to the end, or
+    /// 0 if it does not occur.
     next: Vec<u32>,
     ghost square: { length rows.items ≡ length next.items },
     ghost narrow: { All (λ row. length row.items ≤ length next.items) rows.items },
 }
 
-/// Strikes out of a row each type that has no more than `limit` events from its next one to the end, and so does not come sooner.
-/// Says whether anything is left in it.
+/// Strikes out of a row each type whose number in `next` is at most `limit`: it does not occur sooner. Returns false
+/// only if nothing is left in the row.
 fn strike_row(row: &mut [bool], next: &[u32], limit: u32) -> bool
     requires within { length row.old ≤ length next.now }
     ensures left { (b : ℕ) → get_or row.new b false
@@ -40,7 +40,8 @@ fn strike_row(row: &mut [bool], next: &[u32], limit: u32) -> bool
     left
 }
 
-/// Strikes out of the row of a type what does not come before its next event, which has `limit` events from it to the end.
+/// Strikes out of the row of a type what does not occur before its next event. There are `limit` events from that event
+/// to the end.
 fn strike_gap(row: &mut Vec<bool>, next: &[u32], limit: u32)
     requires within { length row.old.items ≤ length next.now }
     ensures within { length row.new.items ≤ length next.now }
@@ -51,7 +52,7 @@ fn strike_gap(row: &mut Vec<bool>, next: &[u32], limit: u32)
     }
 }
 
-/// Strikes out what the gap that an event begins does not have, where its type comes again.
+/// If the type of an event occurs again, strikes out of its row the types that do not occur before its next event.
 fn strike_event(rows: &mut [Vec<bool>], next: &[u32], x: u16)
     requires square { length rows.old ≡ length next.now }
     requires narrow { All (λ row. length row.items ≤ length next.now) rows.old }
@@ -80,8 +81,8 @@ fn are_empty(rows: &[Vec<bool>]) -> bool
     true
 }
 
-/// Strikes out what a trace breaks: it is read from its end, up to where nothing stands any more. What is said of the next
-/// event of each type is overwritten.
+/// Strikes out what a trace breaks. The trace is read from its end. Reading can stop early, once nothing stands any
+/// more. `next` is overwritten.
 fn strike_trace(rows: &mut [Vec<bool>], next: &mut [u32], events: &[u16])
     requires square { length rows.old ≡ length next.old }
     requires narrow { All (λ row. length row.items ≤ length next.old) rows.old }
@@ -106,7 +107,7 @@ fn strike_trace(rows: &mut [Vec<bool>], next: &mut [u32], events: &[u16])
 }
 
 impl Between {
-    /// Before any trace was read: each of so many types stands between any two events of each.
+    /// The state before any trace is read: each of `types` types stands between any two events of each.
     pub fn make(alloc: Global, types: usize) -> Result<Between, AllocError>
         ensures types { IfOk result (λ between. length between.next.items ≡ types) }
         ensures all { IfOk result (λ between. (a b : ℕ) → a < types → b < types
@@ -134,7 +135,8 @@ impl Between {
         strike_trace(&mut self.rows, &mut self.next, events);
     }
 
-    /// Whether the type at the second place stands between any two events of that at the first one, in every trace that was read.
+    /// Whether the type at place `b` stands between any two events of the type at place `a`, in every trace that was
+    /// read.
     pub fn has(&self, a: usize, b: usize) -> bool
         requires { a < length (self.now).next.items }
         ensures { result ≡ has_at in_row (self.now).rows.items a b }

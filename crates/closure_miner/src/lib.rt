@@ -1,13 +1,15 @@
-//! The invariants that hold of every trace, mined once more: by the sets of the types that come later and earlier,
-//! and not by counts.
+//! The invariants that hold of every trace, mined a second way: by sets of the types that occur later and earlier, not
+//! by counts.
 //!
-//! A candidate stands until a trace breaks it. Each trace is read once from its end, with the set of the types that come
-//! later, and once from its start, with the set of those that came earlier; each event strikes out of the sets of its type
-//! what the set at hand denies. A set of types has a bit for each, in one word for up to 128 types and else in two. So the work
-//! is a few steps for each event; every 128 events it is looked whether the rest of the trace can still strike out anything,
-//! and if not the trace is read no further from that side. Where InterruptedBy is asked for, a trace is read once more from its
-//! end, with the place of the next event of each type: what comes later than the next event of an event's own type is struck out
-//! of the row of that type, many types at once. At the end each candidate is looked at once.
+//! A candidate stands until a trace breaks it. Each trace is read once from its end, with the set of the types that
+//! occur later, and once from its start, with the set of those that occurred earlier. Each event strikes out the
+//! candidates of its type that the current set rules out. A set has one bit for each type, in one word for up to 128
+//! types and in two words for more, so each event takes a few steps. Every 128 events, the miner tests whether the
+//! remaining events of the trace can still strike out anything. If not, it stops reading the trace from that side.
+//!
+//! If InterruptedBy is asked for, each trace is read once more from its end, with the place of the next event of each
+//! type. Each event whose type occurs again strikes out of the row of that type the types that do not occur before its
+//! next event, many types at once. When all traces are read, each candidate is tested once.
 #![tactic(auto)]
 
 ghost use Rattle.std.specs.Prelude.{◌≡◌, ◌≤◌, length, IfOk};
@@ -70,7 +72,7 @@ fn mine_by<S: TypeSet>(
     Ok(Seq::from_vec(mined))
 }
 
-/// The invariants of these kinds that hold of every trace, in the order of the candidates. `AllocError` comes where
+/// The invariants of these kinds that hold of every trace, in the order of the candidates. `AllocError` is returned if
 /// there is not enough memory for them or for the sets.
 pub fn mine_again(
     alloc: Global,

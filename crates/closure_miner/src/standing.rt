@@ -15,9 +15,12 @@ use std::alloc::{AllocError, Global};
 
 /// The candidates that still stand: those that hold of every trace that was read.
 ///
-/// With `a` and `b` the places of two types, AF(a, b) stands where b is in `followed` of a, NF(a, b)
-/// where b is not in `met` of a, AP(a, b) where a is in `preceded` of b, AF(INITIAL, b) where b is
-/// in `everywhere`, and where IB is asked for, IB(a, b) where b is in `between` of a.
+/// With `a` and `b` the places of two types:
+/// - AF(a, b) stands if b is in `followed` of a.
+/// - NF(a, b) stands if b is not in `met` of a.
+/// - AP(a, b) stands if a is in `preceded` of b.
+/// - AF(INITIAL, b) stands if b is in `everywhere`.
+/// - IB(a, b) stands if b is in `between` of a. It is a candidate only if IB is asked for.
 #[derive(Drop)]
 pub struct Standing<S> {
     kinds: Kinds,
@@ -30,7 +33,7 @@ pub struct Standing<S> {
     preceded: Vec<S>,
     /// The types that every trace has.
     everywhere: S,
-    /// For each type, those that stand between any two events of it in every trace, where IB is asked for.
+    /// For each type, those that stand between any two events of it in every trace, if IB is asked for.
     between: Between,
     ghost few: { types ≤ MAX_SET_TYPES },
     ghost followed_each: { length followed.items ≡ types },
@@ -48,7 +51,7 @@ fn number_of(place: usize) -> u16
     place as u16 + FIRST_TYPE as u16
 }
 
-/// How many types it is told of what stands between their events: all where IB is asked for, and else none.
+/// For how many types `between` is made: for all if IB is asked for, and for none if not.
 fn types_between(kinds: Kinds, types: usize) -> usize
     ensures { kinds ≡ Four → result ≡ types }
 {
@@ -58,7 +61,7 @@ fn types_between(kinds: Kinds, types: usize) -> usize
     }
 }
 
-/// Adds an invariant where it stands.
+/// Appends an invariant if it stands.
 #[inline]
 fn push_standing(
     list: &mut Vec<Invariant>,
@@ -75,7 +78,7 @@ fn push_standing(
     Ok(())
 }
 
-/// The same set for each of so many types.
+/// The same set for each of `types` types.
 fn sets_of<S: TypeSet>(alloc: Global, types: usize, set: S) -> Result<Vec<S>, AllocError>
     ensures { IfOk result (λ sets. sets.items ≡ replicate types set) }
 {
@@ -94,7 +97,7 @@ impl<S: TypeSet> Standing<S> {
     ghost use Rattle.invariants.specs.Mined.{holds_of_all, mined_for};
     ghost use Rattle.closure_miner.specs.Standing.{word_with, of_interrupted, Stands};
 
-    /// Before any trace was read: all candidates of these kinds stand.
+    /// The state before any trace is read: all candidates of these kinds stand.
     pub fn make(alloc: Global, kinds: Kinds, types: usize) -> Result<Standing<S>, AllocError>
         requires few { types ≤ MAX_SET_TYPES }
         requires room { types ≤ S.room }
@@ -131,7 +134,7 @@ impl<S: TypeSet> Standing<S> {
         read_between(self.kinds, &mut self.between, events);
     }
 
-    /// Adds the candidates that each trace has a type, of those that still stand.
+    /// Appends the candidates AF(INITIAL, b) that still stand, in the order of their types.
     fn push_firsts(&self, list: &mut Vec<Invariant>) -> Result<(), AllocError>
         requires room { (self.now).types ≤ S.room }
         ensures { (words : List (List ℕ)) → Stands S.has self.now words → IfOk result (λ _. list.new.items
@@ -144,7 +147,7 @@ impl<S: TypeSet> Standing<S> {
         Ok(())
     }
 
-    /// Adds the candidate that a type is interrupted by another, where it is asked for and still stands.
+    /// Appends the candidate IB(a, b), if it is asked for and still stands.
     #[inline]
     fn push_between(&self, list: &mut Vec<Invariant>, a: usize, b: usize) -> Result<(), AllocError>
         requires a { a < (self.now).types }
@@ -165,7 +168,7 @@ impl<S: TypeSet> Standing<S> {
         Ok(())
     }
 
-    /// Adds the candidates between two types, of those that still stand.
+    /// Appends the candidates from type a to type b that still stand.
     #[inline]
     fn push_pair(&self, list: &mut Vec<Invariant>, a: usize, b: usize) -> Result<(), AllocError>
         requires a { a < (self.now).types }
@@ -184,7 +187,7 @@ impl<S: TypeSet> Standing<S> {
         Ok(())
     }
 
-    /// Adds the candidates from one type to each, of those that still stand.
+    /// Appends the candidates from type a to each type that still stand.
     fn push_row(&self, list: &mut Vec<Invariant>, a: usize) -> Result<(), AllocError>
         requires a { a < (self.now).types }
         requires room { (self.now).types ≤ S.room }
@@ -197,7 +200,7 @@ impl<S: TypeSet> Standing<S> {
         Ok(())
     }
 
-    /// Adds the candidates between any two types, of those that still stand.
+    /// Appends the candidates from each type to each type that still stand.
     fn push_pairs(&self, list: &mut Vec<Invariant>) -> Result<(), AllocError>
         requires room { (self.now).types ≤ S.room }
         ensures { (words : List (List ℕ)) → Stands S.has self.now words → IfOk result (λ _. list.new.items
@@ -209,7 +212,7 @@ impl<S: TypeSet> Standing<S> {
         Ok(())
     }
 
-    /// Adds all candidates that still stand, in their order.
+    /// Appends all candidates that still stand, in their order.
     pub fn push_all(&self, list: &mut Vec<Invariant>) -> Result<(), AllocError>
         requires room { (self.now).types ≤ S.room }
         ensures { (words : List (List ℕ)) → Stands S.has self.now words → IfOk result (λ _. list.new.items

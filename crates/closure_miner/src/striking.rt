@@ -23,8 +23,7 @@ fn are_all<S: TypeSet>(sets: &[S], all: S) -> bool
     true
 }
 
-/// Strikes out what an event breaks that stands before those of the types in `later`, and gives these
-/// types and its own.
+/// Strikes out what an event breaks that stands before events of the types in `later`. Returns these types and its own.
 #[inline]
 fn strike_earlier<S: TypeSet>(followed: &mut [S], met: &mut [S], later: S, x: u16) -> S
     requires few { length followed.old ≤ S.room }
@@ -46,8 +45,8 @@ fn strike_earlier<S: TypeSet>(followed: &mut [S], met: &mut [S], later: S, x: u1
     later.with(place)
 }
 
-/// Strikes out what an event breaks that stands behind those of the types in `earlier`, and gives
-/// these types and its own.
+/// Strikes out what an event breaks that stands after events of the types in `earlier`. Returns these types and its
+/// own.
 #[inline]
 fn strike_later<S: TypeSet>(preceded: &mut [S], earlier: S, x: u16) -> S
     requires few { length preceded.old ≤ S.room }
@@ -65,8 +64,8 @@ fn strike_later<S: TypeSet>(preceded: &mut [S], earlier: S, x: u16) -> S
     earlier.with(place)
 }
 
-/// Strikes out what a trace breaks of what follows what, and gives the types that it has: it is read
-/// from its end, up to where nothing is left that it could break.
+/// Strikes out what a trace breaks of what follows what, and returns the types that the trace has. The trace is read
+/// from its end. Reading can stop early, once nothing is left that the trace could break.
 pub fn read_from_end<S: TypeSet>(followed: &mut [S], met: &mut [S], all: S, events: &[u16]) -> S
     requires few { length followed.old ≤ S.room }
     requires same { length met.old ≡ length followed.old }
@@ -96,8 +95,8 @@ pub fn read_from_end<S: TypeSet>(followed: &mut [S], met: &mut [S], all: S, even
     later
 }
 
-/// Strikes out what a trace breaks of what precedes what: it is read from its start, up to where each
-/// type has come.
+/// Strikes out what a trace breaks of what precedes what. The trace is read from its start. Reading can stop early,
+/// once every type has occurred.
 pub fn read_from_start<S: TypeSet>(preceded: &mut [S], all: S, events: &[u16])
     requires few { length preceded.old ≤ S.room }
     requires all { HasAll S.has (length preceded.old) all }
@@ -117,7 +116,7 @@ pub fn read_from_start<S: TypeSet>(preceded: &mut [S], all: S, events: &[u16])
     }
 }
 
-/// Strikes out what a trace breaks of what interrupts what, where that is asked for.
+/// If InterruptedBy is asked for, strikes out what a trace breaks of what interrupts what.
 pub fn read_between(kinds: Kinds, between: &mut Between, events: &[u16])
     requires numbers { kinds ≡ Four → All (IsTypeNumber (length between.old.next.items)) events.now }
     requires few { length events.now < 2 ^ 32 }

@@ -10,7 +10,7 @@ pub const WORD_TYPES: usize = 128;
 /// How many types a set of two words has room for.
 pub const MAX_SET_TYPES: usize = 256;
 
-/// After how many events it is looked whether the rest of a trace can strike out anything.
+/// How many events are read between two tests of whether the remaining events of a trace can strike out anything.
 pub const STRIDE: usize = 128;
 
 /// The place of a type.
@@ -34,7 +34,7 @@ pub trait TypeSet: Copy + Drop {
     fn none() -> Self
         ensures { (p : ℕ) → has result p ≡ false };
 
-    /// The set of the first so many types.
+    /// The set of the first `types` types.
     fn first(types: usize) -> Self
         requires { types ≤ room }
         ensures { (p : ℕ) → has result p ≡ nat_lt p types };
@@ -47,7 +47,7 @@ pub trait TypeSet: Copy + Drop {
     fn either(self, other: Self) -> Self
         ensures { (p : ℕ) → has result p ≡ (has self p || has other p) };
 
-    /// The set with the type at this place too.
+    /// The set with the type at this place added.
     fn with(self, place: usize) -> Self
         requires { place < room }
         ensures { (p : ℕ) → has result p ≡ (p == place || has self p) };

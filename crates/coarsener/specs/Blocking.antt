@@ -1,4 +1,4 @@
--- Where blocks end without room.
+-- Where the list of blocks runs out of room.
 use Rattle.std.specs.Prelude.{◌≡◌, ℕ, ◌+◌, ◌<◌, List, ◌∷◌, ◌++◌, length}
 use Rattle.std.specs.List.{AllByRecursion, flat_map}
 use Rattle.limits.specs.declared.TheConstants.{MAX_PATH_NUMBERS}
@@ -10,7 +10,7 @@ use Rattle.partition_model.specs.Coarsening.{IsBlock}
 use Rattle.partition_bounds.specs.Pairs.{pair_of, pairs_of, pairs_below}
 use Rattle.partition_graph.specs.Parts.{Parts}
 
--- the paths of blocks, one behind the other
+-- the paths of blocks, one after another
 abbrev pub paths_of : List Block → List ℕ
 paths_of blocks = flat_map (λ b. b.path) blocks
 
@@ -18,7 +18,7 @@ paths_of blocks = flat_map (λ b. b.path) blocks
 abbrev pub pair_count : Parts → ℕ
 pair_count parts = length (pairs_below parts.used (G parts.traces))
 
--- the blocks are those of the first pairs, and the path of the next block has more numbers than there is room for
+-- the blocks are those of the first pairs, and there is no room for the path of the next block
 pub record EndsWithoutRoom (invs : List Invariant) (parts : Parts) (blocks : List Block)
     (held : ℕ) : Type 0 where
   pub next : Block

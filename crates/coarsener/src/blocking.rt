@@ -27,12 +27,12 @@ use path_finder::Finder;
 use std::sync::ledger::Ledger;
 use steps::Steps;
 
-/// The paths of splits and blocks have together more than `MAX_PATH_NUMBERS` numbers.
+/// Why blocks are missing: the paths of splits and blocks have more than `MAX_PATH_NUMBERS` ids in total.
 #[derive(Clone, Copy, Debug, PartialEq, Eq)]
 pub struct EvidenceLimit;
 
-/// The number of the first invariant that the merge of the pair loses, where `bad` is that of the first which the graph
-/// itself does not satisfy. Such an invariant is lost by every merge.
+/// The number of the first invariant that the merge of the pair loses; `None` if it loses none. `bad` is the number of
+/// the first invariant that the graph itself does not satisfy. Every merge loses that one.
 fn lost_by(planes: &mut Planes, bad: Option<usize>, pair: Pair) -> Option<usize>
     requires order { pair.p < pair.q }
     requires limit { pair.q < MAX_PARTITIONS }
@@ -48,8 +48,8 @@ fn lost_by(planes: &mut Planes, bad: Option<usize>, pair: Pair) -> Option<usize>
     }
 }
 
-/// Whether the graph is known to satisfy the invariant with this number, where `bad` is that of the first which it does
-/// not satisfy.
+/// Whether the graph is known to satisfy the invariant with this number. `bad` is the number of the first invariant
+/// that it does not satisfy.
 fn is_satisfied(bad: Option<usize>, k: usize) -> bool
     ensures { (g : Graph) (invs : List Invariant) (inv : Invariant) → IsFirstBad g invs bad
         → slice_get invs k ≡ Some inv → result ≡ true → Satisfies g inv }
@@ -60,17 +60,16 @@ fn is_satisfied(bad: Option<usize>, k: usize) -> bool
     k < bad
 }
 
-/// What tells which invariants merges lose.
+/// What shows which invariants merges lose.
 #[derive(Clone, Copy)]
 pub(crate) enum Told {
-    /// The labels, which are those of the graph after the merge of its only pair.
+    /// The labels of the graph after the merge of its only pair.
     Labels,
-    /// The marks, where the number is that of the first invariant that the graph itself does not satisfy.
+    /// The marks. The number is that of the first invariant that the graph itself does not satisfy.
     Marks(Option<usize>),
 }
 
-/// Finds what tells which invariants the merges of a graph lose. It counts no step where the graph has no pair, one where it
-/// has one, and else two.
+/// Finds what shows which invariants the merges of a graph lose. It counts at most one step for each pair.
 fn tell_losses<L: Ledger>(graph: &PartGraph, planes: &mut Planes, steps: &mut Steps<L>) -> Told
     ensures tells { TellsLosses result planes.new (G (graph.now).traces) }
     ensures list { (planes.new).invs ≡ (planes.old).invs }
@@ -117,8 +116,13 @@ fn is_known(told: Told, k: usize) -> bool
     }
 }
 
-/// Tells why pairs stay apart, as `blocks` does, by what tells which invariants merges lose. It counts a step for each pair
-/// at most.
+/// Writes the blocks as `blocks` does, by what is already known of the losses.
+///
+/// - `graph`, `finder`, `invs`, `spans` and `run_log`: as for `blocks`. If the graph has a pair, there must be fewer
+///   than 2^32 invariants.
+/// - `planes` and `told`: what shows which invariants merges lose. If the graph has a pair, `told` must be true of
+///   `planes` and the graph.
+/// - `steps`: counts at most one step for each pair.
 fn blocks_told<L: Ledger>(
     graph: &PartGraph,
     finder: &mut Finder,
@@ -137,12 +141,12 @@ fn blocks_told<L: Ledger>(
     requires begun { (run_log.old).blocks ≡ [] }
     requires room { pair_count graph.now ≤ (run_log.old).block_room }
 
-    // All blocks, where there is room for their paths.
+    // All blocks, if there is room for their paths.
     ensures ok { OnOk result
         (AreBlocks invs.now (G (graph.now).traces) (blocks_of run_log.new spans.new)) }
     ensures within { OnOk result (length (spans.new).numbers ≤ MAX_PATH_NUMBERS) }
 
-    // When the limit is passed, and what stands then.
+    // When the limit is exceeded, and what stands then.
     ensures limit { OnErr result ((bs : List Block) → AreBlocks invs.now (G (graph.now).traces) bs
         → MAX_PATH_NUMBERS < length (spans.old).numbers + block_numbers bs) }
     ensures err { OnErr result (EndsWithoutRoom invs.now graph.now (blocks_of run_log.new spans.new)
@@ -187,16 +191,25 @@ fn blocks_told<L: Ledger>(
     Ok(())
 }
 
-/// Tells in the run's log, for each pair of one type, why it stays apart: the first invariant that its merge loses, and
-/// the least violation of it in the merged graph, whose path goes into the spans. Pairs come by their lower ids and then
-/// by their higher ones.
+/// Writes a block for each pair of one type: why the pair stays apart. The block has the first invariant that the merge
+/// of the pair loses, and the least violation of that invariant in the merged graph. Blocks are in the order of the
+/// pairs, by their lower id and then by their higher one.
 ///
-/// No merge keeps all invariants. The run's log has no blocks yet, and room for one for each pair. The spans have room
-/// for `MAX_PATH_NUMBERS` numbers, those of the splits' paths, which they hold already, among them.
+/// - `graph`: the graph where coarsening ended: the merge of each pair loses an invariant of `invs`. The graph itself
+///   need not satisfy all of them.
+/// - `finder`: finds the paths of the blocks.
+/// - `planes`: finds which invariants merges lose. It must be made for `invs`. Its labels and marks may change.
+/// - `invs`: the invariants. A block names one by its place in this list.
+/// - `spans`: gets the paths of the blocks, after what it has already (the paths of the splits), which stays. Its room
+///   must be `MAX_PATH_NUMBERS` ids in all.
+/// - `run_log`: gets the blocks. It must have no blocks, and room for one for each pair. All else in it stays.
+/// - `steps`: counts at most two steps for each pair.
 ///
-/// `EvidenceLimit` comes exactly where the paths of the blocks have together with these more numbers than that. Then the
-/// run's log has the blocks before the one whose path did not fit. It counts at most two steps for each pair, and takes
-/// no memory.
+/// It allocates nothing.
+///
+/// `EvidenceLimit` is returned exactly if what `spans` has already and the paths of all blocks are together more than
+/// `MAX_PATH_NUMBERS` ids. Then the run's log has the blocks before the first one whose path did not fit, and `spans`
+/// has their paths.
 pub fn blocks<L: Ledger>(
     graph: &PartGraph,
     finder: &mut Finder,
@@ -212,12 +225,12 @@ pub fn blocks<L: Ledger>(
     requires begun { (run_log.old).blocks ≡ [] }
     requires room { pair_count graph.now ≤ (run_log.old).block_room }
 
-    // All blocks, where there is room for their paths.
+    // All blocks, if there is room for their paths.
     ensures ok { OnOk result
         (AreBlocks invs.now (G (graph.now).traces) (blocks_of run_log.new spans.new)) }
     ensures within { OnOk result (length (spans.new).numbers ≤ MAX_PATH_NUMBERS) }
 
-    // When the limit is passed, and what stands then.
+    // When the limit is exceeded, and what stands then.
     ensures limit { OnErr result ((bs : List Block) → AreBlocks invs.now (G (graph.now).traces) bs
         → MAX_PATH_NUMBERS < length (spans.old).numbers + block_numbers bs) }
     ensures err { OnErr result (EndsWithoutRoom invs.now graph.now (blocks_of run_log.new spans.new)
@@ -240,8 +253,17 @@ pub fn blocks<L: Ledger>(
     blocks_told(graph, finder, planes, told, invs, spans, run_log, steps)
 }
 
-/// Tells why pairs stay apart, as `blocks` does, where the graph satisfies all invariants and the marks are those of the
-/// graph, as `coarsen` leaves them. It counts at most one step for each pair. All else is as `blocks` has it.
+/// Writes the blocks as `blocks` does, for a graph that satisfies all invariants and whose marks are found already. So
+/// it neither labels the graph nor finds marks.
+///
+/// - `graph`: the graph where coarsening ended. It must satisfy `invs`, and each of its merges must lose one of them.
+/// - `planes`: must be made for `invs`. If the graph has a pair, its marks must be those of the graph, as `coarsen`
+///   leaves them.
+/// - `invs`: the invariants, fewer than 2^32.
+/// - `steps`: counts at most one step for each pair.
+/// - `finder`, `spans` and `run_log`: as for `blocks`.
+///
+/// The result, and what stands after `EvidenceLimit`, are as for `blocks`.
 pub fn blocks_marked<L: Ledger>(
     graph: &PartGraph,
     finder: &mut Finder,
@@ -260,12 +282,12 @@ pub fn blocks_marked<L: Ledger>(
     requires begun { (run_log.old).blocks ≡ [] }
     requires room { pair_count graph.now ≤ (run_log.old).block_room }
 
-    // All blocks, where there is room for their paths.
+    // All blocks, if there is room for their paths.
     ensures ok { OnOk result
         (AreBlocks invs.now (G (graph.now).traces) (blocks_of run_log.new spans.new)) }
     ensures within { OnOk result (length (spans.new).numbers ≤ MAX_PATH_NUMBERS) }
 
-    // When the limit is passed, and what stands then.
+    // When the limit is exceeded, and what stands then.
     ensures limit { OnErr result ((bs : List Block) → AreBlocks invs.now (G (graph.now).traces) bs
         → MAX_PATH_NUMBERS < length (spans.old).numbers + block_numbers bs) }
     ensures err { OnErr result (EndsWithoutRoom invs.now graph.now (blocks_of run_log.new spans.new)

@@ -1,9 +1,9 @@
-//! Coarsening: partitions of one type are merged where this loses no invariant, and of those that stay apart it is told
-//! why.
+//! Coarsening: partitions of one type are merged if this loses no invariant. For each pair that stays apart, a block
+//! records why.
 //!
 //! One pass over the pairs in their order makes all merges, since a pair whose merge loses an invariant loses it after
-//! further merges too. A pair is decided by rows of bits, without a search of the merged graph. Only a block, which has a
-//! path for its evidence, asks the finder. No call takes memory.
+//! further merges too. A pair is decided by rows of bits, without a search of the merged graph. The finder is used only
+//! for blocks, each of which has a path as its evidence. No call allocates.
 #![tactic(auto)]
 
 mod blocking;

@@ -18,18 +18,18 @@ use partition_graph::PartGraph;
 use std::sync::ledger::Ledger;
 use steps::Steps;
 
-/// Of which graph the marks are.
+/// Which graph the marks belong to.
 #[derive(Clone, Copy)]
 pub(crate) enum Marked {
-    /// Of none yet.
+    /// To none yet.
     Nothing,
-    /// Of the graph before the merge of this pair, which made this one.
+    /// To the graph before the merge of this pair, which made the present one.
     Before(Pair),
-    /// Of this one.
+    /// To the present graph.
     Now,
 }
 
-/// Whether the pair that was looked at last stays apart.
+/// Whether the pair that was decided last stays apart.
 fn stays_apart(marked: Marked) -> bool
     ensures { result ≡ stays_apart marked }
 {
@@ -39,7 +39,7 @@ fn stays_apart(marked: Marked) -> bool
     }
 }
 
-/// Makes the marks those of the graph, by as many steps as are owed: none where they are so already, and else one.
+/// Makes the marks those of the graph. It counts no step if they are so already, and one if not.
 fn mark<L: Ledger>(graph: &PartGraph, planes: &mut Planes, marked: Marked, steps: &mut Steps<L>)
     requires { AreMarkedAs marked planes.old graph.now }
     ensures marks { AreMarksOf (planes.new).clashes (G (graph.now).traces) }
@@ -54,8 +54,8 @@ fn mark<L: Ledger>(graph: &PartGraph, planes: &mut Planes, marked: Marked, steps
     }
 }
 
-/// Merges the pair and tells the merge, unless this loses an invariant; then nothing changes. It says of which graph the
-/// marks are then.
+/// Merges the pair and appends the merge to the run's log, unless the merge loses an invariant; then nothing changes.
+/// Returns which graph the marks belong to.
 fn merge_unless_lost(
     graph: &mut PartGraph,
     planes: &mut Planes,
@@ -70,7 +70,7 @@ fn merge_unless_lost(
     requires marks { AreMarksOf (planes.old).clashes (G (graph.old).traces) }
     requires room { length (run_log.old).merges < (run_log.old).merge_room }
 
-    // What is decided, and of which graph the marks are. A step is owed where a merge was made.
+    // What is decided, and which graph the marks belong to. A step is owed if a merge was made.
     ensures decided { IsDecided
         (planes.old).invs graph.old graph.new run_log.old run_log.new pair.p pair.q }
     ensures marked { AreMarkedAs result planes.new graph.new }
@@ -85,13 +85,17 @@ fn merge_unless_lost(
     Marked::Before(pair)
 }
 
-/// Merges partitions of one type until each further merge loses an invariant, and tells the merges in the run's log.
-/// Each is of the first pair, by its lower id and then by its higher one, whose merge loses none.
+/// Merges partitions of one type until each further merge loses an invariant. Each merge is that of the first pair
+/// whose merge loses none. Pairs are ordered by their lower id and then by their higher one.
 ///
-/// The graph satisfies the invariants that the planes were made for. The run's log has no merges yet, and room for all
-/// that can come. It takes no memory. It counts at most a step for each pair of one type that there is at the start, and
-/// at most one more than it makes merges: all marks are found once, and after a merge they propagate from there. Where
-/// pairs are left, the marks are those of the graph at the end.
+/// - `graph`: the graph to coarsen. It must satisfy the invariants for which `planes` was made.
+/// - `planes`: finds which merges lose an invariant. If pairs are left at the end, its marks are those of the graph.
+/// - `run_log`: gets the merges, in their order. It must have no merges, and room for `MAX_STEPS`. All else in it
+///   stays.
+/// - `steps`: counts at most one step for each pair of one type at the start, and at most one more than there are
+///   merges. All marks are found once, and after each merge they propagate from the merged partition.
+///
+/// It allocates nothing.
 pub fn coarsen<L: Ledger>(
     graph: &mut PartGraph,
     planes: &mut Planes,

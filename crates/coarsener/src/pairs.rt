@@ -1,4 +1,4 @@
-//! The pairs of partitions of one type, one behind the other.
+//! The pairs of partitions of one type, one after another.
 ghost use Rattle.std.specs.Prelude.{◌≡◌, ◌≤◌, ◌<◌, ◌↔◌, IfSome, IsTrue, MatchOption};
 ghost use Rattle.partition_model.specs.Assignments.{G};
 ghost use Rattle.partition_model.specs.Coarsening.{IsPair};
@@ -17,7 +17,7 @@ pub(crate) struct Pair {
 }
 
 impl Pair {
-    /// What all pairs come behind.
+    /// A value that all pairs follow.
     pub fn start() -> Pair
         ensures p { result.p ≡ FIRST_TYPE }
         ensures q { result.q ≡ FIRST_TYPE }
@@ -38,7 +38,7 @@ pub(crate) fn is_pair(graph: &PartGraph, p: u32, q: u32) -> bool
     graph.type_of(p) == graph.type_of(q) && graph.is_live(p) && graph.is_live(q)
 }
 
-/// The lowest id from `from` on that is a pair with p.
+/// The lowest id, at or above `from`, that is a pair with p; `None` if there is none.
 fn next_partner(graph: &PartGraph, p: u32, from: u32) -> Option<u32>
     requires low { FIRST_TYPE ≤ p }
     requires order { p < from }
@@ -58,13 +58,13 @@ fn next_partner(graph: &PartGraph, p: u32, from: u32) -> Option<u32>
     None
 }
 
-/// The first pair behind `at`, by the lower id and then by the higher one. None comes where there is none.
+/// The first pair after `at`, by the lower id and then by the higher one; `None` if there is none.
 pub(crate) fn next_pair(graph: &PartGraph, at: Pair) -> Option<Pair>
     requires low { FIRST_TYPE ≤ at.p }
     requires order { at.p ≤ at.q }
     requires limit { at.q < MAX_PARTITIONS }
 
-    // What the next pair is, and what is so of all ids of the graph.
+    // What the next pair is, and what holds of all ids of the graph.
     ensures next { MatchOption result
         (HasNoPairBehind (G (graph.now).traces) at.p at.q)
         (λ pair. IsNextPair (G (graph.now).traces) at.p at.q pair.p pair.q) }

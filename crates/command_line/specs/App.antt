@@ -4,7 +4,7 @@ use Rattle.clap.specs.Words.{App, Rule, Row, Text, matches_of, new_app, new_rule
 use Rattle.clap.specs.Simple.{on_top}
 use Rattle.clap.specs.declared.builder.action.ArgAction.TheVariants.{Set, SetTrue, Append}
 
--- a command line without arguments: no word stands for the program, and neither help nor a version is offered
+-- a command without arguments: no argument names the program, and there is no help or version option
 abbrev pub bare : App
 bare =
     on_top (λ s. record s { no_binary_name = true; disable_help_flag = true; disable_version_flag = true })
@@ -18,11 +18,11 @@ value_rule id letter = record (new_rule id) { short = Some letter; action = Some
 abbrev pub flag_rule : Text → ℕ → Rule
 flag_rule id letter = record (new_rule id) { short = Some letter; action = Some SetTrue }
 
--- the required first word that is no option
+-- the command, a required positional argument
 abbrev pub command_rule : Rule
 command_rule = record (new_rule (codes "COMMAND")) { required = true; action = Some Set }
 
--- the other words that are no options, any number of them
+-- the files, any number of further positional arguments
 abbrev pub file_rule : Rule
 file_rule = record (new_rule (codes "FILE")) { action = Some Append }
 
@@ -39,10 +39,10 @@ app = with_rule (with_rule (with_rule (with_rule (with_rule (with_rule (with_rul
     (flag_rule (codes "r") 114))
     file_rule
 
--- clap takes the words
+-- whether clap takes the arguments
 abbrev pub is_taken : List Text → Bool
 is_taken words = takes app words
 
--- what clap takes of them
+-- what clap takes from the arguments
 abbrev pub rows_for : List Text → List Row
 rows_for words = matches_of app words

@@ -1,4 +1,4 @@
--- What the words give of each argument.
+-- What the command line gives for each argument.
 use Rattle.std.specs.Prelude.{Bool, false, List, [], Option, codes, option_map, unwrap_or, map}
 use Rattle.std.specs.Option.{option_map_or}
 use Rattle.std.specs.Str.{bytes_eq}
@@ -17,11 +17,11 @@ pub record Use : Type 0 where
   pub interrupted : Bool
   pub files : List Text
 
--- the value of an option without one is `true`
+-- whether an option without a value is given: clap's value for it is `true`
 abbrev pub is_on : Text → List Row → Bool
 is_on id rows = option_map_or (λ text. bytes_eq text (codes "true")) (first_of id rows) false
 
--- the use, by what clap takes of the words
+-- the arguments, as clap takes them
 abbrev pub use_of : List Row → Use
 use_of rows = record {
   command = first_of (codes "COMMAND") rows;
@@ -35,7 +35,7 @@ use_of rows = record {
   files = unwrap_or (all_of (codes "FILE") rows) [];
 }
 
--- the use that the program holds
+-- the arguments as the program's value gives them
 abbrev pub given_held : Given → Use
 given_held g = record {
   command = option_map (λ s. s.now) g.command;

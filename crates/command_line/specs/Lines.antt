@@ -1,11 +1,11 @@
--- Telling command lines.
+-- Examples of command lines.
 use Rattle.std.specs.Prelude.{ℕ, ◌≡◌, Bool, true, false, List, [], ◌∷◌, Option, Some, None, codes, option_map, ◌⊎◌}
 use Rattle.clap.specs.Words.{Text}
 use Rattle.command_line.specs.Task.{LineForm, Plain, Rules, Task, task_of}
 use Rattle.command_line.specs.declared.table.Command.{Command}
 use Rattle.command_line.specs.declared.table.Command.TheVariants as commands
 
--- a task without a number and -r: how lines are read, the model's file, what is skipped and joined, and the files
+-- a task without a number or -r: how lines are read, the model's file, -i, -j, and the files
 abbrev pub asks : Command → Option LineForm → Option Text → Bool → Bool → List Text → Option Task
 asks command form model ignore join files =
     Some (record {
@@ -19,43 +19,43 @@ asks command form model ignore join files =
       files = files;
     })
 
--- the invariants of a log
+-- the task that prints the invariants of a log
 abbrev pub invariants_of : LineForm → Bool → Bool → List Text → Option Task
 invariants_of form ignore join files = asks commands.Invariants (Some form) None ignore join files
 
--- the task that asks for InterruptedBy too
+-- the task with -r, which adds InterruptedBy
 abbrev pub with_interrupted : Task → Task
 with_interrupted task = record task { interrupted = true }
 
--- the same, where there is a task
+-- the same, if there is a task
 abbrev pub four_kinds : Option Task → Option Task
 four_kinds task = option_map with_interrupted task
 
--- the graph of a log
+-- the task that prints the graph of a log
 abbrev pub graph_of : LineForm → Bool → Bool → List Text → Option Task
 graph_of form ignore join files = asks commands.Graph (Some form) None ignore join files
 
--- the graph of the model in a file
+-- the task that prints the graph of the model in a file
 abbrev pub graph_of_model : Text → Option Task
 graph_of_model name = asks commands.GraphOfModel None (Some name) false false []
 
--- the model of a log
+-- the task that infers the model of a log
 abbrev pub model_of : LineForm → Bool → Bool → List Text → Option Task
 model_of form ignore join files = asks commands.Infer (Some form) None ignore join files
 
--- the check of a file's model against a log
+-- the task that checks a file's model against a log
 abbrev pub check_of : Text → LineForm → Bool → Bool → List Text → Option Task
 check_of name form ignore join files = asks commands.Check (Some form) (Some name) ignore join files
 
--- the replay of a file's model over a log
+-- the task that replays a file's model over a log
 abbrev pub replay_of : Text → LineForm → Bool → Bool → List Text → Option Task
 replay_of name form ignore join files = asks commands.Replay (Some form) (Some name) ignore join files
 
--- the paths of a log
+-- the task that prints the paths of a log
 abbrev pub paths_of : LineForm → Bool → Bool → List Text → Option Task
 paths_of form ignore join files = asks commands.Paths (Some form) None ignore join files
 
--- the bench of a made log of so many sessions
+-- the task that benches a generated log of this many sessions
 abbrev pub bench_of : ℕ → Option Task
 bench_of sessions =
     Some (record {
@@ -69,11 +69,11 @@ bench_of sessions =
       files = [];
     })
 
--- the migration of the model in a file
+-- the task that migrates the model in a file
 abbrev pub migration_of : Text → Option Task
 migration_of name = asks commands.Migrate None (Some name) false false []
 
--- lines that ask for something
+-- command lines with a task
 pub record TakesLines : Type 0 where
   pub plain : task_of (codes "invariants" ∷ codes "-p" ∷ []) ≡ invariants_of Plain false false []
   pub rules : task_of (codes "invariants" ∷ codes "-e" ∷ codes "x" ∷ [])
@@ -120,7 +120,7 @@ pub record TakesLines : Type 0 where
   pub bench : task_of (codes "bench" ∷ codes "-n" ∷ codes "20000" ∷ []) ≡ bench_of 20000
   pub migrate : task_of (codes "migrate" ∷ codes "-m" ∷ codes "m" ∷ []) ≡ migration_of (codes "m")
 
--- lines that ask for nothing
+-- command lines without a task
 pub record RefusesLines : Type 0 where
   pub no_words : task_of [] ≡ None
   pub no_form : task_of (codes "invariants" ∷ []) ≡ None
@@ -188,12 +188,12 @@ pub record RefusesLines : Type 0 where
   pub interrupted_migrate :
       task_of (codes "migrate" ∷ codes "-m" ∷ codes "m" ∷ codes "-r" ∷ []) ≡ None
 
--- the commands that may be asked for InterruptedBy
+-- the commands that take -r
 abbrev pub TakesInterrupted : Command → Type 0
 TakesInterrupted command =
     (command ≡ commands.Invariants) ⊎ ((command ≡ commands.Infer) ⊎ (command ≡ commands.Paths))
 
--- InterruptedBy is asked for beside these three commands only
+-- a task with -r has one of these three commands
 abbrev pub InterruptedIsOfThreeCommands : Type 0
 InterruptedIsOfThreeCommands =
     (words : List Text) (task : Task) → task_of words ≡ Some task → task.interrupted ≡ true

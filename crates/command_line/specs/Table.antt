@@ -15,7 +15,7 @@ use Rattle.command_line.specs.declared.table.FormWant.{FormWant}
 use Rattle.command_line.specs.declared.table.FormWant.TheVariants as wants_form
 use Rattle.command_line.specs.declared.table.Row.{Row}
 
--- a command that reads a log, and takes nothing else
+-- a command that reads a log and takes nothing else
 abbrev pub log_row : Command → Row
 log_row command =
     record {
@@ -28,7 +28,7 @@ log_row command =
       interrupted = Never;
     }
 
--- a command that reads a log, and may be asked for InterruptedBy too
+-- a command that reads a log and also takes -r
 abbrev pub kinds_row : Command → Row
 kinds_row command = record (log_row command) { interrupted = May }
 
@@ -45,7 +45,7 @@ log_and_model_row command =
       interrupted = Never;
     }
 
--- a command that reads a model's file, and takes nothing else
+-- a command that reads a model's file and takes nothing else
 abbrev pub model_row : Command → Row
 model_row command =
     record {
@@ -58,7 +58,7 @@ model_row command =
       interrupted = Never;
     }
 
--- a command that is given a number, and takes nothing else
+-- a command that takes a number and nothing else
 abbrev pub number_row : Command → Row
 number_row command =
     record {
@@ -71,12 +71,12 @@ number_row command =
       interrupted = Never;
     }
 
--- the row of `graph`: with a model's file it is a command of its own
+-- the row of `graph`; with a model's file it is a command of its own
 abbrev pub graph_row : Bool → Row
 graph_row true = model_row commands.GraphOfModel
 graph_row false = log_row commands.Graph
 
--- the table: the row of a word, where a model's file is given or not
+-- the row of a command's name, depending on whether a model's file is given
 abbrev pub row_of : Text → Bool → Option Row
 row_of text has_model =
     if bytes_eq text (codes "invariants") then Some (kinds_row commands.Invariants)
@@ -89,23 +89,23 @@ row_of text has_model =
     else if bytes_eq text (codes "migrate") then Some (model_row commands.Migrate)
     else None
 
--- what is given, or is not, is what the row says of it
+-- the argument is given or missing as the row wants it
 abbrev pub fits : Want → Bool → Bool
 fits Needs is_given = is_given
 fits May is_given = true
 fits Never is_given = not is_given
 
--- -e and -p are given as the command wants them
+-- -e and -p are given as the row wants them
 abbrev pub fits_form : FormWant → Use → Bool
 fits_form wants_form.One u = if u.plain then not (is_some u.rules) else is_some u.rules
 fits_form wants_form.Rules u = is_some u.rules && not u.plain
 fits_form wants_form.Never u = not (is_some u.rules) && not u.plain
 
--- -m
+-- whether -m is given
 abbrev pub has_model : Use → Bool
 has_model u = is_some u.model
 
--- all that is given is what the row says
+-- all arguments are given as the row wants them
 abbrev pub passes : Row → Use → Bool
 passes row u =
     fits_form row.form u && fits row.flags (u.ignore || u.join) && fits row.files (nat_lt 0 (length u.files))
@@ -119,19 +119,19 @@ is_word text = not (is_empty text)
 abbrev pub are_words : List Text → Bool
 are_words texts = list_all is_word texts
 
--- the text is not empty, where there is one
+-- the text, if any, is not empty
 abbrev pub option_is_word : Option Text → Bool
 option_is_word text = option_map_or is_word text true
 
--- the text says a number, where there is one
+-- the text, if any, gives a number
 abbrev pub option_is_number : Option Text → Bool
 option_is_number text = option_map_or (λ t. is_some (number_of t)) text true
 
--- so few files that a log may have them
+-- the files are not too many for a log
 abbrev pub are_few : List Text → Bool
 are_few files = nat_lt (length files) (2 ^ 32)
 
--- no name is empty, there are not too many files, and the number is one
+-- no name is empty, there are not too many files, and the number, if any, is valid
 abbrev pub is_sound : Use → Bool
 is_sound u =
     option_is_word u.rules && option_is_word u.model && are_words u.files && are_few u.files && option_is_number u.number

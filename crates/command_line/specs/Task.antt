@@ -1,4 +1,4 @@
--- The task of the words.
+-- The task that the arguments ask for.
 use Rattle.std.specs.Prelude.{ℕ, ◌≡◌, ◌≤◌, Bool, true, false, ◌&&◌, List, Option, Some, None, option_and_then, option_map, map, if◌then◌else◌}
 use Rattle.std.specs.Option.{IsSomeAnd}
 use Rattle.clap.specs.Words.{Text}
@@ -19,7 +19,7 @@ pub data LineForm : Type 0 where
   Plain : LineForm
   Rules : (name : Text) → LineForm
 
--- what to do, how lines are read, the model's file, what is skipped and joined, the number, a fourth kind, the files
+-- the command, how lines are read, the model's file, -i, -j, the number, -r, and the files
 pub record Task : Type 0 where
   pub command : Command
   pub form : Option LineForm
@@ -30,13 +30,13 @@ pub record Task : Type 0 where
   pub interrupted : Bool
   pub files : List Text
 
--- how lines are read: plainly where -p is given, else by the rules of -e, where that is given
+-- how lines are read: plainly if -p is given, else by the rules of -e, if given
 abbrev pub form_by : Option Text → Bool → Option LineForm
 form_by rules true = Some Plain
 form_by (Some name) false = Some (Rules name)
 form_by None false = None
 
--- the task of a use
+-- the task of a command and its arguments
 abbrev pub asked : Command → Use → Task
 asked command u = record {
   command = command;
@@ -49,33 +49,33 @@ asked command u = record {
   files = u.files;
 }
 
--- the task that a row allows
+-- the task, if the row and the tests of the values allow it
 abbrev pub allowed : Row → Use → Option Task
 allowed row u = if passes row u && is_sound u then Some (asked row.command u) else None
 
--- the task that the table allows
+-- the task, if the table has a row that allows it
 abbrev pub task_of_use : Use → Option Task
 task_of_use u =
     option_and_then (λ row. allowed row u) (option_and_then (λ word. row_of word (has_model u)) u.command)
 
--- the task of the words: clap takes them, and the table allows what they give
+-- the task of the arguments, if clap takes them and the table allows what they give
 abbrev pub task_of : List Text → Option Task
 task_of words = if is_taken words then task_of_use (use_of (rows_for words)) else None
 
--- a number of sessions that can be made
+-- a number of sessions from 1 to the limit
 abbrev pub IsSessions : ℕ → Type 0
 IsSessions n = (1 ≤ n) × (n ≤ MAX_SESSIONS)
 
--- a task that asks for a made log has the number of its sessions
+-- a bench task has a number of sessions
 abbrev pub HasSessions : Task → Type 0
 HasSessions task = task.command ≡ commands.Bench → IsSomeAnd task.number IsSessions
 
--- the form that the program holds
+-- the form as the program's value gives it
 abbrev pub form_held : rust_form.LineForm → LineForm
 form_held forms.Plain = Plain
 form_held (forms.Rules name) = Rules name.now
 
--- the task that the program holds
+-- the task as the program's value gives it
 abbrev pub task_held : rust.Task → Task
 task_held t = record {
   command = t.command;

@@ -6,7 +6,7 @@ ghost use Rattle.command_line.specs.App.{app, bare, command_rule, file_rule, fla
 use clap::{Arg, ArgAction, Command};
 use std::alloc::{AllocError, Global};
 
-/// An option with a value, as `-e FILE`.
+/// An option with a value, for example `-e FILE`.
 fn value<'a>(alloc: Global, id: &'a str, letter: char) -> Arg<'a>
     ensures rule { rule_of result ≡ value_rule id.entry.now letter }
     ensures local { result.global ≡ false }
@@ -14,7 +14,7 @@ fn value<'a>(alloc: Global, id: &'a str, letter: char) -> Arg<'a>
     Arg::new(alloc, id).short(letter).action(ArgAction::Set)
 }
 
-/// An option without a value, as `-p`.
+/// An option without a value, for example `-p`.
 fn flag<'a>(alloc: Global, id: &'a str, letter: char) -> Arg<'a>
     ensures rule { rule_of result ≡ flag_rule id.entry.now letter }
     ensures local { result.global ≡ false }
@@ -22,7 +22,7 @@ fn flag<'a>(alloc: Global, id: &'a str, letter: char) -> Arg<'a>
     Arg::new(alloc, id).short(letter).action(ArgAction::SetTrue)
 }
 
-/// The word that names the command.
+/// The argument that names the command.
 fn command_word<'a>(alloc: Global) -> Arg<'a>
     ensures rule { rule_of result ≡ command_rule }
     ensures local { result.global ≡ false }
@@ -40,7 +40,7 @@ fn files<'a>(alloc: Global) -> Arg<'a>
     Arg::new(alloc, "FILE").action(ArgAction::Append)
 }
 
-/// A command line without arguments: no word stands for the program, and neither help nor a version is offered.
+/// A command line that defines no arguments. It has no program name, and offers neither help nor a version.
 fn bare_command<'a>(alloc: Global) -> Command<'a>
     ensures { app_of result ≡ bare }
 {
@@ -50,7 +50,7 @@ fn bare_command<'a>(alloc: Global) -> Command<'a>
         .disable_version_flag(true)
 }
 
-/// The command line with one more argument, where there is one.
+/// The command line with one more argument, if there is a command line.
 fn add<'a>(
     command: Result<Command<'a>, AllocError>,
     arg: Arg<'a>,

@@ -1,4 +1,4 @@
-//! What `clap` takes of the words.
+//! What `clap` reads from the arguments.
 ghost use Rattle.std.specs.Prelude.{◌≡◌, ◌≢◌, IfOk, Err, true, false, map, option_map, string_bytes};
 ghost use Rattle.clap.specs.Words.{all_of, first_of, found_of, kind_of, rows_of};
 ghost use Rattle.clap.specs.declared.error.kind.ErrorKind.TheVariants.{OutOfMemory};
@@ -13,16 +13,16 @@ use std::alloc::{AllocError, Global};
 /// Why there is no task.
 #[derive(Clone, Copy, Debug, PartialEq, Eq)]
 pub enum ParseError {
-    /// The words name no task.
+    /// The arguments ask for no task.
     Usage,
-    /// Memory was wanted.
+    /// Out of memory.
     Memory,
 }
 
-/// What the words give of each argument, before the table is asked.
+/// What is given for each argument, before the table is consulted.
 #[derive(Drop)]
 pub struct Given<'a> {
-    /// The word of the command.
+    /// The name of the command.
     pub command: Option<&'a str>,
     /// The value of `-e`.
     pub rules: Option<&'a str>,
@@ -59,7 +59,7 @@ fn flag_of(matches: &ArgMatches<'_>, id: &str) -> bool
     }
 }
 
-/// All values of an argument; None where it has none.
+/// All values of an argument; `None` if it has none.
 fn texts_of<'m, 'a>(matches: &'m ArgMatches<'a>, id: &str) -> Option<&'m [&'a str]>
     ensures { option_map (λ s. map (λ v. v.now) s.now) result
         ≡ all_of id.now (rows_of (found_of matches.now)) }
@@ -96,7 +96,7 @@ fn given_of<'a>(alloc: Global, matches: &ArgMatches<'a>) -> Result<Given<'a>, Al
     })
 }
 
-/// Whether `clap` wanted memory.
+/// Whether `clap` ran out of memory.
 fn is_for_memory(error: &Error) -> bool
     ensures wanted { result ≡ true → kind_of error.now ≡ OutOfMemory }
     ensures other { result ≡ false → kind_of error.now ≢ OutOfMemory }
@@ -104,7 +104,7 @@ fn is_for_memory(error: &Error) -> bool
     error.kind() == ErrorKind::OutOfMemory
 }
 
-/// What `clap` makes of the words; each of its faults but want of memory is answered by `Usage`.
+/// What `clap` makes of the arguments. Each of its errors other than out of memory becomes `Usage`.
 fn matches_of<'a>(alloc: Global, words: &'a [String]) -> Result<ArgMatches<'a>, ParseError>
     ensures taken { IfOk result (λ m. is_taken (map string_bytes words.entry.now) ≡ true) }
     ensures rows { IfOk result (λ m. rows_of (found_of m)
@@ -127,7 +127,7 @@ fn matches_of<'a>(alloc: Global, words: &'a [String]) -> Result<ArgMatches<'a>, 
     }
 }
 
-/// What the words give, where `clap` takes them; `Usage` exactly where it does not, want of memory aside.
+/// What the arguments give, if `clap` accepts them. `Usage` is returned only if it does not.
 pub fn read<'a>(alloc: Global, words: &'a [String]) -> Result<Given<'a>, ParseError>
     ensures taken { IfOk result (λ g. is_taken (map string_bytes words.entry.now) ≡ true) }
     ensures given { IfOk result (λ g. given_held g

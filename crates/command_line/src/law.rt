@@ -1,7 +1,7 @@
-//! Laws over the table.
+//! Laws about the table.
 ghost use Rattle.command_line.specs.Lines.{InterruptedIsOfThreeCommands, RefusesLines, TakesLines};
 
-/// Telling command lines: what those that are taken ask for, and that the others ask for nothing.
+/// Which command lines are accepted, what these ask for, and that all others ask for nothing.
 pub fn lines_tell()
     ensures taken { TakesLines }
     ensures refused { RefusesLines }

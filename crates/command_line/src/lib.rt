@@ -1,6 +1,6 @@
-//! What the words of the command line ask for.
+//! What the arguments of the program ask for.
 //!
-//! `clap` reads the words, and the table of the commands says which uses of a command are allowed: [`parse`].
+//! `clap` reads the arguments, and the table of the commands defines which uses of a command are allowed: [`parse`].
 #![tactic(auto)]
 
 mod command;

@@ -1,11 +1,11 @@
-//! The number that a value says.
+//! The number in a value.
 ghost use Rattle.std.specs.Prelude.{◌≡◌, ◌<◌, ◌^◌, true};
 ghost use Rattle.std.specs.Str.Parse.{digits_value};
 ghost use Rattle.command_line.specs.Numbers.{are_digits, number_of};
 
 use limits::MAX_SESSIONS;
 
-/// How many digits a number has at most.
+/// The maximum number of digits.
 const MAX_DIGITS: usize = 5;
 
 /// Whether the text is 1 to 5 ASCII digits.
@@ -36,7 +36,8 @@ fn value_of(digits: &str) -> u32
     number
 }
 
-/// The number that the text says: 1 to 5 ASCII digits, with a value of 1 to `MAX_SESSIONS`. Zeros may stand before it.
+/// The number in the text: 1 to 5 ASCII digits with a value from 1 to `MAX_SESSIONS`. Leading zeros are allowed. `None` for any
+/// other text.
 pub fn number_of(text: &str) -> Option<u32>
     ensures { result ≡ number_of text.now }
 {

@@ -1,4 +1,4 @@
-//! The table of the commands: a row for each, and which uses it allows.
+//! The table of the commands. Each row defines which uses of a command are allowed.
 ghost use Rattle.std.specs.Prelude.{◌≡◌, map, option_map};
 ghost use Rattle.std.specs.List.{list_all};
 ghost use Rattle.command_line.specs.Given.{given_held};
@@ -14,23 +14,23 @@ pub enum Command {
     Invariants,
     /// Print the graph of a log that has one partition for each type.
     Graph,
-    /// Print the graph of a model that stands in a file.
+    /// Print the graph of the model in a file.
     GraphOfModel,
     /// Infer a model of a log, and print its file.
     Infer,
-    /// Check the model that stands in a file against a log.
+    /// Check the model in a file against a log.
     Check,
-    /// Follow the history of the model that stands in a file over a log, step by step.
+    /// Follow the history of the model in a file over a log, step by step.
     Replay,
     /// Print the paths that the traces of a log take through its model.
     Paths,
-    /// Make a log of so many sessions, infer its model, write it, read it back and check it, and print how large all is.
+    /// Make a log of a given number of sessions, infer its model, write it, read it back and check it, and print the sizes.
     Bench,
-    /// Write the model that stands in a file of version 1 as a file of version 2.
+    /// Write the model in a file of version 1 as a file of version 2.
     Migrate,
 }
 
-/// What a command says of something that may be given.
+/// Whether a command requires, allows or forbids something.
 #[derive(Clone, Copy)]
 pub enum Want {
     /// It must be given.
@@ -41,7 +41,7 @@ pub enum Want {
     Never,
 }
 
-/// What a command says of the form of a log's lines.
+/// What a command requires of the form of a log's lines.
 #[derive(Clone, Copy)]
 pub enum FormWant {
     /// One of `-p` and `-e` must be given, and not both.
@@ -52,18 +52,18 @@ pub enum FormWant {
     Never,
 }
 
-/// A row of the table: a command, and what it says of all that may be given beside it.
+/// A row of the table: a command, and what it requires, allows or forbids.
 #[derive(Clone, Copy)]
 pub struct Row {
     /// The command.
     pub command: Command,
-    /// The form of a log's lines (`-p`, or `-e` with a file of rules).
+    /// The form of a log's lines (`-p`, or `-e` with a rules file).
     pub form: FormWant,
     /// How a log is read (`-i`, `-j`).
     pub flags: Want,
     /// The files of a log.
     pub files: Want,
-    /// The file of a model (`-m`).
+    /// The model file (`-m`).
     pub model: Want,
     /// A number (`-n`).
     pub number: Want,
@@ -71,7 +71,7 @@ pub struct Row {
     pub interrupted: Want,
 }
 
-/// The row of a command that reads a log, and takes nothing else.
+/// The row of a command that reads a log and takes nothing else.
 fn log_row(command: Command) -> Row
     ensures { result ≡ log_row command }
 {
@@ -86,7 +86,7 @@ fn log_row(command: Command) -> Row
     }
 }
 
-/// The row of a command that reads a log, and may be asked for InterruptedBy too.
+/// The row of a command that reads a log and also takes `-r`.
 fn kinds_row(command: Command) -> Row
     ensures { result ≡ kinds_row command }
 {
@@ -96,7 +96,7 @@ fn kinds_row(command: Command) -> Row
     }
 }
 
-/// The row of a command that reads a log and the file of a model, and takes nothing else.
+/// The row of a command that reads a log and a model file, and takes nothing else.
 fn log_and_model_row(command: Command) -> Row
     ensures { result ≡ log_and_model_row command }
 {
@@ -111,7 +111,7 @@ fn log_and_model_row(command: Command) -> Row
     }
 }
 
-/// The row of a command that reads the file of a model, and takes nothing else.
+/// The row of a command that reads a model file and takes nothing else.
 fn model_row(command: Command) -> Row
     ensures { result ≡ model_row command }
 {
@@ -126,7 +126,7 @@ fn model_row(command: Command) -> Row
     }
 }
 
-/// The row of `graph`, which is a command of its own where the file of a model is given.
+/// The row of `graph`. With a model file it is a command of its own.
 fn graph_row(has_model: bool) -> Row
     ensures { result ≡ graph_row has_model }
 {
@@ -136,7 +136,7 @@ fn graph_row(has_model: bool) -> Row
     }
 }
 
-/// The row of a command that is given a number, and takes nothing else.
+/// The row of a command that takes a number and nothing else.
 fn number_row(command: Command) -> Row
     ensures { result ≡ number_row command }
 {
@@ -149,7 +149,7 @@ fn number_row(command: Command) -> Row
     }
 }
 
-/// The row of a word, where the file of a model is given or not.
+/// The row of the command with this name, with or without a model file; `None` if no command has this name.
 pub fn row_of(text: &str, has_model: bool) -> Option<Row>
     ensures { result ≡ row_of text.now has_model }
 {
@@ -166,7 +166,7 @@ pub fn row_of(text: &str, has_model: bool) -> Option<Row>
     }
 }
 
-/// Whether something that is given, or is not, is what the row says.
+/// Whether the row accepts that something is given, or is not.
 fn fits(want: Want, is_given: bool) -> bool
     ensures { result ≡ fits want is_given }
 {
@@ -177,7 +177,7 @@ fn fits(want: Want, is_given: bool) -> bool
     }
 }
 
-/// Whether `-p` and `-e` are given as the row wants them.
+/// Whether the row accepts `-p` and `-e` as given.
 fn fits_form(want: FormWant, given: &Given<'_>) -> bool
     ensures { result ≡ fits_form want (given_held given.now) }
 {
@@ -188,14 +188,14 @@ fn fits_form(want: FormWant, given: &Given<'_>) -> bool
     }
 }
 
-/// Whether the file of a model is given.
+/// Whether a model file is given.
 pub fn has_model(given: &Given<'_>) -> bool
     ensures { result ≡ has_model (given_held given.now) }
 {
     given.model.is_some()
 }
 
-/// Whether all that is given is what the row says.
+/// Whether the row accepts all that is given.
 pub fn passes(row: Row, given: &Given<'_>) -> bool
     ensures { result ≡ passes row (given_held given.now) }
 {
@@ -207,7 +207,7 @@ pub fn passes(row: Row, given: &Given<'_>) -> bool
         && fits(row.number, given.number.is_some())
 }
 
-/// Whether no text is empty, of each as the program holds it.
+/// Whether no text is empty, for texts as the program holds them.
 fn are_words_each(texts: &[&str]) -> bool
     ensures { result ≡ list_all (λ s. is_word s.now) texts.now }
 {
@@ -221,7 +221,7 @@ fn are_words(texts: &[&str]) -> bool
     are_words_each(texts)
 }
 
-/// Whether the text is not empty, where there is one.
+/// Whether the text is not empty, if there is one.
 fn option_is_word(text: Option<&str>) -> bool
     ensures { result ≡ option_is_word (option_map (λ s. s.now) text.entry) }
 {
@@ -231,7 +231,7 @@ fn option_is_word(text: Option<&str>) -> bool
     }
 }
 
-/// Whether the text says a number, where there is one.
+/// Whether the text is a number that `number_of` accepts, if there is one.
 fn option_is_number(text: Option<&str>) -> bool
     ensures { result ≡ option_is_number (option_map (λ s. s.now) text.entry) }
 {
@@ -241,17 +241,17 @@ fn option_is_number(text: Option<&str>) -> bool
     }
 }
 
-/// So many files are more than a log has.
+/// One more than the maximum number of files.
 const TOO_MANY_FILES: usize = 4_294_967_296;
 
-/// Whether there are so few files that a log may have them.
+/// Whether there are not too many files.
 fn are_few(files: &[&str]) -> bool
     ensures { result ≡ are_few (map (λ s. s.now) files.now) }
 {
     files.len() < TOO_MANY_FILES
 }
 
-/// Whether no name is empty, there are not too many files, and the number is one.
+/// Whether no name is empty, there are not too many files, and the number, if given, is one that `number_of` accepts.
 pub fn is_sound(given: &Given<'_>) -> bool
     ensures { result ≡ is_sound (given_held given.now) }
 {

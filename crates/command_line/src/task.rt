@@ -1,4 +1,4 @@
-//! What the words ask for.
+//! What the arguments ask for.
 ghost use Rattle.std.specs.Prelude.{◌≡◌, ◌<◌, ◌^◌, IfOk, Err, Some, None, length, map, option_and_then, option_map, string_bytes};
 ghost use Rattle.command_line.specs.Given.{given_held};
 ghost use Rattle.command_line.specs.Numbers.{number_of};
@@ -18,28 +18,28 @@ pub enum LineForm<'a> {
     Rules(&'a str),
 }
 
-/// What the words ask for.
+/// What the arguments ask for.
 #[derive(Debug, Drop)]
 pub struct Task<'a> {
     /// What to do.
     pub command: Command,
-    /// How the lines of the log are read; None where no log is read.
+    /// How the lines of the log are read; `None` if no log is read.
     pub form: Option<LineForm<'a>>,
-    /// The name of the file of a model (`-m`), which is not empty; None where none is read.
+    /// The name of the model file (`-m`), which is not empty; `None` if none is read.
     pub model: Option<&'a str>,
-    /// Lines that nothing decides are skipped (`-i`).
+    /// Whether lines that no rule decides are skipped (`-i`).
     pub ignore: bool,
-    /// The files are one log: a trace may go on in the next file (`-j`).
+    /// Whether a trace may continue in the next file (`-j`).
     pub join: bool,
-    /// The number (`-n`), from 1 to `MAX_SESSIONS`; None where the command asks for none.
+    /// The number (`-n`), from 1 to `MAX_SESSIONS`; `None` if the command takes none.
     pub number: Option<u32>,
-    /// Whether InterruptedBy is asked for too (`-r`), beside the three kinds that are always mined.
+    /// Whether InterruptedBy is asked for (`-r`), in addition to the three kinds that are always mined.
     pub interrupted: bool,
-    /// The names of the log's files in their order, none of them empty; no names stand for standard input.
+    /// The names of the log's files in order, none of them empty. If there are none, standard input is read.
     pub files: Vec<&'a str>,
 }
 
-/// How lines are read: plainly, else by the rules of a file, where one is given.
+/// How lines are read: in the plain form with `-p`, otherwise by the rules file, if one is given.
 fn form_by<'a>(rules: Option<&'a str>, plain: bool) -> Option<LineForm<'a>>
     ensures { option_map form_held result ≡ form_by (option_map (λ s. s.now) rules.entry) plain }
 {
@@ -50,7 +50,7 @@ fn form_by<'a>(rules: Option<&'a str>, plain: bool) -> Option<LineForm<'a>>
     }
 }
 
-/// The number that the value says, where there is one.
+/// The number in the value, if there is one.
 fn number_by(value: Option<&str>) -> Option<u32>
     ensures { result ≡ option_and_then number_of (option_map (λ s. s.now) value.entry) }
 {
@@ -88,11 +88,13 @@ fn by_table<'a>(given: Given<'a>) -> Option<Task<'a>>
     allowed(row, given)
 }
 
-/// The task that the words of the command line, without the program's name, ask for.
+/// The task that the arguments ask for. `words` are the arguments without the program's name.
 ///
-/// A task comes only where they ask for it, and `Usage` only where they ask for none. In the place of either `Memory` may
-/// come, where memory was wanted. A task that asks for a made log has the number of its sessions, from 1 to `MAX_SESSIONS`. It
-/// names fewer than 2^32 files: words that name more ask for none.
+/// If a task is returned, the arguments ask for it. If its command is `bench`, it has a number of sessions from 1 to
+/// `MAX_SESSIONS`. It names fewer than 2^32 files.
+///
+/// - `Usage`: the arguments ask for no task.
+/// - `Memory`: memory ran out. No clause says when.
 pub fn parse<'a>(alloc: Global, words: &'a [String]) -> Result<Task<'a>, ParseError>
     ensures ok { IfOk result (λ t. task_of (map string_bytes words.entry.now)
         ≡ Some (task_held t)) }

@@ -8,7 +8,7 @@ ghost use Rattle.count_miner.specs.Counts.{cell, interrupted_count};
 use invariants::Kinds;
 use limits::FIRST_TYPE;
 
-/// Adds one to the count of each type whose next event is more than `limit` events from the end, and so comes sooner.
+/// Adds one to the count of each type whose next event is more than `limit` events from the end, and so occurs sooner.
 fn add_sooner(row: &mut [u32], next: &[u32], limit: u32)
     requires within { length row.old ≤ length next.now }
     requires room { (k : ℕ) → k < length row.old → slice_index row.old k + 1 < 2 ^ 32 }
@@ -20,8 +20,8 @@ fn add_sooner(row: &mut [u32], next: &[u32], limit: u32)
     }
 }
 
-/// Ends the gap that an event of the type at a place begins, where its type comes again: each type that comes sooner is counted in
-/// the row of that type.
+/// Counts the gap that an event of the type at place `at` begins: if the type occurs again, each type that occurs
+/// sooner is counted in the row of this type.
 fn add_gap(table: &mut [u32], next: &[u32], at: usize)
     requires square { length table.old ≡ length next.now * length next.now }
     requires number { at < length next.now }
@@ -39,8 +39,9 @@ fn add_gap(table: &mut [u32], next: &[u32], at: usize)
     }
 }
 
-/// Counts in the row of each type how many of its gaps in a trace have each type. The trace is read from its end; the room
-/// for the next event of each type, as how many events there are from it to the end, is overwritten.
+/// Counts, in the row of each type, how many of its gaps in a trace contain each type. The trace is read from its end.
+/// `next` is overwritten: while the trace is read, it has for each type how many events there are from its next event
+/// to the end.
 fn count_interrupted(table: &mut [u32], next: &mut [u32], events: &[u16])
     requires square { length table.old ≡ length next.old * length next.old }
     requires numbers { All (IsTypeNumber (length next.old)) events.now }
@@ -62,7 +63,8 @@ fn count_interrupted(table: &mut [u32], next: &mut [u32], events: &[u16])
     }
 }
 
-/// Counts what the gaps of a trace have, where four kinds are asked for, and else nothing.
+/// If four kinds are asked for, counts in the row of each type how many of its gaps in a trace contain each type.
+/// `next` is then overwritten.
 pub fn count_gaps(kinds: Kinds, table: &mut [u32], next: &mut [u32], events: &[u16])
     requires square { kinds ≡ Four → length table.old ≡ length next.old * length next.old }
     requires numbers { All (IsTypeNumber (length next.old)) events.now }

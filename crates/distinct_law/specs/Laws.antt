@@ -27,13 +27,13 @@ SameTyped = (few whole : TypedWords) → HaveSameWords few whole → IsTypedLog 
 abbrev pub SameValid : Type 0
 SameValid = (few whole : TypedWords) (m : Model) → HaveSameWords few whole → IsValid m few ↔ IsValid m whole
 
--- a word takes a path of the model, which has this word
+-- the path that the word takes is one of the model, with this word
 pub record TakesPath (m : Model) (w : List ℕ) : Type 0 where
   pub path : IsPath (graph_of m) (path_by m w)
   pub same : word (graph_of m) (path_by m w) ≡ with_ends w
 
--- each word of the log takes a path, by the ids that its events have where coarsening ends, and the counts of the model
--- are those that these paths give
+-- each word of the log takes a path of the model, through the ids that its events have at the end of coarsening,
+-- and the counts of the model are those of these paths
 pub record PathsCount (m : Model) (log : TypedWords) : Type 0 where
   pub each : AllByRecursion (TakesPath m) log.words
   pub final : AreFinal log (flat_map (λ w. ids_by m w) log.words)
@@ -49,7 +49,7 @@ ModelIsCounted =
     (few whole : TypedWords) (m : Model) → HaveSameWords few whole → IsTypedLog few → IsModelOf m few
     → IsModelOf (counted_over whole.words m) whole
 
--- the models are the same but for their counts, each word takes the same path in both, and the counts of the second
+-- the models are the same except for their counts, each word takes the same path in both, and the counts of the second
 -- are those that the paths of all words give
 pub record DifferInCounts (m : Model) (words : List (List ℕ)) (other : Model) : Type 0 where
   pub same : without_counts other ≡ without_counts m
@@ -63,20 +63,20 @@ ModelsDifferInCounts =
     → IsModelOf m few → IsModelOf other whole → DifferInCounts m whole.words other
 
 -- the counts of the second model are sums over the few words: what the path of the word gives, times how often the
--- word stands in the whole log
+-- word occurs in the whole log
 pub record AreWeighted (few whole : TypedWords) (m other : Model) : Type 0 where
   pub sizes : (x : Partition) → Contains other.partitions x
       → x.count ≡ sum_by (λ w. times whole.words w * visits x.id (path_by m w)) few.words
   pub edges : (x : Edge) → Contains other.edges x
       → x.count ≡ sum_by (λ w. times whole.words w * pairs x.from x.to (path_by m w)) few.words
 
--- so they are, if no word stands twice among the few
+-- so they are, if no word occurs twice among the few
 abbrev pub CountsAreWeighted : Type 0
 CountsAreWeighted =
     (few whole : TypedWords) (m other : Model) → HaveSameWords few whole → AreApart bytes_eq few.words
     → IsTypedLog few → IsModelOf m few → IsModelOf other whole → AreWeighted few whole m other
 
--- inference of the one exceeds a limit exactly if that of the other does, and their models keep the limits alike
+-- inference of the one exceeds a limit exactly if that of the other does, and their models both keep the limits or both do not
 pub record EndAlike (few whole : TypedWords) : Type 0 where
   pub partitions : PassesPartitions few ↔ PassesPartitions whole
   pub numbers : PassesNumbers few ↔ PassesNumbers whole

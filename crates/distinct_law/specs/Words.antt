@@ -9,17 +9,17 @@ use Rattle.partition_model.specs.Listings.{parts_of}
 use Rattle.models.specs.Models.{TypedWords}
 use Rattle.models.specs.Histories.{replayed}
 
--- the logs have the same types and are asked for the same kinds, and each word of the one is a word of the other
+-- the logs have the same types and the same kinds to mine, and each word of the one is a word of the other
 pub record HaveSameWords (few whole : TypedWords) : Type 0 where
   pub kinds : few.kinds ≡ whole.kinds
   pub types : few.types ≡ whole.types
   pub words : (w : List ℕ) → Contains few.words w ↔ Contains whole.words w
 
--- how often the word stands among the words
+-- how often the word occurs among the words
 abbrev pub times : List (List ℕ) → List ℕ → ℕ
 times words w = count_by (λ v. bytes_eq v w) words
 
--- the ids that the events of the word have once the splits and the merges of the model are made on it
+-- the ids of the word's events after the splits and the merges of the model
 abbrev pub ids_by : Model → List ℕ → List ℕ
 ids_by m w = parts_of (replayed m (record { kinds = m.kinds; types = m.types; words = w ∷ [] }))
 
@@ -27,7 +27,7 @@ ids_by m w = parts_of (replayed m (record { kinds = m.kinds; types = m.types; wo
 abbrev pub path_by : Model → List ℕ → List ℕ
 path_by m w = with_ends (ids_by m w)
 
--- at how many places of the path the id stands
+-- how often the path visits the id
 abbrev pub visits : ℕ → List ℕ → ℕ
 visits p path = count_by (λ x. x == p) path
 

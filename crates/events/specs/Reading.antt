@@ -27,7 +27,7 @@ ReadsEvents s names old new log located =
     ReadsAll s names old new
     (λ contents. (log ≡ log_of (events_of s contents)) × (located ≡ events_located s (lines_of s contents)))
 
--- these are the lines of the inputs that nothing decides
+-- these are the undecided lines of the inputs
 abbrev pub ReadsUndecided : Setting → List (List ℕ) → InputState → InputState → List (At × List ℕ) → Type 0
 ReadsUndecided s names old new undecided =
     ReadsAll s names old new (λ contents. undecided ≡ undecided_lines s (lines_of s contents))

@@ -1,4 +1,4 @@
--- What takes in the lines of a log, and keeps more than its traces.
+-- Readers that take in the lines of a log, and keep more than its traces.
 use Rattle.std.specs.Prelude.{◌≡◌}
 use Rattle.log_reader.specs.LogLines.{events_at}
 use Rattle.log_reader.specs.SoFar.{IsGatheredOf, IsReady, setting_of}
@@ -19,7 +19,7 @@ locating new = record {
       × (new.located.items ≡ events_located (setting_of new.reader) lines);
 }
 
--- a reader that gathers the traces of a log, and keeps the lines that nothing decides
+-- a reader that gathers the traces of a log, and keeps the undecided lines
 abbrev pub collecting : UndecidedReader → Taker
 collecting new = record {
   ready = IsReady new.reader;

@@ -14,7 +14,7 @@ pub struct Located {
     pub trace: u32,
     /// The number of its type.
     pub number: u16,
-    /// Its time in billionths of whatever unit the log takes, and 0 if it has none.
+    /// Its time in billionths of the log's unit of time, and 0 if it has none.
     pub time: u128,
 }
 

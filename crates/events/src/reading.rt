@@ -18,8 +18,8 @@ use std::alloc::Global;
 use traces::gathering_in_order_is_the_log;
 
 /// The traces of the log in the named inputs, and its events in the order of their lines, each with the line it stands on. The
-/// inputs are read as [`read_log`](log_reader::read_log) reads them. That function's documentation says when each error comes and
-/// what it leaves; this one has the same errors for the same inputs.
+/// inputs are read as [`read_log`](log_reader::read_log) reads them. The documentation of that function states when each error is
+/// returned and what it leaves. The same is true of this one.
 pub fn read_events<I: Inputs>(
     alloc: Global,
     inputs: &mut I,
@@ -44,7 +44,7 @@ pub fn read_events<I: Inputs>(
     ensures opens { (I.state inputs.new).opens
         ≤ (I.state inputs.old).opens + length (names_in names.now) }
 
-    // The first so many inputs were opened, each but the last was read to its end, and no others were.
+    // If files are known, a prefix of the inputs was opened, each but the last was read to its end, and no others were opened.
     ensures turn { OpensFirst (names_in names.now) (I.state inputs.old) (I.state inputs.new) }
 {
     let mut lines = Lines::make(alloc)?;
@@ -61,9 +61,9 @@ pub fn read_events<I: Inputs>(
     Ok(reader.finish()?)
 }
 
-/// The lines of the named inputs that nothing decides, in their order. The inputs are read as
-/// [`read_log`](log_reader::read_log) reads them with `ignore`. That function's documentation says when each error comes and what
-/// it leaves; this one has the same errors for the same inputs.
+/// The lines of the named inputs that nothing decides, in their order. The inputs are read as [`read_log`](log_reader::read_log)
+/// reads them with `ignore`. The documentation of that function states when each error is returned and what it leaves. The same
+/// is true of this one.
 pub fn read_undecided<I: Inputs>(
     alloc: Global,
     inputs: &mut I,
@@ -86,7 +86,7 @@ pub fn read_undecided<I: Inputs>(
     ensures opens { (I.state inputs.new).opens
         ≤ (I.state inputs.old).opens + length (names_in names.now) }
 
-    // The first so many inputs were opened, each but the last was read to its end, and no others were.
+    // If files are known, a prefix of the inputs was opened, each but the last was read to its end, and no others were opened.
     ensures turn { OpensFirst (names_in names.now) (I.state inputs.old) (I.state inputs.new) }
 {
     let mut lines = Lines::make(alloc)?;

@@ -1,4 +1,4 @@
--- What is written of a log, by its mode.
+-- The answer for a log, by the mode.
 use Rattle.std.specs.Prelude.{ℕ, List, [], length, Option, Some, None}
 use Rattle.traces.specs.Words.{Log, log_of}
 use Rattle.log_reader.specs.LogLines.{lines_of}
@@ -17,26 +17,26 @@ use Rattle.events_cli.specs.declared.mode.Mode.TheVariants.{InOrder, Plain, Unde
 use Rattle.events_cli.specs.Plain.{first_fault}
 use Rattle.events_cli.specs.Texts.{event_report, plain_log, undecided_report}
 
--- an answer of its parts
+-- an answer made of an ending and a text
 abbrev pub answer : Ending → List ℕ → Answer
 answer ending text = record { ending = ending; text = text }
 
--- the log in the plain form, unless an event cannot be in one
+-- the log in the plain form, or the first event that cannot be in it
 abbrev pub plain_answer : Option PlainFault → List ℕ → Answer
 plain_answer None text = answer endings.Done text
 plain_answer (Some fault) text = answer (endings.NoPlain fault) []
 
--- what is written of the events of a log
+-- the answer for the events of a log
 abbrev pub events_answer : Mode → Task → Log → List Located → Answer
 events_answer InOrder task log events = answer endings.Done (event_report task log events)
 events_answer Plain task log events = plain_answer (first_fault log.types events) (plain_log log.types events)
 events_answer mode task log events = answer endings.Done (event_report task log (by_traces events))
 
--- what is written of the lines that nothing decides
+-- the answer for the undecided lines
 abbrev pub undecided_answer : Task → List (At × List ℕ) → Answer
 undecided_answer task lines = answer (endings.Undecided (length lines)) (undecided_report task lines)
 
--- what is written of a log that is read with this setting and has these bytes
+-- the answer for the log of these bytes, read with this setting
 abbrev pub log_answer : Mode → Task → Setting → List (List ℕ) → Answer
 log_answer Undecided task s files = undecided_answer task (undecided_lines s (lines_of s files))
 log_answer mode task s files = events_answer mode task (log_of (events_of s files)) (events_located s (lines_of s files))

@@ -1,4 +1,4 @@
--- What is stated of the log in the plain form.
+-- Laws on the log in the plain form.
 use Rattle.std.specs.Prelude.{ℕ, ◌≡◌, ◌<◌, ◌≤◌, List, [], ◌∷◌, length, None, false}
 use Rattle.std.specs.List.{AllByRecursion}
 use Rattle.std.specs.Str.{IsUtf8}
@@ -10,21 +10,21 @@ use Rattle.events.specs.Located.{events_located}
 use Rattle.events_cli.specs.Plain.{first_fault}
 use Rattle.events_cli.specs.Texts.{plain_log}
 
--- how a log in the plain form is read
+-- the setting for a log in the plain form
 abbrev pub plainly : Setting
 plainly = setting Plain false false
 
--- what each set of traces has: types with bytes, which are UTF-8, and no more traces than events may be
+-- the types are UTF-8 and not empty, and there are at most MAX_EVENTS traces
 pub record HasTexts (log : Log) : Type 0 where
   pub texts : AllByRecursion (λ text. (0 < length text) × IsUtf8 text) log.types
   pub few : length log.traces ≤ MAX_EVENTS
 
--- read in the plain form, the text has the types and the words of the log
+-- read in the plain form, the text has the types and words of the log
 pub record HasWordsOf (log : Log) (text : List ℕ) : Type 0 where
   pub types : types_of (events_of plainly (text ∷ [])) ≡ log.types
   pub words : words_of (log_of (events_of plainly (text ∷ []))) ≡ words_of log
 
--- so it is of the text of each log that has no event which the plain form cannot have
+-- this holds of the text written for each log whose events can all be in the plain form
 abbrev pub PlainKeepsTheWords : Type 0
 PlainKeepsTheWords =
     (s : Setting) (files : List (List ℕ)) → HasTexts (log_of (events_of s files))

@@ -18,13 +18,13 @@ use Rattle.events_cli.specs.declared.ending.Ending.TheVariants as endings
 use Rattle.events_cli.specs.declared.mode.Mode.{Mode}
 use Rattle.events_cli.specs.Answers.{log_answer}
 
--- the file of rules was read, where lines are read by one, and this decides lines alike
+-- the rules file was read, if lines are read by one, and this form is equivalent to what it gives
 pub record ReadsForm (task : Task) (old new : InputState) (form : Form) : Type 0 where
   pub so_far : SoFar
   pub alike : AreAlikeForms form so_far.form
   pub read : HasRead (rules_stages task) old new at_start so_far
 
--- the log in the task's files, whose lines this decides, was read, and this is what is written of it
+-- the log in the task's files was read by this form, and this is the answer for it
 abbrev pub ReadsAnswer : Mode → Task → Form → (old new : InputState) → Answer → Type 0
 ReadsAnswer mode task form old new a =
     ReadsAll (setting_of task form) (inputs_of task.files) old new
@@ -35,12 +35,12 @@ abbrev pub HasHaltCause : Task → Form → (old new : InputState) → Halt → 
 HasHaltCause task form old new (halts.Read e) = HasReadCause (setting_of task form) (inputs_of task.files) old new e
 HasHaltCause task form old new halts.Memory = ReadsAll (setting_of task form) (inputs_of task.files) old new (λ contents. ⊤)
 
--- the status that is answered where there is none
+-- the status if there is no answer
 abbrev pub halt_status : Halt → Status
 halt_status (halts.Read e) = status_of e
 halt_status halts.Memory = Memory
 
--- a status that refuses what was read, or says why it could not be read
+-- a status for what was read, or for why it could not be read
 abbrev pub IsOfReading : Status → Type 0
 IsOfReading (Expressions e) = ⊤
 IsOfReading (Log fault) = ⊤

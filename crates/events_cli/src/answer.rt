@@ -1,10 +1,10 @@
-//! What is to be written, and why nothing is.
+//! What is to be written, or why nothing is.
 
 use crate::ending::Ending;
 use invariants::Seq;
 use log_reader::ReadError;
 
-/// What is to be written of a log.
+/// What is to be written for a log.
 #[derive(Drop)]
 pub struct Answer {
     /// How the run ends once it is written.
@@ -18,6 +18,6 @@ pub struct Answer {
 pub enum Halt {
     /// The log is refused.
     Read(ReadError),
-    /// Memory was wanted after the log was read.
+    /// Memory ran out after the log was read.
     Memory,
 }

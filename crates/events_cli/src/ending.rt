@@ -5,7 +5,7 @@ ghost use Rattle.events_cli.specs.Messages.{code_of};
 use log_reader::At;
 use synoptic_cli::Status;
 
-/// Why no log in the plain form has the words of this one.
+/// Why this log is not written in the plain form.
 #[derive(Clone, Copy, Debug, PartialEq, Eq)]
 pub enum PlainFault {
     /// The type of the event on this line ends in a carriage return, or has a line feed.
@@ -14,23 +14,24 @@ pub enum PlainFault {
     Time(At),
 }
 
-/// How a run ends. `run` says in its contract when each comes.
+/// How a run ends. The contract of `run` states when each is returned.
 #[derive(Clone, Copy, Debug, PartialEq, Eq)]
 pub enum Ending {
     /// The whole output was written.
     Done,
-    /// The lines that nothing decides were written; there are so many.
+    /// The lines that no rule decides were written. This is their number.
     Undecided(u64),
-    /// No log in the plain form has the words of this one.
+    /// The log cannot be written in the plain form, for this reason.
     NoPlain(PlainFault),
     /// The output could not be written.
     WriteFault,
-    /// `synoptic` ends so too.
+    /// `synoptic` ends with this status too.
     Refused(Status),
 }
 
 impl Ending {
-    /// The status of the process, from 0 to 8: 0 is `Done` or `Undecided`, 4 is `NoPlain`, and the others are as in `synoptic`.
+    /// The exit status of the process, from 0 to 8. 0 is `Done` or `Undecided`, 4 is `NoPlain`, 7 is `WriteFault`, and the
+    /// others are as in `synoptic`.
     pub fn code(&self) -> u8
         ensures { result ≡ code_of self.now }
     {

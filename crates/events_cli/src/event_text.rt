@@ -15,10 +15,10 @@ use std::str;
 use synoptic_cli::{Source, shown_source};
 use traces::TraceSet;
 
-/// How many parts a time has in the unit of the log.
+/// The number of parts of a time in one unit of the log.
 const PARTS: u128 = 1_000_000_000;
 
-/// A log whose events are reported: what their lines have in common.
+/// A log whose events are reported: what all lines need.
 #[derive(Clone, Copy)]
 struct ReportedLog<'a, 't> {
     task: &'a Task<'t>,
@@ -29,7 +29,7 @@ struct ReportedLog<'a, 't> {
     timed: bool,
 }
 
-/// Puts the text at the end, as a JSON string.
+/// Appends the text as a JSON string.
 pub fn push_quoted(alloc: Global, all: &mut Vec<u8>, text: &str) -> Result<(), AllocError>
     ensures { OnOk result (all.new.items ≡ all.old.items ++ quoted text.now) }
 {
@@ -38,7 +38,7 @@ pub fn push_quoted(alloc: Global, all: &mut Vec<u8>, text: &str) -> Result<(), A
     all.extend_from_slice(written.as_bytes())
 }
 
-/// Puts where a line is at the end.
+/// Appends the place of a line: the name of its file and its number.
 pub fn push_place(all: &mut Vec<u8>, task: &Task<'_>, at: At) -> Result<(), AllocError>
     ensures { OnOk result (all.new.items ≡ all.old.items ++ place_text (task_held task.now) at) }
 {
@@ -47,7 +47,7 @@ pub fn push_place(all: &mut Vec<u8>, task: &Task<'_>, at: At) -> Result<(), Allo
     push_number(all, at.line)
 }
 
-/// Puts the name of the trace with this number at the end, if there is one.
+/// Appends the name of the trace with this number as a JSON string, if there is one.
 fn push_trace(alloc: Global, all: &mut Vec<u8>, traces: &TraceSet, k: u32) -> Result<(), AllocError>
     ensures { OnOk result (all.new.items ≡ all.old.items ++ trace_name (traces.now).traces k) }
 {
@@ -70,7 +70,7 @@ fn without_first(digits: &[u8]) -> &[u8]
     &digits[1..]
 }
 
-/// Puts a time at the end.
+/// Appends a time, with nine decimal places.
 fn push_time(all: &mut Vec<u8>, time: u128) -> Result<(), AllocError>
     ensures { OnOk result (all.new.items ≡ all.old.items ++ time_text time) }
 {
@@ -80,7 +80,7 @@ fn push_time(all: &mut Vec<u8>, time: u128) -> Result<(), AllocError>
     all.extend_from_slice(without_first(digits.format(PARTS + time % PARTS).as_bytes()))
 }
 
-/// Puts the column of the time at the end, where the log has times.
+/// Appends the column of the time, if the log has times.
 fn push_time_column(all: &mut Vec<u8>, timed: bool, time: u128) -> Result<(), AllocError>
     ensures { OnOk result (all.new.items ≡ all.old.items ++ time_column timed time) }
 {
@@ -91,7 +91,7 @@ fn push_time_column(all: &mut Vec<u8>, timed: bool, time: u128) -> Result<(), Al
     push_time(all, time)
 }
 
-/// Puts where an event is at the end.
+/// Appends the first columns of an event: the number of its trace and the place of its line.
 fn push_where(all: &mut Vec<u8>, task: &Task<'_>, event: &Located) -> Result<(), AllocError>
     ensures { OnOk result (all.new.items
         ≡ all.old.items ++ where_part (task_held task.now) event.now) }
@@ -102,7 +102,7 @@ fn push_where(all: &mut Vec<u8>, task: &Task<'_>, event: &Located) -> Result<(),
     all.extend_from_slice(b"\t")
 }
 
-/// Puts what an event is at the end.
+/// Appends the other columns of an event: the names of its trace and its type, and its time.
 fn push_what(
     alloc: Global,
     all: &mut Vec<u8>,
@@ -119,7 +119,7 @@ fn push_what(
     all.extend_from_slice(b"\n")
 }
 
-/// Puts the line of an event at the end.
+/// Appends the line of an event.
 fn push_event(
     alloc: Global,
     all: &mut Vec<u8>,

@@ -1,7 +1,7 @@
-//! The command line of the program `synoptic-events`, as a library: the events of a log, each with the line it stands on.
+//! The program `synoptic-events` as a library: the events of a log, each with the place of its line.
 //!
-//! `run` is the top call. It reads a log as `synoptic` does, and writes its events, the log in the plain form, or the lines that
-//! nothing decides. `tell` writes the message of an ending where errors go.
+//! `run` is the top call. It reads a log as `synoptic` does, and writes its events, the log in the plain form, or the lines
+//! that no rule decides. `tell` writes the message of an ending to an `ErrorStream`.
 #![tactic(auto)]
 
 mod answer;

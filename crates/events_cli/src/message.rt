@@ -1,4 +1,4 @@
-//! What is written where errors go.
+//! The messages for standard error.
 ghost use Rattle.std.specs.Prelude.{option_map};
 ghost use Rattle.command_line.specs.Task.{task_held};
 ghost use Rattle.synoptic_cli.specs.Messages.{Tells, line_message};
@@ -20,7 +20,7 @@ fn tell_text<E: ErrorStream>(text: &str, err: &mut E)
     err.put(&[text]);
 }
 
-/// Writes how many lines nothing decides.
+/// Writes how many lines no rule decides.
 fn tell_count<E: ErrorStream>(count: u64, err: &mut E)
     ensures { Tells (count_message count) (E.heard err.old) (E.heard err.new) }
 {
@@ -39,7 +39,7 @@ fn tell_line<E: ErrorStream>(task: Option<&Task<'_>>, at: At, what: &str, err: &
     err.put(&["synoptic: ", name, ":", line, ": ", what, "\n"]);
 }
 
-/// Writes why no log in the plain form has the words of this one.
+/// Writes why the log cannot be written in the plain form.
 fn tell_plain_fault<E: ErrorStream>(task: Option<&Task<'_>>, fault: PlainFault, err: &mut E)
     ensures { Tells (plain_message (option_map (λ t. task_held t.now) task.entry) fault)
         (E.heard err.old) (E.heard err.new) }
@@ -55,7 +55,7 @@ fn tell_plain_fault<E: ErrorStream>(task: Option<&Task<'_>>, fault: PlainFault, 
     }
 }
 
-/// Writes the message of what ends `synoptic` too, with a usage of its own.
+/// Writes the message for a status of `synoptic`, with a usage line of its own.
 fn tell_refusal<E: ErrorStream>(task: Option<&Task<'_>>, status: Status, err: &mut E)
     ensures { Tells (refusal_message (option_map (λ t. task_held t.now) task.entry) status)
         (E.heard err.old) (E.heard err.new) }
@@ -66,9 +66,10 @@ fn tell_refusal<E: ErrorStream>(task: Option<&Task<'_>>, status: Status, err: &m
     }
 }
 
-/// Writes the ending's message where errors go, for a run that was asked for this task, if for one. It takes no memory.
+/// Writes the message of an ending to `err`, without allocating memory. `task` is the task of the run, if the arguments gave
+/// one.
 ///
-/// Where the sink fails, a front of the message was written, and the sink counted the fault.
+/// Either the whole message was appended and no fault counted, or a prefix of it was appended and a fault counted.
 pub fn tell<E: ErrorStream>(task: Option<&Task<'_>>, ending: Ending, err: &mut E)
     ensures { Tells (task_message_of (option_map (λ t. task_held t.now) task.entry) ending)
         (E.heard err.old) (E.heard err.new) }

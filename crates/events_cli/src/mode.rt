@@ -1,9 +1,9 @@
-//! What is written of a log.
+//! What is written for a log.
 ghost use Rattle.std.specs.Prelude.{◌≡◌, map};
 ghost use Rattle.std.specs.String.{string_bytes};
 ghost use Rattle.events_cli.specs.Words.{lists_undecided, mode_of, mode_word, others};
 
-/// What is written of a log.
+/// What is written for a log.
 #[derive(Clone, Copy, Debug, PartialEq, Eq)]
 pub enum Mode {
     /// Its events, trace after trace.
@@ -12,11 +12,11 @@ pub enum Mode {
     InOrder,
     /// A log in the plain form with the same words (`--plain`).
     Plain,
-    /// The lines that nothing decides (`--undecided`).
+    /// The lines that no rule decides (`--undecided`).
     Undecided,
 }
 
-/// Whether lines that nothing decides are to be listed.
+/// Whether lines that no rule decides are to be listed.
 pub fn lists_undecided(mode: Mode) -> bool
     ensures { result ≡ lists_undecided mode }
 {
@@ -28,7 +28,7 @@ pub fn lists_undecided(mode: Mode) -> bool
     }
 }
 
-/// The mode of a word, if it is one.
+/// The mode that an argument gives, if it gives one.
 fn mode_word(word: &str) -> Option<Mode>
     ensures { result ≡ mode_word word.now }
 {
@@ -40,7 +40,7 @@ fn mode_word(word: &str) -> Option<Mode>
     }
 }
 
-/// The mode that the first word says, if it says one.
+/// The mode that the first argument gives; `ByTraces` if it gives none.
 pub fn mode_of(words: &[String]) -> Mode
     ensures { result ≡ mode_of (map string_bytes words.now) }
 {
@@ -53,7 +53,7 @@ pub fn mode_of(words: &[String]) -> Mode
     }
 }
 
-/// The words without the one that says a mode.
+/// The arguments without the first, if that one gives a mode.
 pub fn others(words: &[String]) -> &[String]
     ensures { map string_bytes result.now ≡ others (map string_bytes words.now) }
 {

@@ -1,4 +1,4 @@
-//! A log in the plain form with the words of a log, and which logs have one.
+//! The plain form of a log, and which logs have one.
 ghost use Rattle.std.specs.Prelude.{◌≡◌, ◌==◌, ◌++◌, ℕ, IfOk, OnOk, get_or, if◌then◌else◌};
 ghost use Rattle.events_cli.specs.Plain.{first_fault, is_plain_type};
 ghost use Rattle.events_cli.specs.Texts.{plain_line, plain_log, type_text};
@@ -29,7 +29,7 @@ fn is_plain_type(text: &[u8]) -> bool
     !text.contains(&b'\n') && text.last() != Some(&b'\r')
 }
 
-/// The time that is noted for the trace with this number: 0 where none is.
+/// The time that is noted for the trace with this number; 0 if none is.
 fn latest_of(latest: &[u128], trace: u32) -> u128
     ensures { result ≡ get_or latest.now trace 0 }
 {
@@ -52,7 +52,8 @@ fn put_latest(latest: &mut Vec<u128>, trace: u32, time: u128) -> Result<(), Allo
     Ok(())
 }
 
-/// The first of these events that lines in the plain form cannot have.
+/// The first of these events that the plain form cannot have: its type cannot be that of a line, or its time is before that of
+/// an earlier event of its trace.
 pub fn first_fault(
     alloc: Global,
     traces: &TraceSet,
@@ -73,7 +74,7 @@ pub fn first_fault(
     Ok(None)
 }
 
-/// Puts the line of an event in the plain form at the end.
+/// Appends the line of an event in the plain form.
 fn push_plain(all: &mut Vec<u8>, traces: &TraceSet, event: &Located) -> Result<(), AllocError>
     ensures { OnOk result (all.new.items ≡ all.old.items ++ plain_line (traces.now).types event.now) }
 {

@@ -1,4 +1,4 @@
-//! The task that the words ask for.
+//! The task that the arguments ask for.
 ghost use Rattle.std.specs.Prelude.{◌≡◌, ◌<◌, ◌^◌, [], ◌∷◌, ◌++◌, true, IfOk, OnOk, Err, Some, None, codes, length, map, not, if◌then◌else◌};
 ghost use Rattle.std.specs.String.{string_bytes};
 ghost use Rattle.command_line.specs.Task.{task_held, task_of};
@@ -8,16 +8,16 @@ use crate::mode::{Mode, lists_undecided, mode_of, others};
 use command_line::{ParseError, Task, parse};
 use std::alloc::{AllocError, Global};
 
-/// What the words ask for.
+/// What the arguments ask for.
 #[derive(Clone, Copy)]
 pub struct Asked<'a> {
-    /// What is to be written of the log.
+    /// What is to be written for the log.
     pub mode: Mode,
-    /// The words that `synoptic` would be given.
+    /// The arguments that `synoptic` would be given.
     pub given: &'a [String],
 }
 
-/// Puts copies of the words at the end.
+/// Appends copies of the arguments.
 fn push_words(alloc: Global, all: &mut Vec<String>, words: &[String]) -> Result<(), AllocError>
     ensures { OnOk result (map string_bytes all.new.items
         ≡ map string_bytes all.old.items ++ map string_bytes words.now) }
@@ -28,7 +28,7 @@ fn push_words(alloc: Global, all: &mut Vec<String>, words: &[String]) -> Result<
     Ok(())
 }
 
-/// Puts `-i` at the end, if it is wanted.
+/// Appends `-i`, if `skip` is true.
 fn push_skip(alloc: Global, all: &mut Vec<String>, skip: bool) -> Result<(), AllocError>
     ensures { OnOk result (map string_bytes all.new.items
         ≡ map string_bytes all.old.items ++ (if skip then codes "-i" ∷ [] else [])) }
@@ -40,7 +40,7 @@ fn push_skip(alloc: Global, all: &mut Vec<String>, skip: bool) -> Result<(), All
     Ok(())
 }
 
-/// The words that ask for a graph, with `-i` before the others or without it.
+/// The arguments that ask for a graph: `graph`, `-i` if `skip` is true, and the others.
 fn graph_words(alloc: Global, skip: bool, words: &[String]) -> Result<Vec<String>, AllocError>
     ensures { IfOk result (λ all. map string_bytes all.items ≡ graph_words
         (if skip then codes "-i" ∷ map string_bytes words.now else map string_bytes words.now)) }
@@ -52,7 +52,7 @@ fn graph_words(alloc: Global, skip: bool, words: &[String]) -> Result<Vec<String
     Ok(all)
 }
 
-/// Whether these words give no task that skips lines.
+/// Whether these arguments give no task that skips lines.
 fn lack_skip(alloc: Global, words: &[String]) -> Result<bool, AllocError>
     ensures { IfOk result (λ lack. lack ≡ not (skips (task_of (map string_bytes words.now)))) }
 {
@@ -63,7 +63,7 @@ fn lack_skip(alloc: Global, words: &[String]) -> Result<bool, AllocError>
     }
 }
 
-/// The words that `synoptic` would be given.
+/// The arguments that `synoptic` would be given.
 pub fn given_words(alloc: Global, words: &[String]) -> Result<Vec<String>, AllocError>
     ensures { IfOk result (λ all. map string_bytes all.items ≡ given_words (map string_bytes words.now)) }
 {
@@ -79,15 +79,17 @@ pub fn given_words(alloc: Global, words: &[String]) -> Result<Vec<String>, Alloc
     Ok(plain)
 }
 
-/// Whether the task reads a log alone, and skips lines that nothing decides where they are to be listed.
+/// Whether the task reads a log and no model, and skips lines that no rule decides if they are to be listed.
 fn fits(mode: Mode, task: &Task<'_>) -> bool
     ensures { result ≡ fits mode (task_held task.now) }
 {
     task.form.is_some() && task.model.is_none() && (mode != Mode::Undecided || task.ignore)
 }
 
-/// The task of these words, which fits the mode. `Usage` comes where there is none, and in its place, or in that of a task, `Memory`
-/// may come.
+/// The task that these arguments ask for, which fits the mode.
+///
+/// - `Usage`: they ask for no task that fits the mode.
+/// - `Memory`: memory ran out. No clause says when.
 pub fn task_for<'a>(alloc: Global, mode: Mode, words: &'a [String]) -> Result<Task<'a>, ParseError>
     ensures task { IfOk result (λ t. task_of (map string_bytes words.entry.now) ≡ Some (task_held t)) }
     ensures fits { IfOk result (λ t. fits mode (task_held t) ≡ true) }

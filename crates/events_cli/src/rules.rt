@@ -18,7 +18,7 @@ use outside::Inputs;
 use std::alloc::Global;
 use synoptic_cli::{Status, read_rules, rules_name};
 
-/// The rules of the task's file, where its lines are read by one.
+/// Reads the task's rules file, if it has one. `None` stands for the plain form.
 pub fn read_form<I: Inputs, P: Patterns>(
     alloc: Global,
     task: &Task<'_>,
@@ -28,7 +28,7 @@ pub fn read_form<I: Inputs, P: Patterns>(
     ensures stays { Stays (I.state inputs.old) (I.state inputs.new) }
     ensures kept { PatternsStay (P.state patterns.old) (P.state patterns.new) }
 
-    // What is counted of faults and refused patterns.
+    // Which counts of faults and refused patterns stay.
     ensures memory { result ≡ Err Status.Memory
         → (I.state inputs.new).faults ≡ (I.state inputs.old).faults }
     ensures count { KeepsCounts result (P.state patterns.old) (P.state patterns.new) }
@@ -52,7 +52,7 @@ pub fn read_form<I: Inputs, P: Patterns>(
     }
 }
 
-/// What decides the lines: the rules that were read, where some were.
+/// What decides the lines: the rules that were read, if there are any, otherwise the plain form.
 pub fn form_of(rules: &Option<LineRules>) -> Form<'_>
     ensures { form_view result ≡ form_with (option_map rules_in rules.now) }
 {

@@ -1,4 +1,4 @@
-//! Reads a log, and says what is to be written of it.
+//! Reads a log, and returns what is to be written for it.
 ghost use Rattle.std.specs.Prelude.{◌≡◌, ◌<◌, ◌≤◌, ◌+◌, ◌^◌, true, false, Err, IfOk, IfErr, length, map, option_map};
 ghost use Rattle.std.specs.String.{string_bytes};
 ghost use Rattle.outside.specs.Inputs.{Stays};
@@ -42,7 +42,7 @@ fn report(alloc: Global, task: &Task<'_>, events: &Events) -> Result<Answer, All
     })
 }
 
-/// The answer with the log in the plain form, unless an event cannot be in one.
+/// The answer with the log in the plain form, or the first event that the plain form cannot have.
 fn plain(alloc: Global, events: &Events) -> Result<Answer, AllocError>
     ensures { IfOk result (λ a. a ≡ plain_answer
         (first_fault events.now.traces.types events.now.located.items)
@@ -61,7 +61,7 @@ fn plain(alloc: Global, events: &Events) -> Result<Answer, AllocError>
     })
 }
 
-/// What is written of the events of a log.
+/// What is written for the events of a log.
 fn events_answer(
     alloc: Global,
     mode: Mode,
@@ -81,7 +81,7 @@ fn events_answer(
     }
 }
 
-/// What is written of the lines that nothing decides.
+/// What is written for the lines that no rule decides.
 fn undecided_answer(
     alloc: Global,
     task: &Task<'_>,
@@ -96,7 +96,7 @@ fn undecided_answer(
     })
 }
 
-/// Reads the log, and says what is to be written of its events.
+/// Reads the log, and returns what is to be written for its events.
 fn show_events<I: Inputs>(
     alloc: Global,
     mode: Mode,
@@ -110,13 +110,13 @@ fn show_events<I: Inputs>(
     requires few { length names.now < 2 ^ 32 }
     ensures stays { Stays (I.state inputs.old) (I.state inputs.new) }
 
-    // What is written, and why there is nothing.
+    // What is to be written, or why there is nothing.
     ensures ok { IfOk result (ReadsAnswer mode (task_held task.now)
         (form_with (option_map rules_in rules.now)) (I.state inputs.old) (I.state inputs.new)) }
     ensures err { IfErr result (HasHaltCause (task_held task.now)
         (form_with (option_map rules_in rules.now)) (I.state inputs.old) (I.state inputs.new)) }
 
-    // Want of memory hides no fault, and which inputs are opened.
+    // Running out of memory hides no fault, and which inputs are opened.
     ensures memory { result ≡ Err (Halt.Read ReadError.Memory)
         → (I.state inputs.new).faults ≡ (I.state inputs.old).faults }
     ensures opens { (I.state inputs.new).opens
@@ -135,7 +135,7 @@ fn show_events<I: Inputs>(
     }
 }
 
-/// Reads the log, and says what is to be written of the lines that nothing decides.
+/// Reads the log, and returns what is to be written for the lines that no rule decides.
 fn show_undecided<I: Inputs>(
     alloc: Global,
     mode: Mode,
@@ -150,13 +150,13 @@ fn show_undecided<I: Inputs>(
     requires few { length names.now < 2 ^ 32 }
     ensures stays { Stays (I.state inputs.old) (I.state inputs.new) }
 
-    // What is written, and why there is nothing.
+    // What is to be written, or why there is nothing.
     ensures ok { IfOk result (ReadsAnswer mode (task_held task.now)
         (form_with (option_map rules_in rules.now)) (I.state inputs.old) (I.state inputs.new)) }
     ensures err { IfErr result (HasHaltCause (task_held task.now)
         (form_with (option_map rules_in rules.now)) (I.state inputs.old) (I.state inputs.new)) }
 
-    // Want of memory hides no fault, and which inputs are opened.
+    // Running out of memory hides no fault, and which inputs are opened.
     ensures memory { result ≡ Err (Halt.Read ReadError.Memory)
         → (I.state inputs.new).faults ≡ (I.state inputs.old).faults }
     ensures opens { (I.state inputs.new).opens
@@ -175,7 +175,7 @@ fn show_undecided<I: Inputs>(
     }
 }
 
-/// Reads the log of a task that fits the mode, whose lines these rules decide, and says what is to be written.
+/// Reads the log of a task that fits the mode, whose lines these rules decide, and returns what is to be written.
 pub fn show<I: Inputs>(
     alloc: Global,
     mode: Mode,
@@ -187,13 +187,13 @@ pub fn show<I: Inputs>(
     requires few { length (task_held task.now).files < 2 ^ 32 }
     ensures stays { Stays (I.state inputs.old) (I.state inputs.new) }
 
-    // What is written, and why there is nothing.
+    // What is to be written, or why there is nothing.
     ensures ok { IfOk result (ReadsAnswer mode (task_held task.now)
         (form_with (option_map rules_in rules.now)) (I.state inputs.old) (I.state inputs.new)) }
     ensures err { IfErr result (HasHaltCause (task_held task.now)
         (form_with (option_map rules_in rules.now)) (I.state inputs.old) (I.state inputs.new)) }
 
-    // Want of memory hides no fault, and which inputs are opened.
+    // Running out of memory hides no fault, and which inputs are opened.
     ensures memory { result ≡ Err (Halt.Read ReadError.Memory)
         → (I.state inputs.new).faults ≡ (I.state inputs.old).faults }
     ensures opens { (I.state inputs.new).opens

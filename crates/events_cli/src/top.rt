@@ -28,7 +28,7 @@ use outside::{Inputs, Sink, write_whole};
 use std::alloc::Global;
 use synoptic_cli::{ErrorStream, Status, status_of};
 
-/// The status that is answered where there is no answer.
+/// The status if there is no answer.
 fn halt_status(halt: Halt) -> Status
     ensures { result ≡ halt_status halt }
 {
@@ -38,7 +38,7 @@ fn halt_status(halt: Halt) -> Status
     }
 }
 
-/// Reads the inputs of a task that fits the mode, and says what is to be written.
+/// Reads the inputs of a task that fits the mode, and returns what is to be written.
 fn read_answer<I: Inputs, P: Patterns>(
     alloc: Global,
     mode: Mode,
@@ -51,7 +51,7 @@ fn read_answer<I: Inputs, P: Patterns>(
     ensures stays { InputsStay (I.state inputs.old) (I.state inputs.new) }
     ensures kept { PatternsStay (P.state patterns.old) (P.state patterns.new) }
 
-    // What is counted of faults and refused patterns.
+    // Which counts of faults and refused patterns stay.
     ensures memory { result ≡ Err Status.Memory
         → (I.state inputs.new).faults ≡ (I.state inputs.old).faults }
     ensures count { KeepsCounts result (P.state patterns.old) (P.state patterns.new) }
@@ -78,7 +78,7 @@ fn read_answer<I: Inputs, P: Patterns>(
     }
 }
 
-/// Does the task, which fits the mode, and writes no message.
+/// Runs the task, which fits the mode, and writes no message.
 fn answer<I: Inputs, P: Patterns, O: Sink>(
     alloc: Global,
     mode: Mode,
@@ -90,14 +90,14 @@ fn answer<I: Inputs, P: Patterns, O: Sink>(
     requires fits { fits mode (task_held task.now) ≡ true }
     requires few { length (task_held task.now).files < 2 ^ 32 }
 
-    // What the ending says, for all words that ask for the task in this mode.
+    // What the ending says, for all arguments that ask for the task in this mode.
     ensures cause { (words : List (List ℕ)) → mode_of words ≡ mode
         → task_of (given_words words) ≡ Some (task_held task.now)
         → HasCause result words
         (world (I.state inputs.old) (P.state patterns.old) (O.state out.old))
         (world (I.state inputs.new) (P.state patterns.new) (O.state out.new)) }
 
-    // What is counted of faults and refused patterns, and what stays.
+    // Which counts of faults and refused patterns stay, and what else does.
     ensures memory { result ≡ Ending.Refused Status.Memory
         → (I.state inputs.new).faults ≡ (I.state inputs.old).faults }
     ensures count { KeepsCount result (P.state patterns.old) (P.state patterns.new) }
@@ -119,7 +119,7 @@ fn answer<I: Inputs, P: Patterns, O: Sink>(
     }
 }
 
-/// The ending of words that give no task.
+/// The ending if the arguments give no task.
 fn ending_without_task(error: ParseError) -> Ending
     ensures { result ≡ Ending.Refused (status_without_task error) }
 {
@@ -129,7 +129,7 @@ fn ending_without_task(error: ParseError) -> Ending
     }
 }
 
-/// Does what is asked, and writes a message where it refuses.
+/// Runs what is asked, and writes a message if it refuses.
 fn run_given<I: Inputs, P: Patterns, O: Sink, E: ErrorStream>(
     alloc: Global,
     asked: Asked<'_>,
@@ -138,14 +138,14 @@ fn run_given<I: Inputs, P: Patterns, O: Sink, E: ErrorStream>(
     out: &mut O,
     err: &mut E,
 ) -> Ending
-    // What the ending says, for all words that ask for this.
+    // What the ending says, for all arguments that ask for this.
     ensures cause { (words : List (List ℕ)) → mode_of words ≡ asked.entry.mode
         → given_words words ≡ map string_bytes asked.entry.given.now
         → HasCause result words
         (world (I.state inputs.old) (P.state patterns.old) (O.state out.old))
         (world (I.state inputs.new) (P.state patterns.new) (O.state out.new)) }
 
-    // What is counted of faults and refused patterns, and what stays.
+    // Which counts of faults and refused patterns stay, and what else does.
     ensures memory { result ≡ Ending.Refused Status.Memory
         → (I.state inputs.new).faults ≡ (I.state inputs.old).faults }
     ensures count { KeepsCount result (P.state patterns.old) (P.state patterns.new) }
@@ -153,7 +153,7 @@ fn run_given<I: Inputs, P: Patterns, O: Sink, E: ErrorStream>(
         (world (I.state inputs.old) (P.state patterns.old) (O.state out.old))
         (world (I.state inputs.new) (P.state patterns.new) (O.state out.new)) }
 
-    // Which inputs were opened, and what is told of the ending.
+    // Which inputs were opened, and the message of the ending.
     ensures turn { OpensFirst (names_of (map string_bytes asked.entry.given.now))
         (I.state inputs.old) (I.state inputs.new) }
     ensures told { (words : List (List ℕ)) → mode_of words ≡ asked.entry.mode
@@ -173,30 +173,38 @@ fn run_given<I: Inputs, P: Patterns, O: Sink, E: ErrorStream>(
     ending
 }
 
-/// Does what the words ask: reads a log, writes its events to `out`, and a line to `err` where it refuses.
+/// Runs the program `synoptic-events`: reads a log, writes its events to `out`, and the message of the ending to `err`.
 ///
-/// The words are the arguments without the program's name. The first may say a mode (`--in-order`, `--plain`, `--undecided`). The
-/// others are those of `synoptic graph` on a log: what is refused of them, of the file of rules and of the log is refused as
-/// `synoptic graph` refuses it, with the same message and status. `--undecided` reads as with `-i`.
+/// `words` are the arguments without the program's name. The first may give a mode (`--in-order`, `--plain`, `--undecided`).
+/// The others are those of `synoptic graph` on a log. If these arguments, the rules file or the log are refused, the run ends
+/// as `synoptic graph` would, with the same status and, except for the usage line, the same message. `--undecided` reads as
+/// with `-i`.
+///
+/// Files are *known* if contracts can name their bytes, as for files in memory. If they are known, the clauses state everything
+/// below. If not, what they state about the contents of an input holds for some bytes, and they do not state how far an input
+/// was read. A sink is treated alike: what was appended is stated only if its bytes are known. Counts are stated always.
 ///
 /// - `cause`: why the run ended so.
-///   - `Done`: `out` has the whole text, and counted no fault. All inputs of the task were opened without a fault, and the last was
-///     read to its end. Nothing in them is refused. The text is that of `log_answer`: a line for each event, trace after trace and in
-///     a trace by the times, or with `--in-order` in the order of the lines. With `--plain` it is the log in the plain form.
-///   - `Undecided`: as `Done`, for `--undecided` alone: a line for each line that nothing decides, in their order. The number is how
-///     many there are.
-///   - `NoPlain`: as `Done`, for `--plain` alone, with nothing written. The fault is the first, in the order of the lines, that keeps
-///     the log from the plain form: a type that a line cannot have, or a time before that of an earlier line of the trace.
-///   - `WriteFault`: there is an answer, as for these three. `out` counted a fault, and has a front of the text.
-///   - `Refused(Usage)`: the words ask for nothing that is known. Inputs and patterns are untouched.
-///   - `Refused` with another status: `synoptic graph` with the other words ends so, for the cause that its `run` states. Nothing is
-///     written. The status is one of `Expressions`, `Log`, `Limit`, `ReadFault` and `Memory`.
-/// - `memory`: want of memory hides no fault of the inputs.
+///   - `Done`: the whole text was appended to `out`, and no fault counted. All inputs of the task were opened without a fault,
+///     nothing in them is refused, and the last was read to its end. The text is that of `log_answer`. It has a line for each
+///     event: trace after trace and by time within a trace, or in the order of the lines with `--in-order`. With `--plain` it
+///     is the log in the plain form.
+///   - `Undecided`: as `Done`, only for `--undecided`. The text has a line for each line that no rule decides, in order. The
+///     number is how many there are.
+///   - `NoPlain`: as `Done`, only for `--plain`, and the text is empty. The named fault is the first, in the order of the
+///     lines, that the plain form cannot have: a type that no line can have, or a time before that of an earlier line of the
+///     trace.
+///   - `WriteFault`: there is an answer, as for these three. A prefix of its text was appended to `out`, and a fault counted.
+///   - `Refused(Usage)`: the arguments ask for no task that fits the mode. Inputs, patterns and `out` are untouched.
+///   - `Refused` with another status: `synoptic graph` with the other arguments ends so, for the cause that its `run` states.
+///     `out` is untouched. The status is `Expressions`, `Log`, `Limit`, `ReadFault` or `Memory`.
+/// - `memory`: with `Refused(Memory)` the count of faults of the inputs is as before. So running out of memory hides no fault.
 /// - `count`: no pattern was refused for its size, unless that is the answer.
-/// - `stays`: the inputs' files, the names that they may fail and the patterns that may be refused stay as they were.
-/// - `turn`: the inputs that were opened are the first of those of the task, in their order, each but the last was read to its end,
-///   and no others were opened; or no call of the inputs was made.
-/// - `told`: `err` has the ending's message and counted no fault, or a front of it if it counted one.
+/// - `stays`: the files of the inputs, the names that they may fail and the patterns that may be refused stay as they were.
+/// - `turn`: the inputs are as before; or those that were opened are the first of the task, in its order, and no others, and
+///   each but the last was read to its end. Which ones they were is stated only if files are known and stand in this order.
+/// - `told`: the message of the ending was appended to `err` and no fault counted, or a prefix of it was appended and a fault
+///   counted.
 pub fn run<I: Inputs, P: Patterns, O: Sink, E: ErrorStream>(
     alloc: Global,
     words: &[String],
@@ -209,7 +217,7 @@ pub fn run<I: Inputs, P: Patterns, O: Sink, E: ErrorStream>(
         (world (I.state inputs.old) (P.state patterns.old) (O.state out.old))
         (world (I.state inputs.new) (P.state patterns.new) (O.state out.new)) }
 
-    // What is counted of faults and refused patterns, and what stays.
+    // Which counts of faults and refused patterns stay, and what else does.
     ensures memory { result ≡ Ending.Refused Status.Memory
         → (I.state inputs.new).faults ≡ (I.state inputs.old).faults }
     ensures count { KeepsCount result (P.state patterns.old) (P.state patterns.new) }
@@ -221,7 +229,7 @@ pub fn run<I: Inputs, P: Patterns, O: Sink, E: ErrorStream>(
     ensures turn { OpensFirst (names_of (given_words (map string_bytes words.now)))
         (I.state inputs.old) (I.state inputs.new) }
 
-    // What is told of the ending.
+    // The message of the ending.
     ensures told { Tells (message_of (map string_bytes words.now) result)
         (E.heard err.old) (E.heard err.new) }
 {

@@ -1,4 +1,4 @@
-//! The lines that nothing decides.
+//! The lines that no rule decides.
 ghost use Rattle.std.specs.Prelude.{◌≡◌, ◌++◌, OnOk, IfOk};
 ghost use Rattle.command_line.specs.Task.{task_held};
 ghost use Rattle.events.specs.Undecided.{shown_lines};
@@ -10,7 +10,7 @@ use events::UndecidedLine;
 use invariants::Seq;
 use std::alloc::{AllocError, Global};
 
-/// Puts the line of a line that nothing decides at the end.
+/// Appends the report of a line that no rule decides.
 fn push_line(
     alloc: Global,
     all: &mut Vec<u8>,
@@ -27,7 +27,7 @@ fn push_line(
     all.extend_from_slice(b"\n")
 }
 
-/// A line for each of the lines that nothing decides.
+/// The report of the lines that no rule decides, one line for each.
 pub fn undecided_report(
     alloc: Global,
     task: &Task<'_>,

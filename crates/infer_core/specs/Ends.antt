@@ -20,8 +20,8 @@ use Rattle.infer_core.specs.declared.workbench.InferLimit.{InferLimit}
 use Rattle.infer_core.specs.declared.workbench.InferLimit.TheVariants.{Partitions, Evidence}
 use Rattle.infer_core.specs.Runs.{first_parts, PassesPartitions, PassesNumbers}
 
--- a graph in which refinement may begin, invariants that hold of its words, what was made for the two, and room
--- for all that a run can write, of which nothing is written yet
+-- a first graph, invariants that hold of its words, the memory made for them, and an empty run's log with room for all
+-- that a run can write
 pub record IsReady (invs : List Invariant) (graph : Parts) (stitcher : ℕ)
     (planes : Labelling) (spans : Numbers) (run : RunLists) : Type 0 where
   pub few : length invs < 2 ^ 32
@@ -35,13 +35,13 @@ pub record IsReady (invs : List Invariant) (graph : Parts) (stitcher : ℕ)
   pub merges : MAX_STEPS ≤ run.merge_room
   pub blocks : MAX_PAIRS ≤ run.block_room
 
--- the invariants are those that are mined of these words, and the graph is the first one
+-- the invariants are those mined from these words, and the graph is the first one
 pub record BeginsWith (words : TypedWords) (invs : List Invariant) (graph : Parts) : Type 0 where
   pub mined : invs ≡ mined_of words
   pub first : graph ≡ first_parts words
 
--- the run of these words is told: refinement and coarsening have ended, each pair of the graph has its block and
--- each invariant its labels, within the limits
+-- the run of these words is recorded: refinement and coarsening have ended, and each pair of the graph has its block
+-- and each invariant its labels, within the limits
 pub record HasEnded (words : TypedWords) (graph : Parts)
     (planes : Labelling) (spans : Numbers) (run : RunLists) : Type 0 where
   pub refined : Assignment
@@ -54,7 +54,7 @@ pub record HasEnded (words : TypedWords) (graph : Parts)
   pub labels : AreLabelsOf planes (G graph.traces)
   pub paths : HoldsPaths run spans
 
--- what the run of these words leaves at each answer
+-- what the run of these words leaves for each answer
 abbrev pub RunGives : Result (Unit {0}) InferLimit → TypedWords → Parts
     → Labelling → Numbers → RunLists → Type 0
 RunGives (Ok done) words graph planes spans run = HasEnded words graph planes spans run

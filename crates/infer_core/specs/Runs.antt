@@ -15,11 +15,11 @@ use Rattle.models.specs.Histories.{first_new}
 use Rattle.partition_graph.specs.Parts.{Parts}
 use Rattle.coarsener.specs.Blocking.{EndsWithoutRoom}
 
--- where its run begins: each event in the partition of its type, and the first new id
+-- where the run begins: each event in the partition of its type, and the first unused id
 abbrev pub first_parts : TypedWords → Parts
 first_parts log = record { traces = by_type log.words; used = first_new log }
 
--- refinement of the log wants one partition more than there may be
+-- refinement of the log needs one partition more than the limit
 pub record PassesPartitions (log : TypedWords) : Type 0 where
   pub splits : List Split
   pub now : Assignment
@@ -28,8 +28,8 @@ pub record PassesPartitions (log : TypedWords) : Type 0 where
   pub next : Split
   pub is_next : IsNextSplit (mined_of log) now next
 
--- refinement and coarsening of the log end, and the paths of all splits and of the first blocks, the next one's among
--- them, have more numbers than there may be
+-- refinement and coarsening of the log end, and the paths of all splits and of the first blocks, including the next
+-- one, exceed the limit on numbers
 pub record PassesNumbers (log : TypedWords) : Type 0 where
   pub splits : List Split
   pub refined : Assignment
@@ -43,7 +43,7 @@ pub record PassesNumbers (log : TypedWords) : Type 0 where
       (record { traces = end; used = first_new log + length splits }) blocks
       (split_numbers splits + block_numbers blocks)
 
--- the ids are those that the events have, trace after trace, where coarsening of the log ends
+-- the final ids of the events, trace by trace, after refinement and coarsening of the log
 pub record AreFinal (log : TypedWords) (ids : List ℕ) : Type 0 where
   pub splits : List Split
   pub refined : Assignment
@@ -53,7 +53,7 @@ pub record AreFinal (log : TypedWords) (ids : List ℕ) : Type 0 where
   pub coarsens : Coarsens (mined_of log) refined merges end
   pub value : ids ≡ parts_of end
 
--- at most one step for each mined invariant and each split, three for each pair of one type of the refined graph, and one
+-- at most one step per mined invariant and per split, three per pair of one type of the refined graph, and one more
 pub record CountsAtMost (log : TypedWords) (before after : ℕ) : Type 0 where
   pub splits : List Split
   pub refined : Assignment

@@ -1,4 +1,4 @@
--- Labels of many invariants that are read at once.
+-- Labels of many invariants, read together.
 use Rattle.std.specs.Prelude.{◌≡◌, ◌<◌, ◌≤◌, ◌+◌, ℕ, List, [], length, slice_get, slice_index_or, Some}
 use Rattle.invariants.specs.declared.records.Partition.{Partition}
 use Rattle.labelling.specs.Labelled.{Labelling, digit}

@@ -1,4 +1,4 @@
--- What contracts see of a workbench, and what stands in it at each stage.
+-- What contracts see of a workbench, and its contents at each stage.
 use Rattle.std.specs.Prelude.{◌≡◌, ◌≤◌, ℕ, List, length}
 use Rattle.std.specs.List.{AllByRecursion}
 use Rattle.limits.specs.declared.TheConstants.{MAX_EVENTS}
@@ -21,17 +21,17 @@ use Rattle.infer_core.specs.declared.workbench.Stage.{Stage}
 use Rattle.infer_core.specs.declared.workbench.Stage.TheVariants.{Opened, Inferred, Refused}
 use Rattle.infer_core.specs.Ends.{IsReady, HasEnded}
 
--- the kinds of invariants that are asked for, the log, and how far its inference is
+-- the kinds of invariants asked for, the log, and the stage of its inference
 pub record WorkbenchView : Type 0 where
   pub kinds : Kinds
   pub log : Log
   pub stage : Stage
 
--- the graph of all traces of a log, of which each has its number here
+-- the graph of all traces of a log; each trace is given by a number
 abbrev pub whole_of : List ℕ → Parts → Parts
 whole_of numbers graph = record { traces = spread numbers graph.traces; used = graph.used }
 
--- the invariants of these kinds that are mined of the log and the first graph of its distinct words stand ready for a run
+-- the invariants mined from the log and the first graph of its distinct words are ready for a run
 pub record IsAtStart (kinds : Kinds) (log : Log) (invs : List Invariant) (graph : Parts) (numbers : List ℕ) (stitcher : ℕ)
     (planes : Labelling) (spans : Numbers) (run : RunLists) : Type 0 where
   pub mined : invs ≡ mined_of (typed_words kinds log)
@@ -39,7 +39,7 @@ pub record IsAtStart (kinds : Kinds) (log : Log) (invs : List Invariant) (graph 
   pub shares : SharesWords log graph numbers
   pub ready : IsReady invs graph stitcher planes spans run
 
--- the invariants of these kinds that are mined of the log stand beside its run, whose graph becomes that of the log where it is spread over all traces
+-- the invariants mined from the log and its ended run; spread over all traces, the graph is that of the log
 pub record IsAtEnd (kinds : Kinds) (log : Log) (invs : List Invariant) (graph : Parts) (numbers : List ℕ)
     (planes : Labelling) (spans : Numbers) (run : RunLists) : Type 0 where
   pub mined : invs ≡ mined_of (typed_words kinds log)
@@ -47,7 +47,7 @@ pub record IsAtEnd (kinds : Kinds) (log : Log) (invs : List Invariant) (graph : 
   pub few : length (events (spread numbers graph.traces)) ≤ MAX_EVENTS
   pub ended : HasEnded (typed_words kinds log) (whole_of numbers graph) planes spans run
 
--- what stands at each stage; after a refusal it is good for nothing
+-- the contents at each stage; nothing is known after a refusal
 abbrev pub Stands : Stage → Kinds → Log → List Invariant → Parts → List ℕ → ℕ
     → Labelling → Numbers → RunLists → Type 0
 Stands Opened kinds log invs graph numbers stitcher planes spans run =
@@ -56,7 +56,7 @@ Stands Inferred kinds log invs graph numbers stitcher planes spans run =
     IsAtEnd kinds log invs graph numbers planes spans run
 Stands Refused kinds log invs graph numbers stitcher planes spans run = Unit {0}
 
--- the model says the types of the log, the kinds that are asked for, what the graph is and what is reached there, and what the run tells
+-- the model has the types of the log, the kinds asked for, the graph, the states reached in it, and the run's records
 pub record Tells (m : Model) (asked : Kinds) (log : Log) (invs : List Invariant) (graph : Parts)
     (spans : Numbers) (run : RunLists) : Type 0 where
   pub types : m.types ≡ log.types

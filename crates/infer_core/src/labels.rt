@@ -19,8 +19,8 @@ use labelling::Planes;
 use limits::MAX_PARTITIONS;
 use std::alloc::{AllocError, Global};
 
-/// The labels of how many invariants are read at once: a word of memory has a bit of each. The first of them has a number
-/// that is a multiple of this.
+/// How many invariants have their labels read at once: a word of memory has a bit for each. The number of the first of
+/// them is a multiple of this.
 pub(crate) const TOGETHER: usize = 64;
 
 /// The labels of some invariants, whose numbers follow one another, at each of some partitions.
@@ -97,8 +97,8 @@ impl Window {
         }
     }
 
-    /// Which of the window's invariants the one with this number is. Where it is none of them, those are read that
-    /// share a word with it.
+    /// The place in the window of the invariant with this number. If the invariant is not in the window, those that
+    /// share a word with it are read first.
     fn place_of(
         &mut self,
         planes: &Planes,
@@ -149,7 +149,7 @@ fn labels_of(
     Ok(Seq::from_vec(labels))
 }
 
-/// The invariants, each with its labels.
+/// The invariants, each with its labels at these partitions. `AllocError` is returned if there is not enough memory.
 pub fn listed(
     alloc: Global,
     planes: &Planes,

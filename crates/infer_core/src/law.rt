@@ -8,17 +8,18 @@ ghost use Rattle.models.specs.Models.{typed_words};
 use partition_graph::set_is_typed;
 use traces::TraceSet;
 
-/// A log whose model keeps the limits passes none of them, and no log passes both.
+/// If a model of a log keeps the limits, inference of the log exceeds none of them. No log exceeds both.
 pub fn ends_exclude()
     ensures { EndsExclude }
 {}
 
-/// The events of a log have their final ids in one way alone.
+/// The final ids of the events of a log are unique.
 pub fn one_final()
     ensures { OneFinal }
 {}
 
-/// The words of each set of traces use exactly its types, and are within the limits of a log, whichever kinds of invariants are asked for.
+/// The words of each set of traces use exactly its types, and are within the limits of a log, whichever kinds of
+/// invariants are asked for.
 pub fn log_is_typed(traces: &TraceSet)
     ensures typed { (kinds : Kinds) → IsTypedLog (typed_words kinds traces.now) }
     ensures within { (kinds : Kinds) → IsWithinLimits (typed_words kinds traces.now) }

@@ -1,5 +1,5 @@
-//! Inference of a model: one run from the traces of a log to the model that is written, on memory that is taken
-//! before it begins.
+//! Inference of a model: one run from the traces of a log to its model, in memory that is allocated before the run
+//! begins.
 #![tactic(auto)]
 
 mod labels;

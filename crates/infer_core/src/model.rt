@@ -14,7 +14,7 @@ use run_history::{blocks, merges, splits};
 use std::alloc::{AllocError, Global};
 use traces::TraceSet;
 
-/// The texts, each in memory of its own.
+/// A copy of the texts.
 fn copy_of(alloc: Global, types: &Seq<Text>) -> Result<Seq<Text>, AllocError>
     ensures { IfOk result (λ copy. copy ≡ types.now) }
 {
@@ -26,8 +26,9 @@ fn copy_of(alloc: Global, types: &Seq<Text>) -> Result<Seq<Text>, AllocError>
     Ok(Seq::from_vec(copy))
 }
 
-/// The model: the types of the log, the kinds that are asked for, the graph where coarsening ended with the labels of the invariants, and the log of
-/// the run.
+/// The model: the types of the log, the kinds that are asked for, the graph where coarsening ended with the labels of
+/// the invariants, and the splits, merges and blocks of the run. `AllocError` is returned if there is not enough
+/// memory.
 pub fn model_of(
     alloc: Global,
     kinds: Kinds,

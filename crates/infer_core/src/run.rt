@@ -1,4 +1,4 @@
-//! The run: refinement, coarsening, blocks and labels, on memory that is there.
+//! The run: refinement, coarsening, blocks and labels, in memory that is allocated already.
 ghost use Rattle.std.specs.Prelude.{◌≡◌, ◌≤◌, ◌+◌, ◌-◌, OnErr, OnOk, length, min};
 ghost use Rattle.models.specs.Models.{TypedWords};
 ghost use Rattle.partition_model.specs.Assignments.{G};
@@ -20,7 +20,7 @@ use splitter::{PartitionLimit, refine_skipping};
 use std::sync::ledger::Ledger;
 use steps::Steps;
 
-/// Says of each invariant, in the flags, whether the graph satisfies it. It counts one step, and none where there is no
+/// Sets the flag of each invariant to whether the graph satisfies it. It counts one step, or none if there is no
 /// invariant.
 fn tell_known<L: Ledger>(
     graph: &PartGraph,
@@ -39,8 +39,8 @@ fn tell_known<L: Ledger>(
     planes.tell_satisfied(&View::Plain(graph), flags, steps);
 }
 
-/// Refines the graph, as `refine` does. Labels tell at once, in the flags, which invariants it satisfies; no path is asked
-/// for these.
+/// Refines the graph as `refine` does. First the labels show which invariants the graph satisfies. `flags` records
+/// them, and no path is searched for these.
 fn refine_broken<L: Ledger>(
     graph: &mut PartGraph,
     tools: &mut Tools,
@@ -54,7 +54,7 @@ fn refine_broken<L: Ledger>(
     ensures list { tools.new.planes.invs ≡ tools.old.planes.invs }
     ensures writes { WritesSplits tools.old.run_log tools.new.run_log tools.old.spans tools.new.spans }
 
-    // The whole run, and how many steps it counts: at most one for each invariant and each split, and one more where it
+    // The whole run, and how many steps it counts: at most one for each invariant and each split, and one more if it
     // makes a split.
     ensures ok { OnOk result (EndsRefined invs.now graph.old
         (splits_of tools.new.run_log tools.new.spans) graph.new) }
@@ -63,7 +63,7 @@ fn refine_broken<L: Ledger>(
         + length (splits_of tools.new.run_log tools.new.spans)
         + min 1 (length (splits_of tools.new.run_log tools.new.spans))) }
 
-    // When the limit comes, and what it leaves.
+    // When the limit is returned, and what stands then.
     ensures full { OnErr result (IsFull invs.now graph.new) }
     ensures stands { OnErr result (IsStopped invs.now graph.old graph.new
         (splits_of tools.new.run_log tools.new.spans)
@@ -82,10 +82,20 @@ fn refine_broken<L: Ledger>(
     )
 }
 
-/// Runs inference on a graph that was opened of a log, by the invariants that are mined of it. It takes no memory.
+/// Runs inference on the first graph of a log, with the invariants that are mined from it.
 ///
-/// `Partitions` comes where refinement wants one partition more than there may be, `Evidence` where the paths of splits
-/// and blocks have more numbers than they may. Then what is lent is good for nothing.
+/// - `graph`: is refined and coarsened. It must be the first graph of its words.
+/// - `tools`: the finder, the stitcher and the planes that the run uses, and the spans and the run's log that it writes
+///   to. They must be made for `graph` and `invs`, with nothing written yet.
+/// - `flags`: scratch space, with one flag for each invariant.
+/// - `invs`: the invariants, which must hold of the words of the graph.
+/// - `steps`: counts the steps. If the run succeeds, they are at most as many as `Workbench::infer` states.
+///
+/// It allocates nothing.
+///
+/// `Partitions` is returned if refinement needs more than `MAX_PARTITIONS` partitions. `Evidence` is returned if the
+/// paths of splits and blocks have more than `MAX_PATH_NUMBERS` ids in total. After either, nothing is known about
+/// `graph`, `tools` and `flags`.
 pub fn run<L: Ledger>(
     graph: &mut PartGraph,
     tools: &mut Tools,
@@ -97,7 +107,7 @@ pub fn run<L: Ledger>(
         tools.old.stitcher tools.old.planes tools.old.spans tools.old.run_log }
     requires flags { length flags.old ≡ length invs.now }
 
-    // What the run gives, for the words of which the graph is the first and the invariants are mined.
+    // What the run gives, if this is the first graph of the words and these are the invariants mined from them.
     ensures gives { (words : TypedWords) → BeginsWith words invs.now graph.old
         → RunGives result words graph.new tools.new.planes tools.new.spans tools.new.run_log }
 

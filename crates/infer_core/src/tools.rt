@@ -12,7 +12,8 @@ use path_finder::Finder;
 use splitter::Stitcher;
 use std::alloc::{AllocError, Global};
 
-/// Both, or the want of memory that either met. What was made beside it is dropped here, once for all callers.
+/// Both values, or `AllocError` if either is an error. A value that was made beside an error is dropped here, once for
+/// all callers.
 pub fn both<A: Drop, B: Drop>(
     first: Result<A, AllocError>,
     second: Result<B, AllocError>,
@@ -26,7 +27,7 @@ pub fn both<A: Drop, B: Drop>(
     }
 }
 
-/// What finds paths, follows traces and keeps labels, and what a run writes.
+/// What finds paths, follows traces and keeps labels, and what a run writes to.
 #[derive(Drop)]
 pub struct Tools {
     pub finder: Finder,
@@ -39,7 +40,8 @@ pub struct Tools {
 }
 
 impl Tools {
-    /// The tools for this graph and these invariants, with room for all that inference can write.
+    /// The tools for this graph and these invariants, with room for all that inference can write. `AllocError` is
+    /// returned if there is not enough memory.
     pub fn make(alloc: Global, graph: &PartGraph, invs: &[Invariant]) -> Result<Tools, AllocError>
         requires few { length invs.now ≤ MAX_INVARIANTS }
         requires named { (k : ℕ) (inv : Invariant) → slice_get invs.now k ≡ Some inv

@@ -1,4 +1,4 @@
-//! The graph of all traces of a log, by that of its distinct words.
+//! The graph of all traces of a log, made from that of its distinct words.
 ghost use Rattle.std.specs.Prelude.{◌≡◌, ◌≤◌, ◌<◌, ℕ, IfOk, MatchOption, length, slice_index};
 ghost use Rattle.std.specs.Bool.{OnTrue};
 ghost use Rattle.limits.specs.declared.TheConstants.{MAX_EVENTS};
@@ -21,8 +21,9 @@ fn are_in_order(numbers: &[u32]) -> bool
     true
 }
 
-/// The graph of the traces with these numbers, which are all traces of the graph, each at least once. None comes only
-/// where it is the graph itself: where no two traces of the log share a word.
+/// The graph of the traces with these numbers, one trace for each number. `numbers` must have the number of each trace
+/// of `graph` at least once, and no other number. `None` is returned only if the graph would be `graph` itself.
+/// `AllocError` is returned if there is not enough memory.
 pub fn spread_shared(
     alloc: Global,
     graph: &PartGraph,
@@ -41,7 +42,7 @@ pub fn spread_shared(
     Ok(Some(whole))
 }
 
-/// The graph that was made, and the one of the distinct words where none was.
+/// The graph that was made, or `graph` if none was.
 pub fn made_or<'a>(made: &'a Option<PartGraph>, graph: &'a PartGraph) -> &'a PartGraph
     ensures { MatchOption made.now (result.now ≡ graph.now) (λ whole. result.now ≡ whole) }
 {

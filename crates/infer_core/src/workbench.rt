@@ -20,27 +20,31 @@ use std::sync::ledger::Ledger;
 use steps::Steps;
 use traces::TraceSet;
 
-/// Which limit a run of inference passes.
+/// Which limit inference exceeds.
 #[derive(Clone, Copy, Debug, PartialEq, Eq)]
 pub enum InferLimit {
-    /// Refinement wants more than `MAX_PARTITIONS` partitions, the two ends among them.
+    /// Refinement needs more than `MAX_PARTITIONS` partitions, including the two ends.
     Partitions,
-    /// The paths of splits and blocks have together more than `MAX_PATH_NUMBERS` numbers.
+    /// The paths of splits and blocks have more than `MAX_PATH_NUMBERS` ids in total.
     Evidence,
 }
 
-/// How far a workbench is.
+/// How far the inference of a workbench is.
 #[derive(Clone, Copy, Debug, PartialEq, Eq)]
 pub enum Stage {
     /// Nothing is inferred yet.
     Opened,
-    /// The model stands.
+    /// Inference has ended, and the model can be asked for.
     Inferred,
-    /// A limit was passed, and there is no model.
+    /// A limit was exceeded, and there is no model.
     Refused,
 }
 
-/// A log with all that its inference needs. Contracts see the kinds of invariants that are asked for, the log, and how far its inference is.
+/// A log with all that its inference needs. Contracts see the kinds of invariants that are asked for, the log, and how
+/// far its inference is.
+///
+/// At each stage it gives the traces of the log. `infer` may be called at `Opened`, and `model` and `parts` at
+/// `Inferred`.
 #[derive(Drop)]
 pub struct Workbench {
     kinds: Kinds,
@@ -48,10 +52,10 @@ pub struct Workbench {
     invs: Seq<Invariant>,
     /// The graph of the distinct words.
     graph: PartGraph,
-    /// For each trace the number of the one that has its word in the graph.
+    /// For each trace of the log, the number of the trace in the graph that has its word.
     numbers: Vec<u32>,
     tools: Tools,
-    /// For each invariant whether the first graph satisfies it, as refinement asks.
+    /// Scratch space of refinement: for each invariant, whether the first graph satisfies it.
     flags: Vec<bool>,
     stage: Stage,
 }
@@ -77,7 +81,8 @@ fn no_flags(alloc: Global, invs: &[Invariant]) -> Result<Vec<bool>, AllocError>
     Vec::from_elem(alloc, false, invs.len())
 }
 
-/// The tools and the flags for a graph and invariants, where there was the memory for these.
+/// The tools and the flags for a graph and invariants, if these were made. `AllocError` is returned if there is not
+/// enough memory.
 fn equip(
     alloc: Global,
     opened: &Result<((PartGraph, Vec<u32>), Seq<Invariant>), AllocError>,
@@ -113,9 +118,10 @@ fn equip(
 }
 
 impl Workbench {
-    /// A workbench for these traces, with their mined invariants of these kinds and all memory that inference needs: the
-    /// first graph of the log, and room for `MAX_STEPS` splits, as many merges, `MAX_PAIRS` blocks and `MAX_PATH_NUMBERS` numbers
-    /// of paths. `AllocError` comes where there is not as much; then the traces are dropped.
+    /// A workbench for these traces, with their mined invariants of these kinds and all memory that inference needs:
+    /// the first graph of the log, and room for `MAX_STEPS` splits, as many merges, `MAX_PAIRS` blocks and
+    /// `MAX_PATH_NUMBERS` ids of paths. `AllocError` is returned if there is not enough memory; then the traces are
+    /// dropped.
     pub fn open(alloc: Global, kinds: Kinds, traces: TraceSet) -> Result<Workbench, AllocError>
         ensures { IfOk result (λ made. made ≡ record {
           kinds = kinds;
@@ -145,13 +151,15 @@ impl Workbench {
         })
     }
 
-    /// Infers the model of the log: refines the graph, coarsens it, and tells why pairs stay apart. It is called once,
-    /// takes no memory, and counts at most one step for each mined invariant and each split, three for each pair of one
-    /// type of the refined graph, and one more.
+    /// Infers the model of the log: refines the graph, coarsens it, and records why pairs stay apart. It must be called
+    /// at stage `Opened`, so at most once. It allocates nothing. If it succeeds, it has counted at most one step for
+    /// each mined invariant and each split, three for each pair of one type of the refined graph, and one more.
     ///
-    /// `Partitions` comes exactly where refinement wants one partition more than there may be, `Evidence` exactly where
-    /// the paths of splits and blocks have more numbers than they may. After a refusal the workbench is good for nothing
-    /// but to be dropped.
+    /// `Partitions` is returned exactly if refinement needs more than `MAX_PARTITIONS` partitions. `Evidence` is
+    /// returned exactly if the paths of splits and blocks have more than `MAX_PATH_NUMBERS` ids in total.
+    ///
+    /// After either error the stage is `Refused`. The kinds and the log are unchanged, and `traces` still gives the
+    /// log. There is no model: `infer`, `model` and `parts` must not be called.
     pub fn infer<L: Ledger>(&mut self, steps: &mut Steps<L>) -> Result<(), InferLimit>
         requires { (self.old).stage ≡ Stage.Opened }
         ensures kinds { (self.new).kinds ≡ (self.old).kinds }
@@ -159,7 +167,7 @@ impl Workbench {
         ensures stage { OnOk result ((self.new).stage ≡ Stage.Inferred) }
         ensures refused { OnErr result ((self.new).stage ≡ Stage.Refused) }
 
-        // Each limit comes exactly where it is passed.
+        // Each limit is returned exactly if it is exceeded.
         ensures partitions { (result ≡ Err InferLimit.Partitions)
             ↔ PassesPartitions (typed_words (self.old).kinds (self.old).log) }
         ensures evidence { (result ≡ Err InferLimit.Evidence)
@@ -188,7 +196,8 @@ impl Workbench {
         }
     }
 
-    /// The model of the log, in memory of its own. `AllocError` comes where there is not enough.
+    /// The model of the log, in newly allocated memory. It must be called at stage `Inferred`. `AllocError` is returned
+    /// if there is not enough memory.
     pub fn model(&self, alloc: Global) -> Result<invariants::Model, AllocError>
         requires { (self.now).stage ≡ Stage.Inferred }
         ensures value { IfOk result (λ m. IsModelOf m (typed_words (self.now).kinds (self.now).log)) }
@@ -206,8 +215,8 @@ impl Workbench {
         )
     }
 
-    /// The id of the partition of each event in the model, trace after trace. `AllocError` comes where there is not
-    /// enough memory for the list.
+    /// The id of the partition of each event in the model, trace after trace. It must be called at stage `Inferred`.
+    /// `AllocError` is returned if there is not enough memory for the list.
     pub fn parts(&self, alloc: Global) -> Result<Seq<u32>, AllocError>
         requires { (self.now).stage ≡ Stage.Inferred }
         ensures { IfOk result (λ ids. AreFinal (typed_words (self.now).kinds (self.now).log) ids) }
@@ -215,7 +224,7 @@ impl Workbench {
         self.graph.spread_parts(alloc, self.numbers.as_slice())
     }
 
-    /// The traces of the log.
+    /// The traces of the log. It may be called at each stage.
     pub fn traces(&self) -> &TraceSet
         ensures { result.now ≡ (self.now).log }
     {

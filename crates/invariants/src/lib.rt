@@ -1,8 +1,12 @@
-//! Temporal invariants between event types: what they are, which of them a log is asked for, and how a machine reads a word for one.
+//! Temporal invariants between event types: what they are, which of them a log is asked for, and how a monitor checks one on a
+//! word.
 //!
-//! AlwaysFollowedBy, NeverFollowedBy and AlwaysPrecedes are those of Beschastnikh, Brun, Schneider, Sloan and Ernst (ESEC/FSE 2011).
-//! A trace is read as a word of type numbers: 0 is INITIAL, 1 is TERMINAL, and a log with T types has the numbers 2 to T + 1 for them (crate `limits` names the three numbers).
-//! `Seq` and `Text` are the lists and the texts of public data, and the records are what a model says. No call here takes memory.
+//! AlwaysFollowedBy, NeverFollowedBy and AlwaysPrecedes are those of Beschastnikh, Brun, Schneider, Sloan and Ernst (ESEC/FSE
+//! 2011).
+//! A trace is read as a word of type numbers: 0 is INITIAL, 1 is TERMINAL, and the T types of a log have the numbers 2 to T + 1.
+//! The crate `limits` names 0, 1 and 2.
+//! `Seq` and `Text` are the lists and the texts of public data, and the records are the data of a model. No call here takes
+//! memory.
 #![tactic(auto)]
 
 ghost use Rattle.std.specs.Prelude.{◌≡◌, ◌≤◌, length};
@@ -14,7 +18,7 @@ mod seq;
 
 pub use seq::{Seq, Text};
 
-/// How a type `a` and a type `b` stand to one another in a word. Earlier and later are strict: a place is not before itself.
+/// How a type `a` and a type `b` are related in a word. Earlier and later are strict: a place is not before itself.
 #[derive(Clone, Copy, Debug, PartialEq, Eq)]
 pub enum Kind {
     /// AlwaysFollowedBy: each `a` has a later `b`.
@@ -23,11 +27,11 @@ pub enum Kind {
     NF,
     /// AlwaysPrecedes: each `b` has an earlier `a`.
     AP,
-    /// InterruptedBy: between any two `a` stands a `b`.
+    /// InterruptedBy: between any two `a` there is a `b`.
     IB,
 }
 
-/// Which kinds a log is asked for.
+/// Which kinds of invariants a log is asked for.
 #[derive(Clone, Copy, Debug, PartialEq, Eq)]
 pub enum Kinds {
     /// AlwaysFollowedBy, NeverFollowedBy and AlwaysPrecedes.
@@ -39,7 +43,7 @@ pub enum Kinds {
 /// An invariant of a kind between two types, which may be the same type.
 #[derive(Clone, Copy, Debug, PartialEq, Eq)]
 pub struct Invariant {
-    /// What is said of the two types.
+    /// How the two types are related.
     pub kind: Kind,
     /// The number of the first type.
     pub a: u16,
@@ -47,7 +51,9 @@ pub struct Invariant {
     pub b: u16,
 }
 
-/// How many candidates of these kinds a log with this many types has, at most `MAX_TYPES`: one for each type, and for each two types in order, of which both may be the same, one of each kind, where no type is interrupted by itself.
+/// How many candidates of these kinds a log with `types` types has. `types` is at most `MAX_TYPES`. There is one candidate for
+/// each type, and one of each kind for each ordered pair of types. The two types of a pair may be the same, except for
+/// InterruptedBy.
 pub fn candidate_count(kinds: Kinds, types: u32) -> u32
     requires { types ≤ MAX_TYPES }
     ensures count { result ≡ candidate_total kinds types }

@@ -1,4 +1,4 @@
-//! What a model says, as data: its partitions and edges, and the steps that led to it.
+//! The data of a model: its types, partitions, edges and invariants, and the steps that led to it.
 use crate::{Invariant, Kinds, Seq, Text};
 
 /// A partition of events.
@@ -8,7 +8,7 @@ pub struct Partition {
     pub id: u32,
     /// The number of its type.
     pub typ: u16,
-    /// How many events it has; of the two ends, how many traces there are.
+    /// For a partition of events, how many events it has. For INITIAL and TERMINAL, how many traces the log has.
     pub count: u32,
 }
 
@@ -19,25 +19,28 @@ pub struct Edge {
     pub from: u32,
     /// The id that it enters.
     pub to: u32,
-    /// At how many places of traces an event of `from` is followed at once by one of `to`.
+    /// At how many places of the traces `from` is directly followed by `to`. Each trace goes from INITIAL through the partitions
+    /// of its events to TERMINAL.
     pub count: u32,
 }
 
-/// An invariant of a model, with the states in which its monitor stands at the partitions.
+/// An invariant of a model, with a set of states of its monitor for each partition.
 #[derive(Drop)]
 pub struct Listed {
     /// The invariant.
     pub inv: Invariant,
-    /// One number from 0 to 7 for each partition of the model, in their order: 1 for the state 0, plus 2 for the state 1, plus 4 for the state 2. It is the number itself, and not the byte of its digit.
+    /// For each partition of the model, in their order, the set of states as a number from 0 to 7: 1 for the state 0, plus 2 for
+    /// the state 1, plus 4 for the state 2. It is the number itself, not the byte of its digit.
     pub labels: Seq<u8>,
 }
 
-/// A step of refinement: a partition is divided where a path that breaks an invariant leaves the traces.
+/// A step of refinement: a partition is divided at the place where a path that breaks an invariant leaves the traces.
 #[derive(Drop)]
 pub struct Split {
-    /// The number of the invariant in the list of those that are to be kept.
+    /// Which invariant the path breaks: its place, counted from 0, in the list that refinement satisfies. In a model that list is
+    /// `Model::invariants`.
     pub inv: u32,
-    /// The place in the path of the partition that is divided.
+    /// Which partition is divided: the place of its id in `path`, counted from 0.
     pub place: u32,
     /// The ids of the path that breaks the invariant.
     pub path: Seq<u32>,
@@ -59,16 +62,17 @@ pub struct Block {
     pub p: u32,
     /// The higher id.
     pub q: u32,
-    /// The number of the invariant in the list of those that are to be kept.
+    /// Which invariant the path breaks: its place, counted from 0, in the list that coarsening keeps. In a model that list is
+    /// `Model::invariants`.
     pub inv: u32,
-    /// The ids of the path.
+    /// The ids of the path in the merged graph.
     pub path: Seq<u32>,
 }
 
-/// What a model file says.
+/// The content of a model file.
 #[derive(Drop)]
 pub struct Model {
-    /// The texts of the types, of which the first has the number 2.
+    /// The texts of the types, in the order of their numbers. The first has the number 2.
     pub types: Seq<Text>,
     /// Which kinds of invariants were asked for.
     pub kinds: Kinds,
@@ -82,6 +86,6 @@ pub struct Model {
     pub splits: Seq<Split>,
     /// The steps of coarsening, in their order.
     pub merges: Seq<Merge>,
-    /// Why two partitions of one type stay apart, ascending by their ids.
+    /// Why two partitions of one type stay apart, ascending by `p` and then by `q`.
     pub blocks: Seq<Block>,
 }

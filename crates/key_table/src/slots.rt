@@ -1,15 +1,14 @@
-//! Slots that say where keys stand.
+//! Slots that contain the places of keys.
 ghost use Rattle.std.specs.Prelude.{ℕ, ◌≡◌, ◌≤◌, ◌<◌, ◌+◌, ◌^◌, None, IfSome, true, false};
 ghost use Rattle.key_table.specs.Placed.{home_of, is_empty_at, IsFull, tag_of};
 
-/// In how many slots a key may stand, from its home on.
+/// In how many slots the place of a key may be, from its home on.
 pub const WINDOW: usize = 8;
 
 /// How many bits of a home there are at most.
 pub const MAX_BITS: u32 = 32;
 
-/// A place, and a part of the mixed fingerprint of the key that stands there, so that most other keys are told apart without a
-/// look at the place.
+/// A place, and a part of the mixed fingerprint of the key there. So most other keys are excluded without a look at the place.
 #[derive(Clone, Copy)]
 pub struct Slot {
     pub tag: u32,
@@ -22,7 +21,7 @@ pub const EMPTY: Slot = Slot {
     place: u32::MAX,
 };
 
-/// The first slot in which a key may stand, by what its fingerprint is mixed to.
+/// The first slot in which the place of a key may be, by the mix of its fingerprint.
 #[inline]
 #[tactic(auto, unfolding(crate::specs::Placed::home_of))]
 pub fn home_of_mix(mix: u64, shift: u32) -> usize
@@ -33,7 +32,8 @@ pub fn home_of_mix(mix: u64, shift: u32) -> usize
     (((mix >> 32) as u32) >> shift) as usize
 }
 
-/// What a slot has of the mixed fingerprint: both halves, since the lower one does not depend on the last bytes of a word.
+/// The part of the mixed fingerprint in a slot. It depends on both halves, since the lower one does not depend on the last bytes
+/// of a word.
 #[inline]
 #[tactic(auto, unfolding(crate::specs::Placed::tag_of))]
 pub fn tag_of_mix(mix: u64) -> u32
@@ -42,7 +42,7 @@ pub fn tag_of_mix(mix: u64) -> u32
     (mix >> 32) as u32 ^ (mix % 0x1_0000_0000) as u32
 }
 
-/// The first slot without a place, from a home on.
+/// The first slot without a place among the `WINDOW` slots from a home on.
 pub fn first_empty(slots: &[Slot], home: usize) -> Option<usize>
     requires { home < 2 ^ 32 }
     ensures some { IfSome result (λ at. (home ≤ at) × (at < home + WINDOW) × (is_empty_at slots.now at ≡ true)) }

@@ -1,4 +1,4 @@
-//! The table of the keys: slots that say at which place a key stands, and whether it is new.
+//! The table of the keys: its slots give the place of a key, and whether it is new.
 ghost use Rattle.std.specs.Prelude.{◌≡◌, [], ◌<◌, ◌-◌, ◌^◌, length, IfOk, OnOk, OnErr, IfSome, slice_get, false, Ok, Some, None};
 ghost use Rattle.std.specs.List.{list_any, position_or_len};
 ghost use Rattle.std.specs.Str.{IsUtf8};
@@ -21,8 +21,8 @@ const FIRST_BITS: u32 = 12;
 
 /// Keys in the order first met, each once.
 ///
-/// The place of each is in a slot from its home on, or else, where all of these are taken, among the rest. So a slot that
-/// is found empty says that a key is new, and an ordered map is asked only where many keys have one home.
+/// The place of each is in a slot from its home on. If all of these are taken, it is among the rest, in an ordered map. So an
+/// empty slot means that a key is new, and the map is used only if many keys have one home.
 ///
 /// Contracts see the keys.
 #[derive(Drop)]
@@ -31,10 +31,10 @@ pub struct KeyTable {
     slots: Vec<Slot>,
     /// How far the upper half of a mixed fingerprint is shifted to give the home.
     shift: u32,
-    /// How many keys there are at least when more slots are asked for again, after memory for them was refused.
+    /// How many keys there must be before more slots are requested again, after memory for them was refused.
     retry_at: usize,
-    /// By the words of the fingerprint first, which tell most keys apart without a look at a text, and in the order of the
-    /// texts, in which names often come.
+    /// Ordered by the words of the fingerprint first. They distinguish most keys without a look at a text. They are in the order
+    /// of the texts, in which names often come.
     rest: BTreeMap<(u64, u64, u32, u32, String), usize>,
 }
 
@@ -80,8 +80,8 @@ impl KeyTable {
         self.keys.key(place)
     }
 
-    /// Makes more slots if there are fewer than two for each key. If memory for them is refused, those that there are stay, and
-    /// more are asked for only once there are twice as many keys: each attempt may visit all keys.
+    /// Makes more slots if there are fewer than two for each key. If memory for them is refused, the present ones stay, and more
+    /// are requested only once there are twice as many keys: each attempt may visit all keys.
     #[inline(never)]
     fn grow(&mut self, alloc: Global)
         requires few { length self.old < 2 ^ 32 - 1 }
@@ -120,7 +120,8 @@ impl KeyTable {
         find_in_rest(alloc, &self.keys, slots, self.shift, &self.rest, key)
     }
 
-    /// The place of a short key, if a slot leads to it.
+    /// The place of a key with a short text, if a slot leads to it. Then the key is in the table. None does not mean that it is
+    /// new.
     #[inline(always)]
     pub fn short_place_of(&self, file: u32, section: u32, text: &PackedText<'_>) -> Option<usize>
         ensures place { IfSome result (λ place. place
@@ -146,9 +147,9 @@ impl KeyTable {
         None
     }
 
-    /// Where the key with these parts stands, counted from 0 in the order first met; where it is new it is put at the
-    /// end. A place at which it may well stand is looked at first; which one that is changes only the time. Where memory
-    /// is wanted, the keys are as before. A text has fewer than 2^32 bytes, and there are fewer than 2^32 - 1 keys.
+    /// The place of the key with these parts, counted from 0 in the order first met. If the key is new, it is put at the end.
+    /// `near` is a place that is looked at first; it affects only the time. If memory runs out, the keys are as before. The text
+    /// has fewer than 2^32 bytes, and there are fewer than 2^32 - 1 keys.
     #[inline(never)]
     pub fn place_or_put(
         &mut self,
@@ -173,7 +174,7 @@ impl KeyTable {
         self.place_or_put_key(alloc, &key)
     }
 
-    /// The same by the words of the text, where it is short; no place is then looked at first.
+    /// The same from a text with the words of its fingerprint. `near` affects only the time.
     #[inline(never)]
     pub fn place_or_put_packed(
         &mut self,
@@ -205,7 +206,7 @@ impl KeyTable {
         }
     }
 
-    /// Where the key stands; where it is new it is put at the end.
+    /// The place of the key. If it is new, it is put at the end.
     fn place_or_put_key(&mut self, alloc: Global, key: &HashedKey<'_>) -> Result<usize, AllocError>
         requires few { length self.old < 2 ^ 32 - 1 }
         ensures place { IfOk result (λ place. place ≡ position_or_len (same_key key.now) self.old) }
@@ -229,7 +230,7 @@ impl KeyTable {
         Ok(end)
     }
 
-    /// The keys alone.
+    /// The keys, without the table.
     pub fn into_keys(self) -> KeyList
         ensures { result ≡ self }
     {

@@ -1,4 +1,4 @@
--- A table of rows of truth values, one for each invariant: which row says what.
+-- A table of rows with a bit for each invariant: which row means what.
 use Rattle.std.specs.Prelude.{◌≡◌, ◌≢◌, ◌⊎◌, ℕ, ◌+◌, ◌*◌, ◌<◌, ◌≤◌, ◌==◌, Bool, true, false, not, if◌then◌else◌, List, length, slice_get, Some}
 use Rattle.limits.specs.declared.TheConstants.{LAST_TYPE}
 use Rattle.invariants.specs.declared.Invariant.{Invariant}
@@ -11,11 +11,11 @@ use Rattle.labelling.specs.Phases.{first_phase, turn}
 abbrev pub label_row : ℕ → ℕ → ℕ
 label_row p s = p * STATES + s
 
--- the row of a bad phase
+-- the row for a bad phase
 abbrev pub bad_row : ℕ → ℕ
 bad_row s = LABEL_ROWS + s
 
--- the row of a phase in which monitors are at INITIAL
+-- the row for a phase in which monitors are at INITIAL
 abbrev pub first_row : ℕ → ℕ
 first_row s = FIRST_ROWS + s
 
@@ -23,7 +23,7 @@ first_row s = FIRST_ROWS + s
 abbrev pub moves_row : ℕ → ℕ
 moves_row x = MOVE_ROWS + x * MOVES
 
--- the place of the move from s to t among them; one row serves both moves from phase 0
+-- the place of the move from s to t among these rows; both moves from phase 0 share one row
 abbrev pub move_place : ℕ → ℕ → ℕ
 move_place s t = if s == 0 then 0 else t + 1
 
@@ -31,45 +31,45 @@ move_place s t = if s == 0 then 0 else t + 1
 abbrev pub move_row : ℕ → ℕ → ℕ → ℕ
 move_row x s t = moves_row x + move_place s t
 
--- the truth value of the invariant with number k in row r
+-- the bit of invariant k in row r
 abbrev pub is_on : List (List Bool) → ℕ → ℕ → Bool
 is_on table r k = is_set (row_at table r) k
 
--- what the row at a place says of an invariant: that x leads from phase 0 to 1, from 1 to 0, out of 1, from 1 to 2
+-- the move at each place, for the type x: from phase 0 to 1, from 1 to 0, out of 1, from 1 to 2
 abbrev pub is_move : Invariant → ℕ → ℕ → Bool
 is_move inv x m =
     if m == 0 then turn inv 0 x == 1 else (if m == 1 then turn inv 1 x == 0
     else (if m == 2 then not (turn inv 1 x == 1) else turn inv 1 x == 2))
 
--- the types that these invariants name are below the bound
+-- the types in these invariants are below the bound
 abbrev pub AreNamedBelow : ℕ → List Invariant → Type 0
 AreNamedBelow bound invs =
     (k : ℕ) (inv : Invariant) → slice_get invs k ≡ Some inv → (inv.a < bound) × (inv.b < bound)
 
--- the truth values of the invariant with number k in the rows that are the same for each graph; all types from the bound
--- on have the rows of the bound
+-- the bits of invariant k in the rows that do not depend on the graph; all types from the bound on share the rows of
+-- the bound
 pub record IsMarked (bound : ℕ) (table : List (List Bool)) (k : ℕ) (inv : Invariant) : Type 0 where
   pub all : is_on table ALL_ROW k ≡ true
   pub bad : (s : ℕ) → s < STATES → is_on table (bad_row s) k ≡ is_bad inv s
   pub first : (s : ℕ) → s < STATES → is_on table (first_row s) k ≡ (first_phase inv == s)
   pub moves : (x m : ℕ) → x ≤ bound → m < MOVES → is_on table (moves_row x + m) k ≡ is_move inv x m
 
--- the row tells what is found or noted, and so is blank at first
+-- the row is that of a label, or the row of broken invariants
 abbrev pub IsFree : ℕ → Type 0
 IsFree r = (r < LABEL_ROWS) ⊎ (r ≡ BROKEN_ROW)
 
--- the place is of another invariant than the one with number k, or in no row of a move at x
+-- the bit is that of an invariant other than k, or in a row that is no move at x
 abbrev pub IsApart : ℕ → ℕ → ℕ → ℕ → Type 0
 IsApart x k r j = (j ≢ k) ⊎ ((r < moves_row x) ⊎ (moves_row (x + 1) ≤ r))
 
--- each invariant is marked
+-- the bits of each invariant are set as its moves say
 pub record AreMarked (bound : ℕ) (invs : List Invariant) (table : List (List Bool)) : Type 0 where
   pub limit : bound ≤ LAST_TYPE + 1
   pub named : AreNamedBelow bound invs
   pub shape : HasShape table (MOVE_ROWS + (bound + 1) * MOVES) (length invs)
   pub marked : (k : ℕ) (inv : Invariant) → slice_get invs k ≡ Some inv → IsMarked bound table k inv
 
--- nothing is on in the rows of phases from this one on
+-- all bits are off in the label rows from this one on
 pub record IsBlankFrom (used : ℕ) (table : List (List Bool)) : Type 0 where
   pub limit : used ≤ LABEL_ROWS
   pub blank : (r k : ℕ) → used ≤ r → r < LABEL_ROWS → is_on table r k ≡ false

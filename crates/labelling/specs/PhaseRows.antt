@@ -1,4 +1,4 @@
--- What the rows of phases have found.
+-- What the rows of phases contain.
 use Rattle.std.specs.Prelude.{List, Bool}
 use Rattle.invariants.specs.declared.Invariant.{Invariant}
 use Rattle.labelling.specs.declared.layout.TheConstants.{BROKEN_ROW}
@@ -7,7 +7,7 @@ use Rattle.labelling.specs.Carried.{off_count}
 use Rattle.labelling.specs.Found.{Found}
 use Rattle.labelling.specs.Layout.{is_on, label_row}
 
--- what the rows say of the invariants
+-- what rows contain for these invariants
 abbrev pub found_in : List Invariant → List (List Bool) → Found
 found_in invs rows =
     record {
@@ -17,6 +17,6 @@ found_in invs rows =
       off = off_count rows;
     }
 
--- what the rows say
+-- what the rows of phases contain
 abbrev pub found : PhaseRows → Found
 found b = found_in b.invs.items b.rows

@@ -1,4 +1,4 @@
--- The phases of a monitor: its states, told by how near its bad end is.
+-- The phases of a monitor: its states, numbered by distance from the bad end.
 use Rattle.std.specs.Prelude.{ℕ, ◌==◌, if◌then◌else◌, List, slice_index_or}
 use Rattle.limits.specs.declared.TheConstants.{INITIAL}
 use Rattle.invariants.specs.declared.Kind.{Kind}
@@ -9,7 +9,7 @@ use Rattle.invariants.specs.Monitors.{step}
 use Rattle.partition_model.specs.Graphs.{Graph}
 use Rattle.partition_model.specs.Labels.{Reached}
 
--- the phase of a state, and also the state of a phase: 0 is farthest from the bad end
+-- the phase of a state, and also the state of a phase; phase 0 is farthest from the bad end
 abbrev pub phase_of : Kind → ℕ → ℕ
 phase_of AF s = s
 phase_of NF s = s
@@ -24,7 +24,7 @@ turn inv f x = phase_of inv.kind (step inv (phase_of inv.kind f) x)
 abbrev pub first_phase : Invariant → ℕ
 first_phase inv = phase_of inv.kind (step inv 0 INITIAL)
 
--- some walk from INITIAL to p brings the monitor into the phase
+-- some walk from INITIAL to p takes the monitor to the phase
 abbrev pub ReachedIn : Invariant → Graph → ℕ → ℕ → Type 0
 ReachedIn inv g p f = Reached inv g p (phase_of inv.kind f)
 

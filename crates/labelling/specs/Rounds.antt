@@ -4,7 +4,7 @@ use Rattle.partition_model.specs.Graphs.{Graph}
 use Rattle.partition_graph.specs.declared.links.Link.{Link}
 use Rattle.labelling.specs.Found.{Found, IsPropagated, IsStill}
 
--- what is found at the beginning of a link was followed to its end, but at ids that are marked
+-- all phases found at the start of a link were propagated to its end, except from marked ids
 abbrev pub ArePropagated : List Link → Graph → List Bool → Found → Type 0
 ArePropagated links g marks found =
     (link : Link) → Contains links link → IsStill marks link.from

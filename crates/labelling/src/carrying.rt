@@ -9,8 +9,8 @@ use crate::layout::{BROKEN_ROW, bad_row, label_row};
 use bit_rows::Rows;
 use limits::TERMINAL;
 
-/// Puts into row `to` what goes from row `from` through the mask, and says whether that is more than it had. The mask
-/// tells what stays back, or else what goes.
+/// Turns on in row `to` what passes from row `from` through the mask, and returns whether that changed row `to`. If
+/// `back` is true, the mask has what is held back; if it is false, the mask has what passes.
 pub(crate) fn pass(rows: &mut Rows, from: usize, to: usize, mask: usize, back: bool) -> bool
     requires shape { HasShape rows.old (length rows.old) (length (row_at rows.old to)) }
     requires from_row { from < length rows.old }
@@ -28,7 +28,7 @@ pub(crate) fn pass(rows: &mut Rows, from: usize, to: usize, mask: usize, back: b
     rows.or_and_into(to, from, mask)
 }
 
-/// Leaves nothing on in the rows below this number.
+/// Turns all bits off in the rows below this number.
 pub(crate) fn clear_below(rows: &mut Rows, bound: usize)
     requires { bound ≤ length rows.old }
     ensures shape { KeepsShape rows.old rows.new }
@@ -45,7 +45,7 @@ pub(crate) fn note_broken(rows: &mut Rows)
     requires shape { HasShape rows.old (length rows.old) (length (row_at rows.old BROKEN_ROW)) }
     requires room { BROKEN_ROW < length rows.old }
 
-    // The row of what is broken is written anew, and all others stay.
+    // The row of what is broken is written from scratch, and all others stay.
     ensures shape { KeepsShape rows.old rows.new }
     ensures broken { (k : ℕ) → (is_on rows.new BROKEN_ROW k ≡ true)
         ↔ ((s : ℕ) × (s < 3) × (is_on rows.old (label_row TERMINAL s) k ≡ true)

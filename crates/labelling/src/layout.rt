@@ -8,7 +8,7 @@ use limits::MAX_PARTITIONS;
 /// How many states a monitor has, and how many phases.
 pub(crate) const STATES: usize = 3;
 
-/// The bits of a word, which are of as many invariants.
+/// How many bits a word has: one for each of as many invariants.
 pub(crate) const WORD_BITS: usize = 64;
 
 /// The last phase.
@@ -17,7 +17,7 @@ pub(crate) const LAST_PHASE: u8 = 2;
 /// How many rows say which phases are found: one for each id and phase. They are the first rows.
 pub(crate) const LABEL_ROWS: usize = MAX_PARTITIONS as usize * STATES;
 
-/// The row of the invariants for which a bad phase is found at TERMINAL. Those before it are of the bad phases.
+/// The row of the invariants for which a bad phase is found at TERMINAL. The rows of the bad phases are before it.
 pub(crate) const BROKEN_ROW: usize = LABEL_ROWS + STATES;
 
 /// The first of the rows that say in which phase monitors are at INITIAL.
@@ -29,7 +29,7 @@ pub(crate) const ALL_ROW: usize = FIRST_ROWS + STATES;
 /// The first of the rows that say what a type does to a phase.
 pub(crate) const MOVE_ROWS: usize = ALL_ROW + 1;
 
-/// How many of these a type has: one for phase 0, which stays or becomes 1, and one for each phase that 1 becomes.
+/// How many of these rows a type has: one for phase 0, which stays or becomes 1, and one for each phase that 1 becomes.
 /// Nothing leaves phase 2.
 pub(crate) const MOVES: usize = 4;
 
@@ -70,8 +70,8 @@ pub(crate) fn moves_row(typ: usize) -> usize
     MOVE_ROWS + typ * MOVES
 }
 
-/// The row of the move from `phase` to `next` at a type: of the invariants for which it is made where the two differ, and
-/// of those for which it is not made where they are the same. One row serves both moves from phase 0.
+/// The row of the move from `phase` to `next` at a type. If the two differ, it has the invariants for which the move is
+/// made. If they are the same, it has those for which it is not made. One row serves both moves from phase 0.
 pub(crate) fn move_row(typ: usize, phase: u8, next: u8) -> usize
     requires typ { typ ≤ LAST_TYPE + 1 }
     requires next { next < STATES }

@@ -11,7 +11,7 @@ use crate::phases::{first_phase, turn};
 use bit_rows::Rows;
 use invariants::{Invariant, Monitor};
 
-/// The least number that is greater than those of all types that the invariants name.
+/// A number that is greater than those of all types that the invariants name.
 pub(crate) fn bound_of(invs: &[Invariant]) -> usize
     requires { (k : ℕ) (inv : Invariant) → slice_get invs.now k ≡ Some inv
         → (inv.a ≤ LAST_TYPE) × (inv.b ≤ LAST_TYPE) }
@@ -47,7 +47,7 @@ fn mark(rows: &mut Rows, bound: usize, count: usize, k: usize, inv: Invariant)
     requires number { k < count }
     requires blank { (r : ℕ) → is_on rows.old r k ≡ false }
 
-    // What the rows say: of the invariant what it does, and of the others what they said.
+    // What the rows say: about this invariant what types do to it, and about the others what they said before.
     ensures shape { KeepsShape rows.old rows.new }
     ensures marked { IsMarked bound rows.new k inv }
     ensures free { (r : ℕ) → IsFree r → is_on rows.new r k ≡ false }
@@ -80,7 +80,7 @@ fn mark_moves(rows: &mut Rows, count: usize, k: usize, inv: Invariant, typ: u16)
     }
 }
 
-/// What the row at a place says of the invariant.
+/// What the row at a place says about the invariant.
 fn is_move(inv: Invariant, typ: u16, place: usize) -> bool
     ensures { result ≡ is_move inv typ place }
 {

@@ -19,7 +19,7 @@ use invariants::Invariant;
 use limits::INITIAL;
 use std::alloc::{AllocError, Global};
 
-/// The phases that are found of the monitors of invariants, and what each type does to phases.
+/// The phases that are found for the monitors of invariants, and what each type does to phases.
 #[derive(Drop)]
 pub(crate) struct PhaseRows {
     rows: Rows,
@@ -71,8 +71,9 @@ impl PhaseRows {
         self.rows.get(label_row(p, phase), k)
     }
 
-    /// For which of the 64 invariants from number `64 * place` on the states 0 and 1 are the phases 1 and 0, with a bit for
-    /// each, the first as the lowest. Each other state is the phase of its number.
+    /// A word with a bit for each of the 64 invariants from number `64 * place` on, the first as the lowest. The bit is
+    /// on if the states 0 and 1 of the invariant's monitor are the phases 1 and 0. Each other state is the phase of its
+    /// number.
     pub fn swapped(&self, place: usize) -> u64
         requires { place * 64 < length (found self.now).invs }
         ensures { SaysSwapped (found self.now).invs place result }
@@ -89,8 +90,8 @@ impl PhaseRows {
         swapped
     }
 
-    /// For which of the 64 invariants from number `64 * place` on each state is found at p: a word for each state, with a
-    /// bit for each invariant.
+    /// Which states are found at p for the 64 invariants from number `64 * place` on: a word for each state, with a bit
+    /// for each invariant. `swapped` is what the function of this name returns for the place.
     pub fn words(&self, place: usize, p: u32, swapped: u64) -> [u64; STATES]
         requires place { place * 64 < length (found self.now).invs }
         requires id { p < MAX_PARTITIONS }
@@ -110,7 +111,7 @@ impl PhaseRows {
         ]
     }
 
-    /// Leaves nothing found.
+    /// Forgets all that was found.
     pub fn clear(&mut self)
         ensures same { (found self.new).invs ≡ (found self.old).invs }
         ensures nothing { IsNothing (found self.new) }
@@ -126,7 +127,7 @@ impl PhaseRows {
         ensures keeps { (k p s : ℕ) → (found self.old).has k p s ≡ true
             → (found self.new).has k p s ≡ true }
 
-        // What is new is at INITIAL alone and is reached there, and all that begins so is found.
+        // What is new is only at INITIAL and is reached there, and all that begins so is found.
         ensures sound { StartsAt (found self.old) (found self.new) }
         ensures start { HasStart phase (found self.new) }
         ensures others { IsSameBut INITIAL (found self.old) (found self.new) }
@@ -136,8 +137,8 @@ impl PhaseRows {
         pass(&mut self.rows, first_row(phase), to, ALL_ROW, false);
     }
 
-    /// Finds the phase `next` at q for those invariants that have `phase` at p, which is not the last, and which the
-    /// type of q brings from there to `next`. It says whether that is more than was found.
+    /// Finds the phase `next` at q for those invariants that have `phase` at p, if the type of q brings them from there
+    /// to `next`. `phase` is not the last one. Returns whether anything new was found.
     pub fn carry(&mut self, p: u32, phase: u8, typ: u16, q: u32, next: u8) -> bool
         requires from { p < MAX_PARTITIONS }
         requires phase { phase < LAST_PHASE }
@@ -159,8 +160,8 @@ impl PhaseRows {
         pass(&mut self.rows, label_row(p, phase), to, mask, phase == next)
     }
 
-    /// Finds the last phase at q for those invariants that have it at p: nothing leaves it. It says whether that is more
-    /// than was found.
+    /// Finds the last phase at q for those invariants that have it at p: nothing leaves it. Returns whether anything
+    /// new was found.
     pub fn keep_last(&mut self, p: u32, q: u32) -> bool
         requires from { p < MAX_PARTITIONS }
         requires to { q < MAX_PARTITIONS }
@@ -175,7 +176,7 @@ impl PhaseRows {
         pass(&mut self.rows, label_row(p, LAST_PHASE), to, ALL_ROW, false)
     }
 
-    /// The type whose rows tell what this one does.
+    /// The type whose rows say what this one does.
     fn row_type(&self, typ: u16) -> usize
         ensures within { result ≤ self.now.bound }
         ensures acts { (k : ℕ) (inv : Invariant) (s : ℕ)
@@ -195,7 +196,7 @@ impl PhaseRows {
         note_broken(&mut self.rows);
     }
 
-    /// The first invariant that was noted.
+    /// The number of the first invariant that was noted; `None` if none was.
     pub fn first_noted(&self) -> Option<usize>
         ensures { MatchOption result
             ((k : ℕ) → (found self.now).broken k ≡ false)
@@ -205,7 +206,7 @@ impl PhaseRows {
         self.rows.first_set(BROKEN_ROW)
     }
 
-    /// Says of each invariant, in their order, whether it was not noted.
+    /// Sets the flag of each invariant to whether the invariant was not noted.
     pub fn tell_unnoted(&self, flags: &mut [bool])
         requires { length flags.old ≡ length (found self.now).invs }
         ensures { (k : ℕ) → k < length (found self.now).invs
@@ -217,7 +218,7 @@ impl PhaseRows {
     }
 }
 
-/// The word, and this bit of it, which is off, turned on or left.
+/// The word with this bit, which is off, turned on or left.
 fn with_bit(word: u64, place: u32, on: bool) -> u64
     requires place { place < 64 }
     requires off { bit_at word place ≡ 0 }

@@ -1,4 +1,4 @@
-//! Phases: the states of a monitor, told by how near its bad end is.
+//! Phases: the states of a monitor, numbered by how near its bad end is.
 ghost use Rattle.std.specs.Prelude.{◌≡◌, ◌<◌};
 ghost use Rattle.labelling.specs.declared.layout.TheConstants.{STATES};
 ghost use Rattle.labelling.specs.Phases.{first_phase, phase_of, turn};
@@ -7,7 +7,7 @@ use crate::layout::STATES;
 use invariants::{Invariant, Kind, Monitor};
 use limits::INITIAL;
 
-/// The phase of a state, and also the state of a phase. From phase 0 no monitor goes to phase 2 at once.
+/// The phase of a state, and also the state of a phase. No monitor goes from phase 0 directly to phase 2.
 pub(crate) fn phase_of(kind: Kind, state: u8) -> u8
     requires { state < STATES }
     ensures value { result ≡ phase_of kind state }

@@ -20,9 +20,10 @@ use std::marker::Model;
 use std::sync::ledger::Ledger;
 use steps::Steps;
 
-/// The labels of invariants at the partitions of a graph, and marks that tell which of these invariants a merge loses.
-/// Contracts see the list of the invariants, which never changes, what the last labelling found, which gives a number
-/// for each invariant and each id, and the marks (crate `clashes`).
+/// The labels of invariants at the partitions of a graph, and marks that show which of these invariants a merge loses.
+///
+/// Contracts see three parts. The list of the invariants never changes. The labels that the last labelling found are a
+/// number for each invariant and each id. The marks are those of crate `clashes`.
 #[derive(Drop)]
 pub struct Planes {
     phase_rows: PhaseRows,
@@ -47,7 +48,7 @@ impl Model for Planes {
 
 impl Planes {
     /// Planes for these invariants, at most `MAX_INVARIANTS`, each of which names types up to `LAST_TYPE`. Nothing is
-    /// labelled yet. This alone takes memory: `AllocError` comes where there is not enough.
+    /// labelled yet. Only this call allocates; `AllocError` is returned if there is not enough memory.
     pub fn make(alloc: Global, invs: &[Invariant]) -> Result<Planes, AllocError>
         requires few { length invs.now ≤ MAX_INVARIANTS }
         requires named { (k : ℕ) (inv : Invariant) → slice_get invs.now k ≡ Some inv
@@ -65,8 +66,8 @@ impl Planes {
         })
     }
 
-    /// Labels all invariants in the graph that is viewed, in place of what was labelled before. It counts one step, and
-    /// takes no memory.
+    /// Labels all invariants in the graph that `view` shows, in place of what was labelled before. The marks stay. It
+    /// counts one step, and allocates nothing.
     pub fn label_all<L: Ledger>(&mut self, view: &View<'_>, steps: &mut Steps<L>)
         requires { IsSound view.now }
         ensures labels { AreLabelsOf self.new (seen view.now) }
@@ -80,8 +81,9 @@ impl Planes {
         label(&mut self.phase_rows, view, self.links.as_slice());
     }
 
-    /// Says of each invariant of the list, in their order, whether the graph that is viewed satisfies it, by labelling it for
-    /// all of them at once. There is a flag for each. It counts one step, and takes no memory.
+    /// Sets the flag of each invariant, in the order of the list, to whether the graph that `view` shows satisfies it.
+    /// `flags` must have one flag for each invariant. The labels are overwritten, and the marks stay. It counts one
+    /// step, and allocates nothing.
     pub fn tell_satisfied<L: Ledger>(
         &mut self,
         view: &View<'_>,
@@ -114,8 +116,8 @@ impl Planes {
         )
     }
 
-    /// What `words` has to know of the 64 invariants from number `64 * place` on: a bit for each, which is the same for each
-    /// partition and each labelling.
+    /// What `words` needs to know about the 64 invariants from number `64 * place` on: a bit for each. It is the same
+    /// for each partition and each labelling.
     pub fn swapped(&self, place: usize) -> u64
         requires { place * 64 < length (self.now).invs }
         ensures { SaysSwapped (self.now).invs place result }
@@ -123,8 +125,9 @@ impl Planes {
         self.phase_rows.swapped(place)
     }
 
-    /// The labels at p of the 64 invariants from number `64 * place` on, or of as many as there are: a word for each state,
-    /// with a bit for each invariant, the first as the lowest. `swapped` is what the call of this name gives for the place.
+    /// The labels at p of the 64 invariants from number `64 * place` on, or of as many as there are: a word for each
+    /// state, with a bit for each invariant, the first as the lowest. `swapped` is what the function of this name
+    /// returns for the place.
     pub fn words(&self, place: usize, p: u32, swapped: u64) -> [u64; 3]
         requires place { place * 64 < length (self.now).invs }
         requires id { p < MAX_PARTITIONS }
@@ -134,8 +137,7 @@ impl Planes {
         self.phase_rows.words(place, p, swapped)
     }
 
-    /// The number of the first invariant that the labelled graph does not satisfy, and `None` where it satisfies them
-    /// all.
+    /// The number of the first invariant that the labelled graph does not satisfy; `None` if it satisfies all.
     pub fn first_bad(&self) -> Option<usize>
         ensures { (g : Graph) → AreLabelsOf self.now g → MatchOption result
             (SatisfiesAll g (self.now).invs)
@@ -144,7 +146,8 @@ impl Planes {
         self.phase_rows.first_noted()
     }
 
-    /// Finds the marks of this graph, which tell what merges lose. The labels stay. It counts one step.
+    /// Finds the marks of this graph, which show what merges lose, in place of those before. The labels stay. It counts
+    /// one step.
     pub fn find_clashes<L: Ledger>(&mut self, graph: &PartGraph, steps: &mut Steps<L>)
         ensures keeps { KeepsLabels self.old self.new }
         ensures labels { (g : Graph) → AreLabelsOf self.old g → AreLabelsOf self.new g }
@@ -155,8 +158,8 @@ impl Planes {
         self.clashes.find(graph, steps);
     }
 
-    /// Where the marks were those of a graph of which `merge(p, q)` made this one, makes them those of this one. The
-    /// labels stay. It counts one step.
+    /// Updates the marks after a merge: if they were those of the graph before `merge(p, q)`, they become those of this
+    /// graph, which the merge made. The labels stay. It counts one step.
     pub fn join<L: Ledger>(&mut self, graph: &PartGraph, p: u32, q: u32, steps: &mut Steps<L>)
         requires kept { p < MAX_PARTITIONS }
         requires gone { q < MAX_PARTITIONS }
@@ -175,8 +178,8 @@ impl Planes {
         self.clashes.join(graph, p, q, steps);
     }
 
-    /// The number of the first invariant for which p and q clash, and `None` where they do for none. Only invariants
-    /// that the graph satisfies and ids on its paths count for anything. Nothing changes.
+    /// The number of the first invariant for which p and q clash; `None` if they clash for none. The result is
+    /// meaningful only for invariants that the graph satisfies and ids on its paths. Nothing changes.
     pub fn first_clash(&mut self, p: u32, q: u32) -> Option<usize>
         requires one { p < MAX_PARTITIONS }
         requires other { q < MAX_PARTITIONS }

@@ -38,8 +38,8 @@ fn start(phase_rows: &mut PhaseRows)
     }
 }
 
-/// Finds at the end of a link, which has this type, what the phases at its beginning become there, and says whether
-/// that is more than was found.
+/// Finds, at the end of a link, what the phases at its beginning become there. `typ` is the type of the end. Returns
+/// whether anything new was found.
 fn propagate(phase_rows: &mut PhaseRows, link: Link, typ: u16) -> bool
     requires { HasIds link }
     ensures grows { Grows (found phase_rows.old) (found phase_rows.new) result }
@@ -55,8 +55,8 @@ fn propagate(phase_rows: &mut PhaseRows, link: Link, typ: u16) -> bool
     changed
 }
 
-/// Does so where something new was found at the beginning of the link: `recent` marks at which ids in the round before,
-/// and `now` at which in this round.
+/// Propagates along a link if something new was found at its beginning, and returns whether anything new was found at
+/// its end. `recent` marks the ids at which something new was found in the round before, and `now` those in this round.
 fn follow(
     phase_rows: &mut PhaseRows,
     link: Link,
@@ -74,7 +74,7 @@ fn follow(
     ensures followed { IsFollowed
         link.from typ link.to recent.now now.old now.new (found phase_rows.old) (found phase_rows.new) }
 
-    // Elsewhere nothing is lost, and a mark comes only with something new.
+    // Elsewhere nothing is lost, and a mark is set only with something new.
     ensures others { KeepsPropagated now.old now.new (found phase_rows.old) (found phase_rows.new) }
     ensures quiet { result ≡ false → now.new ≡ now.old }
 {
@@ -89,7 +89,8 @@ fn follow(
     true
 }
 
-/// Does so for each link once.
+/// Propagates once along each link at whose beginning something new was found, and returns whether anything new was
+/// found.
 fn follow_all(
     phase_rows: &mut PhaseRows,
     view: &View<'_>,
@@ -120,7 +121,7 @@ fn follow_all(
     changed
 }
 
-/// Finds what is reached in the view, whose links these are.
+/// Finds what is reached in the view. `links` are the links of the view.
 pub(crate) fn label(phase_rows: &mut PhaseRows, view: &View<'_>, links: &[Link])
     requires { AreLinksOf links.now (seen view.now) }
     ensures same { (found phase_rows.new).invs ≡ (found phase_rows.old).invs }

@@ -1,12 +1,13 @@
-//! The numbers that are fixed for every run, each named once: the limits of what is read, kept and written, and the numbers of the two ends of a trace.
+//! The numbers that are fixed for every run, each named once: the limits of what is read, kept and written, and the numbers of
+//! the two ends of a trace.
 //!
-//! Contracts, definitions and code cite them by these names. A text that tells a limit to the user spells the number out.
+//! Contracts, definitions and code cite them by these names. A message that reports a limit to the user spells the number out.
 #![tactic(auto)]
 
 /// The number of INITIAL, which stands before each trace: as a type, and as the id of its partition.
 pub const INITIAL: u32 = 0;
 
-/// The number of TERMINAL, which stands behind each trace: as a type, and as the id of its partition.
+/// The number of TERMINAL, which stands after each trace: as a type, and as the id of its partition.
 pub const TERMINAL: u32 = 1;
 
 /// The number of the first type of events that a log has, and the lowest id of a partition of events.
@@ -24,13 +25,13 @@ pub const MAX_INVARIANTS: usize = 262_144;
 /// How many events a log has at most, over all its traces.
 pub const MAX_EVENTS: u32 = 1_000_000;
 
-/// How many bytes of UTF-8 the text of a type has at most, also a name that a rule gives.
+/// How many bytes of UTF-8 the text of a type has at most. The same limit holds for a name that a rule gives.
 pub const MAX_TYPE_BYTES: usize = 256;
 
 /// How many bytes of UTF-8 the text that names a trace has at most.
 pub const MAX_TRACE_BYTES: usize = 1024;
 
-/// How many bytes a line of a log has at most, a carriage return at its end among them and its line feed not.
+/// How many bytes a line of a log has at most. A carriage return at its end counts, and its line feed does not.
 pub const MAX_LINE_BYTES: usize = 65_536;
 
 /// How many bytes all inputs of a log have together at most.
@@ -42,10 +43,10 @@ pub const MAX_RULES_BYTES: usize = 65_536;
 /// How many rules a file of rules has at most.
 pub const MAX_RULES: usize = 32;
 
-/// How many partitions a graph has at most, the two ends among them, so that ids end below it.
+/// How many partitions a graph has at most, including the two ends. Each id is below this number.
 pub const MAX_PARTITIONS: u32 = 1024;
 
-/// How many numbers the paths of all splits and blocks of a model have together at most.
+/// How many ids the paths of all splits and blocks of a model contain together at most.
 pub const MAX_PATH_NUMBERS: u32 = 4_000_000;
 
 /// How many bytes a model file has at most.
@@ -60,13 +61,14 @@ pub const VERSION_1_TYPES: u32 = 128;
 /// How many bytes a model file of version 1 has at most.
 pub const VERSION_1_BYTES: usize = 134_217_728;
 
-/// How many splits the refinement of a log has at most, and how many merges its coarsening: each makes or takes a partition of events.
+/// How many splits the refinement of a log has at most, and how many merges its coarsening has at most. Each split adds a
+/// partition of events, and each merge removes one.
 pub const MAX_STEPS: u32 = 1022;
 
 /// How many pairs of partitions of one type a graph has at most.
 pub const MAX_PAIRS: u32 = 521_731;
 
-/// How many places an edge of a model stands for at most.
+/// The greatest count of an edge of a model.
 pub const MAX_EDGE_COUNT: u32 = 2_000_000;
 
 /// How many sessions a made log has at most.

@@ -7,13 +7,13 @@ use Rattle.line_rules.specs.Files.{spelled_by, is_skipped, rule_at, rules_from, 
 use Rattle.line_rules.specs.declared.line_rules.RuleError.{RuleError}
 use Rattle.line_rules.specs.declared.line_rules.RuleError.TheVariants as refused
 
--- the rule is that of a line with its number after these rules, up to what a search tells apart
+-- the rule is that of a line with its number after these rules, or one that searches alike
 pub record IsRuleOf (rules : List Rule) (number : ℕ) (line : List ℕ) (rule : Rule) : Type 0 where
   pub plain : Rule
   pub read : rule_at rules (number, line) ≡ Ok plain
   pub alike : Alike rule plain
 
--- after these rules a line's pattern is built, and this holds of the pattern
+-- the pattern of a line after these rules is built, and this holds of the pattern
 pub record Builds (rules : List Rule) (line : List ℕ) (Holds : List ℕ → Type 0) : Type 0 where
   pub few : length rules < MAX_RULES
   pub form : RuleForm
@@ -21,7 +21,7 @@ pub record Builds (rules : List Rule) (line : List ℕ) (Holds : List ℕ → Ty
   pub spelled : spelled_by line ≡ Some (form, pattern)
   pub holds : Holds pattern
 
--- why a line with its number is refused so after these rules
+-- why a line with its number is refused with this error after these rules
 abbrev pub IsLineRefused : PatternsState → PatternsState → List Rule → ℕ → List ℕ → RuleError → Type 0
 IsLineRefused old new rules number line refused.Memory = Unit {0}
 IsLineRefused old new rules number line (refused.Syntax at) =
@@ -34,14 +34,14 @@ IsLineRefused old new rules number line refused.TooLong = ⊥
 IsLineRefused old new rules number line refused.NoEvent = ⊥
 IsLineRefused old new rules number line plain = rule_at rules (number, line) ≡ Err plain
 
--- a line with its number leaves the rules if it is skipped, and adds its rule if not
+-- a line with its number adds no rule if it is skipped, and its own rule if not
 abbrev pub AddsLine : ℕ → List ℕ → List Rule → List Rule → Type 0
 AddsLine number line rules new =
     (IsTrue (is_skipped line) × (new ≡ rules))
     ⊎ (IsFalse (is_skipped line)
     × ((rule : Rule) × (new ≡ rules ++ rule ∷ []) × IsRuleOf rules number line rule))
 
--- the rules are those of all lines, up to what a search tells apart
+-- the rules are those of all lines, or ones that search alike
 pub record AreRulesOf (bytes : List ℕ) (rules : List Rule) : Type 0 where
   pub plain : List Rule
   pub read : rules_from [] (rule_lines bytes) ≡ Ok plain
@@ -53,7 +53,7 @@ pub record BuildsAt (bytes : List ℕ) (number : ℕ) (Holds : List ℕ → Type
   pub built : IsBuilt bytes number pattern
   pub holds : Holds pattern
 
--- why one of the lines is refused so
+-- why one of the lines is refused with this error
 abbrev pub AreLinesRefused : List ℕ → PatternsState → PatternsState → RuleError → Type 0
 AreLinesRefused bytes old new refused.Memory = Unit {0}
 AreLinesRefused bytes old new (refused.Syntax at) =

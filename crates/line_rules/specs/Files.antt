@@ -38,7 +38,7 @@ spelled_by line =
 abbrev pub is_skipped : List ℕ → Bool
 is_skipped line = length line == 0 || slice_index line 0 == 35
 
--- the lines of the pieces that are not skipped, with their numbers, where the first piece has the number `number`
+-- the lines of the pieces that are not skipped, with their numbers; the first piece has the number `number`
 abbrev pub numbered : ℕ → List (List ℕ) → List (ℕ × List ℕ)
 numbered number [] = []
 numbered number (piece ∷ pieces) =
@@ -49,29 +49,29 @@ numbered number (piece ∷ pieces) =
 abbrev pub rule_lines : List ℕ → List (ℕ × List ℕ)
 rule_lines bytes = numbered 1 (pieces bytes)
 
--- an event rule is of this form
+-- whether a rule of this form is an event rule
 abbrev pub is_event : RuleForm → Bool
 is_event Skip = false
 is_event Separator = false
 is_event Event = true
 is_event (EventOf name) = true
 
--- a rule `event PATTERN`
+-- whether a rule of this form is `event PATTERN`
 abbrev pub takes_type : RuleForm → Bool
 takes_type Skip = false
 takes_type Separator = false
 takes_type Event = true
 takes_type (EventOf name) = false
 
--- an `event PATTERN` without a group TYPE
+-- whether the rule is an `event PATTERN` without a group TYPE
 abbrev pub lacks_type : Rule → Bool
 lacks_type rule = takes_type rule.form && is_none (group_named rule.names (codes "TYPE"))
 
--- the pattern has a group TIME
+-- whether the pattern has a group TIME
 abbrev pub has_time : Rule → Bool
 has_time rule = is_some (group_named rule.names (codes "TIME"))
 
--- whether the first event rule has a group TIME, where there is an event rule
+-- whether the first event rule has a group TIME, if there is an event rule
 abbrev pub first_time : List Rule → Option Bool
 first_time [] = None
 first_time (rule ∷ rules) = if is_event rule.form then Some (has_time rule) else first_time rules
@@ -81,7 +81,7 @@ abbrev pub differ : Bool → Bool → Bool
 differ true b = not b
 differ false b = b
 
--- an event rule that has a group TIME where the first event rule has none, or the other way round
+-- whether the rule is an event rule that has a group TIME while the first event rule has none, or the other way round
 abbrev pub mixes_time : List Rule → Rule → Bool
 mixes_time rules rule = is_event rule.form
     && option_map_or (λ timed. differ timed (has_time rule)) (first_time rules) false
@@ -94,7 +94,7 @@ rule_read rules number (Some rule) =
     else if mixes_time rules rule then Err (refused.MixedTime number)
     else Ok rule
 
--- the rule of a line that is spelled so, after these rules, or its first refusal
+-- the rule of a line with this form and pattern, after these rules, or its first refusal
 abbrev pub rule_spelled : List Rule → ℕ → Option (RuleForm × List ℕ) → Result Rule RuleError
 rule_spelled rules number None = Err (refused.BadLine number)
 rule_spelled rules number (Some spelled) =
@@ -105,19 +105,19 @@ rule_spelled rules number (Some spelled) =
 abbrev pub rule_at : List Rule → ℕ × List ℕ → Result Rule RuleError
 rule_at rules line = rule_spelled rules line.0 (spelled_by line.1)
 
--- what comes after a rule, or its refusal
+-- what follows for a rule, or its refusal
 abbrev pub with_rule : Result Rule RuleError → (Rule → Result (List Rule) RuleError)
     → Result (List Rule) RuleError
 with_rule (Ok rule) next = next rule
 with_rule (Err e) next = Err e
 
--- the rules of some lines after those that stand, or the first refusal
+-- these rules and then those of some lines, or the first refusal
 abbrev pub rules_from : List Rule → List (ℕ × List ℕ) → Result (List Rule) RuleError
 rules_from rules [] = Ok rules
 rules_from rules (line ∷ lines) =
     with_rule (rule_at rules line) (λ rule. rules_from (rules ++ rule ∷ []) lines)
 
--- the rules, where one of them is an event rule
+-- the rules if one of them is an event rule, otherwise a refusal
 abbrev pub with_event : Result (List Rule) RuleError → Result (List Rule) RuleError
 with_event (Ok rules) = if list_any (λ rule. is_event rule.form) rules then Ok rules else Err refused.NoEvent
 with_event (Err e) = Err e
@@ -128,7 +128,8 @@ rules_of bytes =
     if nat_lt MAX_RULES_BYTES (length bytes) then Err refused.TooLong
     else with_event (rules_from [] (rule_lines bytes))
 
--- The pattern of the line with this number is built: the file is short enough, each line before this one is a rule, and this one spells one, at most the 32nd.
+-- The pattern of the line with this number is built: the file is short enough, each line before this one is a rule,
+-- there are fewer than MAX_RULES of them, and this line has the form of a rule.
 pub record IsBuilt (bytes : List ℕ) (number : ℕ) (pattern : List ℕ) : Type 0 where
   pub short : length bytes ≤ MAX_RULES_BYTES
   pub before : List (ℕ × List ℕ)
@@ -141,11 +142,11 @@ pub record IsBuilt (bytes : List ℕ) (number : ℕ) (pattern : List ℕ) : Type
   pub form : RuleForm
   pub spelled : spelled_by line ≡ Some (form, pattern)
 
--- the rules are those of the file, up to what a search tells apart
+-- the rules are those of the file, or ones that search alike
 abbrev pub AreRead : List ℕ → List Rule → Type 0
 AreRead bytes rules = (plain : List Rule) × (rules_of bytes ≡ Ok plain) × AreAlike rules plain
 
--- why an expressions file is refused so
+-- why an expressions file is refused with this error
 abbrev pub IsRefused : List ℕ → PatternsState → PatternsState → RuleError → Type 0
 IsRefused bytes old new refused.Memory = Unit {0}
 IsRefused bytes old new (refused.Syntax number) =
@@ -156,12 +157,12 @@ IsRefused bytes old new (refused.TooLarge number) =
     × ((pattern : List ℕ) × IsBuilt bytes number pattern × IsTrue (old.may_refuse pattern))
 IsRefused bytes old new plain = rules_of bytes ≡ Err plain
 
--- a refusal leaves the count of refusals, but for that of a pattern as too large
+-- a refusal leaves the count of refusals unchanged, unless a pattern is refused as too large
 abbrev pub KeepsAt : PatternsState → RuleError → PatternsState → Type 0
 KeepsAt old (refused.TooLarge number) new = Unit {0}
 KeepsAt old other new = new.refusals ≡ old.refusals
 
--- the count of refusals stands as it was, unless a pattern is refused as too large
+-- the count of refusals is unchanged, unless a pattern is refused as too large
 abbrev pub KeepsRefusals : {T : Type 0} → PatternsState → Result T RuleError → PatternsState → Type 0
 KeepsRefusals old (Ok x) new = new.refusals ≡ old.refusals
 KeepsRefusals old (Err e) new = KeepsAt old e new

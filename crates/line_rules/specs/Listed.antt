@@ -1,4 +1,5 @@
--- Patterns as `regex` builds them, and those of which listed builds are refused: what contracts see of them, and what each build leaves.
+-- Patterns as `regex` builds them, and patterns whose listed builds are refused:
+-- what contracts see of them, and what each build leaves.
 use Rattle.std.specs.Prelude.{ℕ, ◌≡◌, ◌≤◌, ◌+◌, ◌-◌, ◌^◌, ◌⊎◌, min, List, Contains, true, chars, IsSomeAnd, Result, Ok, Err}
 use Rattle.regex.specs.Patterns.{default_config}
 use Rattle.regex.specs.Strings.{regex_pattern, regex_names}
@@ -18,7 +19,7 @@ raised refusals = min (refusals + 1) (2 ^ 64 - 1)
 abbrev pub regex_state : ℕ → PatternsState
 regex_state refusals = record { refusals = refusals; may_refuse = λ _. true }
 
--- what is told of an answer of `regex`, and the count then: too large and out of memory exactly where `regex` said so
+-- how an answer of `regex` is passed on, and the new count: an internal error is passed on as too large
 abbrev pub Tells : ℕ → Result Regex Error → Result Regex BuildFault → ℕ → Type 0
 Tells old (Ok regex) answer new = (answer ≡ Ok regex) × (new ≡ old)
 Tells old (Err (error.Syntax e)) answer new = (answer ≡ Err Syntax) × (new ≡ old)
@@ -30,23 +31,23 @@ Tells old (Err error.Internal) answer new = (answer ≡ Err TooLarge) × (new �
 abbrev pub IsPattern : List ℕ → Type 0
 IsPattern text = IsSomeAnd (read default_config (chars text)) (λ (tree, _). tree.depth ≤ max_depth)
 
--- what `build(text)` of `regex` leaves: the count rises exactly at a pattern that is refused as too large
+-- what `build(text)` of `regex` leaves: the count rises exactly if the pattern is refused as too large
 abbrev pub RegexGives : ℕ → List ℕ → Result Regex BuildFault → ℕ → Type 0
 RegexGives old text (Ok regex) new = IsReadAs text (regex_pattern regex) (regex_names regex) × (new ≡ old)
 RegexGives old text (Err Syntax) new = (IsNoPattern text ⊎ NestsTooDeep text) × (new ≡ old)
 RegexGives old text (Err TooLarge) new = IsPattern text × (new ≡ raised old)
 RegexGives old text (Err Memory) new = new ≡ old
 
--- what contracts see of patterns of which listed builds are refused
+-- what contracts see of patterns whose listed builds are refused
 pub record ListedState : Type 0 where
   -- how many texts were refused as too large
   pub refusals : ℕ
-  -- the numbers of the builds that are refused so
+  -- the numbers of the builds that are refused as too large
   pub failing : List ℕ
   -- how many builds were asked for
   pub builds : ℕ
 
--- they may refuse any text as too large
+-- such patterns may refuse any text as too large
 abbrev pub listed_state : ListedState → PatternsState
 listed_state s = regex_state s.refusals
 
@@ -54,12 +55,12 @@ listed_state s = regex_state s.refusals
 abbrev pub RefusesNext : ListedState → Type 0
 RefusesNext s = Contains s.failing (next_build s.builds)
 
--- one more build, which leaves this count of refusals
+-- after one more build, with this count of refusals
 abbrev pub after_build : ListedState → ℕ → ListedState
 after_build old refusals =
     record { refusals = refusals; failing = old.failing; builds = next_build old.builds }
 
--- what `build(text)` leaves where the build is listed, and where it is not
+-- what `build(text)` leaves if the build is listed, and if it is not
 pub record ListedGives (old : ListedState) (text : List ℕ) (answer : Result Regex BuildFault)
     (new : ListedState) : Type 0 where
   pub listed : RefusesNext old → (answer ≡ Err TooLarge) × (new ≡ after_build old (raised old.refusals))

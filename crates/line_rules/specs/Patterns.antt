@@ -7,11 +7,11 @@ use Rattle.regex_syntax.specs.Grammar.{read}
 use Rattle.line_rules.specs.declared.patterns.BuildFault.{BuildFault}
 use Rattle.line_rules.specs.declared.patterns.BuildFault.TheVariants.{Syntax, TooLarge, Memory}
 
--- the count rose, or stands at its type's end
+-- the count rose, or is 2^64 - 1
 abbrev pub Rose : ℕ → ℕ → Type 0
 Rose before now = min (before + 1) (2 ^ 64 - 1) ≤ now
 
--- the number of the next build, which stands still at its type's end
+-- the number of the next build, which stops at 2^64 - 1
 abbrev pub next_build : ℕ → ℕ
 next_build builds = min (builds + 1) (2 ^ 64 - 1)
 
@@ -19,15 +19,15 @@ next_build builds = min (builds + 1) (2 ^ 64 - 1)
 pub record PatternsState : Type 0 where
   -- how many texts it refused as too large
   pub refusals : ℕ
-  -- the texts that it may refuse so
+  -- the texts that it may refuse as too large
   pub may_refuse : List ℕ → Bool
 
--- what no call changes, and the count that never falls
+-- no call changes these texts, and the count of refusals never falls
 pub record Stays (old new : PatternsState) : Type 0 where
   pub may_refuse : new.may_refuse ≡ old.may_refuse
   pub refusals : old.refusals ≤ new.refusals
 
--- how deep a pattern may nest that is built: what `regex` takes where no other limit is set
+-- how deep a pattern that is built may nest: the default limit of `regex`
 abbrev pub max_depth : ℕ
 max_depth = 250
 
@@ -51,7 +51,7 @@ BuildGives old text (Err Syntax) new = IsNoPattern text ⊎ NestsTooDeep text
 BuildGives old text (Err TooLarge) new = Rose old.refusals new.refusals × IsTrue (old.may_refuse text)
 BuildGives old text (Err Memory) new = Unit {0}
 
--- the count of refusals stands as it was, unless the text is refused as too large
+-- the count of refusals is unchanged, unless the text is refused as too large
 abbrev pub KeepsCount : {T : Type 0} → PatternsState → Result T BuildFault → PatternsState → Type 0
 KeepsCount old (Err TooLarge) new = Unit {0}
 KeepsCount old other new = new.refusals ≡ old.refusals

@@ -35,12 +35,12 @@ has_name name (Some other) = bytes_eq name other
 abbrev pub group_named : List (Option (List ℕ)) → List ℕ → Option ℕ
 group_named names name = position (has_name name) names
 
--- what a group spans in a match, where it took part; group 0 is the match
+-- the span of a group in a match, if it took part; group 0 is the whole match
 abbrev pub span_of : Match → ℕ → Option (ℕ × ℕ)
 span_of m zero = Some (span m)
 span_of m (suc n) = group_of m (suc n)
 
--- what the first group with the name spans in a match
+-- the span of the first group with the name in a match
 abbrev pub span_of_name : Rule → List ℕ → Match → Option (ℕ × ℕ)
 span_of_name rule name m = option_and_then (span_of m) (group_named rule.names name)
 
@@ -49,16 +49,17 @@ abbrev pub not_empty : Option (ℕ × ℕ) → Option (ℕ × ℕ)
 not_empty None = None
 not_empty (Some s) = if nat_lt s.0 s.1 then Some s else None
 
--- a part of a line
+-- the part of a line from one place to another
 abbrev pub part : List ℕ → ℕ → ℕ → List ℕ
 part line from to = take (to - from) (drop from line)
 
--- the time that a group says where it took part
+-- the time in the span of a group, if it took part
 abbrev pub time_at : List ℕ → Option (ℕ × ℕ) → Option ℕ
 time_at line None = None
 time_at line (Some s) = time_of (part line s.0 s.1)
 
--- the time of an event whose rule has this group TIME, which spans so: 0 without a group, and None where it took no part or says no time
+-- the time of an event whose rule has this group TIME with this span: 0 without a group,
+-- and None if the group took no part or contains no time
 abbrev pub time_by : (group : Option ℕ) → List ℕ → Option (ℕ × ℕ) → Option ℕ
 time_by None line s = Some 0
 time_by (Some group) line s = time_at line s
@@ -68,13 +69,13 @@ abbrev pub time_in : Rule → List ℕ → Match → Option ℕ
 time_in rule line m =
     time_by (group_named rule.names (codes "TIME")) line (span_of_name rule (codes "TIME") m)
 
--- an event, whose trace text is empty where its group is absent or took no part; a bad time where it has none
+-- an event, whose trace text is empty if its group is absent or took no part; a bad time if there is no time
 abbrev pub event : Option (ℕ × ℕ) → Named → Option ℕ → Result Decision DecideError
 event trace name None = Err undecided.BadTime
 event None name (Some time) = Ok (decision.Event name 0 0 time)
 event (Some s) name (Some time) = Ok (decision.Event name s.0 s.1 time)
 
--- what a rule with this number decides where the groups TYPE and TRACE of its match have these spans, and its time is this
+-- what a rule with this number decides if the groups TYPE and TRACE of its match have these spans, and the event has this time
 abbrev pub decided_at : ℕ → RuleForm → (typ trace : Option (ℕ × ℕ)) → Option ℕ
     → Option (Result Decision DecideError)
 decided_at number Skip typ trace time = Some (Ok decision.Skip)
@@ -91,7 +92,8 @@ decided_by number rule line =
     (span_of_name rule (codes "TRACE") m) (time_in rule line m))
     (find_str rule.re line 0)
 
--- The decision of the first rule that decides the line, where the rules are numbered from `number`. A bad time is one: no later rule is tried.
+-- The decision of the first rule that decides the line; the rules are numbered from `number`.
+-- A bad time is a decision too: no later rule is tried.
 abbrev pub decision_from : ℕ → List Rule → List ℕ → Result Decision DecideError
 decision_from number [] line = Ok decision.Undecided
 decision_from number (rule ∷ rules) line =
@@ -101,14 +103,14 @@ decision_from number (rule ∷ rules) line =
 abbrev pub decision_of : List Rule → List ℕ → Result Decision DecideError
 decision_of = decision_from 0
 
--- the name of a rule's own type, where it has one
+-- the name of a rule's own type, if it has one
 abbrev pub name_of : RuleForm → Option (List ℕ)
 name_of Skip = None
 name_of Separator = None
 name_of Event = None
 name_of (EventOf name) = Some name
 
--- the name that the rule with this number gives its events, where it gives one
+-- the name that the rule with this number gives its events, if it gives one
 abbrev pub fixed_name : List Rule → ℕ → Option (List ℕ)
 fixed_name rules number = option_and_then (λ rule. name_of rule.form) (slice_get rules number)
 
@@ -117,7 +119,7 @@ abbrev pub type_text : List Rule → List ℕ → Named → List ℕ
 type_text rules line (named.Fixed number) = unwrap_or (fixed_name rules number) []
 type_text rules line (named.Part from to) = part line from to
 
--- the places stand in the line in order, between characters
+-- the two places are in the line, in order, between characters
 pub record IsSpanOf (line : List ℕ) (s : ℕ × ℕ) : Type 0 where
   pub ordered : s.0 ≤ s.1
   pub inside : s.1 ≤ length line
@@ -143,7 +145,7 @@ rule_of form text =
     option_map (λ (tree, names). record { form = form; re = tree.value; names = names })
     (read default_config (chars text))
 
--- the rules have one form and one list of names, and a search gives the same by both
+-- the rules have the same form and the same names, and a search with either gives the same
 pub record Alike (r s : Rule) : Type 0 where
   pub form : r.form ≡ s.form
   pub names : r.names ≡ s.names

@@ -11,22 +11,22 @@ is_digit b = nat_le 48 b && nat_le b 57
 abbrev pub is_point : ℕ → Bool
 is_point b = b == 46
 
--- 1 to so many digits
+-- 1 to this many digits
 abbrev pub are_digits : ℕ → List ℕ → Bool
 are_digits most text = nat_lt 0 (length text) && (nat_le (length text) most && list_all is_digit text)
 
--- the billionths of a whole number
+-- the billionths of a whole number of 1 to 18 digits
 abbrev pub whole_time : List ℕ → Option ℕ
 whole_time text = if are_digits 18 text then Some (digits_value 10 text * 10 ^ 9) else None
 
--- the billionths of a whole number and a fraction
+-- the billionths of a whole number of 1 to 18 digits with a fraction of 1 to 9
 abbrev pub fractional_time : List ℕ → List ℕ → Option ℕ
 fractional_time whole fraction =
     if are_digits 18 whole && are_digits 9 fraction
     then Some (digits_value 10 whole * 10 ^ 9 + digits_value 10 fraction * 10 ^ (9 - length fraction))
     else None
 
--- The time that a text says, in billionths: 1 to 18 digits, which a point and 1 to 9 digits may follow.
+-- The time in a text, in billionths: 1 to 18 digits, which a point and 1 to 9 digits may follow.
 abbrev pub time_of : List ℕ → Option ℕ
 time_of text =
     if list_any is_point text then fractional_time (before_first is_point text) (after_first is_point text)

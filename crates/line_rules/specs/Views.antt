@@ -39,7 +39,7 @@ HasShortName (word.EventOf name) = (0 < length name.now) × (length name.now ≤
 abbrev pub rule_view : Rule → spec.Rule
 rule_view r = record { form = form_view r.form; re = regex_pattern r.regex; names = regex_names r.regex }
 
--- what the groups of a rule span in a match
+-- the spans of the groups of a rule in a match
 abbrev pub spans_of : Rule → Match → Spans
 spans_of r m = record {
   typ = option_and_then (spec.span_of m) r.type_group;

@@ -16,15 +16,15 @@ use std::alloc::Global;
 
 /// Builds a rule from the text of its pattern.
 fn build_rule<P: Patterns>(patterns: &mut P, form: RuleForm, text: &str) -> Result<Rule, BuildFault>
-    // The rule that the grammar reads, up to what a search tells apart.
+    // The rule that the grammar reads, or one with the same form and names that searches the same.
     ensures rule { IfOk result
         (λ r. IsSomeAnd (rule_of (form_view form) text.now) (Alike (rule_view r))) }
 
-    // What stays of the patterns, whatever the answer.
+    // What stays of the patterns, whatever is returned.
     ensures stays { Stays (P.state patterns.old) (P.state patterns.new) }
     ensures count { KeepsCount (P.state patterns.old) result (P.state patterns.new) }
 
-    // Each refusal but for memory has its cause.
+    // Each error except `Memory` has its cause.
     ensures syntax { result ≡ Err BuildFault.Syntax
         → IsNoPattern text.now ⊎ NestsTooDeep text.now }
     ensures large { result ≡ Err BuildFault.TooLarge
@@ -35,7 +35,7 @@ fn build_rule<P: Patterns>(patterns: &mut P, form: RuleForm, text: &str) -> Resu
     Ok(Rule::new(form, regex))
 }
 
-/// Whether the first event rule has a group TIME, where there is an event rule.
+/// Whether the first event rule has a group TIME. None if there is no event rule.
 fn first_time(rules: &[Rule]) -> Option<bool>
     ensures { result ≡ first_time (map rule_view rules.now) }
 {
@@ -47,7 +47,7 @@ fn first_time(rules: &[Rule]) -> Option<bool>
     None
 }
 
-/// Whether this is an event rule that has a group TIME where the first event rule has none, or the
+/// Whether this is an event rule that has a group TIME while the first event rule has none, or the
 /// other way round.
 fn mixes_time(rules: &[Rule], rule: &Rule) -> bool
     ensures { result ≡ mixes_time (map rule_view rules.now) (rule_view rule.now) }
@@ -63,8 +63,8 @@ fn mixes_time(rules: &[Rule], rule: &Rule) -> bool
 
 /// The rule of the line with this number, after these rules.
 ///
-/// It is refused by the first that fits: `BadLine`, `TooMany`, the refusal of its build, `NoType`,
-/// `MixedTime`. `Memory` may come in place of each.
+/// It is refused by the first of these that applies: `BadLine`, `TooMany`, the refusal of its
+/// build, `NoType`, `MixedTime`. `Memory` may be returned in place of each.
 pub(crate) fn rule_of_line<P: Patterns>(
     alloc: Global,
     rules: &[Rule],
@@ -72,11 +72,11 @@ pub(crate) fn rule_of_line<P: Patterns>(
     line: &[u8],
     patterns: &mut P,
 ) -> Result<Rule, RuleError>
-    // What stays of the patterns, whatever the answer.
+    // What stays of the patterns, whatever is returned.
     ensures stays { Stays (P.state patterns.old) (P.state patterns.new) }
     ensures count { KeepsRefusals (P.state patterns.old) result (P.state patterns.new) }
 
-    // A rule comes only where there is room for one more, and is that of the line.
+    // A rule is returned only if there is room for one more, and it is that of the line.
     ensures few { IfOk result (λ _. length rules.now < MAX_RULES) }
     ensures ok { IfOk result
         (λ rule. IsRuleOf (map rule_view rules.now) number line.now (rule_view rule)) }

@@ -8,15 +8,15 @@ use std::alloc::AllocError;
 pub enum Named {
     /// The name of the rule with this number, counted from 0.
     Fixed(u32),
-    /// What stands from the first byte place up to the second.
+    /// The part of the line from the first byte place up to the second.
     Part(usize, usize),
 }
 
 /// What a line is.
 #[derive(Clone, Copy, Debug, PartialEq, Eq)]
 pub enum Decision {
-    /// An event of the trace whose text stands from `trace_from` up to `trace_to`; the time is in
-    /// billionths, and 0 where the rule has no group TIME.
+    /// An event. The text of its trace is the part of the line from byte `trace_from` up to
+    /// `trace_to`. The time is in billionths, and is 0 if the rule has no group TIME.
     Event {
         name: Named,
         trace_from: usize,
@@ -34,9 +34,9 @@ pub enum Decision {
 /// Why a line was not decided.
 #[derive(Clone, Copy, Debug, PartialEq, Eq)]
 pub enum DecideError {
-    /// The deciding rule has a group TIME, which took no part or says no time.
+    /// The deciding rule has a group TIME that took no part in the match or whose text is no time.
     BadTime,
-    /// Memory was wanted.
+    /// Memory ran out.
     Memory,
 }
 

@@ -25,7 +25,7 @@ fn add_line<P: Patterns>(
 ) -> Result<(), RuleError>
     requires { vec_len rules.old ≤ MAX_RULES }
 
-    // What stays, whatever the answer: of the patterns, and that the rules are few.
+    // What stays, whatever is returned: of the patterns, and that the rules are few.
     ensures stays { Stays (P.state patterns.old) (P.state patterns.new) }
     ensures count { KeepsRefusals (P.state patterns.old) result (P.state patterns.new) }
     ensures few { vec_len rules.new ≤ MAX_RULES }
@@ -53,7 +53,7 @@ pub(crate) fn read_rules<P: Patterns>(
 ) -> Result<Vec<Rule>, RuleError>
     requires { length bytes.now ≤ MAX_RULES_BYTES }
 
-    // What stays of the patterns, whatever the answer.
+    // What stays of the patterns, whatever is returned.
     ensures stays { Stays (P.state patterns.old) (P.state patterns.new) }
     ensures count { KeepsRefusals (P.state patterns.old) result (P.state patterns.new) }
 

@@ -1,4 +1,4 @@
-//! Rules that decide what a line of a log is, and the expressions file that has them.
+//! Rules that decide what a line of a log is, and the expressions file that contains them.
 #![tactic(auto)]
 
 mod build;

@@ -13,7 +13,7 @@ use crate::rule::Rule;
 use limits::MAX_RULES_BYTES;
 use std::alloc::{AllocError, AllocFailed, Global};
 
-/// Why an expressions file is refused. The numbers are those of lines, counted from 1.
+/// Why an expressions file is refused. The numbers are line numbers, counted from 1.
 #[derive(Clone, Copy, Debug, PartialEq, Eq)]
 pub enum RuleError {
     /// The file has more than 65,536 bytes.
@@ -22,18 +22,18 @@ pub enum RuleError {
     BadLine(u32),
     /// The line is the 33rd rule.
     TooMany(u32),
-    /// The line's pattern is none, or nests too deep.
+    /// The line's pattern is not valid, or nests too deep.
     Syntax(u32),
     /// The line's pattern was refused as too large.
     TooLarge(u32),
     /// The line is `event PATTERN`, and its pattern has no group named TYPE.
     NoType(u32),
-    /// The line is an event rule, and its pattern has a group named TIME where that of the first
-    /// event rule has none, or the other way round.
+    /// The line is an event rule. Its pattern has a group named TIME and that of the first event
+    /// rule has none, or the other way round.
     MixedTime(u32),
     /// No rule is an event rule.
     NoEvent,
-    /// Memory was wanted.
+    /// Memory ran out.
     Memory,
 }
 
@@ -71,9 +71,9 @@ impl LineRules {
     /// The rules of an expressions file.
     ///
     /// A file of more than 65,536 bytes is `TooLong`. Then each line that is not skipped is tested
-    /// in turn by `BadLine`, `TooMany`, the build of its pattern, `NoType` and `MixedTime`, and a
-    /// file without an event rule is `NoEvent`. `TooLarge` comes only where the count of `patterns`
-    /// rose, and `Memory` may come at any time.
+    /// in turn for `BadLine`, `TooMany`, the errors of building its pattern, `NoType` and
+    /// `MixedTime`. Last, a file without an event rule is `NoEvent`. `TooLarge` is returned only if
+    /// the count of `patterns` rose. `Memory` may be returned at any time.
     pub fn read<P: Patterns>(
         alloc: Global,
         bytes: &[u8],
@@ -95,13 +95,14 @@ impl LineRules {
         Ok(LineRules { alloc, rules })
     }
 
-    /// What the line is, by the first rule that decides it.
+    /// What the line is, by the first rule that decides it. It is `Undecided` if no rule does.
     ///
-    /// Places in the decision are byte places in the line, on character bounds, and a trace that
-    /// has no group stands from 0 up to 0. `BadTime` comes where the first rule that decides the
-    /// line is an event rule with a group TIME, and the group took no part or says no time. What
-    /// searches is made within the call, and `Memory` comes only for it: the rules may be used
-    /// again. For many lines see [`LineRules::matchers`].
+    /// Places in the decision are byte places in the line, on character bounds. If the rule has no
+    /// group TRACE, or the group took no part in the match, the trace text is empty, from 0 up to
+    /// 0. `BadTime` is returned if the first rule that decides the line is an event rule with a
+    /// group TIME, and the group took no part or its text is no time. `Memory` may be returned in
+    /// place of each answer, since the matchers are made in the call. For many lines, make them
+    /// once with [`LineRules::matchers`].
     pub fn decide(&self, line: &str) -> Result<Decision, DecideError>
         ensures value { result ≢ Err DecideError.Memory
             → result ≡ decision_of (rules_in self.now) line.now }
@@ -111,7 +112,8 @@ impl LineRules {
         matchers.decide(line)
     }
 
-    /// What searches for the rules, for many lines.
+    /// Matchers that search lines for the rules. They can be used for many lines. The only error is
+    /// that memory runs out.
     pub fn matchers(&self) -> Result<Matchers<'_>, AllocError>
         ensures { IfOk result (λ m. matched_rules m ≡ rules_in self.now) }
     {
@@ -122,8 +124,8 @@ impl LineRules {
         Ok(Matchers { rules: matchers })
     }
 
-    /// The type, of 1 to 256 bytes, that the rule with this number gives its events. Rules are
-    /// numbered from 0.
+    /// The type name, of 1 to 256 bytes, that the rule with this number gives its events. Rules are
+    /// numbered from 0. The rule must have a type name of its own.
     pub fn fixed(&self, rule: u32) -> &str
         requires { IsSome (fixed_name (rules_in self.now) rule) }
         ensures name { fixed_name (rules_in self.now) rule ≡ Some result.now }

@@ -1,4 +1,4 @@
-//! Patterns of which listed builds are refused.
+//! Patterns with a list of builds that are refused.
 ghost use Rattle.std.specs.Prelude.{◌≡◌, ◌<◌, ◌^◌};
 ghost use Rattle.line_rules.specs.Patterns.{Stays, BuildGives, KeepsCount};
 ghost use Rattle.line_rules.specs.Listed.{listed_state, ListedGives};
@@ -8,11 +8,11 @@ use crate::regex_patterns::RegexPatterns;
 use regex::Regex;
 use std::marker::Model;
 
-/// Patterns as `regex` builds them, but the builds whose numbers are listed are refused as too
-/// large.
+/// Patterns as `regex` builds them, except that the builds whose numbers are listed are refused as
+/// too large.
 ///
 /// Contracts see the count of texts that were refused as too large, the numbers of the builds that
-/// are refused, and how many builds were asked for.
+/// are refused, and how many builds were requested.
 #[derive(Drop)]
 pub struct ListedPatterns {
     inner: RegexPatterns,
@@ -30,10 +30,11 @@ impl Model for ListedPatterns {
 }
 
 impl ListedPatterns {
-    /// Patterns of which no build was asked for yet.
+    /// Patterns with no build requested yet.
     ///
-    /// Builds are counted from 1, and the number stands still at `u64::MAX`. A build whose number
-    /// is in `failing` is refused, and every other is answered as `inner` answers it.
+    /// Builds are counted from 1, and the number stays at `u64::MAX` once it is reached. A build
+    /// whose number is in `failing` is refused. For every other build, the result is that of
+    /// `inner`.
     pub fn new(inner: RegexPatterns, failing: Vec<u64>) -> ListedPatterns
         ensures { result ≡ record { refusals = inner; failing = failing.items; builds = 0 } }
     {
@@ -54,7 +55,7 @@ impl Patterns for ListedPatterns {
         ensures gives { BuildGives (listed_state self.old) text.now result (listed_state self.new) }
         ensures count { KeepsCount (listed_state self.old) result (listed_state self.new) }
 
-        // The answer and all that is left, by the number of the build and the text.
+        // The result and the whole state afterwards, by the number of the build and the text.
         ensures exact { ListedGives self.old text.now result self.new }
     {
         self.builds = self.builds.saturating_add(1);

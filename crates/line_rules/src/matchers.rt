@@ -1,4 +1,4 @@
-//! What searches lines for the rules.
+//! Matchers that search lines for the rules.
 ghost use Rattle.std.specs.Prelude.{◌≡◌, ◌≤◌, ◌+◌, ◌++◌, ◌∷◌, [], List, Some, IfOk, IfSome, OnOk, vec_len, slice_get};
 ghost use Rattle.limits.specs.declared.TheConstants.{MAX_RULES};
 ghost use Rattle.regex.specs.Strings.{regex_pattern, matcher_pattern};
@@ -11,7 +11,7 @@ use crate::spans::spans_in;
 use regex::Matcher;
 use std::alloc::{AllocError, Global};
 
-/// A rule and what searches for its pattern.
+/// A rule and the matcher of its pattern.
 #[derive(Drop)]
 pub struct RuleMatcher<'r> {
     pub(crate) rule: &'r Rule,
@@ -23,7 +23,7 @@ impl<'r> RuleMatcher<'r> {
     ghost use Rattle.line_rules.specs.Views.{rule_view};
     ghost use Rattle.line_rules.specs.declared.matchers.RuleMatcher.{RuleMatcher};
 
-    /// What searches for the rule's pattern.
+    /// The rule with the matcher of its pattern.
     pub(crate) fn make(alloc: Global, rule: &'r Rule) -> Result<RuleMatcher<'r>, AllocError>
         ensures { IfOk result (λ m. m.rule.now ≡ rule.now) }
     {
@@ -31,7 +31,7 @@ impl<'r> RuleMatcher<'r> {
         Ok(RuleMatcher { rule, matcher })
     }
 
-    /// Adds what searches for the pattern of the rule.
+    /// Adds the rule with the matcher of its pattern.
     pub(crate) fn add(
         alloc: Global,
         rule: &'r Rule,
@@ -47,7 +47,7 @@ impl<'r> RuleMatcher<'r> {
         Ok(())
     }
 
-    /// What the rule, which has this number, decides of the line, if it does.
+    /// What the rule, which has this number, decides about the line, if it does.
     pub(crate) fn decide(
         &mut self,
         number: u32,
@@ -64,7 +64,7 @@ impl<'r> RuleMatcher<'r> {
     }
 }
 
-/// The rules of a file with what searches for them, for many lines.
+/// The rules of a file with their matchers, for many lines.
 #[derive(Drop)]
 pub struct Matchers<'r> {
     pub(crate) rules: Vec<RuleMatcher<'r>>,
@@ -74,10 +74,11 @@ pub struct Matchers<'r> {
 impl<'r> Matchers<'r> {
     ghost use Rattle.line_rules.specs.Views.{matched_rules};
 
-    /// What the line is, by the first rule that decides it. It wants no memory.
+    /// What the line is, by the first rule that decides it. It is `Undecided` if no rule does. It
+    /// takes no memory, so it does not return `Memory`.
     ///
-    /// `BadTime` comes where that rule is an event rule with a group TIME, and the group took no
-    /// part or says no time.
+    /// `BadTime` is returned exactly if that rule is an event rule with a group TIME, and the group
+    /// took no part in the match or its text is no time.
     pub fn decide(&mut self, line: &str) -> Result<Decision, DecideError>
         ensures value { result ≡ decision_of (matched_rules self.old) line.now }
         ensures parts { IfOk result (HasParts (matched_rules self.old) line.now) }

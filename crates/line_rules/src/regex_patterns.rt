@@ -10,7 +10,7 @@ use std::marker::Model;
 
 /// Patterns as `regex` builds them. They may refuse any text as too large.
 ///
-/// Contracts see the count of texts that were refused so.
+/// Contracts see the count of texts that were refused as too large.
 #[derive(Drop)]
 pub struct RegexPatterns {
     alloc: Global,
@@ -28,14 +28,15 @@ impl Model for RegexPatterns {
 }
 
 impl RegexPatterns {
-    /// Patterns of which none was refused yet.
+    /// Patterns with none refused yet.
     pub fn new(alloc: Global) -> RegexPatterns
         ensures { result ≡ 0 }
     {
         RegexPatterns { alloc, refusals: 0 }
     }
 
-    /// Counts a text that is refused as too large. The count stands still at `u64::MAX`.
+    /// Counts a text that is refused as too large. The count stays at `u64::MAX` once it is
+    /// reached.
     pub(crate) fn refuse(&mut self) -> BuildFault
         ensures fault { result ≡ BuildFault.TooLarge }
         ensures count { self.new ≡ raised self.old }
@@ -46,8 +47,8 @@ impl RegexPatterns {
         BuildFault::TooLarge
     }
 
-    /// What `regex` answered, in the words of [`Patterns`]: too large and out of memory exactly
-    /// where it said so.
+    /// The result of `regex` as a result of [`Patterns`]. A pattern that is too large, or on which
+    /// `regex` failed internally, is `TooLarge` and is counted.
     fn tell(&mut self, answer: Result<Regex, Error>) -> Result<Regex, BuildFault>
         ensures tells { Tells self.old answer result self.new }
         ensures grows { self.old ≤ self.new }

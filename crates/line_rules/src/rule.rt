@@ -18,20 +18,20 @@ pub struct TypeName {
     ghost short: { length (string_bytes text) ≤ MAX_TYPE_BYTES },
 }
 
-/// What a rule makes of a line in which its pattern is found.
+/// What a rule decides about a line in which its pattern is found.
 #[derive(Drop)]
 pub enum RuleForm {
     /// Nothing.
     Skip,
     /// The end of a section.
     Separator,
-    /// An event whose type is what the group TYPE spans.
+    /// An event whose type is the text of the group TYPE.
     Event,
     /// An event of this type.
     EventOf(TypeName),
 }
 
-/// A rule with the numbers of the groups that it looks at.
+/// A rule with the numbers of the groups that it uses.
 #[derive(Drop)]
 pub struct Rule {
     pub(crate) form: RuleForm,
@@ -86,8 +86,8 @@ impl Rule {
         self.time_group.is_some()
     }
 
-    /// The time of an event in the line, where the group TIME has this span: 0 without such a
-    /// group. None where the group took no part or says no time.
+    /// The time of an event in the line, if the group TIME has this span. It is 0 if the rule has
+    /// no such group. None is returned if the group took no part or its text is no time.
     fn time_in(&self, line: &str, span: Option<(usize, usize)>) -> Option<u128>
         requires { IfSome span (spec.IsSpanOf line.now) }
         ensures { result ≡ spec.time_by self.now.time_group line.now span }
@@ -101,7 +101,8 @@ impl Rule {
         }
     }
 
-    /// An event with its trace, which is empty where its group took no part, and with its time.
+    /// An event with its trace and its time. If the group TRACE took no part, the trace text is
+    /// empty.
     fn event(&self, line: &str, spans: Spans, name: Named) -> Result<Decision, DecideError>
         requires { IfSome spans.time (spec.IsSpanOf line.now) }
         ensures { result
@@ -119,7 +120,7 @@ impl Rule {
         })
     }
 
-    /// What the rule, which has this number, decides where its groups have these spans.
+    /// What the rule, which has this number, decides if its groups have these spans.
     pub(crate) fn decided_at(
         &self,
         number: u32,
@@ -143,7 +144,7 @@ impl Rule {
         }
     }
 
-    /// The type that the rule gives its events, where it gives one.
+    /// The type that the rule gives its events, if it gives one.
     pub(crate) fn type_name(&self) -> Option<&str>
         ensures name { option_map (λ name. name.now) result ≡ name_of (form_view self.now.form) }
         ensures stands { IfSome result (λ name. 0 < length name.now) }

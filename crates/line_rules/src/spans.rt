@@ -1,4 +1,4 @@
-//! What the groups of a rule span in a line.
+//! The spans of a rule's groups in a line.
 ghost use Rattle.std.specs.Prelude.{◌≡◌, IfSome, option_map, option_and_then};
 ghost use Rattle.regex.specs.Patterns.{find_str};
 ghost use Rattle.regex.specs.Strings.{matcher_pattern, captures_span, captures_haystack};
@@ -8,7 +8,7 @@ ghost use Rattle.line_rules.specs.Views.{spans_of};
 use crate::rule::Rule;
 use regex::{Captures, Matcher};
 
-/// What the groups that a rule looks at span in a match, each where it took part.
+/// The spans of the groups that a rule uses in a match. A group that took no part has none.
 #[derive(Clone, Copy)]
 pub struct Spans {
     pub(crate) typ: Option<(usize, usize)>,
@@ -16,7 +16,7 @@ pub struct Spans {
     pub(crate) time: Option<(usize, usize)>,
 }
 
-/// What the group spans, where it took part.
+/// The span of the group, if it took part.
 fn span_of_group(captures: &Captures<'_, '_>, group: Option<usize>) -> Option<(usize, usize)>
     ensures value { result ≡ option_and_then (captures_span captures.now) group }
     ensures within { IfSome result (IsSpanOf (captures_haystack captures.now)) }
@@ -25,7 +25,7 @@ fn span_of_group(captures: &Captures<'_, '_>, group: Option<usize>) -> Option<(u
     Some((found.start(), found.end()))
 }
 
-/// What the groups that the rule looks at span in the first match.
+/// The spans of the groups that the rule uses in the first match, if there is a match.
 pub(crate) fn spans_in(rule: &Rule, matcher: &mut Matcher<'_>, line: &str) -> Option<Spans>
     ensures found { result ≡ option_map (spans_of rule.now)
         (find_str (matcher_pattern matcher.old) line.now 0) }

@@ -28,7 +28,7 @@ pub(crate) fn is_comment(line: &[u8]) -> bool
     line.is_empty() || line[0] == b'#'
 }
 
-/// The form that `event=NAME` spells, where NAME has 1 to 256 bytes.
+/// The form that `event=NAME` spells. NAME has 1 to 256 bytes.
 fn named(word: &str) -> Option<Word<'_>>
     ensures form { option_map word_view result ≡ named_form word.now }
     ensures short { IfSome result HasShortName }
@@ -53,7 +53,7 @@ fn form_word(word: &str) -> Option<Word<'_>>
     }
 }
 
-/// What stands before the first space and after it, where something stands after it.
+/// The text before the first space and the text after it, if that is not empty.
 fn word_and_rest(text: &str) -> Option<(&str, &str)>
     ensures none { IfNone result (length (after_first is_space text.now) ≡ 0) }
     ensures some { IfSome result (λ parts. (parts.0.now ≡ before_first is_space text.now)
@@ -66,7 +66,7 @@ fn word_and_rest(text: &str) -> Option<(&str, &str)>
     }
 }
 
-/// The form and the pattern that a line of text spells. None where it has none of the four forms.
+/// The form and the pattern that a line of text spells. None if it has none of the four forms.
 fn spelled_text(text: &str) -> Option<(Word<'_>, &str)>
     ensures parts { option_map (λ s. (word_view s.0, s.1.now)) result ≡ spelled_by text.now }
     ensures short { IfSome result (λ s. HasShortName s.0) }
@@ -80,8 +80,8 @@ fn spelled_text(text: &str) -> Option<(Word<'_>, &str)>
     }
 }
 
-/// The form and the pattern that the line spells. None where it is not UTF-8 or has none of the
-/// four forms.
+/// The form and the pattern that the line spells. None if it is not UTF-8 or has none of the four
+/// forms.
 pub(crate) fn spelled(line: &[u8]) -> Option<(Word<'_>, &str)>
     ensures parts { option_map (λ s. (word_view s.0, s.1.now)) result ≡ spelled_by line.now }
     ensures short { IfSome result (λ s. HasShortName s.0) }

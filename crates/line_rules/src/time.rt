@@ -1,4 +1,4 @@
-//! The time that a text says.
+//! The time that a text gives.
 ghost use Rattle.std.specs.Prelude.{◌≡◌, ◌<◌, ◌^◌, IfNone, IfSome, true, false};
 ghost use Rattle.std.specs.List.{list_any, before_first, after_first};
 ghost use Rattle.std.specs.Str.Parse.{digits_value};
@@ -22,7 +22,7 @@ fn are_digits(text: &str, most: usize) -> bool
     true
 }
 
-/// The number that 1 to 18 digits write.
+/// The number that 1 to 18 digits represent.
 fn number(digits: &str) -> u64
     requires { are_digits 18 digits.now ≡ true }
     ensures value { result ≡ digits_value 10 digits.now }
@@ -59,7 +59,7 @@ fn fractional_time(whole: &str, fraction: &str) -> Option<u128>
     Some(u128::from(number(whole)) * BILLION + u128::from(number(fraction)) * unit)
 }
 
-/// What stands before the first point and after it, where there is a point.
+/// The text before the first point and the text after it, if there is a point.
 fn parts(text: &str) -> Option<(&str, &str)>
     ensures none { IfNone result (list_any is_point text.now ≡ false) }
     ensures some { IfSome result (λ parts. (list_any is_point text.now ≡ true)
@@ -69,8 +69,8 @@ fn parts(text: &str) -> Option<(&str, &str)>
     text.split_once('.')
 }
 
-/// The time in billionths that the text says: 1 to 18 ASCII digits, which a point and 1 to 9 ASCII
-/// digits may follow.
+/// The time in billionths that the text gives. The text has 1 to 18 ASCII digits, which a point and
+/// 1 to 9 ASCII digits may follow. For any other text, None is returned.
 pub(crate) fn time_of(text: &str) -> Option<u128>
     ensures { result ≡ time_of text.now }
 {

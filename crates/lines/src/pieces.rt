@@ -4,8 +4,8 @@ ghost use Rattle.lines.specs.Lines.{pieces, line_of};
 
 use memchr::memchr;
 
-/// The first piece of bytes, and what stands after its line feed. The rest is empty after the last piece,
-/// whether or not a line feed ends it.
+/// The first piece of the bytes, and the bytes after its line feed. There must be at least one byte. After the last piece nothing
+/// follows, whether or not a line feed ends it.
 pub fn next_piece(bytes: &[u8]) -> (&[u8], &[u8])
     requires { 0 < length bytes.now }
     ensures pieces { pieces bytes.now ≡ result.0.now ∷ pieces result.1.now }

@@ -7,13 +7,13 @@ use std::simd::prelude::*;
 /// How many bytes are looked at together: most lines have their first space among the first of them.
 const LANES: usize = 8;
 
-/// How many are looked at together where fewer are left.
+/// How many are looked at together if fewer are left.
 const FEW_LANES: usize = 4;
 
-/// How many are looked at together where there are as many, in the line or behind it.
+/// How many are looked at together if there are as many, in the line or after it.
 const MORE_LANES: usize = 16;
 
-/// How many of the bytes from here on stand before the first space, and all of them where there is none.
+/// How many of the next `LANES` bytes stand before the first space. If there is none, it is all of them.
 fn before_space(bytes: &[u8], at: usize) -> usize
     requires { at + LANES ≤ length bytes.now }
     ensures { result ≡ position_or_len (λ b. b == 32) (take LANES (drop at bytes.now)) }
@@ -43,7 +43,7 @@ fn before_space_of_few(bytes: &[u8], at: usize) -> usize
     }
 }
 
-/// The place of the first space, by a look at one byte after the other from a place before which none stands.
+/// The place of the first space, found byte by byte from a place before which there is none.
 fn first_space_byte_by_byte(bytes: &[u8], seen: usize) -> Option<usize>
     requires inside { seen ≤ length bytes.now }
     requires none { (k : ℕ) → k < seen → slice_index bytes.now k ≢ 32 }
@@ -59,7 +59,7 @@ fn first_space_byte_by_byte(bytes: &[u8], seen: usize) -> Option<usize>
     None
 }
 
-/// The place of the first space, where few bytes are left behind those before which none stands.
+/// The place of the first space, if there is none before `seen` and few bytes follow.
 fn first_space_in_rest(bytes: &[u8], seen: usize) -> Option<usize>
     requires inside { seen ≤ length bytes.now }
     requires none { (k : ℕ) → k < seen → slice_index bytes.now k ≢ 32 }
@@ -77,7 +77,8 @@ fn first_space_in_rest(bytes: &[u8], seen: usize) -> Option<usize>
     first_space_byte_by_byte(bytes, seen + FEW_LANES)
 }
 
-/// The place of the first space. It stays a call, since most lines have theirs among the bytes at which `first_space_ahead` looks.
+/// The place of the first space. It stays a call, since most lines have theirs among the bytes at which `first_space_ahead`
+/// looks.
 #[inline(never)]
 fn first_space(bytes: &[u8]) -> Option<usize>
     ensures { MatchOption result (EachIndex bytes.now (λ k. slice_index bytes.now k ≢ 32))
@@ -111,8 +112,8 @@ fn before_space_of_more(bytes: &[u8]) -> usize
     }
 }
 
-/// The place of the first space of a line with which these bytes begin: where there are enough of them, those behind a short
-/// line are looked at with it.
+/// The place of the first space of a line. `bytes` begins with the line. If there are enough of them, the bytes after a short
+/// line are looked at together with it.
 #[inline(always)]
 pub(crate) fn first_space_ahead(line: &[u8], bytes: &[u8]) -> Option<usize>
     requires begins { take (length line.now) bytes.now ≡ line.now }

@@ -21,20 +21,20 @@ no_call = 3
 unfoldable pub next_state : ℕ → ℕ
 next_state x = (25173 * x + 13849) % 65536
 
--- what the draw that leaves this state answers, from 0 to 3
+-- the number that is drawn when the generator comes to this state, from 0 to 3
 unfoldable pub draw_of : ℕ → ℕ
 draw_of x = (x / 4096) % 4
 
--- what n draws from a state answer
+-- the numbers of n draws from a state
 abbrev pub draws : ℕ → ℕ → List ℕ
 draws zero x = []
 draws (suc n) x = draw_of (next_state x) ∷ draws n (next_state x)
 
--- of n draws from a state, those before the first that gives no call
+-- the numbers of n draws from a state, before the first that gives no call
 abbrev pub giving : ℕ → ℕ → List ℕ
 giving n x = take_while (λ draw. not (draw == no_call)) (draws n x)
 
--- the call that such a draw gives
+-- the call that such a number gives
 abbrev pub call_of : ℕ → Call
 call_of draw = if draw == 0 then Read else if draw == 1 then Write else Seek
 
@@ -42,7 +42,7 @@ call_of draw = if draw == 0 then Read else if draw == 1 then Write else Seek
 unfoldable pub calls_within : ℕ → ℕ → List Call
 calls_within n x = map call_of (giving n x)
 
--- the state after these draws, of which one that gives no call is the last
+-- the state after these draws, including the first that gives no call if it is one of the n
 unfoldable pub state_within : ℕ → ℕ → ℕ
 state_within n x = iterate next_state (min n (length (giving n x) + 1)) x
 
@@ -51,12 +51,12 @@ abbrev pub is_write : Call → Bool
 is_write Write = true
 is_write _ = false
 
--- a sync where the session wrote
+-- a sync if the session wrote
 abbrev pub sync_where : Bool → List Call
 sync_where true = Sync ∷ []
 sync_where false = []
 
--- the calls of a session that begins at this state: it opens, makes the calls drawn, syncs where it
+-- the calls of a session that begins at this state: it opens, makes the calls drawn, syncs if it
 -- wrote, and closes
 abbrev pub session_calls : ℕ → List Call
 session_calls x =
@@ -96,7 +96,7 @@ log_text n = flat_map (λ k. session_text (k + 1) (state_after k)) (range_with_l
 pub record SessionsStandInOrder : Type 0 where
   -- a log without a session is empty
   pub none : log_text 0 ≡ []
-  -- each further session stands behind the others
+  -- each further session follows the others
   pub more : (n : ℕ) → log_text (n + 1) ≡ log_text n ++ session_text (n + 1) (state_after n)
   -- the first begins at the first state
   pub first : state_after 0 ≡ first_state

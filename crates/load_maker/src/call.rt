@@ -31,7 +31,7 @@ impl Call {
         }
     }
 
-    /// The word for the call in a log.
+    /// The text of the call in a log.
     pub fn word(self) -> &'static str
         ensures { result.now ≡ word_of self }
     {

@@ -5,7 +5,7 @@ ghost use Rattle.load_maker.specs.Sessions.{draw_of, first_state, next_state};
 /// The state in which a log begins.
 const FIRST_STATE: u16 = 1;
 
-/// Draws numbers from 0 to 3, which its state alone fixes.
+/// Draws numbers from 0 to 3. They depend only on its state.
 #[derive(Drop)]
 pub struct Generator {
     state: u16,

@@ -1,8 +1,8 @@
-//! A law over the definitions, as the contract of a function that does nothing.
+//! A law of the definitions, as the contract of a function that does nothing.
 ghost use Rattle.load_maker.specs.Sessions.{SessionsStandInOrder};
 
-/// The text has the sessions in order: with one more session, its text stands behind that of the
-/// others, and its draws go on where the last ended.
+/// The text has the sessions in order: the text of one more session follows that of the others, and
+/// its draws go on where the last ended.
 pub fn sessions_stand_in_order()
     ensures { SessionsStandInOrder }
 {}

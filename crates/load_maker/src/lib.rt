@@ -1,5 +1,4 @@
-//! A log made to be as large as one likes: sessions of calls on a file, drawn by a fixed generator
-//! of numbers.
+//! A made log of a given size: sessions of calls on a file, drawn by a fixed generator of numbers.
 #![tactic(auto)]
 
 mod call;

@@ -32,7 +32,7 @@ fn push_line(text: &mut Vec<u8>, session: u32, call: Call) -> Result<(), AllocEr
     Ok(())
 }
 
-/// Puts a line for each call that the session draws at the end of the text. Answers whether one of
+/// Puts a line for each call that the session draws at the end of the text. Returns whether one of
 /// them writes.
 fn push_drawn(
     text: &mut Vec<u8>,
@@ -59,7 +59,7 @@ fn push_drawn(
     Ok(wrote)
 }
 
-/// Puts the line of a sync at the end of the text, where the session wrote.
+/// Puts the line of a sync at the end of the text, if the session wrote.
 fn push_sync(text: &mut Vec<u8>, session: u32, wrote: bool) -> Result<(), AllocError>
     ensures { OnOk result (text.new.items
         ≡ text.old.items ++ flat_map (line session) (sync_where wrote)) }
@@ -88,17 +88,17 @@ fn push_session(
     Ok(())
 }
 
-/// The text of a log of so many sessions, from 1 to `MAX_SESSIONS`, the same whenever it is made:
-/// lines `NUMBER CALL`, each ended by byte 10, where the number is that of the session, counted
-/// from 1, and the call one of `open`, `read`, `write`, `seek`, `sync` and `close`.
+/// The text of a log of `n` sessions, from 1 to `MAX_SESSIONS`. It is the same whenever it is made.
+/// It consists of lines `NUMBER CALL`, each ended by byte 10. The number is that of the session,
+/// counted from 1, and the call is one of `open`, `read`, `write`, `seek`, `sync` and `close`.
 ///
-/// A session opens, makes the calls that at most four numbers drawn give it, syncs where it wrote,
-/// and closes. A draw of 0 gives `read`, 1 `write` and 2 `seek`; one of 3 gives no call and is the
-/// last of its session. The state x of what draws is 1 at first and goes on from session to
-/// session: one draw sets x to (25173 x + 13849) mod 65536 and answers (x / 4096) mod 4, rounded
-/// down.
+/// A session opens, makes the calls that its draws give, syncs if it wrote, and closes. It draws at
+/// most four numbers. A draw of 0 gives `read`, 1 gives `write` and 2 gives `seek`. A draw of 3
+/// gives no call and is the last of its session. The state x of the generator is 1 at first, and
+/// goes on from session to session. One draw sets x to (25173 x + 13849) mod 65536 and gives (x /
+/// 4096) mod 4, rounded down.
 ///
-/// The one error is want of memory.
+/// The only error is that memory runs out.
 pub fn make_log(alloc: Global, n: u32) -> Result<Seq<u8>, AllocError>
     requires some { 1 ≤ n }
     requires few { n ≤ MAX_SESSIONS }

@@ -18,22 +18,21 @@ use Rattle.log_reader.specs.declared.line_reader.TheConstants.{BUFFER_BYTES}
 abbrev pub part_of : List ℕ → ℕ → ℕ → List ℕ
 part_of buf from to = take (to - from) (drop from buf)
 
--- the bytes of a line
+-- the bytes of the line in a buffer, if there is one
 abbrev pub line_in : List ℕ → Option Extent → Option (List ℕ)
 line_in buf None = None
 line_in buf (Some part) = Some (part_of buf part.from part.to)
 
--- a line stands within so many bytes
+-- the line, if there is one, is within this many bytes
 abbrev pub IsLineWithin : ℕ → Option Extent → Type 0
 IsLineWithin size None = ⊤
 IsLineWithin size (Some part) = (part.from ≤ part.to) × (part.to ≤ size)
 
--- from one place on, all bytes before another are ASCII
+-- all bytes from one place up to another are ASCII
 abbrev pub IsClean : ℕ → ℕ → List ℕ → Type 0
 IsClean clean_from to buf = (i : ℕ) → clean_from ≤ i → i < to → slice_index buf i < 128
 
--- a buffer and the counts of its reader: it is never read more than one byte past the limit on all
--- input
+-- a buffer and the counts of its reader: at most one byte past the limit on all input was read
 pub record IsSound (buf : List ℕ) (from to : ℕ) (line : Option Extent) (number taken : ℕ) : Type 0 where
   pub size : length buf ≡ BUFFER_BYTES
   pub order : from ≤ to
@@ -43,7 +42,7 @@ pub record IsSound (buf : List ℕ) (from to : ℕ) (line : Option Extent) (numb
   pub limit : taken ≤ MAX_INPUT_BYTES
   pub within : taken + (to - from) ≤ MAX_INPUT_BYTES + 1
 
--- what a read into a buffer behind so many bytes leaves
+-- what a read into a buffer after this many bytes leaves
 abbrev pub ReadsBehind : {E : Type 0} → InputState → ℕ → ℕ → List ℕ → Result ℕ E → List ℕ → InputState
     → Type 0
 ReadsBehind before held room old (Ok n) new after =
@@ -53,7 +52,7 @@ ReadsBehind before held room old (Err e) new after =
     (take held new ≡ take held old) × Keeps before.rest after.rest
     × Rose before.faults after.faults × IsTrue before.mark
 
--- bytes were read behind those that are buffered: some, or none at the end
+-- bytes were read after those that are buffered: some, or none at the end
 pub record ReadsMore (old new : SeenLines) (before after : InputState) (more : Bool) : Type 0 where
   pub got : List ℕ
   pub read : Consumes before.rest after.rest got
@@ -74,19 +73,19 @@ abbrev pub FillGives : {E : Type 0} → SeenLines → InputState → Result Bool
 FillGives old before (Ok more) new after = ReadsMore old new before after more
 FillGives old before (Err e) new after = ReadsNone old new before after
 
--- a piece is within the limits, after lines that have taken so many bytes
+-- a piece is within the limits, after lines that have taken this many bytes
 pub record IsWithinLimits (taken : ℕ) (cut : Cut) : Type 0 where
   pub short : cut.length ≤ MAX_LINE_BYTES
   pub within : taken + cut.length + feed_bytes cut.fed ≤ MAX_INPUT_BYTES
 
--- why a piece is not
+-- why a piece is not within the limits
 abbrev pub PassesLimit : ℕ → Cut → LineError → Type 0
 PassesLimit taken cut ReadFault = ⊥
 PassesLimit taken cut TooLong = MAX_LINE_BYTES < cut.length
 PassesLimit taken cut InputLimit =
     (cut.length ≤ MAX_LINE_BYTES) × (MAX_INPUT_BYTES < taken + cut.length + feed_bytes cut.fed)
 
--- the end of the first piece to come is buffered
+-- the end of the first piece to come is found and buffered
 pub record FindsEnd (old new : SeenLines) (before after : InputState) (cut : Cut) : Type 0 where
   pub got : List ℕ
   pub read : Consumes before.rest after.rest got

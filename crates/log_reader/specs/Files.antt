@@ -16,7 +16,7 @@ use Rattle.log_reader.specs.Taking.{IsPiecesRefusal, Taker, TakesPieces, piece_l
 use Rattle.log_reader.specs.declared.refusal.ReadError.{ReadError}
 use Rattle.log_reader.specs.declared.refusal.ReadError.TheVariants as refused
 
--- where files are told, the named one has these bytes
+-- if files are known, the named one has these bytes
 abbrev pub HasContent : Option Files → List ℕ → List ℕ → Type 0
 HasContent None name content = Unit {0}
 HasContent (Some files) name content = bytes_of files name ≡ Some content
@@ -27,7 +27,7 @@ pub record FileIsRead (s : Setting) (number room section : ℕ) (content : List 
   pub refusal : bytes_refusal s number section (events_at s lines) room content ≡ None
   pub taken : has (lines ++ piece_lines s.form number section 1 (pieces content))
 
--- the input with this number was read to its end and is not refused, its lines are taken in, and so
+-- the input with this number was read to its end and is not refused, its lines are taken in, and this
 -- much room is left
 pub record ReadsFile (before after : InputState) (name : List ℕ) (number room left : ℕ)
     (old new : Taker) : Type 0 where
@@ -45,7 +45,7 @@ pub record ReadsFile (before after : InputState) (name : List ℕ) (number room 
   pub has : (lines : List Line) → old.has lines
       → FileIsRead old.setting number room old.section content lines new.has
 
--- the bytes that are left, as far as they are told
+-- the bytes that are left, as far as they are known
 abbrev pub known_rest : Option (List ℕ) → List ℕ
 known_rest None = []
 known_rest (Some rest) = rest
@@ -66,7 +66,7 @@ pub record ReadsLines (before after : InputState) (number : ℕ) (first last : S
       ≤ old.section + (MAX_INPUT_BYTES - first.taken)
   pub pieces : TakesPieces number false (pieces bytes) old new
 
--- the open input, which has this number, has this first refusal, or memory was wanted, after the
+-- the open input, which has this number, is first refused with this error, or memory ran out, after the
 -- lines that were taken in
 pub record RefusesLines (before after : InputState) (number : ℕ) (first : SeenLines) (old : Taker)
     (e : ReadError) : Type 0 where
@@ -78,7 +78,7 @@ pub record RefusesLines (before after : InputState) (number : ℕ) (first : Seen
       let room : ℕ = MAX_INPUT_BYTES - first.taken in
       IsPiecesRefusal number (nat_lt room (length content)) (pieces (take (room + 1) content)) old e
 
--- a read of the open input, which has this number, failed behind some front of it
+-- a read of the open input, which has this number, failed after some prefix of it
 pub record FailsWithin (before after : InputState) (number : ℕ) (first : SeenLines)
     (e : ReadError) : Type 0 where
   pub answer : e ≡ refused.ReadFault number
@@ -97,7 +97,7 @@ pub record IsBetween (lines : SeenLines) : Type 0 where
   pub refused : lines.refused ≡ false
   pub taken : lines.taken ≤ MAX_INPUT_BYTES
 
--- the input with this number was opened, and has this first refusal after the lines that
+-- the input with this number was opened, and is first refused with this error after the lines that
 -- were taken in
 pub record RefusesFile (before after : InputState) (name : List ℕ) (number room : ℕ)
     (old : Taker) (e : ReadError) : Type 0 where
@@ -109,14 +109,14 @@ pub record RefusesFile (before after : InputState) (name : List ℕ) (number roo
   pub refusal : (lines : List Line) → old.has lines
       → bytes_refusal old.setting number old.section (events_at old.setting lines) room content ≡ Some e
 
--- the input with this number could not be read: it failed, or files are told and the name is not
+-- the input with this number could not be read: it failed, or files are known and the name is not
 -- among them
 pub record IsUnread (before after : InputState) (name : List ℕ) (number room : ℕ)
     (e : ReadError) : Type 0 where
   pub answer : e ≡ refused.ReadFault number
   pub cause : InputGives before name room (Err Fault) after ⊎ InputGives before name room (Err Missing) after
 
--- the named input was opened: it has all of its bytes yet, where files are told
+-- the named input was opened; if files are known, all of its bytes are left
 pub record IsOpened (before after : InputState) (name : List ℕ) : Type 0 where
   pub tells : TellsFile before.files name after.rest
   pub mark : after.mark ≡ before.may_fail name
@@ -124,7 +124,7 @@ pub record IsOpened (before after : InputState) (name : List ℕ) : Type 0 where
   pub faults : after.faults ≡ before.faults
   pub turn : OpensInTurn (name ∷ []) before after
 
--- the input with this number failed at its opening, or files are told and the name is not among them; nothing is open
+-- the input with this number failed at its opening, or files are known and the name is not among them; nothing is open
 pub record IsNotOpened (before after : InputState) (name : List ℕ) (number : ℕ)
     (e : ReadError) : Type 0 where
   pub answer : e ≡ refused.ReadFault number
@@ -133,7 +133,7 @@ pub record IsNotOpened (before after : InputState) (name : List ℕ) (number : �
   pub none : OpensNone before after
   pub turn : OpensInTurn [] before after
 
--- why the input with this number is refused so
+-- why the input with this number is refused with this error
 abbrev pub HasFileCause : InputState → InputState → List ℕ → ℕ → ℕ → Taker → ReadError → Type 0
 HasFileCause before after name number room old e =
     ((e ≡ refused.Memory) × OpensNamed before after name room)
@@ -143,7 +143,7 @@ HasFileCause before after name number room old e =
 abbrev pub OpensOne : List ℕ → ℕ → InputState → InputState → Type 0
 OpensOne name room before after = OpensNamed before after name room × OpensInTurn (name ∷ []) before after
 
--- that, or none was opened, and nothing is open
+-- that, or no input was opened, and nothing is open
 abbrev pub OpensFile : List ℕ → ℕ → InputState → InputState → Type 0
 OpensFile name room before after =
     OpensOne name room before after ⊎ (OpensNone before after × OpensInTurn [] before after)

@@ -19,34 +19,34 @@ abbrev pub inputs_of : List (List ℕ) → List (List ℕ)
 inputs_of [] = [] ∷ []
 inputs_of (name ∷ names) = name ∷ names
 
--- the bytes of a file before those of the next ones; nothing where it is not there
+-- the bytes of a file before those of the next ones; nothing if it is missing
 abbrev pub with_content : Option (List ℕ) → List (List ℕ) → List (List ℕ)
 with_content None contents = []
 with_content (Some bytes) contents = bytes ∷ contents
 
--- the bytes of the named files, up to the first that is not there
+-- the bytes of the named files, up to the first that is missing
 abbrev pub told_contents : Files → List (List ℕ) → List (List ℕ)
 told_contents files [] = []
 told_contents files (name ∷ names) = with_content (bytes_of files name) (told_contents files names)
 
--- the number of the first file that is not there: this one, or a later one
+-- the number of the first missing file: this one, or a later one
 abbrev pub lacking : Option (List ℕ) → Option ℕ → Option ℕ
 lacking None later = Some 0
 lacking (Some bytes) later = option_map (λ number. number + 1) later
 
--- the number of the first named file that is not there
+-- the number of the first named file that is missing
 abbrev pub first_lacking : Files → List (List ℕ) → Option ℕ
 first_lacking files [] = None
 first_lacking files (name ∷ names) = lacking (bytes_of files name) (first_lacking files names)
 
--- P holds of the bytes of the inputs up to the first that is not there, where files are told; else
--- of some bytes of a front of the inputs
+-- if files are known, P holds of the bytes of the inputs up to the first that is missing; if not, of
+-- some bytes for a prefix of the inputs
 abbrev pub SomeContents : Option Files → List (List ℕ) → (List (List ℕ) → Type 0) → Type 0
 SomeContents None names P =
     (contents : List (List ℕ)) × (length contents ≤ length names) × P contents
 SomeContents (Some files) names P = P (told_contents files names)
 
--- so many inputs more were opened, and no fault was counted
+-- this many more inputs were opened, and no fault was counted
 pub record Opened (count : ℕ) (old new : InputState) : Type 0 where
   pub opens : new.opens ≡ min (old.opens + count) (2 ^ 64 - 1)
   pub faults : new.faults ≡ old.faults
@@ -60,7 +60,7 @@ pub record ReadsLog (s : Setting) (names : List (List ℕ)) (old new : InputStat
   pub at_end : IsAtEnd new.rest
   pub turn : OpensInTurn names old new
 
--- the number of the file with the first byte past so many, counted from 0
+-- the number of the file with the first byte past this many, counted from 0
 abbrev pub file_past : ℕ → List (List ℕ) → Option ℕ
 file_past room [] = None
 file_past room (bytes ∷ files) =
@@ -86,7 +86,7 @@ abbrev pub IsRefusedAt : Setting → ReadError → ℕ → List (List ℕ) → T
 IsRefusedAt s e number contents =
     (first_refusal s contents ≡ Some e) × (refused_input e contents ≡ Some number)
 
--- files are told, the one with this number is the first that is not there, and nothing in those
+-- files are known, the one with this number is the first that is missing, and nothing in those
 -- before it is refused
 abbrev pub IsLacking : Setting → Option Files → List (List ℕ) → ℕ → Type 0
 IsLacking s None names number = ⊥
@@ -98,13 +98,13 @@ pub record StopsBefore (number : ℕ) (old new : InputState) : Type 0 where
   pub opens : new.opens ≡ opens_after old.opens number
   pub closed : new.rest ≡ Some []
 
--- where files are told, the named ones leave so much room of the limit on all input
+-- if files are known, the named ones leave this much room of the limit on all input
 abbrev pub LeavesRoom : Option Files → List (List ℕ) → ℕ → Type 0
 LeavesRoom None names room = ⊤
 LeavesRoom (Some files) names room = total_bytes (told_contents files names) + room ≡ MAX_INPUT_BYTES
 
 -- the inputs up to the named one, which has this number, were opened, and no others; it is open,
--- and has left what stands behind some front, which has at most one byte past the room that the
+-- and what is left follows some prefix, which has at most one byte past the room that the
 -- inputs before it leave
 pub record StopsWithin (names : List (List ℕ)) (number : ℕ) (old new : InputState)
     (name : List ℕ) : Type 0 where
@@ -115,7 +115,7 @@ pub record StopsWithin (names : List (List ℕ)) (number : ℕ) (old new : Input
   pub left : IfTold old.files name (λ content. LosesFront (Some content) new.rest room)
 
 -- the inputs have this first refusal, and those up to the one at which reading stops were opened,
--- and no others; that one is open, and has left what stands behind some front
+-- and no others; that one is open, and what is left follows some prefix
 pub record RefusesLog (s : Setting) (names : List (List ℕ)) (old new : InputState)
     (e : ReadError) : Type 0 where
   pub number : ℕ
@@ -124,7 +124,7 @@ pub record RefusesLog (s : Setting) (names : List (List ℕ)) (old new : InputSt
   pub opened : Opened (number + 1) old new
   pub stops : IsSomeAnd (slice_get names number) (StopsWithin names number old new)
 
--- no call was made, or the inputs up to some one were opened, and no others, and that one is open
+-- nothing changed, or the inputs up to some one were opened, and no others, and that one is open
 abbrev pub StopsAnywhere : List (List ℕ) → InputState → InputState → Type 0
 StopsAnywhere names old new =
     (new ≡ old) ⊎ ((number : ℕ) × IsSomeAnd (slice_get names number) (StopsWithin names number old new))
@@ -134,8 +134,8 @@ abbrev pub MayFail : List (List ℕ) → InputState → InputState → ℕ → T
 MayFail names old new number =
     Rose old.faults new.faults × IsSomeAnd (slice_get names number) (λ name. IsTrue (old.may_fail name))
 
--- the input with this number failed at its opening, or at a read after it, and the inputs before it
--- leave some room
+-- the input with this number failed at its opening, or at a read after it; if files are known, those before
+-- it keep the limit on all input
 pub record Fails (names : List (List ℕ)) (old new : InputState) (number : ℕ) : Type 0 where
   pub fault : MayFail names old new number
   pub room : ℕ
@@ -143,13 +143,13 @@ pub record Fails (names : List (List ℕ)) (old new : InputState) (number : ℕ)
   pub stops : StopsBefore number old new
       ⊎ IsSomeAnd (slice_get names number) (StopsWithin names number old new)
 
--- the input with this number is the first that is not there, nothing before it is refused, and no
+-- the input with this number is the first that is missing, nothing before it is refused, and no
 -- fault was counted
 abbrev pub IsMissing : Setting → List (List ℕ) → InputState → InputState → ℕ → Type 0
 IsMissing s names old new number =
     IsLacking s old.files names number × StopsBefore number old new × (new.faults ≡ old.faults)
 
--- why a log is refused so, and what was opened
+-- why a log is refused with this error, and what was opened
 abbrev pub HasReadCause : Setting → List (List ℕ) → InputState → InputState → ReadError → Type 0
 HasReadCause s names old new (refused.ReadFault number) =
     Fails names old new number ⊎ IsMissing s names old new number

@@ -33,7 +33,7 @@ unused_lines = record { buffered = []; line = None; fed = false; number = 0; tak
 abbrev pub without_line : SeenLines → SeenLines
 without_line s = record s { line = None; fed = false }
 
--- so many bytes more are buffered
+-- with these bytes buffered too
 abbrev pub with_more : SeenLines → List ℕ → SeenLines
 with_more s got = record s { buffered = s.buffered ++ got }
 
@@ -41,7 +41,7 @@ with_more s got = record s { buffered = s.buffered ++ got }
 abbrev pub at_start : SeenLines → SeenLines
 at_start s = record s { line = None; fed = false; number = 0 }
 
--- the byte that ends a line, where one does
+-- the line feed, if it ends the line
 abbrev pub feed_if : Bool → List ℕ
 feed_if fed = if fed then 10 ∷ [] else []
 
@@ -49,7 +49,7 @@ feed_if fed = if fed then 10 ∷ [] else []
 abbrev pub feed_bytes : Bool → ℕ
 feed_bytes fed = if fed then 1 else 0
 
--- the refusal of the first of these pieces, where the last of them may have the byte past the limit
+-- the refusal of the first of these pieces; if they are cut, the last one has the byte past the limit
 -- on all input
 abbrev pub first_piece_refusal : Bool → List (List ℕ) → Option LineError
 first_piece_refusal cut [] = None
@@ -58,14 +58,14 @@ first_piece_refusal cut (piece ∷ rest) =
     else if cut && length rest == 0 then Some InputLimit
     else None
 
--- the refusal of the first piece of the bytes to come, after lines that have taken so many
+-- the refusal of the first piece of the bytes to come, after lines that have taken this many
 abbrev pub refusal_to_come : ℕ → List ℕ → Option LineError
 refusal_to_come taken bytes =
     first_piece_refusal (nat_lt (MAX_INPUT_BYTES - taken) (length bytes))
     (pieces (take (MAX_INPUT_BYTES - taken + 1) bytes))
 
 -- A line was given. What was buffered and what was read for it begin with its piece and the line
--- feed that ends it; the others are buffered. Where no line feed ends the piece, it is the last of
+-- feed that ends it; the others are buffered. If no line feed ends the piece, it is the last of
 -- the input, and has a byte or more.
 pub record GivesLine (old new : SeenLines) (before after : InputState) : Type 0 where
   pub got : List ℕ
@@ -98,7 +98,7 @@ pub record RefusesPiece (old new : SeenLines) (before after : InputState) (e : L
   pub refusal : (more : List ℕ) → refusal_to_come old.taken ((old.buffered ++ got) ++ more) ≡ Some e
   pub leaves : new ≡ record (with_more (without_line old) got) { refused = true }
 
--- a read failed, after which a front of the input is buffered, of at most one byte past the limit
+-- a read failed; what was read before it is buffered, with at most one byte past the limit
 -- on all input
 pub record FailsToRead (old new : SeenLines) (before after : InputState) : Type 0 where
   pub got : List ℕ
@@ -108,7 +108,7 @@ pub record FailsToRead (old new : SeenLines) (before after : InputState) : Type 
   pub mark : IsTrue before.mark
   pub leaves : new ≡ record (with_more (without_line old) got) { refused = true }
 
--- what `next` answers, and all that it leaves
+-- what `next` answers, and the state after it
 abbrev pub NextGives : SeenLines → InputState → Result Bool LineError → SeenLines → InputState → Type 0
 NextGives old before (Ok true) new after = GivesLine old new before after
 NextGives old before (Ok false) new after = GivesNone old new before after
@@ -116,8 +116,8 @@ NextGives old before (Err ReadFault) new after = FailsToRead old new before afte
 NextGives old before (Err TooLong) new after = RefusesPiece old new before after TooLong
 NextGives old before (Err InputLimit) new after = RefusesPiece old new before after InputLimit
 
--- what a given line is, where these bytes of the input were left before it: the first of the bytes
--- to come, which has no refusal; what is to come after it are the others
+-- the line that is given if these bytes of the input are left before it: the first of the bytes to
+-- come, which is not refused; the others are to come after it
 pub record TellsLine (old new : SeenLines) (rest : List ℕ) (after : Option (List ℕ)) : Type 0 where
   pub left : List ℕ
   pub is_left : after ≡ Some left

@@ -1,4 +1,4 @@
--- The lines of a log, where each stands, and what is said of each by itself.
+-- The lines of a log, the place of each, and the refusal of each after those before it.
 use Rattle.std.specs.Prelude.{ℕ, ◌≡◌, ◌≤◌, ◌<◌, ◌+◌, ◌-◌, ◌==◌, ◌&&◌, ⊤, Bool, true, false, IsTrue, if◌then◌else◌}
 use Rattle.std.specs.Prelude.{List, [], ◌∷◌, ◌++◌, length, take, map, nat_lt, Option, Some, None}
 use Rattle.std.specs.List.{count_by, enumerate_from, flat_map, sum_by}
@@ -10,7 +10,7 @@ use Rattle.log_reader.specs.Reading.{at_line, first_refusal, key_file, limit_ref
 use Rattle.log_reader.specs.declared.refusal.At.{At}
 use Rattle.log_reader.specs.declared.refusal.ReadError.{ReadError}
 
--- a line of a log: where it stands, how many separators stand before it, and its bytes
+-- a line of a log: its place, how many separators are before it, and its bytes
 pub record Line : Type 0 where
   pub at : At
   pub section : ℕ
@@ -29,13 +29,11 @@ separators form ps = count_by (λ p. is_separator (decided_piece form p)) ps
 abbrev pub separators_in : Form → List (List ℕ) → ℕ
 separators_in form files = sum_by (λ bytes. separators form (pieces bytes)) files
 
--- how many separators stand before a file: none, or with files that are joined those of the files
--- before it
+-- how many separators are before a file: those of the files before it if files are joined, otherwise none
 abbrev pub separators_before : Setting → List (List ℕ) → ℕ
 separators_before s files = if s.join then separators_in s.form files else 0
 
--- the lines of the file with this number, which stands behind these files; lines are numbered from
--- 1
+-- the lines of the file with this number, which comes after these files; the first line has the number 1
 abbrev pub file_lines : Setting → List (List ℕ) → ℕ → List (List ℕ) → List Line
 file_lines s before number ps =
     map
@@ -58,11 +56,11 @@ own_events s l = line_events (key_file s l.at.file) l.section (decided_piece s.f
 abbrev pub events_at : Setting → List Line → List KeyedEvent
 events_at s lines = flat_map (own_events s) lines
 
--- the refusal of a line by itself, after these
+-- the refusal of a line after these lines
 abbrev pub refusal_after : Setting → List Line → Line → Option ReadError
 refusal_after s front l = piece_refusal s l.at (events_at s front) l.piece
 
--- none of these lines is refused
+-- none of these lines is refused after those before it
 abbrev pub AreTaken : Setting → List Line → Type 0
 AreTaken s lines =
     (front : List Line) (l : Line) (rest : List Line) → lines ≡ front ++ l ∷ rest
@@ -80,20 +78,20 @@ IsTaken ignore BadTime = ⊥
 abbrev pub total_bytes : List (List ℕ) → ℕ
 total_bytes files = sum_by length files
 
--- the files, up to one byte past so many
+-- the files, up to one byte past this many
 abbrev pub up_to : ℕ → List (List ℕ) → List (List ℕ)
 up_to room [] = []
 up_to room (bytes ∷ files) =
     if nat_lt room (length bytes) then take (room + 1) bytes ∷ []
     else bytes ∷ up_to (room - length bytes) files
 
--- the refusal of a line with these behind it, after those before it: where the limit on all input
+-- the refusal of a line with these after it, after those before it: if the limit on all input
 -- is passed, the last line is the one with the byte past it
 abbrev pub own_refusal : Setting → Bool → List Line → Line → List Line → Option ReadError
 own_refusal s passed front l rest =
     if passed && length rest == 0 then Some (limit_refusal l.at l.piece) else refusal_after s front l
 
--- the first of these lines that is refused: it is refused so by itself, and none before it is
+-- the first of these lines that is refused: it is refused with this error, and none before it is
 pub record IsFirstRefused (s : Setting) (passed : Bool) (lines : List Line) (e : ReadError) : Type 0 where
   pub front : List Line
   pub line : Line
@@ -108,14 +106,14 @@ TellsRefusal s files None = (total_bytes files ≤ MAX_INPUT_BYTES) × AreTaken 
 TellsRefusal s files (Some e) =
     IsFirstRefused s (nat_lt MAX_INPUT_BYTES (total_bytes files)) (lines_of s (up_to MAX_INPUT_BYTES files)) e
 
--- where a log is not refused, each of its lines is decided or skipped
+-- if a log is not refused, each of its lines is decided or skipped
 abbrev pub AllTaken : Setting → List (List ℕ) → Type 0
 AllTaken s files =
     first_refusal s files ≡ None
     → (front : List Line) (l : Line) (rest : List Line) → lines_of s files ≡ front ++ l ∷ rest
     → IsTaken s.ignore (decided_piece s.form l.piece)
 
--- the file with the first byte past so many: those before it are within, and with it they are not
+-- the file with the first byte past this many: those before it are within, and with it they are not
 abbrev pub TellsPast : ℕ → List (List ℕ) → Option ℕ → Type 0
 TellsPast room files None = total_bytes files ≤ room
 TellsPast room files (Some number) =

@@ -38,12 +38,12 @@ pub data Decided : Type 0 where
   Undecided : Decided
   BadTime : Decided
 
--- in the plain form
+-- what a line is in the plain form, by its fields
 abbrev pub by_fields : Option (List ℕ × List ℕ) → Decided
 by_fields None = Undecided
 by_fields (Some fields) = Event fields.1 fields.0 0
 
--- by rules
+-- what a line is by rules, from their decision
 abbrev pub by_rules : List Rule → List ℕ → Result Decision DecideError → Decided
 by_rules rules text (Ok (decision.Event name from to time)) =
     Event (type_text rules text name) (part text from to) time
@@ -66,12 +66,12 @@ abbrev pub line_events : ℕ → ℕ → Decided → List KeyedEvent
 line_events file section (Event typ trace time) = event_of file section trace typ time ∷ []
 line_events file section _ = []
 
--- how many separators stand before the next line
+-- how many separators are before the next line
 abbrev pub section_after : ℕ → Decided → ℕ
 section_after section Separator = section + 1
 section_after section _ = section
 
--- the events of the pieces of a file, of which the first stands in this section
+-- the events of the pieces of a file; the first piece is in this section
 abbrev pub piece_events : Form → ℕ → ℕ → List (List ℕ) → List KeyedEvent
 piece_events form file section [] = []
 piece_events form file section (piece ∷ rest) =
@@ -88,11 +88,11 @@ section_at_end form section (piece ∷ rest) =
 abbrev pub key_file : Setting → ℕ → ℕ
 key_file s number = if s.join then 0 else number
 
--- the section in which the next file begins: separators count over all files that are joined
+-- the section in which the next file begins: this one if files are joined, otherwise 0
 abbrev pub next_section : Setting → ℕ → ℕ
 next_section s section = if s.join then section else 0
 
--- the events of files, of which the first has this number and begins in this section
+-- the events of files; the first has this number and begins in this section
 abbrev pub file_events : Setting → ℕ → ℕ → List (List ℕ) → List KeyedEvent
 file_events s number section [] = []
 file_events s number section (bytes ∷ files) =
@@ -108,7 +108,7 @@ abbrev pub first_of : Option ReadError → Option ReadError → Option ReadError
 first_of None next = next
 first_of (Some e) next = Some e
 
--- the refusal of an event with these texts, after these types and so many events
+-- the refusal of an event with these texts, after these types and this many events
 abbrev pub event_refusal : At → List (List ℕ) → ℕ → List ℕ → List ℕ → Option ReadError
 event_refusal at types count typ trace =
     if nat_lt MAX_TYPE_BYTES (length typ) then Some (refused.TypeTooLong at)
@@ -133,7 +133,7 @@ piece_refusal s at before piece =
     if nat_lt MAX_LINE_BYTES (length piece) then Some (refused.LineTooLong at)
     else line_refusal s.ignore at before (decided_piece s.form piece)
 
--- the refusal of the piece in which the byte past the limit on all input stands
+-- the refusal of the piece with the byte past the limit on all input
 abbrev pub limit_refusal : At → List ℕ → ReadError
 limit_refusal at piece =
     if nat_lt MAX_LINE_BYTES (length piece) then refused.LineTooLong at else refused.InputLimit
@@ -142,8 +142,8 @@ limit_refusal at piece =
 abbrev pub at_line : ℕ → ℕ → At
 at_line file line = record { file = file; line = line }
 
--- The first refusal of the pieces of the file with this number, after these events, where the first
--- piece has this line number and section. Where the limit on all input cuts the file, the last
+-- The first refusal of the pieces of the file with this number, after these events. The first piece
+-- has this line number and section. If the limit on all input cuts the file, the last
 -- piece is the one with the byte past the limit.
 abbrev pub pieces_refusal : Setting → ℕ → Bool → ℕ → List KeyedEvent → ℕ → List (List ℕ) → Option ReadError
 pieces_refusal s number cut section before line [] = None
@@ -153,7 +153,7 @@ pieces_refusal s number cut section before line (piece ∷ rest) =
     (pieces_refusal s number cut (section_after section (decided_piece s.form piece))
     (before ++ line_events (key_file s number) section (decided_piece s.form piece)) (line + 1) rest)
 
--- the first refusal of a file, where there is room for so many bytes more
+-- the first refusal of a file, if there is room for this many more bytes
 abbrev pub bytes_refusal : Setting → ℕ → ℕ → List KeyedEvent → ℕ → List ℕ → Option ReadError
 bytes_refusal s number section before room bytes =
     pieces_refusal s number (nat_lt room (length bytes)) section before 1 (pieces (take (room + 1) bytes))

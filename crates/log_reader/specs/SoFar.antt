@@ -32,7 +32,7 @@ pub record IsWithin (gathering : Gathering) : Type 0 where
   pub types : length gathering.types ≤ MAX_TYPES
   pub events : event_count_of gathering.traces ≤ MAX_EVENTS
 
--- what was gathered is that of these events
+-- the gathering is that of these events
 abbrev pub IsGatheredOf : Gathering → List KeyedEvent → Type 0
 IsGatheredOf gathering events = gathering ≡ gathered_of events
 
@@ -45,17 +45,17 @@ refusal_in ignore at gathering spec.Separator = None
 refusal_in ignore at gathering spec.Undecided = if ignore then None else Some (refused.Undecided at)
 refusal_in ignore at gathering spec.BadTime = Some (refused.BadTime at)
 
--- the refusal is this one, or memory was wanted
+-- the error is this refusal, or out of memory
 abbrev pub IsRefusal : Option ReadError → ReadError → Type 0
 IsRefusal refusal e = (e ≡ refused.Memory) ⊎ (refusal ≡ Some e)
 
--- from what was gathered of some events, what was gathered of these and of the line's
+-- if the old gathering is that of some events, the new one is that of these and of the line's
 abbrev pub AddsLine : ℕ → ℕ → Decided → Gathering → Gathering → Type 0
 AddsLine file section d old new =
     (events : List KeyedEvent) → IsGatheredOf old events
     → IsGatheredOf new (events ++ line_events file section d)
 
--- a line that is decided so is not refused, and its event and its section are taken in
+-- a line with this decision is not refused, and its event and its section are taken in
 pub record TakesLine (at : At) (d : Decided) (old new : LogSoFar) : Type 0 where
   pub refusal : refusal_in old.ignore at old.builder d ≡ None
   pub log : AddsLine (if old.join then 0 else at.file) old.section d old.builder new.builder
@@ -64,7 +64,7 @@ pub record TakesLine (at : At) (d : Decided) (old new : LogSoFar) : Type 0 where
   pub join : new.join ≡ old.join
   pub within : IsWithin new.builder
 
--- what a line that is decided so is taken for
+-- what a line with this decision is taken for
 abbrev pub taken_for : At → Decided → LogSoFar → Taken
 taken_for at (spec.Event typ trace time) log =
     taken.Event
@@ -75,7 +75,7 @@ taken_for at spec.Skip log = taken.Nothing
 taken_for at spec.Separator log = taken.Nothing
 taken_for at spec.BadTime log = taken.Nothing
 
--- how a reader reads
+-- the setting of a reader
 abbrev pub setting_of : LogReader → Setting
 setting_of reader = setting (decider_view reader.decider) reader.log.ignore reader.log.join
 
@@ -88,7 +88,7 @@ pub record IsReady (reader : LogReader) : Type 0 where
 abbrev pub decided_line : spec.Form → List ℕ → Decided
 decided_line form line = if length line == 0 then spec.Skip else decided form (utf8_lossy line)
 
--- a line that is decided so is taken in, and the reader reads on as before
+-- a line with this decision is taken in, and the reader reads on as before
 pub record ReadsText (at : At) (d : Decided) (old new : LogReader) : Type 0 where
   pub takes : TakesLine at d old.log new.log
   pub form : decider_view new.decider ≡ decider_view old.decider

@@ -1,4 +1,4 @@
--- What takes in the lines of a log, as contracts see it, and what a line makes of it.
+-- What takes in the lines of a log, as contracts see it, and what each line changes in it.
 use Rattle.std.specs.Prelude.{ℕ, ◌≡◌, ◌≤◌, ◌+◌, Bool, List, [], ◌∷◌, ◌++◌, None}
 use Rattle.lines.specs.Lines.{line_of, pieces}
 use Rattle.log_reader.specs.Reading.{Form, Setting, at_line, decided_piece, line_refusal, next_section, pieces_refusal, section_after, section_at_end}
@@ -14,7 +14,7 @@ pub record Taker : Type 1 where
   pub ready : Type 0
   -- how it reads
   pub setting : Setting
-  -- how many separators stand before the next line: in its file, or with files that are joined in all
+  -- how many separators are before the next line: in its file, or in all files if they are joined
   pub section : ℕ
   -- it has taken in these lines, and no others
   pub has : List Line → Type 0
@@ -32,17 +32,17 @@ pub record TakesPiece (at : At) (piece : List ℕ) (old new : Taker) : Type 0 wh
       → line_refusal old.setting.ignore at (events_at old.setting lines) (decided_piece old.setting.form piece) ≡ None
   pub has : (lines : List Line) → old.has lines → new.has (lines ++ line_by at old.section piece ∷ [])
 
--- these bytes are the line of a piece, which is taken in
+-- each piece whose line is these bytes is taken in
 abbrev pub TakesLineOf : At → List ℕ → Taker → Taker → Type 0
 TakesLineOf at bytes old new = (piece : List ℕ) → line_of piece ≡ bytes → TakesPiece at piece old new
 
--- these bytes are the line of a piece, which has this refusal after the lines before it, or memory was wanted
+-- each piece whose line is these bytes is refused with this error after the lines before it, or memory ran out
 abbrev pub RefusesLineOf : At → List ℕ → Taker → ReadError → Type 0
 RefusesLineOf at bytes old e =
     (piece : List ℕ) → line_of piece ≡ bytes → (lines : List Line) → old.has lines
     → IsRefusal (line_refusal old.setting.ignore at (events_at old.setting lines) (decided_piece old.setting.form piece)) e
 
--- a file ends: the sections of the next one are counted anew, unless files are joined
+-- a file ends: the sections of the next one are counted from 0 again, unless files are joined
 pub record EndsFile (old new : Taker) : Type 0 where
   pub ready : old.ready → new.ready
   pub setting : new.setting ≡ old.setting
@@ -50,14 +50,14 @@ pub record EndsFile (old new : Taker) : Type 0 where
   pub few : new.section ≤ old.section
   pub has : (lines : List Line) → old.has lines → new.has lines
 
--- the lines of pieces, of which the first has this number and section
+-- the lines of pieces; the first has this number and section
 abbrev pub piece_lines : Form → ℕ → ℕ → ℕ → List (List ℕ) → List Line
 piece_lines form number section line [] = []
 piece_lines form number section line (p ∷ ps) =
     record { at = at_line number line; section = section; piece = p }
     ∷ piece_lines form number (section_after section (decided_piece form p)) (line + 1) ps
 
--- the lines of files, of which the first has this number and begins in this section
+-- the lines of files; the first has this number and begins in this section
 abbrev pub files_lines : Setting → ℕ → ℕ → List (List ℕ) → List Line
 files_lines s number section [] = []
 files_lines s number section (bytes ∷ files) =
@@ -78,7 +78,7 @@ pub record TakesPieces (number : ℕ) (cut : Bool) (ps : List (List ℕ)) (old n
   pub has : (lines : List Line) → old.has lines
       → PiecesAreTaken old.setting number cut old.section ps lines new.has
 
--- the first refusal of the pieces of a file is this one, or memory was wanted
+-- the first refusal of the pieces of a file is this error, or memory ran out
 abbrev pub IsPiecesRefusal : ℕ → Bool → List (List ℕ) → Taker → ReadError → Type 0
 IsPiecesRefusal number cut ps old e =
     (lines : List Line) → old.has lines

@@ -1,4 +1,4 @@
-//! Where a line stands in the buffer; where a piece of the input ends, and whether it is within the limits.
+//! Where a line is in the buffer; where a piece of the input ends, and whether it is within the limits.
 ghost use Rattle.std.specs.Prelude.{◌≡◌, ◌≤◌, ◌+◌, IfOk, IfErr};
 ghost use Rattle.limits.specs.declared.TheConstants.{MAX_INPUT_BYTES};
 ghost use Rattle.log_reader.specs.LineReader.{feed_bytes};
@@ -7,12 +7,12 @@ ghost use Rattle.log_reader.specs.Buffers.{IsWithinLimits, PassesLimit};
 use crate::line_error::LineError;
 use limits::{MAX_INPUT_BYTES, MAX_LINE_BYTES};
 
-/// Where the current line stands in the buffer.
+/// Where the current line is in the buffer.
 #[derive(Clone, Copy)]
 pub struct Extent {
     /// The place of its first byte.
     pub from: usize,
-    /// The place behind its last byte.
+    /// The place after its last byte.
     pub to: usize,
 }
 
@@ -26,7 +26,7 @@ pub struct Cut {
 }
 
 impl Cut {
-    /// How many bytes the piece takes, with the line feed that ends it.
+    /// How many bytes the piece takes, including the line feed that ends it.
     pub fn used(self) -> usize
         requires { self.length ≤ MAX_INPUT_BYTES + 1 }
         ensures { result ≡ self.length + feed_bytes self.fed }
@@ -39,7 +39,7 @@ impl Cut {
     }
 }
 
-/// The cut of a piece that is within the limits, after lines that have taken so many bytes.
+/// The cut, if its piece is within the limits after lines that have taken `taken` bytes.
 pub fn within_limits(taken: usize, cut: Cut) -> Result<Cut, LineError>
     requires taken { taken ≤ MAX_INPUT_BYTES }
     requires length { cut.length ≤ MAX_INPUT_BYTES + 1 }

@@ -1,4 +1,4 @@
-//! What decides the lines of a whole log.
+//! The deciders of the lines of a whole log.
 ghost use Rattle.std.specs.Prelude.{◌≡◌, ◌<◌, length, IfOk};
 ghost use Rattle.line_rules.specs.Rules.{IsNamePart, type_text};
 ghost use Rattle.line_rules.specs.Views.{rules_in};
@@ -14,11 +14,11 @@ use std::alloc::AllocError;
 pub struct KeptRules<'r> {
     /// The rules.
     pub rules: &'r LineRules,
-    /// What searches for them.
+    /// The matchers that search for them.
     pub matchers: Matchers<'r>,
 }
 
-/// A form with what it keeps from line to line.
+/// A form with the data that it keeps from line to line.
 #[derive(Drop)]
 pub enum Decider<'r> {
     /// `trace type`.
@@ -28,7 +28,7 @@ pub enum Decider<'r> {
 }
 
 impl<'r> Decider<'r> {
-    /// What decides by this form. It takes memory for the matchers of rules.
+    /// A decider for this form. It takes memory for the matchers of rules.
     pub fn make(form: Form<'r>) -> Result<Decider<'r>, AllocError>
         ensures form { IfOk result (λ decider. decider_view decider ≡ form_view form.entry) }
         ensures matchers { IfOk result HasMatchers }

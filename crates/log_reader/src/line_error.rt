@@ -5,9 +5,9 @@
 pub enum LineError {
     /// The open input could not be read.
     ReadFault,
-    /// The line has more than 65,536 bytes, a final carriage return counted.
+    /// The line has more than 65,536 bytes, including a carriage return at its end.
     TooLong,
-    /// All inputs have more than 268,435,456 bytes, and the first byte past them stands in this
-    /// line or ends it.
+    /// All inputs together have more than 268,435,456 bytes, and the first byte past that limit is
+    /// in this line or ends it.
     InputLimit,
 }

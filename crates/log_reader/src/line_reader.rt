@@ -21,21 +21,22 @@ use outside::{Failed, Inputs};
 use std::alloc::{AllocError, Global};
 use std::marker::Model;
 
-/// How many bytes the buffer has: a piece of the greatest length with its line feed, and room to read many more at once.
+/// How many bytes the buffer has. It holds a piece of the greatest length with its line feed, and has room to read many more
+/// bytes at once.
 const BUFFER_BYTES: usize = 131_072;
 
-/// A reader of the lines of inputs, one input after the other. It keeps a buffer of 131,072 bytes, which is made once, and a line
-/// is read where it stands in it.
+/// A reader of the lines of inputs, one input after the other. It has a buffer of 131,072 bytes, which is made once. A line is a
+/// part of the buffer and is not copied.
 ///
-/// Contracts see the bytes that are buffered, the current line where there is one, whether a line feed ends it, the number of the
-/// line in its input, how many bytes all lines have taken since the reader was made, and whether a call of `next` was refused.
-/// The bytes still to come are those that are buffered, and then the rest of the open input.
+/// Contracts see the bytes that are buffered, the current line if there is one, whether a line feed ends it, the number of the
+/// line in its input, how many bytes all lines have taken since the reader was made, and whether a call of `next` returned an
+/// error. The bytes still to come are those that are buffered, and then the unread bytes of the open input.
 #[derive(Drop)]
 pub struct Lines {
     buf: Vec<u8>,
-    /// Where what is buffered begins.
+    /// Where the buffered bytes begin.
     from: usize,
-    /// Where it ends.
+    /// Where they end.
     to: usize,
     /// From where on all bytes before that are known to be ASCII.
     clean_from: usize,
@@ -68,7 +69,7 @@ impl Model for Lines {
 }
 
 impl Lines {
-    /// A reader with nothing buffered. This alone takes memory: `AllocError` comes where there is not enough.
+    /// A reader with nothing buffered. Only this call takes memory. Its only error is that memory runs out.
     pub fn make(alloc: Global) -> Result<Lines, AllocError>
         ensures { IfOk result (λ lines. lines ≡ unused_lines) }
     {
@@ -86,8 +87,8 @@ impl Lines {
         })
     }
 
-    /// Begins an input that was opened, behind the end of the one before: its lines are numbered from 1. The bytes that lines
-    /// have taken are counted over all inputs.
+    /// Begins an input that was opened, after the end of the one before: nothing is buffered. Its lines are numbered from 1. The
+    /// bytes that lines have taken are counted over all inputs.
     pub fn start(&mut self)
         requires { (self.old).buffered ≡ [] }
         ensures { self.new ≡ at_start self.old }
@@ -97,7 +98,8 @@ impl Lines {
         self.number = 0;
     }
 
-    /// The current line: its bytes without the line feed that ends it, and without one carriage return at its end.
+    /// The current line, without the line feed that ends it and without one carriage return at its end. There must be a current
+    /// line.
     pub fn line(&self) -> &[u8]
         requires { IsSome (self.now).line }
         ensures { (self.now).line ≡ Some result.now }
@@ -108,7 +110,7 @@ impl Lines {
         }
     }
 
-    /// The bytes from the start of the current line on, with what stands behind it in the buffer: the line is their front.
+    /// The bytes from the start of the current line to the end of the buffer. The line is a prefix of them.
     pub(crate) fn line_and_more(&self) -> &[u8]
         requires { IsSome (self.now).line }
         ensures { IfSome (self.now).line (λ line. take (length line) result.now ≡ line) }
@@ -129,21 +131,21 @@ impl Lines {
         }
     }
 
-    /// The number of the current line in its input, from 1: how many of the input's lines were given.
+    /// The number of the current line in its input, counted from 1. It is also how many of the input's lines were given.
     pub fn number(&self) -> u32
         ensures { result ≡ (self.now).number }
     {
         self.number
     }
 
-    /// Whether a line feed ends the current line. Where none does, it is the last of its input.
+    /// Whether a line feed ends the current line. If none does, it is the last of its input.
     pub fn ends_with_feed(&self) -> bool
         ensures { result ≡ (self.now).fed }
     {
         self.fed
     }
 
-    /// What is buffered.
+    /// The buffered bytes.
     fn buffered(&self) -> &[u8]
         ensures value { result.now ≡ (self.now).buffered }
         ensures taken { (self.now).taken ≤ MAX_INPUT_BYTES }
@@ -152,7 +154,7 @@ impl Lines {
         &self.buf[self.from..self.to]
     }
 
-    /// Reads more of the open input, and says whether there was more. Of what is buffered only the new bytes are looked at.
+    /// Reads more of the open input, and returns whether there was more. Of the buffered bytes, only the new ones are looked at.
     fn fill<I: Inputs>(&mut self, inputs: &mut I) -> Result<bool, Failed>
         requires line { self.old ≡ without_line self.old }
         requires short { length (self.old).buffered ≤ MAX_LINE_BYTES }
@@ -178,8 +180,8 @@ impl Lines {
         Ok(count > 0)
     }
 
-    /// Reads until the end of the first piece to come is buffered, and says where it is. It stays a call, so that the way of a
-    /// short line is short.
+    /// Reads until the end of the first piece to come is buffered, and returns where it is. It stays a call, so that the path of
+    /// a short line is short.
     #[inline(never)]
     fn find_end<I: Inputs>(&mut self, inputs: &mut I) -> Result<Cut, LineError>
         requires line { self.old ≡ without_line self.old }
@@ -188,7 +190,7 @@ impl Lines {
         ensures opens { (I.state inputs.new).opens ≡ (I.state inputs.old).opens }
         ensures turn { (I.state inputs.new).followed ≡ (I.state inputs.old).followed }
 
-        // Where the end is found, and why it is not.
+        // Where the end is found, and why it is not found.
         ensures ok { IfOk result
             (FindsEnd self.old self.new (I.state inputs.old) (I.state inputs.new)) }
         ensures err { IfErr result
@@ -210,9 +212,8 @@ impl Lines {
         }
     }
 
-    /// How long the first piece to come is, where more than `LANES` bytes are buffered and a line feed that is among the first
-    /// `LANES` of them ends it. It is then within the limits, since no more than one byte past that on all input is ever
-    /// buffered.
+    /// How long the first piece to come is, if more than `LANES` bytes are buffered and a line feed among the first `LANES` of
+    /// them ends it. Then it is within the limits, since at most one byte past the limit on all input is ever buffered.
     #[inline(always)]
     fn near_end(&self) -> Option<usize>
         ensures first { IfSome result (λ n. n ≡ position_or_len is_feed (self.now).buffered) }
@@ -224,13 +225,13 @@ impl Lines {
         near_feed(self.buffered())
     }
 
-    /// Takes the piece that ends so from the front of what is buffered: its line is the current one.
+    /// Takes the piece with this cut from the start of the buffered bytes. Its line becomes the current one.
     fn take(&mut self, cut: Cut)
         requires some { 0 < cut.length + feed_bytes cut.fed }
         requires inside { cut.length + feed_bytes cut.fed ≤ length (self.old).buffered }
         requires within { (self.old).taken + cut.length + feed_bytes cut.fed ≤ MAX_INPUT_BYTES }
 
-        // What stands then: the piece is no longer buffered, and its line is the current one.
+        // Afterwards the piece is no longer buffered, and its line is the current one.
         ensures { self.new ≡ record {
           buffered = drop (cut.length + feed_bytes cut.fed) (self.old).buffered;
           line = Some (line_of (take cut.length (self.old).buffered));
@@ -252,18 +253,20 @@ impl Lines {
         self.number += 1;
     }
 
-    /// Goes on to the next line of the open input, and says whether there is one. It takes no memory. An input is begun by
-    /// `start`. After a refusal the reader may only be dropped.
+    /// Goes on to the next line of the open input, and returns whether there is one. It takes no memory. An input is begun by
+    /// `start`. After an error `next` must not be called again.
     ///
-    /// - `Ok(true)`: the current line is the first of the bytes still to come. Its piece and the line feed that ends it are gone
-    ///   from them, and are counted as taken.
-    /// - `Ok(false)`: exactly where no byte is to come. There is no current line, and nothing is buffered. The number of the line
-    ///   and the count of bytes stay.
-    /// - `ReadFault`: only where the inputs counted a fault in this call, and may fail the open input.
-    /// - `TooLong`, `InputLimit`: exactly where the first piece to come has its 65,537th byte, or the byte past the limit on all
-    ///   input; of the two what comes first, and at one byte `TooLong`. The bytes of all inputs count.
+    /// - `Ok(true)`: the current line is the first in the bytes still to come. Its piece and the line feed that ends it are gone
+    ///   from them, and are counted as taken. No fault was counted.
+    /// - `Ok(false)`: no byte is to come. There is no current line, and nothing is buffered. The number of the line and the count
+    ///   of bytes stay. No fault was counted.
+    /// - `ReadFault`: the inputs counted a fault in this call, and may fail the open input.
+    /// - `TooLong`: the first piece to come has a 65,537th byte. `InputLimit`: it, or the line feed that ends it, has the first
+    ///   byte past the limit on all input. If both are the case, the one whose byte comes first is returned, or `TooLong` if it
+    ///   is the same byte. The bytes of all inputs count. No fault was counted.
     ///
-    /// At each refusal a front of the input was read and is buffered, up to one byte past the limit on all input.
+    /// At each error, a prefix of the unread bytes of the input was read and is buffered. With the bytes that lines have taken,
+    /// this is at most one byte past the limit on all input.
     pub fn next<I: Inputs>(&mut self, inputs: &mut I) -> Result<bool, LineError>
         requires { (self.old).refused ≡ false }
         ensures stays { Stays (I.state inputs.old) (I.state inputs.new) }

@@ -20,14 +20,14 @@ use traces::TraceSet;
 /// A log that is being read.
 #[derive(Drop)]
 pub struct LogReader<'r> {
-    /// What decides the next line.
+    /// The decider of the next line.
     pub decider: Decider<'r>,
     /// The lines that were read.
     pub log: LogSoFar,
 }
 
 impl<'r> LogReader<'r> {
-    /// A reader before the first line. It takes memory where the form does.
+    /// A reader before the first line. It takes memory if the form does.
     pub fn make(
         alloc: Global,
         form: Form<'r>,
@@ -59,7 +59,7 @@ impl<'r> LogReader<'r> {
         requires ready { IsReady self.old }
         requires room { self.old.log.section < 2 ^ 32 - 1 }
 
-        // The line is taken in, or it is told why not.
+        // The line is taken in, or the error gives the cause.
         ensures taken { IfOk result (λ taken. taken
             ≡ taken_for at (decided (setting_of self.old).form text.now) self.old.log) }
         ensures ok { OnOk result
@@ -83,7 +83,7 @@ impl<'r> LogReader<'r> {
         requires room { self.old.log.section < 2 ^ 32 - 1 }
         requires some { 0 < length line.now }
 
-        // The line is taken in, or it is told why not.
+        // The line is taken in, or the error gives the cause.
         ensures taken { IfOk result (λ taken. taken
             ≡ taken_for at (decided_line (setting_of self.old).form line.now) self.old.log) }
         ensures ok { OnOk result
@@ -98,8 +98,8 @@ impl<'r> LogReader<'r> {
         }
     }
 
-    /// Takes in a line of which it is not known whether it is UTF-8, and with which these bytes begin. It stays a call, so that the
-    /// way of a line that is known to be ASCII is short.
+    /// Takes in a line that may not be UTF-8, and with which these bytes begin. It stays a call, so that the path of a line that
+    /// is known to be ASCII is short.
     #[inline(never)]
     fn read_unknown(
         &mut self,
@@ -113,7 +113,7 @@ impl<'r> LogReader<'r> {
         requires room { self.old.log.section < 2 ^ 32 - 1 }
         requires some { 0 < length line.now }
 
-        // The line is taken in, or it is told why not.
+        // The line is taken in, or the error gives the cause.
         ensures taken { IfOk result (λ taken. taken
             ≡ taken_for at (decided_line (setting_of self.old).form line.now) self.old.log) }
         ensures ok { OnOk result
@@ -131,8 +131,8 @@ impl<'r> LogReader<'r> {
         }
     }
 
-    /// Takes in a line, which may be known to be ASCII and with which these bytes begin, and returns what it was taken for. Want of
-    /// memory hides no refusal of a line that is UTF-8.
+    /// Takes in a line, which may be known to be ASCII and with which these bytes begin, and returns what it was taken for. If
+    /// the line is UTF-8, `Memory` is returned only if the line has no refusal.
     #[inline(always)]
     pub fn read_line(
         &mut self,
@@ -147,7 +147,7 @@ impl<'r> LogReader<'r> {
         requires ready { IsReady self.old }
         requires room { self.old.log.section < 2 ^ 32 - 1 }
 
-        // The line is taken in, or it is told why not.
+        // The line is taken in, or the error gives the cause.
         ensures taken { IfOk result (λ taken. taken
             ≡ taken_for at (decided_line (setting_of self.old).form line.now) self.old.log) }
         ensures ok { OnOk result
@@ -169,7 +169,7 @@ impl<'r> LogReader<'r> {
         self.read_unknown(alloc, at, line, bytes)
     }
 
-    /// Ends a file: the sections of the next one are counted anew, unless files are joined.
+    /// Ends a file: the sections of the next one are counted from 0 again, unless files are joined.
     pub fn start_file(&mut self)
         ensures section { self.new.log.section
             ≡ next_section (setting_of self.old) self.old.log.section }
@@ -183,7 +183,7 @@ impl<'r> LogReader<'r> {
         }
     }
 
-    /// The types and the traces of the lines that were read, each trace by the times of its events.
+    /// The types and the traces of the lines that were read, each trace ordered by the times of its events.
     pub fn finish(self) -> Result<TraceSet, AllocError>
         ensures { IfOk result (λ set. set ≡ in_order self.entry.log.builder) }
     {

@@ -21,7 +21,7 @@ use outside::{Inputs, OpenError};
 use std::alloc::Global;
 use traces::{TraceSet, gathering_in_order_is_the_log};
 
-/// The name of the input with this number: the empty one where no name is given.
+/// The name of the input with this number. If no name is given, it is the empty name.
 fn name_at(names: &[String], number: usize) -> &str
     requires { number < length (names_in names.now) }
     ensures { slice_get (names_in names.now) number ≡ Some result.now }
@@ -32,7 +32,7 @@ fn name_at(names: &[String], number: usize) -> &str
     }
 }
 
-/// How many inputs are read: where no name is given, one.
+/// How many inputs are read: one if no name is given.
 fn count_of(names: &[String]) -> usize
     ensures value { result ≡ length (names_in names.now) }
     ensures few { result ≤ length names.now + 1 }
@@ -97,7 +97,7 @@ fn read_lines<I: Inputs, T: TakeLines>(
     }
 }
 
-/// Opens the input with this number. Where that fails, or there is none of this name, the input could not be read.
+/// Opens the input with this number. If that fails, or there is none of this name, the error is that the input could not be read.
 fn open_input<I: Inputs>(inputs: &mut I, name: &str, number: u32) -> Result<(), ReadError>
     ensures stays { Stays (I.state inputs.old) (I.state inputs.new) }
     ensures ok { OnOk result (IsOpened (I.state inputs.old) (I.state inputs.new) name.now) }
@@ -156,8 +156,8 @@ fn read_file<I: Inputs, T: TakeLines>(
     Ok(())
 }
 
-/// Takes in the lines of all named inputs, in this order, as [`read_log`] does, which says when each error comes and what it
-/// leaves. What takes in the lines has taken in none before. There are fewer than 2^32 names.
+/// Takes in the lines of all named inputs, in this order, as [`read_log`] does. The documentation of `read_log` states when each
+/// error is returned and what it leaves. `lines` and `reader` have taken in no lines before. There are fewer than 2^32 names.
 pub fn read_inputs<I: Inputs, T: TakeLines>(
     alloc: Global,
     inputs: &mut I,
@@ -172,14 +172,14 @@ pub fn read_inputs<I: Inputs, T: TakeLines>(
     requires nothing { (T.seen reader.old).has [] }
     ensures stays { Stays (I.state inputs.old) (I.state inputs.new) }
 
-    // What is gathered, and the cause of each error.
+    // The lines that are taken in, and the cause of each error.
     ensures ok { OnOk result (ReadsInputs (T.seen reader.old).setting (names_in names.now)
         (I.state inputs.old) (I.state inputs.new) (T.seen reader.new).has) }
     ensures setting { OnOk result ((T.seen reader.new).setting ≡ (T.seen reader.old).setting) }
     ensures err { IfErr result (HasReadCause (T.seen reader.old).setting (names_in names.now)
         (I.state inputs.old) (I.state inputs.new)) }
 
-    // Want of memory hides no fault, and which inputs are opened.
+    // Out of memory hides no fault. Which inputs are opened.
     ensures memory { result ≡ Err ReadError.Memory
         → (I.state inputs.new).faults ≡ (I.state inputs.old).faults }
     ensures opens { (I.state inputs.new).opens
@@ -197,31 +197,29 @@ pub fn read_inputs<I: Inputs, T: TakeLines>(
     Ok(())
 }
 
-/// The types and the traces of the log in the named inputs, in this order. Without any name it is
-/// read from standard input, as input 0. There are fewer than 2^32 names. Lines are taken in as
-/// they are read, and of an input no more than a buffer of a fixed size is held.
+/// The types and the traces of the log in the named inputs, in this order. If there is no name, it is read from standard input,
+/// as input 0. There are fewer than 2^32 names. Lines are taken in as they are read, and a buffer of a fixed size holds the part
+/// of an input that is being read.
 ///
-/// Lines are decided by the form. A line that nothing decides is refused, or with `ignore` skipped;
-/// one whose time is bad is refused either way. With `join` the inputs are one log: traces go on
-/// from one to the next, and separators count over all. The events of a trace stand by their times.
+/// Lines are decided by the form. A line that nothing decides is refused, or skipped if `ignore` is set. A line whose time is bad
+/// is refused in both cases. If `join` is set, the inputs are one log: traces go on from one to the next, and separators count
+/// over all. The events of a trace are ordered by their times.
 ///
-/// Whatever is answered, the first so many of the inputs were opened, each but the last was read to
-/// its end before the next was opened, and no other input was opened. Of all inputs together at
-/// most one byte past the limit on all input was read.
+/// Whatever is returned, no more inputs were opened than are named. If files are known, these are the first ones in this order,
+/// each but the last was read to its end before the next was opened, and no other input was opened. Then an input that stays open
+/// has left the bytes after a prefix that was read, and at most one byte past the limit on all input was read of all inputs
+/// together.
 ///
 /// - `Ok`: each input was opened and read to its end, nothing in them is refused, and no fault was
 ///   counted.
-/// - `ReadFault`: the inputs before the named one were opened, and no others but that one. Either
-///   the inputs counted a fault and may fail it: nothing is open where its opening failed, and
-///   where a read failed it stays open, with what stands behind the front that was read. Or it is
-///   the first that is missing, and nothing before it is refused: nothing is open then, and no
+/// - `ReadFault`: the inputs before the one with this number were opened, and no others but that one. There are two causes.
+///   Either the inputs counted a fault and may fail it: if its opening failed, nothing is open, and if a read failed, it stays
+///   open. Or files are known, it is the first that is missing, and nothing before it is refused: then nothing is open, and no
 ///   fault was counted.
-/// - Each other refusal but `Memory` is the first in the order of the bytes. The inputs up to the
-///   one with the line that is named, or with the byte past the limit on all input, were opened,
-///   and no others, and no fault was counted. That input stays open, with what follows the prefix
-///   that was read.
-/// - `Memory`: memory was refused. No fault was counted. Either no call of the inputs was made, or
-///   one of them is open, with what follows the prefix that was read of it.
+/// - Each other refusal except `Memory` is the first in the order of the bytes. The inputs up to the one with the refused line,
+///   or with the byte past the limit on all input, were opened, and no others. No fault was counted. That input stays open.
+/// - `Memory`: memory ran out. The inputs' count of faults is as before. Either all that contracts see of the inputs is as
+///   before, or the inputs up to some one were opened, and no others, and that one stays open.
 pub fn read_log<I: Inputs>(
     alloc: Global,
     inputs: &mut I,
@@ -239,13 +237,13 @@ pub fn read_log<I: Inputs>(
     ensures err { IfErr result (HasReadCause (setting (form_view form.entry) ignore join)
         (names_in names.now) (I.state inputs.old) (I.state inputs.new)) }
 
-    // Want of memory hides no fault, and no more inputs are opened than there are names.
+    // Out of memory hides no fault, and no more inputs are opened than there are names.
     ensures memory { result ≡ Err ReadError.Memory
         → (I.state inputs.new).faults ≡ (I.state inputs.old).faults }
     ensures opens { (I.state inputs.new).opens
         ≤ (I.state inputs.old).opens + length (names_in names.now) }
 
-    // The first so many inputs were opened, each but the last was read to its end, and no others were.
+    // If files are known, a prefix of the inputs was opened, each but the last was read to its end, and no others were opened.
     ensures turn { OpensFirst (names_in names.now) (I.state inputs.old) (I.state inputs.new) }
 {
     let mut lines = Lines::make(alloc)?;

@@ -13,16 +13,18 @@ pub struct At {
     pub line: u32,
 }
 
-/// Why a log is refused. Of several refusals, the first in the order of the bytes is answered.
+/// Why a log is refused. If there are several refusals, the first in the order of the bytes is
+/// returned.
 #[derive(Clone, Copy, Debug, PartialEq, Eq)]
 pub enum ReadError {
     /// The input with this number could not be opened or read.
     ReadFault(u32),
-    /// The line has more than 65,536 bytes, a final carriage return counted.
+    /// The line has more than 65,536 bytes, including a carriage return at its end.
     LineTooLong(At),
     /// Nothing decides the line.
     Undecided(At),
-    /// The rule that decides the line has a group `TIME`, which took no part or says no time.
+    /// The rule that decides the line has a group `TIME`, which did not match or whose text is not a
+    /// time.
     BadTime(At),
     /// The line's type text has more than 256 bytes.
     TypeTooLong(At),
@@ -32,9 +34,9 @@ pub enum ReadError {
     TypeLimit(At),
     /// The line's event would be the 1,000,001st.
     EventLimit(At),
-    /// There are more than 268,435,456 bytes.
+    /// All inputs together have more than 268,435,456 bytes.
     InputLimit,
-    /// Memory was wanted.
+    /// Memory ran out.
     Memory,
 }
 

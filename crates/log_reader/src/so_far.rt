@@ -20,7 +20,8 @@ use trace_builder::{AddError, Builder, PackedText};
 pub struct LogSoFar {
     /// Their events.
     pub builder: Builder,
-    /// How many separators stand before the next line: in its file, or with `join` in all.
+    /// How many separators stand before the next line: in its file, or in all files if `join` is
+    /// set.
     pub section: u32,
     /// Whether lines that nothing decides are skipped.
     pub ignore: bool,
@@ -28,7 +29,7 @@ pub struct LogSoFar {
     pub join: bool,
 }
 
-/// The refusal of an event of which a text is too long.
+/// The refusal of an event if one of its texts is too long.
 #[inline(always)]
 fn too_long(at: At, trace_text: &str, type_text: &str) -> Option<ReadError>
     ensures { result ≡ (if nat_lt MAX_TYPE_BYTES (length type_text.now)
@@ -67,7 +68,7 @@ impl LogSoFar {
         if self.join { 0 } else { at.file }
     }
 
-    /// Adds the event of a line, with its time in billionths of whatever unit the log takes.
+    /// Adds the event of a line, with its time in billionths of the log's unit of time.
     fn add(
         &mut self,
         at: At,
@@ -108,7 +109,7 @@ impl LogSoFar {
         self.section += 1;
     }
 
-    /// Passes over a line that nothing decides, where such lines are skipped.
+    /// Skips a line that nothing decides, if such lines are skipped. Otherwise it is refused.
     fn pass(&self, at: At) -> Result<Taken, ReadError>
         requires within { IsWithin self.now.builder }
         ensures taken { IfOk result (λ taken. taken ≡ taken_for at spec.Undecided self.now) }
@@ -124,7 +125,8 @@ impl LogSoFar {
         }
     }
 
-    /// Adds the event of a line, which has no time, by texts of which the words are known.
+    /// Adds the event of a line, which has no time, from texts with the words of their
+    /// fingerprints.
     #[inline(always)]
     fn add_packed(
         &mut self,
@@ -181,7 +183,7 @@ impl LogSoFar {
     }
 
     /// Takes in a line by rules. A bad time is refused whether or not undecided lines are skipped.
-    /// It stays a call, so that the way of a plain line is short.
+    /// It stays a call, so that the path of a plain line is short.
     #[inline(never)]
     pub fn take_by_rules(
         &mut self,

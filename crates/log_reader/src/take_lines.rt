@@ -1,4 +1,4 @@
-//! What takes in the lines of a log.
+//! Types that take in the lines of a log.
 ghost use Rattle.std.specs.Prelude.{◌≡◌, ◌<◌, ◌-◌, ◌^◌, IfErr, OnOk, length, take, true};
 ghost use Rattle.std.specs.Str.{IsAscii};
 ghost use Rattle.log_reader.specs.Taking.{EndsFile, RefusesLineOf, Taker, TakesLineOf, taker};
@@ -7,10 +7,10 @@ use crate::reader::LogReader;
 use crate::refusal::{At, ReadError};
 use std::alloc::Global;
 
-/// What takes in the lines of a log, one by one.
+/// A type that takes in the lines of a log, one by one.
 ///
-/// Contracts see how it reads, and which lines it has taken in. It refuses what `read_log` refuses of a line that fits, and
-/// nothing else.
+/// Contracts see whether it may be given a line, its setting, how many separators stand before the next line, and which lines it
+/// has taken in. It refuses a line within the limits on lines and input exactly as `read_log` does, or because memory ran out.
 pub trait TakeLines {
     ghost seen: { Self → Taker };
 
@@ -28,11 +28,11 @@ pub trait TakeLines {
         requires ready { (seen self.old).ready }
         requires room { (seen self.old).section < 2 ^ 32 - 1 }
 
-        // The line is taken in, or it is told why not.
+        // The line is taken in, or the error gives the cause.
         ensures ok { OnOk result (TakesLineOf at line.now (seen self.old) (seen self.new)) }
         ensures err { IfErr result (RefusesLineOf at line.now (seen self.old)) };
 
-    /// Ends a file.
+    /// Ends a file. The sections of the next one are counted from 0 again, unless files are joined.
     fn end_file(&mut self)
         ensures { EndsFile (seen self.old) (seen self.new) };
 }

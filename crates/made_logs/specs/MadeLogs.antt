@@ -7,7 +7,7 @@ use Rattle.log_reader.specs.Reading.{Plain, Setting, events_of, first_refusal, s
 use Rattle.load_maker.specs.Sessions.{log_text, session_calls, state_after, word_of}
 use Rattle.load_maker.specs.declared.call.Call.{Call}
 
--- a made log is read in the plain form, and no line of it is passed over
+-- a made log is read in the plain form, undecided lines are not skipped, and files are not joined
 abbrev pub plainly : Setting
 plainly = setting Plain false false
 

@@ -6,7 +6,7 @@ use Rattle.outside.specs.Inputs.{Files, InputState}
 pub record StoredText : Type 0 where
   -- its bytes
   pub text : List ℕ
-  -- the bytes that are still to be read, none where it is not open
+  -- the bytes that are still to be read; none if it is not open
   pub rest : List ℕ
   -- how often it was opened
   pub opens : ℕ
@@ -15,11 +15,11 @@ pub record StoredText : Type 0 where
 abbrev pub unread : List ℕ → StoredText
 unread text = record { text = text; rest = []; opens = 0 }
 
--- the text stands under the empty name, and there is nothing else
+-- the text under the empty name, and no other file
 abbrev pub files_with : List ℕ → Files
 files_with text = ([], text) ∷ []
 
--- all is told, and no call may fail
+-- all contents are known, and no call may fail
 abbrev pub text_state : StoredText → InputState
 text_state s = record {
   files = Some (files_with s.text);

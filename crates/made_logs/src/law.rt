@@ -1,4 +1,4 @@
-//! A law over the definitions, as the contract of a function that does nothing.
+//! A law of the definitions, as the contract of a function that does nothing.
 ghost use Rattle.made_logs.specs.MadeLogs.{MadeLogsAreDecided};
 
 /// Each log that can be made, read in the plain form, has no first refusal: each of its lines is

@@ -1,5 +1,4 @@
-//! Made logs as they are read: what the text of a number of sessions says as a log, and the traces
-//! that it has.
+//! Made logs as they are read: the log that the text of a number of sessions is, and its traces.
 #![tactic(auto)]
 
 mod law;

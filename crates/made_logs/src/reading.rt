@@ -10,11 +10,11 @@ use log_reader::{Form, ReadError, read_log};
 use std::alloc::{AllocError, Global};
 use traces::TraceSet;
 
-/// The types and the traces of the made log of so many sessions, from 1 to `MAX_SESSIONS`: its text
-/// is made, and read in the plain form from memory.
+/// The types and the traces of the made log of `n` sessions, from 1 to `MAX_SESSIONS`. Its text is
+/// made, and read in the plain form from memory.
 ///
-/// The one error is want of memory: no read can fail, nothing in the log is refused, and it is
-/// within every limit.
+/// The only error is that memory runs out: no read can fail, nothing in the log is refused, and it
+/// is within every limit.
 pub fn read_made_log(alloc: Global, n: u32) -> Result<TraceSet, AllocError>
     requires some { 1 ≤ n }
     requires few { n ≤ MAX_SESSIONS }

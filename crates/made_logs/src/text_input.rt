@@ -1,4 +1,4 @@
-//! A text in memory as the one input of a log's reader.
+//! A text in memory as the only input of a log's reader.
 ghost use Rattle.std.specs.Prelude.{◌≡◌, ◌++◌, drop, length, min, take};
 ghost use Rattle.made_logs.specs.TextInputs.{text_state, unread};
 
@@ -6,12 +6,12 @@ use invariants::Seq;
 use outside::{Failed, Inputs, OpenError};
 use std::marker::Model;
 
-/// A text under the empty name, whose calls never fail. Contracts see the text, what is still to be
-/// read of it, and how often it was opened.
+/// A text under the empty name. Its calls never fail. Contracts see the text, its unread bytes, and
+/// how often it was opened.
 #[derive(Drop)]
 pub struct TextInput {
     text: Seq<u8>,
-    /// Where the next read begins: at the end where the text is not open.
+    /// Where the next read begins. If the text is not open, it is the end.
     at: usize,
     opens: u64,
 }
@@ -37,7 +37,7 @@ impl TextInput {
     }
 }
 
-/// Copies as much of the bytes' front as the buffer has room for, and says how much.
+/// Copies the first bytes, as many as the buffer has room for, and returns how many.
 fn fill(bytes: &[u8], buf: &mut [u8]) -> usize
     ensures count { result ≡ min (length buf.old) (length bytes.now) }
     ensures front { buf.new ≡ take result bytes.now ++ drop result buf.old }

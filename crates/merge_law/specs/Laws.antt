@@ -10,14 +10,14 @@ use Rattle.partition_model.specs.Coarsening.{merge, onto, IsPair}
 use Rattle.partition_model.specs.Refinement.{SatisfiesAll}
 use Rattle.merge_law.specs.Critical.{critical, Fore, Back, Clash, IsOnPath, Enters, Stays, Falls}
 
--- where the graph satisfies the invariant, some path of the merged graph breaks it exactly where the two clash
+-- if the graph satisfies the invariant, some path of the merged graph breaks it exactly if the two ids clash
 abbrev pub MergeLoses : Type 0
 MergeLoses =
     (g : Graph) (inv : Invariant) (p q : ℕ) → FIRST_TYPE ≤ p → p < q → g.typ p ≡ g.typ q
     → IsOnPath g p → IsOnPath g q → Satisfies g inv
     → ((path : List ℕ) × Breaks (Merged g p q) inv path) ↔ Clash inv g p q
 
--- so the merged graph satisfies it exactly where they do not
+-- so the merged graph satisfies it exactly if they do not clash
 abbrev pub MergeKeeps : Type 0
 MergeKeeps =
     (g : Graph) (inv : Invariant) (p q : ℕ) → FIRST_TYPE ≤ p → p < q → g.typ p ≡ g.typ q
@@ -29,7 +29,8 @@ abbrev pub AllOnPaths : Type 0
 AllOnPaths =
     (h : Assignment) (p : ℕ) → IsTyped h → FIRST_TYPE ≤ p → (G h).listed p ≡ true → IsOnPath (G h) p
 
--- what is met, ahead or on a path stays so in the merged graph
+-- an id that is reached in the critical state, leads from it to the bad one, or is on a path,
+-- is so in the merged graph too
 abbrev pub MergedHasMore : Type 0
 MergedHasMore =
     (g : Graph) (inv : Invariant) (p q u : ℕ) → FIRST_TYPE ≤ p → p < q → g.typ p ≡ g.typ q
@@ -37,7 +38,7 @@ MergedHasMore =
     × (Back inv g u → Back inv (Merged g p q) (onto p q u))
     × (IsOnPath g u → IsOnPath (Merged g p q) (onto p q u))
 
--- and of the merged id each is so where it was of one of the two, if the merge keeps the invariant
+-- if the merge keeps the invariant, the first two are so of the merged id exactly if they were of one of the two ids
 abbrev pub MergedIsUnion : Type 0
 MergedIsUnion =
     (g : Graph) (inv : Invariant) (p q : ℕ) → FIRST_TYPE ≤ p → p < q → g.typ p ≡ g.typ q
@@ -45,14 +46,15 @@ MergedIsUnion =
     → (Fore inv (Merged g p q) p ↔ (Fore inv g p ⊎ Fore inv g q))
     × (Back inv (Merged g p q) p ↔ (Back inv g p ⊎ Back inv g q))
 
--- a merge of partitions keeps every invariant of a list exactly where the two clash for none
+-- a merge of a pair keeps every invariant of a list exactly if the two ids clash for none of them
 abbrev pub PairKeeps : Type 0
 PairKeeps =
     (h : Assignment) (p q : ℕ) (invs : List Invariant)
     → IsTyped h → IsPair (G h) p q → SatisfiesAll (G h) invs
     → SatisfiesAll (G (merge p q h)) invs ↔ AllByRecursion (λ inv. Clash inv (G h) p q → ⊥) invs
 
--- rules that find what is met: at INITIAL, and along an edge to a type that enters the critical state or leaves the monitor there
+-- rules that find where the critical state is reached: at INITIAL if its type leads there, and along an edge
+-- to a type that enters the critical state, or keeps it if it is reached at the source
 abbrev pub ForeFollows : Type 0
 ForeFollows =
     (g : Graph) (inv : Invariant) → Satisfies g inv
@@ -60,7 +62,7 @@ ForeFollows =
     × ((u v : ℕ) → IsOnPath g u → IsOnPath g v → g.edge u v ≡ true
     → Enters inv (g.typ v) ⊎ (Stays inv (g.typ v) × Fore inv g u) → Fore inv g v)
 
--- and they find all of it
+-- and they find every id where it is reached
 abbrev pub ForeIsLeast : Type 0
 ForeIsLeast =
     (g : Graph) (inv : Invariant) (found : ℕ → Bool)
@@ -69,7 +71,8 @@ ForeIsLeast =
     → Enters inv (g.typ v) ⊎ (Stays inv (g.typ v) × (found u ≡ true)) → found v ≡ true)
     → (p : ℕ) → Fore inv g p → found p ≡ true
 
--- rules that find where the bad end is ahead: at TERMINAL if the critical state is bad, and against an edge to a type that falls into the bad state or leaves the monitor where it is
+-- rules that find where the critical state leads to the bad one: at TERMINAL if the two are the same, and against
+-- an edge to a type that falls into the bad state, or keeps the critical one if it leads there from the target
 abbrev pub BackFollows : Type 0
 BackFollows =
     (g : Graph) (inv : Invariant)
@@ -77,7 +80,7 @@ BackFollows =
     × ((u v : ℕ) → IsOnPath g v → g.edge u v ≡ true
     → Falls inv (g.typ v) ⊎ (Stays inv (g.typ v) × Back inv g v) → Back inv g u)
 
--- and they find all of it on paths
+-- and they find every such id on a path
 abbrev pub BackIsLeast : Type 0
 BackIsLeast =
     (g : Graph) (inv : Invariant) (found : ℕ → Bool) → Satisfies g inv

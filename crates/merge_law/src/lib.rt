@@ -1,57 +1,65 @@
-//! What a merge loses, told without a search of the merged graph.
+//! What a merge loses, decided without a search of the merged graph.
 //!
-//! Each monitor has a critical state, from which the bad end is still to come. An id of the graph is met by it where some walk from INITIAL brings the monitor into it, and has the bad end ahead where some walk to TERMINAL leads from it to the bad state. A merge of two ids loses an invariant exactly where one of them is met and the other has the end ahead.
-//! Each function here is a law: its body is empty, and its contract is what is proved. No call takes memory or does anything when it runs.
+//! Each monitor has a critical state: 0 for AlwaysPrecedes, and 1 for the other kinds. An id of the graph is met if some walk
+//! from INITIAL to it brings the monitor into the critical state. It has the bad end ahead if some walk from it to TERMINAL
+//! brings the monitor from the critical state to the bad one. In a graph that satisfies the invariant, a merge of two ids of one
+//! type that are on paths loses it exactly if one of them is met and the other has the bad end ahead. Each function here is a
+//! law: its body is empty, and its contract is what is proved. No call takes memory or does anything when it runs.
 #![tactic(auto)]
 
 ghost use Rattle.merge_law.specs.Laws.{MergeLoses, MergeKeeps, AllOnPaths, MergedHasMore, MergedIsUnion, PairKeeps, ForeFollows, ForeIsLeast, BackFollows, BackIsLeast};
 
-/// In a graph that satisfies an invariant, a merge of two ids of one type loses it exactly where one of them is met by the critical state and the bad end is ahead of the other.
+/// In a graph that satisfies an invariant, a merge of two ids of one type that are on paths loses it exactly if one of them is
+/// met and the other has the bad end ahead.
 pub fn merge_loses()
     ensures { MergeLoses }
 {}
 
-/// So the merge keeps it exactly where this is not so.
+/// So the merge keeps it exactly if this is not so.
 pub fn merge_keeps()
     ensures { MergeKeeps }
 {}
 
-/// Each partition of the graph of an assignment is on a path.
+/// Each partition of events in the graph of an assignment is on a path.
 pub fn all_on_paths()
     ensures { AllOnPaths }
 {}
 
-/// A merge takes away nothing of what is met or ahead.
+/// An id that is met, has the bad end ahead or is on a path still is so after a merge. The id that is merged away counts as the
+/// one that stays.
 pub fn merged_has_more()
     ensures { MergedHasMore }
 {}
 
-/// And where it keeps the invariant, the merged id has what one of the two had, and no more.
+/// And if the merge keeps the invariant, the merged id is met exactly if one of the two was, and has the bad end ahead exactly if
+/// one of the two had.
 pub fn merged_is_union()
     ensures { MergedIsUnion }
 {}
 
-/// A merge of two partitions of one type keeps every invariant of a list exactly where this is so for none of them.
+/// If the graph of an assignment satisfies a list of invariants, a merge of two partitions of one type keeps all of them exactly
+/// if for none of them one partition is met and the other has the bad end ahead.
 pub fn pair_keeps()
     ensures { PairKeeps }
 {}
 
-/// What is met follows by rules along edges.
+/// Rules along edges that find ids that are met, in a graph that satisfies the invariant.
 pub fn fore_follows()
     ensures { ForeFollows }
 {}
 
-/// And whatever is closed under these rules has all that is met.
+/// And any set that is closed under these rules contains all ids that are met.
 pub fn fore_is_least()
     ensures { ForeIsLeast }
 {}
 
-/// Where the bad end is ahead follows by rules against edges.
+/// Rules against edges that find ids with the bad end ahead.
 pub fn back_follows()
     ensures { BackFollows }
 {}
 
-/// And whatever is closed under these rules has all ids on paths where it is ahead.
+/// And in a graph that satisfies the invariant, any set that is closed under these rules contains all ids on paths that have the
+/// bad end ahead.
 pub fn back_is_least()
     ensures { BackIsLeast }
 {}

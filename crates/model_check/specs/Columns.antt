@@ -1,4 +1,4 @@
--- Labels of many invariants in columns.
+-- Labels of many invariants, in columns.
 use Rattle.std.specs.Prelude.{ℕ, ◌≡◌, ◌≢◌, ◌+◌, ◌*◌, ◌<◌, true, false, List, slice_index, slice_get, Some}
 use Rattle.limits.specs.declared.TheConstants.{INITIAL, TERMINAL}
 use Rattle.invariants.specs.declared.Invariant.{Invariant}
@@ -16,18 +16,18 @@ use Rattle.model_check.specs.declared.columns.TheConstants.{TOGETHER}
 abbrev pub at : List ℕ → ℕ → ℕ → ℕ
 at sets k p = slice_index sets (p * TOGETHER + k)
 
--- in each of the first columns the label of the one id is within the source of the other
+-- in each of the first columns, the label of one id is within the source of the other
 abbrev pub AreWithin : List ℕ → List ℕ → ℕ → ℕ → ℕ → Type 0
 AreWithin labels sources count from to =
     (k s : ℕ) → k < count → has_state (at labels k from) s ≡ true → has_state (at sources k to) s ≡ true
 
--- the partition has the label of its id in the column, and the source of this label by its type
+-- the column has the label of the partition's id, and the source of this label by its type
 abbrev pub IsInColumn : Invariant → Graph → List ℕ → List ℕ → List ℕ → ℕ → Partition → Type 0
 IsInColumn inv g given labels sources k x =
     (at labels k x.id ≡ slice_index given x.id)
     × IsSource inv (g.typ x.id) (slice_index given x.id) (at sources k x.id)
 
--- the column has the labels of a listed invariant, and those of the two ends are right
+-- the column has the labels of a listed invariant and their sources, and the labels of the two ends are right
 pub record IsColumnOf (m : Model) (l : Listed) (labels sources : List ℕ) (k : ℕ) : Type 0 where
   pub start : has_state (label_at INITIAL m.partitions l.labels) (step l.inv 0 ((graph_of m).typ INITIAL))
       ≡ true
@@ -37,17 +37,17 @@ pub record IsColumnOf (m : Model) (l : Listed) (labels sources : List ℕ) (k : 
   pub has_sources : (p : ℕ) → is_listed p m.partitions ≡ true
       → IsSource l.inv ((graph_of m).typ p) (label_at p m.partitions l.labels) (at sources k p)
 
--- each of so many columns is that of a listed invariant from a place on, where there is one
+-- the first columns are those of the listed invariants from a place on, as far as there are any
 abbrev pub AreColumnsOf : Model → List ℕ → List ℕ → ℕ → ℕ → Type 0
 AreColumnsOf m labels sources from count =
     (k : ℕ) (l : Listed) → k < count → slice_get m.invariants (from + k) ≡ Some l
     → IsColumnOf m l labels sources k
 
--- all columns but one stay as they are
+-- all columns but one are unchanged
 abbrev pub SameOthers : List ℕ → List ℕ → ℕ → Type 0
 SameOthers old new k = (c p : ℕ) → c < TOGETHER → c ≢ k → at new c p ≡ at old c p
 
--- the labels of the first listed invariants, so many of them, are inductive
+-- the labels of the first listed invariants, up to this count, are inductive
 abbrev pub AreLabelledBefore : Model → ℕ → Type 0
 AreLabelledBefore m count =
     (i : ℕ) (l : Listed) → slice_get m.invariants i ≡ Some l → i < count → IsLabelled m l

@@ -1,4 +1,4 @@
--- What a check answers of a model and of a log.
+-- What a check answers for a model and a log.
 use Rattle.std.specs.Prelude.{ℕ, List, map}
 use Rattle.traces.specs.Words.{Log}
 use Rattle.invariants.specs.declared.Invariant.{Invariant}
@@ -11,19 +11,19 @@ use Rattle.models.specs.Checks.{IsValid, IsFirstPart}
 use Rattle.model_check.specs.declared.verdict.Verdict.{Verdict}
 use Rattle.model_check.specs.declared.verdict.Verdict.TheVariants.{Yes, No}
 
--- a listed invariant without its labels
+-- the invariant of a listed one, without its labels
 abbrev pub inv_of : Listed → Invariant
 inv_of l = l.inv
 
--- the words of a log without their ends
+-- the words of a log without their two ends
 abbrev pub inner_words_of : Log → List (List ℕ)
 inner_words_of log = map (λ trace. trace.events) log.traces
 
--- some path of the graph has this word, once its ends are put to it
+-- the graph accepts this word with the two ends added
 abbrev pub HasPathFor : Graph → List ℕ → Type 0
 HasPathFor g w = Accepts g (with_ends w)
 
--- yes of a valid model, and no with the first part that fails
+-- yes for a valid model, or no with the first part that fails
 abbrev pub IsVerdict : Model → TypedWords → Verdict → Type 0
 IsVerdict m log Yes = IsValid m log
 IsVerdict m log (No part) = IsFirstPart m log part

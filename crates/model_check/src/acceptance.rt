@@ -1,4 +1,4 @@
-//! The words of a log, each of which has to be that of a path.
+//! The words of a log. Each must be the word of a path of the model's graph.
 ghost use Rattle.std.specs.Prelude.{◌≡◌, MatchOption};
 ghost use Rattle.std.specs.List.{AllByRecursion};
 ghost use Rattle.limits.specs.declared.TheConstants.{INITIAL};
@@ -9,7 +9,7 @@ ghost use Rattle.model_check.specs.Verdicts.{inner_words_of, HasPathFor};
 use crate::graph::ModelGraph;
 use traces::TraceSet;
 
-/// The number of the first trace whose word is that of no path, and None where all are. The graph stays as it is.
+/// The number of the first trace whose word is not the word of a path; `None` if each is. The graph keeps its value.
 pub fn first_refused(graph: &mut ModelGraph, traces: &TraceSet) -> Option<u32>
     requires { (shown graph.old).typ INITIAL ≡ INITIAL }
     ensures first { MatchOption result

@@ -1,4 +1,4 @@
-//! The blocks, of which each pair of partitions of one type has to have one.
+//! The blocks. Each pair of partitions of one type must have one.
 ghost use Rattle.std.specs.Prelude.{◌≡◌, ◌↔◌, ◌+◌, ℕ, slice_get, IsTrue, MatchOption};
 ghost use Rattle.invariants.specs.declared.records.Block.{Block};
 ghost use Rattle.partition_model.specs.Coarsening.{IsPair, PairBefore};
@@ -13,7 +13,7 @@ use crate::graph::ModelGraph;
 use invariants::{Block, Invariant, Model, Monitor, Partition};
 use limits::{FIRST_TYPE, INITIAL, TERMINAL};
 
-/// Whether the path is one of the graph in which q is merged into p, and its word breaks the invariant.
+/// Whether the path is a path of the graph in which q is merged into p, and its word breaks the invariant.
 fn breaks(graph: &ModelGraph, p: u32, q: u32, inv: Invariant, path: &[u32]) -> bool
     ensures { IsTrue result ↔ Breaks (Merged (shown graph.now) p q) inv path.now }
 {
@@ -32,7 +32,7 @@ fn breaks(graph: &ModelGraph, p: u32, q: u32, inv: Invariant, path: &[u32]) -> b
     before == TERMINAL && Monitor::bad(inv, state)
 }
 
-/// The place of the first block, from a place on, that is not before this pair.
+/// The place of the first block from `from` on that is not before this pair; the number of blocks if there is none.
 fn skip_before(blocks: &[Block], from: usize, p: u32, q: u32) -> usize
     requires { AreBefore blocks.now from p q }
     ensures before { AreBefore blocks.now result p q }
@@ -50,8 +50,8 @@ fn skip_before(blocks: &[Block], from: usize, p: u32, q: u32) -> usize
     next
 }
 
-/// Whether the pair has a block that keeps it apart. The blocks before `next` are before the pair, and `next` goes on
-/// to the first that is not.
+/// Whether the pair has a block that blocks its merge. The blocks before `next` are before the pair. `next` moves on to the
+/// first that is not.
 fn is_blocked(model: &Model, graph: &ModelGraph, p: u32, q: u32, next: &mut usize) -> bool
     requires shaped { IsWellShaped model.now }
     requires graph { shown graph.now ≡ graph_of model.now }
@@ -72,8 +72,8 @@ fn is_blocked(model: &Model, graph: &ModelGraph, p: u32, q: u32, next: &mut usiz
     breaks(graph, p, q, inv, block.path.as_slice())
 }
 
-/// The least id whose pair with the partition `x`, at the place `i`, has no block that keeps it apart, and None where
-/// all have one.
+/// The least id whose pair with the partition `x`, at the place `i`, has no block that blocks its merge; `None` if all pairs
+/// have one.
 fn first_open_with(
     model: &Model,
     graph: &ModelGraph,
@@ -105,7 +105,7 @@ fn first_open_with(
     None
 }
 
-/// The first pair of partitions of one type that has no block which keeps it apart, and None where all pairs have one.
+/// The first pair of partitions of one type that has no block which blocks its merge; `None` if all pairs have one.
 pub fn first_open(model: &Model, graph: &ModelGraph) -> Option<(u32, u32)>
     requires shaped { IsWellShaped model.now }
     requires graph { shown graph.now ≡ graph_of model.now }

@@ -1,4 +1,4 @@
-//! Labels in columns, one for each of many invariants, so that an edge is tested for all of them at once.
+//! Labels in columns, one column for each of many invariants, so that an edge is tested for all of them at once.
 ghost use Rattle.std.specs.Prelude.{◌≡◌, ◌↔◌, ◌<◌, ◌≤◌, ◌*◌, ◌==◌, ◌&&◌, ℕ, length, if◌then◌else◌, IfOk, IsTrue, All};
 ghost use Rattle.limits.specs.declared.TheConstants.{MAX_PARTITIONS};
 ghost use Rattle.model_shape.specs.Shapes.{IsShapedListed, IsWellShaped};
@@ -15,10 +15,10 @@ use crate::states::{Sources, StateSet};
 use invariants::{Edge, Invariant, Listed, Model, Partition};
 use std::alloc::{AllocError, Global};
 
-/// How many columns there are.
+/// The number of columns.
 pub(crate) const TOGETHER: usize = 32;
 
-/// In each column the label of each id, and the states from which the type of the id leads into this label.
+/// For each column and each id: its label, and the states from which its type leads into this label.
 #[derive(Drop)]
 pub struct Columns {
     labels: Vec<StateSet>,
@@ -36,7 +36,7 @@ impl Columns {
         })
     }
 
-    /// Puts both sets of an id into a column.
+    /// Puts the label and the source of an id into a column.
     pub fn put(&mut self, k: usize, p: usize, label: StateSet, source: StateSet)
         requires column { k < TOGETHER }
         requires id { p < MAX_PARTITIONS }
@@ -51,7 +51,7 @@ impl Columns {
         self.sources[p * TOGETHER + k] = source;
     }
 
-    /// Whether in each column each state in the label of the one id is in the source of the other.
+    /// Whether, in each column, each state in the label of `from` is in the source of `to`.
     pub fn lead_within(&self, from: usize, to: usize) -> bool
         requires from { from < MAX_PARTITIONS }
         requires to { to < MAX_PARTITIONS }
@@ -78,7 +78,7 @@ fn fill_column(
     requires column { k < TOGETHER }
     requires markable { All IsMarkable partitions.now }
 
-    // The column has what belongs to the partitions, and all others stay.
+    // The column has the sets of the partitions, and all others stay.
     ensures column { All (IsInColumn inv (shown graph.now) labels.now (columns.new).labels.items
         (columns.new).sources.items k) partitions.now }
     ensures other_labels { SameOthers (columns.old).labels.items (columns.new).labels.items k }
@@ -92,8 +92,8 @@ fn fill_column(
     }
 }
 
-/// Puts the labels of the listed invariant into a column, and says whether those of the two ends are right. What stands in
-/// `labels` is overwritten.
+/// Puts the labels of the listed invariant into a column. Returns whether those of the two ends are right. `labels` is
+/// overwritten.
 fn lay_column(
     columns: &mut Columns,
     k: usize,
@@ -108,7 +108,7 @@ fn lay_column(
     requires listed { IsShapedListed (model.now).kinds (length (model.now).types) (length (model.now).partitions)
         listed.now }
 
-    // Where both ends are right, the column is that of the invariant, and all others stay.
+    // If both ends are right, the column is that of the invariant. All others stay.
     ensures column { IsTrue result → IsColumnOf model.now listed.now (columns.new).labels.items
         (columns.new).sources.items k }
     ensures other_labels { SameOthers (columns.old).labels.items (columns.new).labels.items k }
@@ -126,8 +126,8 @@ fn lay_column(
     has_right_ends(listed.inv, graph, labels)
 }
 
-/// Puts the labels of the listed invariants from a place on into the columns, as many as there are columns, and says
-/// whether those of their ends are all right. What stands in `labels` is overwritten.
+/// Puts the labels of the listed invariants from `from` on into the columns, at most one for each column. Returns whether those
+/// of their ends are all right. `labels` is overwritten.
 fn lay_columns(
     columns: &mut Columns,
     model: &Model,
@@ -139,7 +139,7 @@ fn lay_columns(
     requires graph { shown graph.now ≡ graph_of model.now }
     requires from { from ≤ length (model.now).invariants }
 
-    // What the columns are where all ends are right.
+    // The columns, if all ends are right.
     ensures { IsTrue result
         → AreColumnsOf model.now (columns.new).labels.items (columns.new).sources.items
         from TOGETHER }
@@ -156,7 +156,7 @@ fn lay_columns(
     true
 }
 
-/// Whether in each column each edge leads from the label of its start into that of its end.
+/// Whether, in each column, each edge leads from the label of its start into the label of its end.
 fn keep_all_along(columns: &Columns, edges: &[Edge]) -> bool
     requires within { All IsEdgeWithin edges.now }
     ensures { IsTrue result ↔ All (λ e.
@@ -171,8 +171,8 @@ fn keep_all_along(columns: &Columns, edges: &[Edge]) -> bool
     true
 }
 
-/// How many of the first listed invariants are found to have inductive labels by columns. It may be fewer than have them.
-/// What stands in `labels` is overwritten.
+/// The number of listed invariants, from the first on, whose labels the columns show to be inductive. More may have inductive
+/// labels. `labels` is overwritten.
 pub fn count_labelled(
     columns: &mut Columns,
     model: &Model,

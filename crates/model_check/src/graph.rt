@@ -1,4 +1,4 @@
-//! The graph of a model, as tables that are made once.
+//! The graph of a model, in tables that are made once.
 ghost use Rattle.std.specs.Prelude.{◌≡◌, ◌↔◌, ◌<◌, ◌≤◌, ◌+◌, ℕ, length, slice_index, IfOk, IsTrue, All};
 ghost use Rattle.limits.specs.declared.TheConstants.{INITIAL, MAX_PARTITIONS, MAX_TYPES};
 ghost use Rattle.model_shape.specs.Shapes.{listed_type, IsWellShaped};
@@ -17,7 +17,7 @@ use limits::{INITIAL, MAX_PARTITIONS, TERMINAL};
 use std::alloc::{AllocError, Global};
 use std::marker::Model;
 
-/// The type of each id that is listed, and 0 for all other ids.
+/// The type of each listed id, and 0 for all other ids.
 fn types_of(alloc: Global, partitions: &[Partition]) -> Result<Vec<u16>, AllocError>
     requires markable { All IsMarkable partitions.now }
     requires apart { AreApart partitions.now }
@@ -32,14 +32,14 @@ fn types_of(alloc: Global, partitions: &[Partition]) -> Result<Vec<u16>, AllocEr
     Ok(types)
 }
 
-/// The graph of a model. Contracts see its tables, and with `shown` the graph that lies in them.
+/// The graph of a model. Contracts see its tables; `shown` is the graph in them.
 #[derive(Drop)]
 pub struct ModelGraph {
     /// The type of each id.
     types: Vec<u16>,
-    /// Where edges lead, the ids of each type, and sets of ids that were met.
+    /// The ends of edges by start, the ids of each type, and sets of ids that were met.
     rows: IdRows,
-    /// To which set each type leads from each set, as far as it is known.
+    /// The set to which each type leads from each set, as far as it is known.
     successors: Successors,
 }
 
@@ -79,7 +79,7 @@ impl ModelGraph {
         p < MAX_PARTITIONS && self.rows.has(p as usize, q as usize)
     }
 
-    /// Whether there is an edge from u to v where q is replaced by p.
+    /// Whether there is an edge from u to v after the merge of q into p.
     pub fn has_merged_edge(&self, p: u32, q: u32, u: u32, v: u32) -> bool
         ensures { result ≡ merged_edge (shown self.now) p q u v }
     {
@@ -92,7 +92,7 @@ impl ModelGraph {
             || (u == p && v == p && self.has_edge(q, q))
     }
 
-    /// The type of the id, and 0 where it is not listed.
+    /// The type of the id; 0 if it is not listed.
     pub fn type_of(&self, p: u32) -> u16
         ensures { result ≡ (shown self.now).typ p }
     {
@@ -102,8 +102,8 @@ impl ModelGraph {
         self.types[p as usize]
     }
 
-    /// Whether some path has the word of these events: the numbers of their types, without the two ends. The graph
-    /// stays as it is.
+    /// Whether some path has the word of these events, which are the numbers of their types without the two ends. The graph
+    /// keeps its value.
     pub fn accepts(&mut self, events: &[u16]) -> bool
         requires start { (shown self.old).typ INITIAL ≡ INITIAL }
         requires numbers { All (IsTypeNumber MAX_TYPES) events.now }

@@ -25,7 +25,7 @@ impl Model for LabelTable {
     ghost invariant = { λ table. length table.sets.items ≡ MAX_PARTITIONS };
 }
 
-/// Puts the label of each partition at the place of its id, and that of no state at all others.
+/// Puts the label of each partition at the place of its id. All other ids get the label of no state.
 fn lay_labels(sets: &mut [StateSet], partitions: &[Partition], given: &[u8])
     requires size { length sets.old ≡ MAX_PARTITIONS }
     requires markable { All IsMarkable partitions.now }
@@ -56,8 +56,8 @@ impl LabelTable {
         self.sets[p as usize]
     }
 
-    /// Puts the labels of the listed invariant at the places of the ids, and that of no state at all others. What stood there
-    /// before does not matter.
+    /// Puts the labels of the listed invariant at the places of the ids. All other ids get the label of no state. The former
+    /// labels are overwritten.
     pub fn lay(&mut self, model: &invariants::Model, listed: &Listed)
         requires shaped { IsWellShaped model.now }
         requires listed { IsShapedListed (model.now).kinds (length (model.now).types)

@@ -1,4 +1,4 @@
-//! The labels of the listed invariants, which have to be inductive.
+//! The labels of the listed invariants. They must be inductive.
 ghost use Rattle.std.specs.Prelude.{◌≡◌, ◌↔◌, ◌<◌, ◌^◌, ℕ, true, false, length, IfOk, IsTrue, MatchOption, All};
 ghost use Rattle.std.specs.List.{AllByRecursion};
 ghost use Rattle.invariants.specs.Monitors.{is_bad};
@@ -55,7 +55,7 @@ pub fn has_right_ends(inv: Invariant, graph: &ModelGraph, labels: &LabelTable) -
     is_good(inv, labels.get(TERMINAL))
 }
 
-/// Whether the labels of the listed invariant are inductive. What stands in `labels` is overwritten.
+/// Whether the labels of the listed invariant are inductive. `labels` is overwritten.
 fn is_labelled(model: &Model, graph: &ModelGraph, listed: &Listed, labels: &mut LabelTable) -> bool
     requires shaped { IsWellShaped model.now }
     requires graph { shown graph.now ≡ graph_of model.now }
@@ -75,7 +75,8 @@ fn is_labelled(model: &Model, graph: &ModelGraph, listed: &Listed, labels: &mut 
     )
 }
 
-/// The number of the first listed invariant whose labels are not inductive, and None where those of all are.
+/// The number of the first listed invariant whose labels are not inductive; `None` if all labels are. The only error is out of
+/// memory.
 pub fn first_unlabelled(
     alloc: Global,
     model: &Model,

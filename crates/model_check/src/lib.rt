@@ -1,8 +1,8 @@
-//! Whether a model is valid for a log, tested by other means than those that infer one.
+//! Whether a model is valid for a log, tested by other means than inference.
 //!
-//! The invariants are mined once more, by sets of types. The words of the log are followed through the model's own
-//! graph by sets of ids, its labels are read along all edges and not computed, and the path of each block is followed in
-//! the graph in which its two partitions are merged. Nothing here knows how the model came about.
+//! The invariants are mined a second time, by sets of types. The words of the log are followed through the model's own graph by
+//! sets of ids. The labels are tested along all edges, not computed. The path of each block is followed in the graph in which
+//! its two partitions are merged. No test depends on how the model was made.
 #![tactic(auto)]
 
 ghost use Rattle.std.specs.Prelude.{◌≡◌, ◌<◌, ◌^◌, length, IfOk, MatchOption};
@@ -38,8 +38,8 @@ use std::alloc::{AllocError, Global};
 use traces::TraceSet;
 pub use verdict::Verdict;
 
-/// The first place at which the list of the model differs from the one that is mined of the log; `None` where they are the
-/// same. `AllocError` comes where there is not enough memory for the mined list.
+/// The first place at which the list of the model differs from the mined list of the log; `None` if they are the same. The only
+/// error is out of memory.
 fn first_unlisted(
     alloc: Global,
     model: &Model,
@@ -49,14 +49,14 @@ fn first_unlisted(
         (listing_of model.now ≡ mined_of (typed_words (model.now).kinds traces.now))
         (DiffersAt (listing_of model.now) (mined_of (typed_words (model.now).kinds traces.now)))) }
 {
-    // No more are mined than there are candidates, so that places in the list fit.
+    // The mined list is no longer than the list of candidates, so places in it fit in 32 bits.
     let types = traces.types();
     let _most = candidate_count(model.kinds, types.len() as u32);
     let mined = mine_again(alloc, model.kinds, traces)?;
     Ok(first_difference(model.invariants.as_slice(), mined.as_slice()))
 }
 
-/// The verdict on a model whose types and whose list are those of the log, by its graph.
+/// The verdict on the graph of a model whose types and list are those of the log.
 fn check_graph(
     alloc: Global,
     model: &Model,
@@ -82,9 +82,13 @@ fn check_graph(
     }
 }
 
-/// Whether the well-shaped model is valid for the log of these traces: `Yes`, or `No` with the first part that fails, in
-/// the order of the parts, and in it the first place. Neither the model nor the traces change. `AllocError` comes where
-/// there is not enough memory for the mined list or for the tables of the graph.
+/// Checks whether the model is valid for the log of these traces. The model must be well shaped.
+///
+/// The verdict is `Yes` if it is valid, and otherwise `No` with the first part that fails, in the order of `Part`: types, list,
+/// traces, labels, blocks. Within a part it names the first place, number or pair that fails. The list is that of the kinds
+/// that the model names.
+///
+/// `AllocError` means that memory ran out; no clause says when it is returned.
 pub fn check(alloc: Global, model: &Model, traces: &TraceSet) -> Result<Verdict, AllocError>
     requires { IsWellShaped model.now }
     ensures { IfOk result (λ verdict. IsVerdict model.now (typed_words (model.now).kinds traces.now) verdict) }

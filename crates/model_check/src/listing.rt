@@ -1,4 +1,4 @@
-//! The types and the list of invariants of a model, beside those of a log.
+//! The types and the list of invariants of a model, compared with those of a log.
 ghost use Rattle.std.specs.Prelude.{◌≡◌, ◌↔◌, ◌<◌, ◌^◌, length, map, IsTrue, MatchOption};
 ghost use Rattle.models.specs.Checks.{DiffersAt};
 ghost use Rattle.model_check.specs.Verdicts.{inv_of};
@@ -20,8 +20,8 @@ pub fn are_same(these: &[Text], those: &[Text]) -> bool
     true
 }
 
-/// The first place at which the listed invariants differ from the mined ones, or the length of the shorter list; None
-/// where they are the same.
+/// The first place at which the listed invariants differ from the mined ones, or the length of the shorter list; `None` if they
+/// are the same.
 pub fn first_difference(listed: &[Listed], mined: &[Invariant]) -> Option<u32>
     requires { length mined.now < 2 ^ 32 }
     ensures { MatchOption result

@@ -8,7 +8,7 @@ use crate::sets::{IDS, ROWS};
 use bit_rows::Rows;
 use std::alloc::{AllocError, Global};
 
-/// As many rows as a check takes, each with a bit for each id: whether the id is in the row.
+/// As many rows as a check needs. Each has a bit for each id: whether the id is in the row.
 #[derive(Drop)]
 pub struct IdRows {
     bits: Rows,
@@ -46,7 +46,7 @@ impl IdRows {
         self.bits.put(r, p, true);
     }
 
-    /// Takes all ids out of the row. The other rows stay.
+    /// Removes all ids from the row. The other rows stay.
     pub fn clear(&mut self, r: usize)
         requires { r < ROWS }
         ensures row { (k : ℕ) → bit self.new r k ≡ false }
@@ -55,7 +55,7 @@ impl IdRows {
         self.bits.clear(r);
     }
 
-    /// The least id of the row that is not below `from`; `None` where it has none.
+    /// The least id of the row that is not below `from`; `None` if there is none.
     pub fn next(&self, r: usize, from: usize) -> Option<usize>
         requires { r < ROWS }
         ensures { MatchOption result ((k : ℕ) → from ≤ k → bit self.now r k ≡ false)
@@ -64,7 +64,7 @@ impl IdRows {
         self.bits.next_set(r, from)
     }
 
-    /// Puts the ids of row `from` into row `to`, which is another, in the place of its own. The other rows stay.
+    /// Replaces the ids of row `to` by those of row `from`, which is another row. The other rows stay.
     pub fn copy(&mut self, to: usize, from: usize)
         requires to_row { to < ROWS }
         requires from_row { from < ROWS }
@@ -75,7 +75,7 @@ impl IdRows {
         self.bits.copy_into(to, from);
     }
 
-    /// Puts the ids that are both in row `a` and in row `b` into row `to` as well, which is neither. The other rows stay.
+    /// Adds the ids that are in both row `a` and row `b` to row `to`, which is neither. The other rows stay.
     pub fn join(&mut self, to: usize, a: usize, b: usize)
         requires to_row { to < ROWS }
         requires a_row { a < ROWS }
@@ -91,7 +91,7 @@ impl IdRows {
         self.bits.or_and_into(to, a, b);
     }
 
-    /// Puts the ids that are in row `a` and not in row `b` into row `to` as well, which is neither. The other rows stay.
+    /// Adds the ids that are in row `a` and not in row `b` to row `to`, which is neither. The other rows stay.
     fn join_without(&mut self, to: usize, a: usize, b: usize)
         requires to_row { to < ROWS }
         requires a_row { a < ROWS }

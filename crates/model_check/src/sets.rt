@@ -1,4 +1,4 @@
-//! Rows of ids: where edges lead from each id, the ids of each type, and sets of ids that are reached.
+//! Rows of ids: the ids that edges enter from each id, the ids of each type, and sets of ids that were met.
 ghost use Rattle.std.specs.Prelude.{◌≡◌, ◌≢◌, ◌↔◌, ◌<◌, ◌≤◌, ◌+◌, ℕ, true, ◌||◌, IfSome, All};
 ghost use Rattle.limits.specs.declared.TheConstants.{MAX_PARTITIONS};
 ghost use Rattle.models.specs.Models.{has_edge};
@@ -9,37 +9,37 @@ use crate::rows::IdRows;
 use invariants::{Edge, Partition};
 use limits::{FIRST_TYPE, MAX_PARTITIONS, MAX_TYPES};
 
-/// How many ids there are at most. The first rows are those of the ids: where edges lead from each.
+/// The maximum number of ids. The first rows are those of the ids: each has the ids that edges enter from there.
 pub(crate) const IDS: usize = MAX_PARTITIONS as usize;
 
-/// How many types there are at most, the two ends among them.
+/// The maximum number of types, including the two ends.
 pub(crate) const TYPES: usize = MAX_TYPES as usize + FIRST_TYPE as usize;
 
-/// The first of the rows of the types: the ids of each.
+/// The first row of the types. Each has the ids of one type.
 pub(crate) const MEMBERS: usize = IDS;
 
 /// The row of all ids that are listed.
 pub(crate) const LISTED: usize = MEMBERS + TYPES;
 
-/// The row of the set that comes next. Those before it hold the graph.
+/// The row of the next set. The rows before it contain the graph.
 pub(crate) const NEXT: usize = LISTED + 1;
 
 /// The row in which two sets are compared.
 pub(crate) const SPARE: usize = LISTED + 2;
 
-/// The first of the rows of the sets that are kept.
+/// The first row of the kept sets.
 pub(crate) const KEPT: usize = LISTED + 3;
 
-/// How many sets are kept at most.
+/// The maximum number of kept sets.
 pub(crate) const ROOM: usize = 256;
 
 /// The row of a set that is not kept.
 pub(crate) const LOOSE: usize = KEPT + ROOM;
 
-/// How many rows there are.
+/// The number of rows.
 pub(crate) const ROWS: usize = LOOSE + 1;
 
-/// Puts each partition into the row of all and into that of its type.
+/// Puts each partition into the row of all ids and into that of its type.
 pub fn mark_partitions(rows: &mut IdRows, partitions: &[Partition])
     requires { All IsMarkable partitions.now }
     ensures { (r k : ℕ) → bit rows.new r k ≡ (bit rows.old r k || marked r k partitions.now) }
@@ -61,7 +61,7 @@ pub fn mark_edges(rows: &mut IdRows, edges: &[Edge])
     }
 }
 
-/// The id that is the only one of the next set; `None` where it has none or several.
+/// The only id of the next set; `None` if it has none or several.
 pub fn only_one(rows: &IdRows) -> Option<usize>
     ensures within { IfSome result (λ p. p < IDS) }
     ensures only { IfSome result (λ p. (q : ℕ) → (bit rows.now NEXT q ≡ true) ↔ (q ≡ p)) }
@@ -73,7 +73,7 @@ pub fn only_one(rows: &IdRows) -> Option<usize>
     }
 }
 
-/// Exchanges the next set for the ids of the type to which edges lead from the set in a row.
+/// Replaces the next set by the ids of this type that edges enter from the set in a row.
 fn advance_from_row(rows: &mut IdRows, set: usize, typ: usize)
     requires row { KEPT ≤ set }
     requires within { set < ROWS }
@@ -89,7 +89,7 @@ fn advance_from_row(rows: &mut IdRows, set: usize, typ: usize)
     }
 }
 
-/// Exchanges the next set for the ids of the type to which edges lead from a set.
+/// Replaces the next set by the ids of this type that edges enter from a set.
 pub fn advance(rows: &mut IdRows, set: usize, typ: usize)
     requires set { IsSet (ROOM + 1) set }
     requires typ { typ < TYPES }

@@ -1,4 +1,4 @@
-//! Sets of the three states of a monitor, and what becomes of them along edges.
+//! Sets of the three states of a monitor, and how they change along edges.
 ghost use Rattle.std.specs.Prelude.{◌≡◌, ◌↔◌, ◌<◌, ◌==◌, ◌||◌, ℕ, true, IsTrue};
 ghost use Rattle.invariants.specs.Monitors.{step};
 ghost use Rattle.models.specs.Models.{has_state};
@@ -8,10 +8,10 @@ ghost use Rattle.model_check.specs.States.{IsSource, AreSources};
 use invariants::{Invariant, Monitor};
 use std::marker::Model;
 
-/// How many states a monitor has.
+/// The number of states of a monitor.
 pub(crate) const STATES: u8 = 3;
 
-/// How many sets of states there are.
+/// The number of sets of states.
 const SETS: usize = 8;
 
 /// A set of states. Contracts see it as a label: a number from 0 to 7.
@@ -36,7 +36,7 @@ impl StateSet {
         StateSet(0)
     }
 
-    /// The states that a label says.
+    /// The states in a label.
     pub fn of(label: u8) -> StateSet
         requires { IsLabel label }
         ensures { result ≡ label }
@@ -44,7 +44,7 @@ impl StateSet {
         StateSet(label)
     }
 
-    /// One state, which is one of 0 to 2.
+    /// The set of one state, 0, 1 or 2.
     fn alone(state: u8) -> StateSet
         requires { state < STATES }
         ensures { (s : ℕ) → has_state result s ≡ (state == s) }
@@ -63,7 +63,7 @@ impl StateSet {
         StateSet(self.0 | other.0)
     }
 
-    /// Whether the state, one of 0 to 2, is in the set.
+    /// Whether the state, 0, 1 or 2, is in the set.
     pub fn has(self, state: u8) -> bool
         requires { state < STATES }
         ensures { result ≡ has_state self state }
@@ -75,7 +75,7 @@ impl StateSet {
         }
     }
 
-    /// Whether each state of the set is one of the other.
+    /// Whether each state of the set is in the other.
     pub fn is_within(self, other: StateSet) -> bool
         ensures { IsTrue result ↔ ((s : ℕ) → has_state self s ≡ true → has_state other s ≡ true) }
     {
@@ -107,7 +107,7 @@ fn source_of_each(inv: Invariant, typ: u16) -> [StateSet; SETS]
     sources
 }
 
-/// From which states types lead an invariant's monitor into each set: a type that the invariant does not name leaves the
+/// The states from which types lead an invariant's monitor into each set. A type that the invariant does not name leaves the
 /// states as they are.
 #[derive(Drop)]
 pub struct Sources {

@@ -1,7 +1,9 @@
-//! Steps from one set of ids to the next, as a lazy automaton makes them: each set that is met gets a number, and the number of
-//! the next one is kept for it and the type, so that the same step costs one look the next time. A set of one id has the number of
-//! this id, and any other that of the row in which it lies. There is room for some. If it is full, the other sets lie in one row,
-//! each until the next comes, and after many of them all sets are forgotten.
+//! Steps from one set of ids to the next, as in a lazy automaton. Each set that is met gets a number. The number of the next
+//! set is kept for each set and type, so the same step costs one look-up the next time.
+//!
+//! The number of a set of one id is this id. The number of any other set is that of its row. There are rows for 256 sets
+//! (`ROOM`). When they are full, further sets share one row (`LOOSE`), each until the next one is needed. After many such sets
+//! all are forgotten.
 ghost use Rattle.std.specs.Prelude.{◌≡◌, ◌≢◌, ◌↔◌, ◌<◌, ◌+◌, ℕ, true};
 ghost use Rattle.model_check.specs.Rows.{bit};
 ghost use Rattle.model_check.specs.Successors.{in_set, AreSuccessors, IsEnteredFrom, IsSet};
@@ -10,11 +12,11 @@ use crate::rows::IdRows;
 use crate::sets::{IDS, LOOSE, NEXT, ROOM, TYPES, advance, only_one};
 use crate::successors::{SLOTS, Successors, slot_of};
 
-/// Forgets all sets, and keeps the next one as the first. Its number is given.
+/// Forgets all sets, keeps the next set as the first, and returns its number.
 fn begin_again(rows: &mut IdRows, successors: &mut Successors, slot: usize) -> usize
     requires slot { slot < SLOTS }
 
-    // The graph stays, and what is known of it is right.
+    // The graph stays, and the known steps are right.
     ensures graph { (r k : ℕ) → r < NEXT → bit rows.new r k ≡ bit rows.old r k }
     ensures successors { AreSuccessors rows.new (successors.new).numbers.items (successors.new).kept }
     ensures number { IsSet (successors.new).kept result }
@@ -24,7 +26,7 @@ fn begin_again(rows: &mut IdRows, successors: &mut Successors, slot: usize) -> u
     successors.keep(rows, slot)
 }
 
-/// The number of the next set, to which the type leads from this one. It is kept from now on.
+/// Keeps the next set, to which the type leads from this one, and returns its number.
 fn number_next(rows: &mut IdRows, successors: &mut Successors, set: usize, typ: usize) -> usize
     requires set { IsSet (ROOM + 1) set }
     requires kept { set ≢ LOOSE → IsSet (successors.old).kept set }
@@ -32,7 +34,7 @@ fn number_next(rows: &mut IdRows, successors: &mut Successors, set: usize, typ: 
     requires successors { AreSuccessors rows.old (successors.old).numbers.items (successors.old).kept }
     requires next { (q : ℕ) → (bit rows.old NEXT q ≡ true) ↔ IsEnteredFrom (in_set rows.old set) rows.old typ q }
 
-    // The graph stays, and what is known of it is right.
+    // The graph stays, and the known steps are right.
     ensures graph { (r k : ℕ) → r < NEXT → bit rows.new r k ≡ bit rows.old r k }
     ensures successors { AreSuccessors rows.new (successors.new).numbers.items (successors.new).kept }
 
@@ -53,14 +55,14 @@ fn number_next(rows: &mut IdRows, successors: &mut Successors, set: usize, typ: 
     next
 }
 
-/// The same as `step`, where the next set is not known.
+/// The same as `step`, if the next set is not known.
 fn step_anew(rows: &mut IdRows, successors: &mut Successors, set: usize, typ: usize) -> usize
     requires set { IsSet (ROOM + 1) set }
     requires kept { set ≢ LOOSE → IsSet (successors.old).kept set }
     requires typ { typ < TYPES }
     requires successors { AreSuccessors rows.old (successors.old).numbers.items (successors.old).kept }
 
-    // The graph stays, and what is known of it is right.
+    // The graph stays, and the known steps are right.
     ensures graph { (r k : ℕ) → r < NEXT → bit rows.new r k ≡ bit rows.old r k }
     ensures successors { AreSuccessors rows.new (successors.new).numbers.items (successors.new).kept }
 
@@ -82,14 +84,14 @@ fn step_anew(rows: &mut IdRows, successors: &mut Successors, set: usize, typ: us
     number_next(rows, successors, set, typ)
 }
 
-/// The number of the set that comes next: of the ids of the type to which edges lead from the set of a number.
+/// The number of the next set: the ids of the type that edges enter from the set with number `set`.
 pub fn step(rows: &mut IdRows, successors: &mut Successors, set: usize, typ: usize) -> usize
     requires set { IsSet (ROOM + 1) set }
     requires kept { set ≢ LOOSE → IsSet (successors.old).kept set }
     requires typ { typ < TYPES }
     requires successors { AreSuccessors rows.old (successors.old).numbers.items (successors.old).kept }
 
-    // The graph stays, and what is known of it is right.
+    // The graph stays, and the known steps are right.
     ensures graph { (r k : ℕ) → r < NEXT → bit rows.new r k ≡ bit rows.old r k }
     ensures successors { AreSuccessors rows.new (successors.new).numbers.items (successors.new).kept }
 
@@ -106,7 +108,7 @@ pub fn step(rows: &mut IdRows, successors: &mut Successors, set: usize, typ: usi
     step_anew(rows, successors, set, typ)
 }
 
-/// Whether the id is in the set of a number.
+/// Whether the id is in the set with this number.
 pub fn is_in_set(rows: &IdRows, set: usize, q: usize) -> bool
     requires { IsSet (ROOM + 1) set }
     ensures { result ≡ in_set rows.now set q }

@@ -1,4 +1,4 @@
-//! What is kept of the steps from one set of ids to the next.
+//! The known steps from one set of ids to the next.
 ghost use Rattle.std.specs.Prelude.{◌≡◌, ◌≢◌, ◌↔◌, ◌<◌, ◌≤◌, ◌+◌, ◌*◌, ◌⊎◌, ℕ, length, IfOk, IfSome, IsTrue};
 ghost use Rattle.model_check.specs.declared.sets.TheConstants.{LOOSE, ROOM, ROWS, TYPES};
 ghost use Rattle.model_check.specs.declared.successors.TheConstants.{SLOTS};
@@ -9,25 +9,25 @@ use crate::rows::IdRows;
 use crate::sets::{KEPT, LOOSE, NEXT, ROOM, ROWS, SPARE, TYPES};
 use std::alloc::{AllocError, Global};
 
-/// How many slots there are, in which kept sets are looked up.
+/// The number of slots in which kept sets are looked up.
 pub(crate) const SLOTS: usize = 1024;
 
-/// How many sets are not kept, because there is no room, before all are forgotten.
+/// How many sets go unkept for lack of room before all are forgotten.
 const PATIENCE: u32 = 16_384;
 
-/// By how many of its first ids the slot of a set is chosen.
+/// How many first ids of a set choose its slot.
 const FIRST_IDS: usize = 32;
 
-/// The next set for each set and type, where it is known.
+/// The next set for each set and type, if it is known.
 #[derive(Drop)]
 pub struct Successors {
-    /// For each number of a set and each type the number of the next set, and 0 where it is not known.
+    /// For each number of a set and each type, the number of the next set; 0 if it is not known.
     numbers: Vec<u16>,
     /// The number of a kept set with this slot, in most cases the last one. It may be of a set that was forgotten.
     slots: Vec<u16>,
-    /// How many sets are kept. The rows from `KEPT` on are theirs.
+    /// The number of kept sets. The rows from `KEPT` on are theirs.
     kept: usize,
-    /// How many sets were not kept, because there was no room, since the last time that all were forgotten.
+    /// How many sets went unkept for lack of room since all were last forgotten.
     missed: u32,
     ghost numbers_size: { length numbers.items ≡ ROWS * TYPES },
     ghost slots_size: { length slots.items ≡ SLOTS },
@@ -35,7 +35,7 @@ pub struct Successors {
 }
 
 impl Successors {
-    /// None is known, and no set is kept.
+    /// No step is known, and no set is kept.
     pub fn make(alloc: Global) -> Result<Successors, AllocError>
         ensures numbers { IfOk result (λ made. (s t : ℕ) → known made.numbers.items s t ≡ 0) }
         ensures kept { IfOk result (λ made. made.kept ≡ 0) }
@@ -48,7 +48,7 @@ impl Successors {
         })
     }
 
-    /// The number of the next set, where it is known, and else 0.
+    /// The number of the next set; 0 if it is not known.
     pub fn get(&self, set: usize, typ: usize) -> usize
         requires set { set < ROWS }
         requires typ { typ < TYPES }
@@ -57,7 +57,7 @@ impl Successors {
         usize::from(self.numbers[set * TYPES + typ])
     }
 
-    /// Keeps the number of the next set, if this one is not that of `LOOSE`, whose row is overwritten.
+    /// Keeps the number of the next set, unless this set is `LOOSE`, whose row is overwritten later.
     pub fn put(&mut self, set: usize, typ: usize, next: usize)
         requires set { set < ROWS }
         requires typ { typ < TYPES }
@@ -79,8 +79,8 @@ impl Successors {
         self.kept == ROOM
     }
 
-    /// Whether the next set is not kept: there is no room, and too few sets were not kept since all were forgotten. To forget
-    /// all costs as much as a few hundred steps.
+    /// Whether the next set goes unkept: there is no room, and too few sets went unkept since all were last forgotten.
+    /// Forgetting all costs as much as a few hundred steps.
     pub fn goes_on_without(&mut self) -> bool
         ensures numbers { (self.new).numbers.items ≡ (self.old).numbers.items }
         ensures kept { (self.new).kept ≡ (self.old).kept }
@@ -96,7 +96,7 @@ impl Successors {
         true
     }
 
-    /// Forgets all sets and all that is known of them.
+    /// Forgets all sets and all steps.
     pub fn forget(&mut self)
         ensures numbers { (s t : ℕ) → known (self.new).numbers.items s t ≡ 0 }
         ensures kept { (self.new).kept ≡ 0 }
@@ -105,7 +105,7 @@ impl Successors {
         self.kept = 0;
     }
 
-    /// Keeps the next set, and gives its number. It is found by the slot from now on.
+    /// Keeps the next set, and returns its number. `find` then finds it by the slot.
     pub fn keep(&mut self, rows: &mut IdRows, slot: usize) -> usize
         requires room { (self.old).kept < ROOM }
         requires slot { slot < SLOTS }
@@ -126,7 +126,7 @@ impl Successors {
         number
     }
 
-    /// The number of the next set, where it is kept and found by the slot.
+    /// The number of the next set, if it is kept and found by the slot.
     pub fn find(&self, rows: &mut IdRows, slot: usize) -> Option<usize>
         requires slot { slot < SLOTS }
         ensures others { (r k : ℕ) → r ≢ SPARE → bit rows.new r k ≡ bit rows.old r k }

@@ -1,4 +1,4 @@
--- What there is: whole runs of coarsening, blocks, labels, and the model of a log.
+-- What exists: whole runs of coarsening, blocks, labels, and the model of a log.
 use Rattle.std.specs.Prelude.{◌≡◌, ◌↔◌, ◌⊎◌, ℕ, ◌+◌, ◌-◌, ◌*◌, ◌<◌, ◌≤◌, List, [], ◌∷◌, ◌++◌, length, Contains}
 use Rattle.std.specs.List.{AllByRecursion}
 use Rattle.limits.specs.declared.TheConstants.{FIRST_TYPE, MAX_PARTITIONS, MAX_PATH_NUMBERS}
@@ -38,20 +38,20 @@ KeptOrBlocked =
 abbrev pub HasNextMerge : List Invariant → Assignment → Type 0
 HasNextMerge invs h = (m : Merge) × IsNextMerge invs h m
 
--- there is one, or no merge keeps every invariant
+-- there is a next merge, or no merge keeps every invariant
 abbrev pub MergeOrNone : Type 0
 MergeOrNone = (invs : List Invariant) (h : Assignment) → IsTyped h → HasNextMerge invs h ⊎ NoMerge invs h
 
--- there are blocks of all pairs
+-- there is a list of the blocks of all pairs
 abbrev pub HasBlocks : List Invariant → Graph → Type 0
 HasBlocks invs g = (blocks : List Block) × AreBlocks invs g blocks
 
--- there are exactly if no merge keeps every invariant
+-- there is one exactly if no merge keeps every invariant
 abbrev pub BlocksExist : Type 0
 BlocksExist = (invs : List Invariant) (h : Assignment) → IsTyped h → NoMerge invs h ↔ HasBlocks invs (G h)
 
--- the merges are the whole run of coarsening from h, and no others are; each leaves fewer ids, all pairs that are left
--- have blocks, and what refinement and coarsening are for is kept
+-- the merges are the only whole run of coarsening from h. They are at most as many as the ids besides the two ends;
+-- all pairs at the end have blocks, and what refinement and coarsening keep is kept.
 pub record IsWholeCoarsening (invs : List Invariant) (h : Assignment) (merges : List Merge)
     (end : Assignment) : Type 0 where
   pub run : Coarsens invs h merges end
@@ -74,18 +74,18 @@ ReachedOrNot =
     (inv : Invariant) (g : Graph) (n p s : ℕ) → IsFormed g → IsBelow n g
     → Reached inv g p s ⊎ (Reached inv g p s → ⊥)
 
--- so the reached states are labels of the partitions
+-- so there are labels of the reached states
 abbrev pub LabelsExist : Type 0
 LabelsExist =
     (inv : Invariant) (h : Assignment) (partitions : List Partition) → IsTyped h → ArePartitions partitions h
     → (labels : List ℕ) × AreReached inv h partitions labels
 
--- the model is that of the log, and no other is
+-- m is the only model of the log
 pub record IsTheModel (m : Model) (log : TypedWords) : Type 0 where
   pub model : IsModelOf m log
   pub alone : (other : Model) → IsModelOf other log → other ≡ m
 
--- a log whose words use exactly its types has a model, whichever kinds it is asked for
+-- a log whose words use exactly its types has one model, whichever kinds are to be mined
 abbrev pub ModelExists : Type 0
 ModelExists = (log : TypedWords) → IsTypedLog log → (m : Model) × IsTheModel m log
 
@@ -93,19 +93,19 @@ ModelExists = (log : TypedWords) → IsTypedLog log → (m : Model) × IsTheMode
 abbrev pub HasModelWithin : TypedWords → Type 0
 HasModelWithin log = (m : Model) × IsTheModel m log × KeepsLimits m
 
--- the first splits of the log use all ids that there may be, and there is a next one
+-- the first splits of the log use as many ids as the limit, and there is a next split
 abbrev pub NeedsMoreIds : TypedWords → Type 0
 NeedsMoreIds log = StopsFull MAX_PARTITIONS (mined_of log) log.words (first_new log)
 
--- refinement of the log keeps the ids that there may be, and the paths of its model have more numbers than there may be
+-- refinement of the log keeps the limit on ids, and the paths of its model exceed the limit on numbers
 pub record NeedsMoreNumbers (log : TypedWords) : Type 0 where
   pub model : Model
   pub is_model : IsTheModel model log
   pub ids : first_new log + length model.splits ≤ MAX_PARTITIONS
   pub numbers : MAX_PATH_NUMBERS < split_numbers model.splits + block_numbers model.blocks
 
--- refinement of the log keeps these ids, and coarsening ends; the paths of the splits and of the blocks of the first
--- pairs, the next one's among them, have more numbers than there may be
+-- refinement of the log keeps the limit on ids, and coarsening ends; the paths of the splits and of the blocks
+-- of the first pairs, including the next one, exceed the limit on numbers
 pub record StopsWithoutRoom (log : TypedWords) : Type 0 where
   pub splits : List Split
   pub refined : Assignment
@@ -122,44 +122,44 @@ pub record StopsWithoutRoom (log : TypedWords) : Type 0 where
   pub is_block : IsBlock (mined_of log) (G end) next
   pub too_long : MAX_PATH_NUMBERS < split_numbers splits + block_numbers blocks + length next.path
 
--- such a stop says that the model needs more numbers
+-- the model needs more numbers exactly if there is such a stop
 abbrev pub RoomTells : Type 0
 RoomTells = (log : TypedWords) → IsTypedLog log → NeedsMoreNumbers log ↔ StopsWithoutRoom log
 
--- exactly one of the three
+-- exactly one of the three holds
 pub record EndsOneWay (log : TypedWords) : Type 0 where
   pub some : HasModelWithin log ⊎ (NeedsMoreIds log ⊎ NeedsMoreNumbers log)
   pub not_ids : HasModelWithin log → NeedsMoreIds log → ⊥
   pub not_numbers : HasModelWithin log → NeedsMoreNumbers log → ⊥
   pub not_both : NeedsMoreIds log → NeedsMoreNumbers log → ⊥
 
--- so it is with each log whose words use exactly its types, and whose first graph keeps the ids that there may be
+-- so it is for each log whose words use exactly its types and whose first graph keeps the limit on ids
 abbrev pub LogsEndOneWay : Type 0
 LogsEndOneWay = (log : TypedWords) → IsTypedLog log → first_new log ≤ MAX_PARTITIONS → EndsOneWay log
 
--- the list names each suffix of a word that is not empty
+-- the list contains each non-empty suffix of a word
 abbrev pub NamesSuffixes : List (List ℕ) → List (List ℕ) → Type 0
 NamesSuffixes names words =
     (front suffix : List ℕ) → Contains words (front ++ suffix) → (suffix ≡ [] → ⊥) → IsOneOf suffix names
 
--- the model has at most so many ids beside the two ends and no more blocks than these ids have pairs, and its paths have
--- no more numbers than as many splits and blocks have with 3 * count + 2 numbers each
+-- the model has at most this many ids besides the two ends, at most as many blocks as these ids have pairs,
+-- and at most (3 * count + 2) * count * (count + 1) / 2 numbers in its paths
 pub record IsSmall (count : ℕ) (m : Model) : Type 0 where
   pub ids : length m.types + length m.splits ≤ count
   pub blocks : 2 * length m.blocks ≤ count * (count - 1)
   pub numbers : 2 * (split_numbers m.splits + block_numbers m.blocks) ≤ (3 * count + 2) * (count * (count + 1))
 
--- so is the model of a log with so many suffixes
+-- so is the model of a log with this many suffixes
 abbrev pub ModelsAreSmall : Type 0
 ModelsAreSmall =
     (m : Model) (log : TypedWords) (names : List (List ℕ)) → IsTypedLog log → IsModelOf m log
     → NamesSuffixes names log.words → IsSmall (length names) m
 
--- so many suffixes are too few to exceed a limit of a run
+-- this many suffixes are too few to exceed a limit of a run
 abbrev pub few_suffixes : ℕ
 few_suffixes = 138
 
--- so a log with no more has a model within the limits
+-- so a log with at most this many has a model within the limits
 abbrev pub SmallLogsFit : Type 0
 SmallLogsFit =
     (log : TypedWords) (names : List (List ℕ)) → IsTypedLog log → NamesSuffixes names log.words

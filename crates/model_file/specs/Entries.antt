@@ -1,4 +1,4 @@
--- The entry of a model that a JSON value is.
+-- JSON values read as the entries of a model.
 use Rattle.std.specs.Prelude.{ℕ, ◌-◌, ◌^◌, ◌&&◌, List, [], ◌∷◌, codes, nat_lt, nat_le, if◌then◌else◌, Option, Some, None, option_and_then}
 use Rattle.std.specs.Str.{bytes_eq}
 use Rattle.serde_json.specs.Data.{Data, Items, no_items, item}
@@ -15,18 +15,19 @@ use Rattle.invariants.specs.declared.records.Merge.{Merge}
 use Rattle.invariants.specs.declared.records.Split.{Split}
 use Rattle.invariants.specs.declared.records.Block.{Block}
 
--- what f gives, where there is something
+-- f of the value, if there is one
 infixl 10 ◌>>=◌
 abbrev pub ◌>>=◌ : {A B : Type 0} → Option A → (A → Option B) → Option B
 o >>= f = option_and_then f o
 
 -- ---- numbers
 
--- the number, where it is below the limit
+-- the number, if it is below the limit
 abbrev pub if_below : ℕ → ℕ → Option ℕ
 if_below limit n = if nat_lt n limit then Some n else None
 
--- The value as a whole number below a limit. The limits are those of a model's fields; each rule of a well-shaped model asks for less.
+-- The value as a whole number below a limit. The limits are those of a model's fields; the rules of a well-shaped model
+-- are stricter.
 unfoldable pub number_below : ℕ → Data → Option ℕ
 number_below limit d = do
   x ← as_number d
@@ -43,39 +44,39 @@ type_in = number_below (2 ^ 16)
 
 -- ---- arrays
 
--- what f reads of each item, where it reads each
+-- the items read by f, if it reads every one
 abbrev pub each : {A : Type 0} → (Data → Option A) → Items → Option (List A)
 each f no_items = Some []
 each f (item d ds) = f d >>= λ a. each f ds >>= λ rest. Some (a ∷ rest)
 
--- the value as an array of what f reads
+-- the items of an array read by f
 unfoldable pub list_in : {A : Type 0} → (Data → Option A) → Data → Option (List A)
 list_in f d = as_array d >>= each f
 
--- just two items
+-- exactly two items
 abbrev pub two : Items → Option (Data × Data)
 two (item a (item b no_items)) = Some (a, b)
 two _ = None
 
--- just three items
+-- exactly three items
 abbrev pub three : Items → Option (Data × Data × Data)
 three (item a (item b (item c no_items))) = Some (a, b, c)
 three _ = None
 
--- just four items
+-- exactly four items
 abbrev pub four : Items → Option (Data × Data × Data × Data)
 four (item a (item b (item c (item d no_items)))) = Some (a, b, c, d)
 four _ = None
 
--- the items of an array of just two
+-- the items of an array of exactly two
 unfoldable pub two_in : Data → Option (Data × Data)
 two_in d = as_array d >>= two
 
--- the items of an array of just three
+-- the items of an array of exactly three
 unfoldable pub three_in : Data → Option (Data × Data × Data)
 three_in d = as_array d >>= three
 
--- the items of an array of just four
+-- the items of an array of exactly four
 unfoldable pub four_in : Data → Option (Data × Data × Data × Data)
 four_in d = as_array d >>= four
 
@@ -89,33 +90,33 @@ kind_named text =
     else (if bytes_eq text (codes "AP") then Some AP
     else (if bytes_eq text (codes "IB") then Some IB else None)))
 
--- the kind with the name that the value is
+-- the kind whose name the value is
 unfoldable pub kind_in : Data → Option Kind
 kind_in d = do
   text ← as_str d
   kind_named text
 
--- these kinds, where they are the three or all four in their order
+-- the kinds, if they are the first three or all four, in order
 abbrev pub kinds_from : List Kind → Option Kinds
 kinds_from (AF ∷ NF ∷ AP ∷ []) = Some Three
 kinds_from (AF ∷ NF ∷ AP ∷ IB ∷ []) = Some Four
 kinds_from _ = None
 
--- the kinds with the names that the value is an array of
+-- the kinds whose names the value lists
 unfoldable pub kinds_named : Data → Option Kinds
 kinds_named d = list_in kind_in d >>= kinds_from
 
--- the label of a digit from `0` to `7`
+-- the label that a digit from `0` to `7` gives
 abbrev pub label_of : ℕ → Option ℕ
 label_of byte = if nat_le 48 byte && nat_le byte 55 then Some (byte - 48) else None
 
--- the labels of bytes that all are such digits
+-- the labels of bytes, if all are such digits
 abbrev pub labels_of : List ℕ → Option (List ℕ)
 labels_of [] = Some []
 labels_of (byte ∷ bytes) =
     label_of byte >>= λ label. labels_of bytes >>= λ rest. Some (label ∷ rest)
 
--- the labels of a string of such digits
+-- the labels of a string, if all its bytes are such digits
 unfoldable pub labels_in : Data → Option (List ℕ)
 labels_in d = do
   text ← as_str d
@@ -123,7 +124,7 @@ labels_in d = do
 
 -- ---- entries
 
--- a path, as the array of its ids
+-- a path, from the array of its ids
 unfoldable pub path_in : Data → Option (List ℕ)
 path_in d = list_in number_in d
 

@@ -1,4 +1,4 @@
--- The digits that labels are written in.
+-- The digits used for labels.
 use Rattle.std.specs.Prelude.{ℕ, ◌≤◌}
 
 -- a digit from `0` to `7`

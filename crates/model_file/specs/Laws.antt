@@ -10,13 +10,13 @@ use Rattle.model_file.specs.declared.refusal.FileError.TheVariants as refused
 use Rattle.model_file.specs.declared.refusal.Field.TheVariants.{Kinds as KindsField}
 use Rattle.limits.specs.declared.TheConstants.{MAX_MODEL_BYTES, MAX_WRITTEN_BYTES, VERSION_1_BYTES}
 
--- bytes from which the value of a well-shaped model is read are read as that model
+-- bytes that contain the JSON value of a well-shaped model are read as that model
 abbrev pub TreesAreRead : Type 0
 TreesAreRead =
     (bytes : List ℕ) (m : Model) → length bytes ≤ MAX_MODEL_BYTES
     → value_of bytes ≡ Some (tree_of m) → IsWellShaped m → reads bytes ≡ Ok m
 
--- what is written of a well-shaped model, whose types are texts, is read back as that model
+-- the text of a well-shaped model whose types are UTF-8 reads back as that model
 abbrev pub WrittenReadsBack : Type 0
 WrittenReadsBack = (m : Model) → IsWellShaped m → All IsUtf8 m.types → reads (file_text m) ≡ Ok m
 
@@ -24,43 +24,45 @@ WrittenReadsBack = (m : Model) → IsWellShaped m → All IsUtf8 m.types → rea
 abbrev pub ReadIsWellShaped : Type 0
 ReadIsWellShaped = (bytes : List ℕ) (m : Model) → reads bytes ≡ Ok m → IsWellShaped m
 
--- A model that is read from a file of version 2 is that of an object which has just the keys of the model's value, each with the same value.
+-- A model read from a file of version 2 comes from an object with exactly the keys of its JSON value, and the same
+-- values.
 abbrev pub ReadIsTree : Type 0
 ReadIsTree =
     (bytes : List ℕ) (m : Model) → reads bytes ≡ Ok m → (ms : Members)
     × (value_of bytes ≡ Some (object ms))
     × ((key : List ℕ) → get_member key ms ≡ get_member key (members_in m))
 
--- the text of a well-shaped model is within the limit of what is written
+-- the text of a well-shaped model keeps the limit on written bytes
 abbrev pub TextsAreShort : Type 0
 TextsAreShort = (m : Model) → IsWellShaped m → length (file_text m) ≤ MAX_WRITTEN_BYTES
 
--- what is said of a model that is read from a file of version 1
+-- what holds of a model read from a file of version 1
 pub record IsReadAgain (m : Model) : Type 0 where
   -- it is well shaped
   pub shaped : IsWellShaped m
-  -- it asks for three kinds, and has no more types than version 1 has
+  -- it asks for three kinds, and keeps the limit of version 1 on types
   pub first : IsOfVersion1 m
-  -- its text of version 2, where its types are texts, is read as the same model
+  -- its text in version 2 reads back as the same model, if its types are UTF-8
   pub again : All IsUtf8 m.types → reads (file_text m) ≡ Ok m
 
--- a model that is read from a file of version 1 is one of these
+-- this holds of every model read from a file of version 1
 abbrev pub Version1IsReadAgain : Type 0
 Version1IsReadAgain = (bytes : List ℕ) (m : Model) → reads_version_1 bytes ≡ Ok m → IsReadAgain m
 
--- bytes from which the value in version 1 of a well-shaped model of that version is read are read by it as that model
+-- bytes that contain the version 1 value of a well-shaped model of that version are read as that model in version 1
 abbrev pub Version1TreesAreRead : Type 0
 Version1TreesAreRead =
     (bytes : List ℕ) (m : Model) → length bytes ≤ VERSION_1_BYTES
     → value_of bytes ≡ Some (tree_of_version_1 m) → IsWellShaped m → IsOfVersion1 m → reads_version_1 bytes ≡ Ok m
 
--- A model that is read from a file of version 1 is that of an object which has just the eight keys of its value in that version, each with the same value.
+-- A model read from a file of version 1 comes from an object with exactly the keys of its value in version 1, and the
+-- same values.
 abbrev pub Version1IsTree : Type 0
 Version1IsTree =
     (bytes : List ℕ) (m : Model) → reads_version_1 bytes ≡ Ok m → (ms : Members)
     × (value_of bytes ≡ Some (object ms))
     × ((key : List ℕ) → get_member key ms ≡ get_member key (members_of_version_1 m))
 
--- no file is refused by version 1 for its kinds
+-- version 1 refuses no file for its kinds
 abbrev pub Version1NamesNoKinds : Type 0
 Version1NamesNoKinds = (bytes : List ℕ) → reads_version_1 bytes ≡ Err (refused.Shape KindsField) → ⊥

@@ -13,89 +13,89 @@ use Rattle.invariants.specs.declared.records.Block.{Block}
 use Rattle.model_file.specs.Rules.{pair_less}
 use Rattle.model_file.specs.Entries.{◌>>=◌, each, list_in}
 
--- no item
+-- there is no item
 abbrev pub no_fields : Items → Option (Unit {0})
 no_fields no_items = Some tt
 no_fields (item d ds) = None
 
--- an item that f reads, and others that g reads
+-- the first item read by f, and the others read by g
 abbrev pub one_more : {A R : Type 0} → (Data → Option A) → (Items → Option R) → Items → Option (A × R)
 one_more f g no_items = None
 one_more f g (item d ds) = f d >>= λ a. g ds >>= λ r. Some (a, r)
 
--- both, where both are there
+-- both values, if both are present
 abbrev pub both : {A B : Type 0} → Option A → Option B → Option (A × B)
 both a b = a >>= λ x. b >>= λ y. Some (x, y)
 
--- the value as an array of such fields
+-- the items of the value, an array, read by g
 abbrev pub row_in : {R : Type 0} → (Items → Option R) → Data → Option R
 row_in g d = as_array d >>= g
 
--- the entries of a list, where each value was one
+-- the entries of a list, if every value was one
 abbrev pub gathered : {T : Type 0} → Gathered T → Option (List T)
 gathered g = if g.is_whole then Some g.entries.items else None
 
--- ---- lists of which no more is kept than can be those of a model
+-- ---- lists of which no more is kept than a model can have
 
--- the list with an entry at its end, unless it is over
+-- the list with an entry appended, unless it is over
 abbrev pub put : {T : Type 0} → (List T → Bool) → List T → T → List T
 put over xs x = if over xs then xs else xs ++ x ∷ []
 
--- the same, where both are there
+-- the same, if both are present
 abbrev pub added : {T : Type 0} → (List T → Bool) → Option (List T) → Option T → Option (List T)
 added over list entry = list >>= λ xs. entry >>= λ x. Some (put over xs x)
 
--- the list with these entries at its end, up to where it is over
+-- the list with these entries appended until it is over
 abbrev pub kept_after : {T : Type 0} → (List T → Bool) → List T → List T → List T
 kept_after over front [] = front
 kept_after over front (x ∷ xs) = kept_after over (put over front x) xs
 
--- the entries up to where the list is over
+-- the entries until the list is over
 abbrev pub kept : {T : Type 0} → (List T → Bool) → List T → List T
 kept over xs = kept_after over [] xs
 
--- what f reads of each item, up to where the list is over; it reads each item
+-- the items read by f, kept until the list is over; every item must be readable
 abbrev pub kept_each : {T : Type 0} → (List T → Bool) → (Data → Option T) → Items → Option (List T)
 kept_each over f ds = option_map (kept over) (each f ds)
 
--- the value as an array of what f reads, up to where the list is over
+-- the items of an array read by f, kept until the list is over
 abbrev pub kept_in : {T : Type 0} → (List T → Bool) → (Data → Option T) → Data → Option (List T)
 kept_in over f d = option_map (kept over) (list_in f d)
 
--- a list that is kept whole
+-- a list kept whole is never over
 abbrev pub never_over : {T : Type 0} → List T → Bool
 never_over xs = false
 
--- whether the last entry does not come after the one before it
+-- whether the last entry does not have a higher key than the one before it
 abbrev pub falls : {T : Type 0} → (T → ℕ × ℕ) → List T → Bool
 falls key [] = false
 falls key (x ∷ []) = false
 falls key (x ∷ y ∷ []) = not (pair_less (key x) (key y))
 falls key (x ∷ y ∷ z ∷ zs) = falls key (y ∷ z ∷ zs)
 
--- more types than a file of any version may have
+-- there are more types than a file of any version may have
 abbrev pub types_over : List (List ℕ) → Bool
 types_over ts = nat_lt MAX_TYPES (length ts)
 
--- more splits than there are ids beside the two ends
+-- there are more splits than ids beside the two ends
 abbrev pub splits_over : List Split → Bool
 splits_over ss = nat_lt MAX_PARTITIONS (length ss + FIRST_TYPE)
 
--- blocks that do not ascend
+-- the last block does not come after the one before it
 abbrev pub blocks_over : List Block → Bool
 blocks_over bs = falls (λ b. (b.p, b.q)) bs
 
--- the number of a kind in the order of the kinds
+-- the number of a kind, in the order of the kinds
 abbrev pub kind_number : Kind → ℕ
 kind_number AF = 0
 kind_number NF = 1
 kind_number AP = 2
 kind_number IB = 3
 
--- candidates ascend by their first type, and then by their second type and their kind
+-- invariants are ordered by their first type, then by their second type, then by their kind
 abbrev pub invariant_key : Invariant → ℕ × ℕ
 invariant_key i = (i.a, 4 * i.b + kind_number i.kind)
 
--- invariants that do not ascend
+-- the last invariant does not come after the one before it
 abbrev pub invariants_over : List Listed → Bool
 invariants_over ls = falls (λ l. invariant_key l.inv) ls

@@ -1,6 +1,6 @@
 -- A table of types by ids.
 use Rattle.std.specs.Prelude.{ℕ, List, get_or, Option, None}
 
--- what the table has at an id, and nothing past its end
+-- the type at an id, and none past the end of the table
 abbrev pub type_at : List (Option ℕ) → ℕ → Option ℕ
 type_at table id = get_or table id None

@@ -48,12 +48,12 @@ kind_text IB = codes "IB"
 abbrev pub kind_data : Kind → Data
 kind_data kind = string (kind_text kind)
 
--- the kinds in their order
+-- the kinds in order
 abbrev pub kinds_in_order : Kinds → List Kind
 kinds_in_order Three = AF ∷ NF ∷ AP ∷ []
 kinds_in_order Four = AF ∷ NF ∷ AP ∷ IB ∷ []
 
--- kinds, as the array of their names
+-- the kinds, as the array of their names
 abbrev pub kinds_data : Kinds → Data
 kinds_data kinds = array_of (map kind_data (kinds_in_order kinds))
 
@@ -61,7 +61,7 @@ kinds_data kinds = array_of (map kind_data (kinds_in_order kinds))
 abbrev pub digit_of : ℕ → ℕ
 digit_of label = 48 + label
 
--- `[kind,a,b,labels]`, the labels with a digit each
+-- `[kind,a,b,labels]`, with one digit per label
 abbrev pub listed_data : Listed → Data
 listed_data l =
     array_of (kind_data l.inv.kind ∷ number_data l.inv.a ∷ number_data l.inv.b
@@ -93,7 +93,7 @@ members_in m =
     (member (codes "types") (array_of (map string m.types))
     (member (codes "version") (number_data 2) no_members))))))))
 
--- the eight keys of a file of version 1, in the same order: it names no kinds
+-- the eight keys of a file of version 1, in the same order; it does not name the kinds
 abbrev pub members_of_version_1 : Model → Members
 members_of_version_1 m =
     member (codes "blocks") (array_of (map block_data m.blocks))
@@ -110,7 +110,7 @@ abbrev pub members_as : Version → Model → Members
 members_as One m = members_of_version_1 m
 members_as Two m = members_in m
 
--- the JSON value of a model of three kinds, in version 1
+-- the JSON value of a model, in version 1
 unfoldable pub tree_of_version_1 : Model → Data
 tree_of_version_1 m = object (members_of_version_1 m)
 
@@ -118,6 +118,6 @@ tree_of_version_1 m = object (members_of_version_1 m)
 unfoldable pub tree_of : Model → Data
 tree_of m = object (members_in m)
 
--- the text of a model file: that of the value, without blanks
+-- the text of a model file: that of the value, without whitespace
 abbrev pub file_text : Model → List ℕ
 file_text m = compact_text (tree_of m)

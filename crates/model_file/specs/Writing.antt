@@ -1,4 +1,4 @@
--- What a writer of JSON has got.
+-- What a JSON writer has received.
 use Rattle.std.specs.Prelude.{◌≡◌, List, ◌∷◌, ◌++◌, map, codes, Result, OnOk}
 use Rattle.json.specs.Token.{Token, key}
 use Rattle.json.specs.Tree.{json_tokens}
@@ -29,7 +29,7 @@ last_members m =
     ++ (key (codes "types") ∷ (tokens_of (array_of (map string m.types))
     ++ (key (codes "version") ∷ tokens_of (number_data 2)))))))))
 
--- The tokens are appended, where memory was granted. What stood before the first token stays.
+-- The tokens are appended if the call succeeds. What came before the first token stays.
 pub record Appends {E : Type 0} (r : Result (Unit {0}) E) (old new : Written) (ts : List Token) : Type 0 where
   pub ok : OnOk r (new.tokens ≡ old.tokens ++ ts)
   pub before : new.before ≡ old.before

@@ -1,4 +1,4 @@
-//! Of which lists no more is kept, since no model has them.
+//! When a list is over: no model has a list that begins so, and no more of it is kept.
 ghost use Rattle.std.specs.Prelude.{◌≡◌, ◌-◌, ◌≤◌, length, not, slice_get, Some};
 ghost use Rattle.model_file.specs.Lists.{kind_number, invariant_key};
 
@@ -7,7 +7,7 @@ use crate::shape::is_less;
 use invariants::{Block, Invariant, Kind, Listed, Split, Text};
 use limits::{FIRST_TYPE, MAX_PARTITIONS, MAX_TYPES};
 
-/// No more types than a file of any version may have.
+/// The list of types is over if it has more types than a file of any version may have.
 pub(crate) struct Types;
 
 impl Bound<Text> for Types {
@@ -21,7 +21,7 @@ impl Bound<Text> for Types {
     }
 }
 
-/// No more splits than there are ids beside the two ends.
+/// The list of splits is over if it has more splits than there are ids besides the two ends.
 pub(crate) struct Splits;
 
 impl Bound<Split> for Splits {
@@ -35,7 +35,7 @@ impl Bound<Split> for Splits {
     }
 }
 
-/// Blocks that ascend.
+/// The list of blocks is over if its last two blocks do not ascend.
 pub(crate) struct Blocks;
 
 impl Bound<Block> for Blocks {
@@ -66,7 +66,7 @@ fn kind_number(kind: Kind) -> u32
     }
 }
 
-/// Candidates ascend by these two numbers.
+/// The two numbers by which candidates ascend.
 #[inline(always)]
 fn invariant_key(inv: Invariant) -> (u32, u32)
     ensures { result ≡ invariant_key inv }
@@ -77,7 +77,7 @@ fn invariant_key(inv: Invariant) -> (u32, u32)
     )
 }
 
-/// Invariants in the order of the candidates, whatever the kinds and the types.
+/// The list of invariants is over if its last two are not in the order of the candidates, whatever the kinds and the types.
 pub(crate) struct Invariants;
 
 impl Bound<Listed> for Invariants {

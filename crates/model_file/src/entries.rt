@@ -9,7 +9,7 @@ use invariants::{Block, Edge, Invariant, Kind, Kinds, Listed, Merge, Partition, 
 use json::Reader;
 use std::alloc::Global;
 
-/// The number, where it is below 2^32.
+/// The number, if it is below 2^32.
 #[inline(always)]
 fn below_32(n: Option<u64>) -> Option<u32>
     ensures { result ≡ option_and_then (if_below (2 ^ 32)) n }
@@ -21,7 +21,7 @@ fn below_32(n: Option<u64>) -> Option<u32>
     Some(n as u32)
 }
 
-/// The number, where it is below 2^16.
+/// The number, if it is below 2^16.
 #[inline(always)]
 fn below_16(n: Option<u64>) -> Option<u16>
     ensures { result ≡ option_and_then (if_below (2 ^ 16)) n }
@@ -130,7 +130,7 @@ impl Entry for Kind {
     }
 }
 
-/// These kinds, where they are the three or all four in their order.
+/// These kinds, if they are the three or all four, in order.
 fn kinds_from(kinds: &[Kind]) -> Option<Kinds>
     ensures { result ≡ kinds_from kinds.now }
 {

@@ -25,7 +25,7 @@ const MAX_DEPTH: usize = 127;
 /// How deep they may nest in the value of a key.
 const FIELD_DEPTH: usize = 126;
 
-/// What a model file has under each key; nothing under a key that is not there or that has no value of its form.
+/// What a model file has under each key; `None` if the key is missing or its value does not have its form.
 #[derive(Drop)]
 pub(crate) struct Found {
     /// Whether there is a key that no file of the version has.
@@ -61,7 +61,7 @@ impl Found {
     }
 }
 
-/// Reads the next value, in place of an earlier one, which is dropped first.
+/// Reads the next value into `place`. An earlier value is dropped first.
 fn read_into<E: Entry + Drop>(
     alloc: Global,
     reader: &mut Reader<'_>,
@@ -82,7 +82,7 @@ fn read_into<E: Entry + Drop>(
     }
 }
 
-/// Reads the next value as a list, in place of an earlier one, up to where it is over.
+/// Reads the next value as a list into `entries`, up to where it is over. An earlier value is dropped first.
 fn read_list<T: Entry + Drop, B: Bound<T>>(
     alloc: Global,
     reader: &mut Reader<'_>,
@@ -145,7 +145,7 @@ fn read_whole_list(
     }
 }
 
-/// Passes the value of a key that files do not have.
+/// Skips the value of a key that files do not have.
 fn pass_other(reader: &mut Reader<'_>) -> Result<(), Stop>
     ensures ok { OnOk result ((d : Data) × (data_at FIELD_DEPTH reader.old ≡ Some (d, reader.new))) }
     ensures err { IfErr result (λ e. IsStopped e (data_at FIELD_DEPTH reader.old)) }
@@ -219,7 +219,7 @@ fn read_members(
     Ok(())
 }
 
-/// Reads a text that is an object. It answers whether it is one.
+/// Reads a text, and returns whether it is an object.
 fn read_root(
     version: Version,
     alloc: Global,
@@ -271,7 +271,7 @@ fn read_whole(
     Ok(is_object)
 }
 
-/// Reads what the bytes have under each key. It answers whether they are an object.
+/// Reads what the bytes have under each key, and returns whether they are an object.
 pub(crate) fn read_found(
     version: Version,
     alloc: Global,

@@ -16,7 +16,7 @@ fn merge_holds(merge: Merge) -> bool
     merge.p < merge.q && merge.q < MAX_PARTITIONS
 }
 
-/// No more merges than there are ids beside the two ends, each of a lower id and a higher one.
+/// Whether there are no more merges than ids besides the two ends, each of a lower and a higher id.
 #[tactic(auto, unfolding(crate::specs::Rules::merges_hold))]
 pub(crate) fn merges_hold(merges: &[Merge]) -> bool
     ensures { result ≡ merges_hold merges.now }
@@ -46,7 +46,7 @@ fn split_holds(invariants: usize, split: &Split) -> bool
         && path_holds(split.path.as_slice())
 }
 
-/// How many more numbers paths may have after those of the splits, where these have not too many.
+/// How many more ids paths may have after those of the splits; `None` if the splits have too many.
 fn room_after_splits(splits: &[Split]) -> Option<usize>
     ensures { result ≡ room_left MAX_PATH_NUMBERS (split_numbers splits.now) }
 {
@@ -60,7 +60,8 @@ fn room_after_splits(splits: &[Split]) -> Option<usize>
     Some(room)
 }
 
-/// No more splits than there are ids beside the two ends, with the numbers of listed invariants and places in their paths.
+/// Whether there are no more splits than ids besides the two ends, each with the number of a listed invariant and a place in
+/// its path, and the paths do not have too many ids.
 #[tactic(auto, unfolding(crate::specs::Rules::splits_hold))]
 pub(crate) fn splits_hold(invariants: usize, splits: &[Split]) -> bool
     ensures { result ≡ splits_hold invariants splits.now }
@@ -110,7 +111,7 @@ fn blocks_ascend(blocks: &[Block]) -> bool
     true
 }
 
-/// Whether the paths of the blocks have no more numbers than this.
+/// Whether the paths of the blocks have at most this many ids in total.
 fn blocks_fit(blocks: &[Block], room: usize) -> bool
     ensures { result ≡ nat_le (block_numbers blocks.now) room }
 {
@@ -134,7 +135,8 @@ fn numbers_fit(splits: &[Split], blocks: &[Block]) -> bool
     }
 }
 
-/// Ascending blocks of two partitions of one type, with the numbers of listed invariants.
+/// Whether the blocks ascend, each is of two partitions of one type and has the number of a listed invariant, and the paths of
+/// splits and blocks do not have too many ids.
 #[tactic(auto, unfolding(crate::specs::Rules::blocks_hold))]
 pub(crate) fn blocks_hold(
     table: &[Option<u16>],

@@ -4,7 +4,7 @@ ghost use Rattle.model_file.specs.Found.{has_key, IsKey};
 
 use crate::version::Version;
 
-/// The keys of the lists of which no more is kept than a model may have.
+/// The keys of the lists that are kept only up to where they are over (`Bound`).
 #[derive(Clone, Copy)]
 pub(crate) enum BoundedKey {
     Blocks,

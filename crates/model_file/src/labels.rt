@@ -13,7 +13,7 @@ use std::alloc::{AllocError, Global};
 fn are_labels(bytes: &[u8]) -> bool
     ensures { IsTrue result ↔ All IsLabelDigit bytes.now }
 {
-    // No way out before the last byte, so that many are tested at once.
+    // No early exit, so that many bytes are tested at once.
     let mut all = true;
     for byte in bytes {
         all = all & (*byte >= b'0') & (*byte <= b'7');
@@ -21,7 +21,7 @@ fn are_labels(bytes: &[u8]) -> bool
     all
 }
 
-/// Puts the number of each digit in its place.
+/// Replaces each digit by its number.
 fn digits_to_numbers(bytes: &mut [u8])
     requires { All IsLabelDigit bytes.old }
     ensures { bytes.new ≡ map (λ byte. byte - 48) bytes.old }
@@ -31,7 +31,7 @@ fn digits_to_numbers(bytes: &mut [u8])
     }
 }
 
-/// The labels of digits from `0` to `7`.
+/// The labels that digits from `0` to `7` write; `None` for any other byte.
 fn labels_of(alloc: Global, digits: &[u8]) -> Result<Option<Seq<u8>>, AllocError>
     ensures { IfOk result (λ found. found ≡ labels_of digits.now) }
 {

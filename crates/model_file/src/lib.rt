@@ -1,11 +1,11 @@
 //! The model file: the text of a model, and the model of a text or the first refusal.
 //!
-//! A file that is written is of version 2: one JSON object without blanks, with the keys `blocks`, `edges`, `invariants`,
-//! `kinds`, `merges`, `partitions`, `splits`, `types` and `version` in this order. Reading takes any JSON text of such an
-//! object, whatever the order of its keys and its blanks, where the model in it is well shaped.
+//! Files are written in version 2: one JSON object without blanks, with the keys `blocks`, `edges`, `invariants`, `kinds`,
+//! `merges`, `partitions`, `splits`, `types` and `version` in this order. Reading accepts such an object with any order of keys
+//! and any blanks, if the model in it is well shaped.
 //!
-//! Files of version 1 are read by a call of their own and are no longer written. They have the same keys without `kinds`,
-//! fewer types and fewer bytes, and their models ask for three kinds of invariants.
+//! Files of version 1 are read by `read_version_1` and no longer written. They have the same keys without `kinds`, and lower
+//! limits on types and bytes. Their models ask for three kinds of invariants.
 #![tactic(auto)]
 
 mod caps;

@@ -9,29 +9,29 @@ use invariants::Seq;
 use json::Reader;
 use std::alloc::{AllocError, Global};
 
-/// An entry that a JSON value may be.
+/// An entry that is read from a JSON value.
 pub(crate) trait Entry: Sized {
     ghost use Rattle.std.specs.Prelude.{Option};
     ghost use Rattle.serde_json.specs.Data.{Data};
 
-    /// The entry that a value is.
+    /// The entry in a value.
     ghost read_as: { Data → Option Self };
 
-    /// The entry that the next value is. Arrays and objects may nest `depth` deep.
+    /// Reads the entry in the next value. Arrays and objects may nest `depth` deep.
     fn read(alloc: Global, reader: &mut Reader<'_>, depth: usize) -> Result<Option<Self>, Stop>
         ensures value { Answers result (parse_map read_as (data_at depth reader.old)) reader.new }
         ensures shorter { OnOk result (length reader.new < length reader.old) };
 }
 
-/// The fields of a row, the first of them and the others.
+/// The fields of a row: the first and the others.
 pub(crate) trait Row: Sized {
     ghost use Rattle.std.specs.Prelude.{Option};
     ghost use Rattle.serde_json.specs.Data.{Items};
 
-    /// The fields that items are.
+    /// The fields in the items.
     ghost fields_as: { Items → Option Self };
 
-    /// The fields that the items up to the closing bracket are.
+    /// Reads the fields in the items up to the closing bracket.
     fn fields(alloc: Global, reader: &mut Reader<'_>, depth: usize) -> Result<Option<Self>, Stop>
         ensures value { (n : ℕ) → length reader.old ≤ n
             → Answers result (parse_map fields_as (items_at n depth reader.old)) reader.new }
@@ -59,7 +59,7 @@ impl Row for () {
     }
 }
 
-/// Both, where both are there.
+/// Both, if both are there.
 #[inline(always)]
 fn both<A: Drop, B: Drop>(a: Option<A>, b: Option<B>) -> Option<(A, B)>
     ensures { result ≡ both a b }
@@ -95,7 +95,7 @@ impl<A: Entry + Drop, R: Row + Drop> Row for (A, R) {
     }
 }
 
-/// The row that the next value is.
+/// Reads the row in the next value.
 #[inline(always)]
 pub(crate) fn row_of<R: Row + Drop>(
     alloc: Global,
@@ -113,14 +113,14 @@ pub(crate) fn row_of<R: Row + Drop>(
     }
 }
 
-/// Which lists no model has, whatever comes after their entries: no more of such a list is kept.
+/// When a list is over: no model has a list that begins with these entries, so no more of it is kept.
 pub(crate) trait Bound<T> {
     ghost use Rattle.std.specs.Prelude.{List, Bool};
 
-    /// Whether a list that begins with these entries is that of no model.
+    /// Whether no model has a list that begins with these entries.
     ghost over: { List T → Bool };
 
-    /// Whether a list that begins with these entries is that of no model.
+    /// Whether no model has a list that begins with these entries.
     fn is_over(entries: &[T]) -> bool
         ensures { result ≡ over entries.now };
 }
@@ -139,7 +139,7 @@ impl<T> Bound<T> for Whole {
     }
 }
 
-/// The entries of a list, as long as each value was one. Those after which it is over are the last.
+/// The entries of a list so far, and whether each value was an entry. No entry is kept after those at which the list is over.
 #[derive(Drop)]
 struct Gathered<T> {
     entries: Vec<T>,
@@ -147,7 +147,7 @@ struct Gathered<T> {
 }
 
 impl<T: Drop> Gathered<T> {
-    /// Adds what the next value is, unless the list is over.
+    /// Adds the entry of the next value, unless the list is over.
     #[inline(always)]
     fn add<B: Bound<T>>(&mut self, entry: Option<T>) -> Result<(), AllocError>
         ensures { OnOk result (gathered self.new ≡ added B.over (gathered self.old) entry) }
@@ -161,7 +161,7 @@ impl<T: Drop> Gathered<T> {
         Ok(())
     }
 
-    /// The list, where each value was an entry.
+    /// The list, if each value was an entry.
     fn list(self) -> Option<Seq<T>>
         ensures { result ≡ gathered self }
     {
@@ -200,7 +200,7 @@ fn entries<T: Entry + Drop, B: Bound<T>>(
     Ok(found.list())
 }
 
-/// The list of entries that the next value is, up to where it is over.
+/// Reads the list of entries in the next value, up to where it is over.
 pub(crate) fn list<T: Entry + Drop, B: Bound<T>>(
     alloc: Global,
     reader: &mut Reader<'_>,

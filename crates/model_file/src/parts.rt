@@ -12,7 +12,7 @@ use crate::shape::{edges_hold, invariants_hold, partitions_hold, types_hold};
 use crate::version::Version;
 use invariants::{Block, Edge, Kinds, Listed, Merge, Partition, Seq, Split, Text};
 
-/// Refuses any version but this one, and then a key that no file of it has.
+/// Refuses any other version, and then a key that no file of this version has.
 pub(crate) fn test_head(version: Version, found: &Found) -> Result<(), FileError>
     ensures { Gives result (head_from version found.now) }
 {
@@ -38,7 +38,7 @@ fn part<T>(entries: &Option<Seq<T>>, field: Field) -> Result<&[T], FileError>
     }
 }
 
-/// The types, no more than the version has.
+/// The types, at most as many as the version allows.
 pub(crate) fn types_in(version: Version, found: &Found) -> Result<&[Text], FileError>
     ensures { GivesBy (λ xs. xs.now) result (types_from version found.now) }
 {
@@ -63,7 +63,7 @@ pub(crate) fn kinds_in(version: Version, found: &Found) -> Result<Kinds, FileErr
     }
 }
 
-/// The partitions, which have so many types.
+/// The partitions, for this number of types.
 pub(crate) fn partitions_in(found: &Found, types: usize) -> Result<&[Partition], FileError>
     requires { types ≤ MAX_TYPES }
     ensures { GivesBy (λ xs. xs.now) result (partitions_from types found.now) }
@@ -86,7 +86,7 @@ pub(crate) fn edges_in<'a>(found: &'a Found, table: &[Option<u16>]) -> Result<&'
     Ok(edges)
 }
 
-/// The invariants of these kinds between so many types, with labels for so many partitions.
+/// The invariants of these kinds, for this number of types, with labels for this number of partitions.
 pub(crate) fn invariants_in(
     found: &Found,
     kinds: Kinds,
@@ -114,7 +114,7 @@ pub(crate) fn merges_in(found: &Found) -> Result<&[Merge], FileError>
     Ok(merges)
 }
 
-/// The splits, where so many invariants are listed.
+/// The splits, for this number of listed invariants.
 pub(crate) fn splits_in(found: &Found, invariants: usize) -> Result<&[Split], FileError>
     ensures { GivesBy (λ xs. xs.now) result (splits_from invariants found.now) }
 {
@@ -125,7 +125,7 @@ pub(crate) fn splits_in(found: &Found, invariants: usize) -> Result<&[Split], Fi
     Ok(splits)
 }
 
-/// The blocks, where so many invariants are listed.
+/// The blocks, for this number of listed invariants.
 pub(crate) fn blocks_in<'a>(
     found: &'a Found,
     table: &[Option<u16>],

@@ -17,7 +17,7 @@ use crate::version::Version;
 use invariants::{Kinds, Model, Partition, Seq, Text};
 use std::alloc::Global;
 
-/// Tests the parts that come after the partitions, one after the other. The table has the types of the partitions.
+/// Tests the parts that come after the partitions, in order. The table has the types of the partitions.
 fn test_others(
     found: &Found,
     table: &[Option<u16>],
@@ -39,7 +39,7 @@ fn test_others(
     Ok(())
 }
 
-/// Tests the parts one after the other.
+/// Tests the parts in order.
 fn test_parts(version: Version, alloc: Global, found: &Found) -> Result<(), FileError>
     ensures ok { OnOk result (parts_from version found.now ≡ Ok (model_from version found.now)) }
     ensures err { IfErr result (λ e. Fails e (parts_from version found.now)) }
@@ -120,12 +120,16 @@ fn read_as(version: Version, alloc: Global, bytes: &[u8]) -> Result<Model, FileE
     }
 }
 
-/// The model of the bytes of a file of version 2, or the first refusal.
+/// The model in the bytes of a file of version 2, or the first refusal. The refusals, in their order:
 ///
-/// `TooLong` comes for more than 536,870,912 bytes (`limits::MAX_MODEL_BYTES`), of which no byte is then looked at,
-/// `NotJson` for bytes that are no JSON text, `Shape(Root)` for a value that is no object, `Shape(Version)` and `Version`
-/// for any version but 2, `Shape(Extra)` for a key that no file of version 2 has, and `Shape` of the first part that is
-/// not there, is not of its form or breaks its rule. `Memory` may come at any time.
+/// - `TooLong`: there are more than 536,870,912 bytes (`limits::MAX_MODEL_BYTES`).
+/// - `NotJson`: the bytes are not a JSON text.
+/// - `Shape(Root)`: the JSON value is not an object.
+/// - `Shape(Version)`: there is no version number. `Version`: it is not 2.
+/// - `Shape(Extra)`: there is a key that no file of version 2 has.
+/// - `Shape` of the first part, in the order of `Field`, that is missing, does not have its form or breaks its rule.
+///
+/// `Memory` may be returned instead of any answer.
 pub fn read_model(alloc: Global, bytes: &[u8]) -> Result<Model, FileError>
     ensures ok { IfOk result (λ model. reads bytes.now ≡ Ok model) }
     ensures shape { IfOk result IsWellShaped }
@@ -134,11 +138,15 @@ pub fn read_model(alloc: Global, bytes: &[u8]) -> Result<Model, FileError>
     read_as(Version::Two, alloc, bytes)
 }
 
-/// The model of the bytes of a file of version 1, or the first refusal. The model asks for three kinds of invariants.
+/// The model in the bytes of a file of version 1, or the first refusal. The model asks for three kinds of invariants.
 ///
-/// The refusals are those of `read_model`, in the same order, with what version 1 has: `TooLong` comes for more than
-/// 134,217,728 bytes (`limits::VERSION_1_BYTES`), `Version` for any version but 1, `Shape(Extra)` also for the key
-/// `kinds`, and `Shape(Types)` also for more than 128 types (`limits::VERSION_1_TYPES`). `Shape(Kinds)` never comes.
+/// The refusals are those of `read_model`, in the same order, with these differences:
+///
+/// - `TooLong`: there are more than 134,217,728 bytes (`limits::VERSION_1_BYTES`).
+/// - `Version`: the version is not 1.
+/// - `Shape(Extra)`: the key `kinds` is refused too.
+/// - `Shape(Types)`: more than 128 types (`limits::VERSION_1_TYPES`) are refused too.
+/// - `Shape(Kinds)` is never returned.
 pub fn read_version_1(alloc: Global, bytes: &[u8]) -> Result<Model, FileError>
     ensures ok { IfOk result (λ model. reads_version_1 bytes.now ≡ Ok model) }
     ensures shape { IfOk result IsWellShaped }

@@ -8,9 +8,9 @@ use thiserror::Error;
 /// A part of a model file.
 #[derive(Clone, Copy, Debug, PartialEq, Eq)]
 pub enum Field {
-    /// The whole, which is to be an object.
+    /// The whole file, which must be an object.
     Root,
-    /// The number of the version of the file.
+    /// The version number of the file.
     Version,
     /// A key that no model file of the version has.
     Extra,
@@ -28,28 +28,26 @@ pub enum Field {
     Merges,
     /// The steps of refinement.
     Splits,
-    /// Why partitions of one type stay apart.
+    /// The blocks: why partitions of one type are not merged.
     Blocks,
 }
 
-/// Why a model file is refused. Of several refusals, the first in the order in which `read_model` names them is
-/// answered; of several lists, the first in the order of `Field`.
+/// Why a model file is refused. If several refusals apply, the first in the order that `read_model` documents is returned.
 #[derive(Clone, Copy, Debug, PartialEq, Eq, Error)]
 pub enum FileError {
-    /// The file has more bytes than a file of the version that is read: 536,870,912 for version 2, and 134,217,728 for
-    /// version 1.
+    /// The file has more bytes than the version that is read allows: 536,870,912 for version 2, and 134,217,728 for version 1.
     #[error("the model file is too long")]
     TooLong,
-    /// The bytes are no JSON text.
+    /// The bytes are not a JSON text.
     #[error("the model file is not JSON")]
     NotJson,
-    /// The part is not there, is not of its form or breaks its rule.
+    /// The part is missing, does not have its form or breaks its rule.
     #[error("the model file has a bad part {0:?}")]
     Shape(Field),
-    /// The file is of this version, which is not the one that is read.
+    /// The file has this version, not the one that is read.
     #[error("the model file is of version {0}")]
     Version(u64),
-    /// Memory was wanted.
+    /// Out of memory.
     #[error("out of memory")]
     Memory,
 }

@@ -16,7 +16,7 @@ use limits::{
 };
 use std::alloc::{AllocError, Global};
 
-/// How many partitions come before those of events: INITIAL and TERMINAL.
+/// The number of partitions before those of events: INITIAL and TERMINAL.
 const ENDS: usize = 2;
 
 fn stands_in(text: &str, types: &[Text]) -> bool
@@ -47,7 +47,7 @@ fn type_holds(text: &Text) -> bool
     1 <= text.len() && text.len() <= MAX_TYPE_BYTES
 }
 
-/// No more types than the limit, each of 1 to `MAX_TYPE_BYTES` bytes, no two equal.
+/// Whether there are no more types than the limit, each has 1 to `MAX_TYPE_BYTES` bytes, and no two are equal.
 #[tactic(auto, unfolding(crate::specs::Rules::types_hold))]
 pub(crate) fn types_hold(limit: u32, types: &[Text]) -> bool
     ensures { result ≡ types_hold limit types.now }
@@ -105,7 +105,7 @@ fn partitions_ascend(partitions: &[Partition]) -> bool
     true
 }
 
-/// The two ends first, then others of the types there are, by ascending ids.
+/// Whether the two ends come first and the others are of existing types, and the ids ascend.
 #[tactic(auto, unfolding(crate::specs::Rules::partitions_hold))]
 pub(crate) fn partitions_hold(types: usize, partitions: &[Partition]) -> bool
     requires { types ≤ MAX_TYPES }
@@ -156,7 +156,7 @@ fn edges_ascend(edges: &[Edge]) -> bool
     true
 }
 
-/// Ascending edges between partitions of the table.
+/// Whether the edges ascend and join partitions of the table.
 #[tactic(auto, unfolding(crate::specs::Rules::edges_hold))]
 pub(crate) fn edges_hold(table: &[Option<u16>], edges: &[Edge]) -> bool
     ensures { result ≡ edges_hold (type_at table.now) edges.now }
@@ -179,7 +179,7 @@ fn place_of(kinds: Kinds, types: u32, inv: Invariant) -> Option<u32>
 fn labels_hold(labels: &[u8]) -> bool
     ensures { result ≡ list_all (λ label. nat_le label 7) labels.now }
 {
-    // No way out before the last label, so that many are tested at once.
+    // No early exit, so that many labels are tested at once.
     let mut all = true;
     'labels: for label in labels {
         all = all & (*label <= 7);
@@ -214,7 +214,7 @@ fn invariants_ascend(kinds: Kinds, types: u32, invariants: &[Listed]) -> bool
     true
 }
 
-/// Candidates of these kinds in their order, each with a label for each partition.
+/// Whether the invariants are candidates of these kinds in their order, each with a label for each partition.
 #[tactic(auto, unfolding(crate::specs::Rules::invariants_hold))]
 pub(crate) fn invariants_hold(
     kinds: Kinds,
@@ -256,8 +256,8 @@ fn others_hold(table: &[Option<u16>], model: &Model) -> bool
         )
 }
 
-/// Whether a model is well shaped, which `write_model` asks of it and `read_model` gives: for a caller who made the model
-/// and cannot know it.
+/// Whether a model is well shaped. `write_model` requires this and `read_model` ensures it; the test is for callers who made a
+/// model themselves. The only error is out of memory.
 pub fn is_well_shaped(alloc: Global, model: &Model) -> Result<bool, AllocError>
     ensures { IfOk result (λ shaped. IsTrue shaped ↔ IsWellShaped model.now) }
 {

@@ -1,4 +1,4 @@
-//! The tokens of a JSON text, a value at a time: what is passed over, whole numbers, strings and opening brackets.
+//! The tokens of a JSON text, one value at a time: skipped values, whole numbers, strings and opening brackets.
 ghost use Rattle.std.specs.Prelude.{◌≡◌, ◌<◌, ◌≤◌, ◌^◌, ◌==◌, ◌∷◌, ℕ, true, false, length, slice_index, IsTrue, OnSome, IfSome, OnOk, IfOk, IfErr, MatchResult, Some, None, option_map};
 ghost use Rattle.json.specs.Json.{parse_map};
 ghost use Rattle.json.specs.Reads.{token_of};
@@ -14,9 +14,9 @@ use json::{Invalid, Reader, Token};
 /// Why a text is read no further.
 #[derive(Clone, Copy)]
 pub(crate) enum Stop {
-    /// The text is no JSON.
+    /// The text is not JSON.
     NotJson,
-    /// Memory was wanted.
+    /// Out of memory.
     Memory,
 }
 
@@ -35,7 +35,7 @@ fn has_minus(bytes: &[u8]) -> bool
     !bytes.is_empty() && bytes[0] == b'-'
 }
 
-/// A number that is no whole number of 64 bits. One that is too large for a float is no JSON.
+/// A number that is not a whole number of 64 bits. If it is too large for a float, the text is not JSON.
 fn float(negative: bool, numeral: &Numeral<'_>) -> Result<Option<u64>, Stop>
     ensures { result ≡ whole_from (float_of negative numeral.now) }
 {
@@ -68,7 +68,7 @@ fn negative(numeral: &Numeral<'_>) -> Result<Option<u64>, Stop>
     float(true, numeral)
 }
 
-/// The number that a few decimal digits write, where each byte is one.
+/// The number that at most nine decimal digits write; `None` for anything else.
 #[inline(always)]
 fn few_digits(bytes: &[u8]) -> Option<u64>
     ensures value { IfSome result (λ n. (digits_after 0 bytes.now ≡ Some n) × (n < 2 ^ 64)) }
@@ -87,7 +87,7 @@ fn few_digits(bytes: &[u8]) -> Option<u64>
     Some(n)
 }
 
-/// The whole number that a number's text is.
+/// The whole number that a number's text writes.
 #[inline(always)]
 fn whole(text: &str) -> Result<Option<u64>, Stop>
     ensures { result ≡ whole_from (number_of text.now) }
@@ -103,7 +103,7 @@ fn whole(text: &str) -> Result<Option<u64>, Stop>
     }
 }
 
-/// Passes the value that begins with a token which was taken. Arrays and objects may nest `depth` deep.
+/// Skips the value that begins with this token, already taken. Arrays and objects may nest `depth` deep.
 #[cycle(pass)]
 pub(crate) fn pass_rest(
     reader: &mut Reader<'_>,
@@ -135,7 +135,7 @@ pub(crate) fn pass_rest(
     }
 }
 
-/// Passes the next value.
+/// Skips the next value.
 #[cycle(pass)]
 pub(crate) fn pass_value(reader: &mut Reader<'_>, depth: usize) -> Result<(), Invalid>
     ensures value { MatchResult result (λ _. after (data_at depth reader.old) ≡ Some reader.new)
@@ -148,7 +148,7 @@ pub(crate) fn pass_value(reader: &mut Reader<'_>, depth: usize) -> Result<(), In
     pass_rest(reader, token, depth)
 }
 
-/// Passes the items up to the bracket that closes an array.
+/// Skips the items up to the bracket that closes an array.
 #[cycle(pass)]
 #[inline(never)]
 pub(crate) fn pass_items(reader: &mut Reader<'_>, depth: usize) -> Result<(), Invalid>
@@ -166,7 +166,7 @@ pub(crate) fn pass_items(reader: &mut Reader<'_>, depth: usize) -> Result<(), In
     Ok(())
 }
 
-/// Passes the members up to the brace that closes an object.
+/// Skips the members up to the brace that closes an object.
 #[cycle(pass)]
 #[inline(never)]
 fn pass_members(reader: &mut Reader<'_>, depth: usize) -> Result<(), Invalid>
@@ -181,7 +181,7 @@ fn pass_members(reader: &mut Reader<'_>, depth: usize) -> Result<(), Invalid>
     Ok(())
 }
 
-/// The next value, where it is a whole number of 64 bits.
+/// The next value, if it is a whole number of 64 bits.
 #[inline(always)]
 pub(crate) fn number(reader: &mut Reader<'_>, depth: usize) -> Result<Option<u64>, Stop>
     ensures value { Answers result (parse_map whole_in (data_at depth reader.old)) reader.new }
@@ -199,7 +199,7 @@ pub(crate) fn number(reader: &mut Reader<'_>, depth: usize) -> Result<Option<u64
     }
 }
 
-/// The next value, where it is a string.
+/// The next value, if it is a string.
 pub(crate) fn string<'a>(reader: &mut Reader<'a>, depth: usize) -> Result<Option<&'a str>, Stop>
     ensures ok { IfOk result (λ text. parse_map as_str (data_at depth reader.old)
         ≡ Some (option_map (λ t. t.now) text, reader.new)) }
@@ -218,7 +218,7 @@ pub(crate) fn string<'a>(reader: &mut Reader<'a>, depth: usize) -> Result<Option
     }
 }
 
-/// Takes the bracket that opens an array, or passes a value that is no array.
+/// Takes the bracket that opens an array, or skips a value that is not an array.
 pub(crate) fn open(reader: &mut Reader<'_>, depth: usize) -> Result<bool, Stop>
     ensures value { Opens depth result reader.old reader.new }
     ensures shorter { OnOk result (length reader.new < length reader.old) }

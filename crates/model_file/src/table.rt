@@ -1,4 +1,4 @@
-//! The types of listed partitions, by their ids.
+//! The types of listed partitions, by id.
 ghost use Rattle.std.specs.Prelude.{◌≡◌, ◌≤◌, ◌<◌, ◌==◌, ℕ, All, IfOk, OnOk, List, Option, Some, None, length, if◌then◌else◌, slice_index_or, vec_len};
 ghost use Rattle.limits.specs.declared.TheConstants.{MAX_PARTITIONS};
 ghost use Rattle.std.specs.Option.{option_or};
@@ -34,7 +34,7 @@ fn note(table: &mut [Option<u16>], partition: Partition)
     }
 }
 
-/// The types of partitions by their ids; of those with one id the first.
+/// The types of partitions by their ids. If several partitions have one id, the first counts.
 pub(crate) fn types_by_id(
     alloc: Global,
     partitions: &[Partition],

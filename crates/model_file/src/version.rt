@@ -7,14 +7,14 @@ use limits::{MAX_MODEL_BYTES, MAX_TYPES, VERSION_1_BYTES, VERSION_1_TYPES};
 /// A version of the model file.
 #[derive(Clone, Copy, Debug, PartialEq, Eq)]
 pub enum Version {
-    /// Version 1, which is read and no longer written: its models ask for three kinds of invariants.
+    /// Version 1, which is read and no longer written. Its models ask for three kinds of invariants.
     One,
-    /// Version 2, which is read and written: a file of it names the kinds of invariants that its model asks for.
+    /// Version 2, which is read and written. A file names the kinds of invariants that its model asks for.
     Two,
 }
 
 impl Version {
-    /// The number that a file of this version has.
+    /// The version number in a file of this version.
     pub(crate) fn number(self) -> u64
         ensures { result ≡ number_of self }
     {
@@ -24,7 +24,7 @@ impl Version {
         }
     }
 
-    /// How many bytes a file of this version has at most.
+    /// The maximum number of bytes of a file of this version.
     pub fn max_bytes(self) -> usize
         ensures { result ≡ max_bytes self }
     {
@@ -34,7 +34,7 @@ impl Version {
         }
     }
 
-    /// How many types a file of this version has at most.
+    /// The maximum number of types of a file of this version.
     pub(crate) fn max_types(self) -> u32
         ensures { result ≡ max_types self }
     {

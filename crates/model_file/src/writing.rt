@@ -19,7 +19,7 @@ trait Written {
     /// The value of an entry.
     ghost written_as: { Self → Data };
 
-    /// What is asked of an entry that is written.
+    /// What writing an entry requires.
     ghost can_write: { Self → Type 0 };
 
     /// Writes the value.
@@ -280,9 +280,11 @@ fn write_tree(alloc: Global, model: &Model, out: &mut Writer) -> Result<(), Allo
     out.end_object()
 }
 
-/// The text of a model, which is well shaped, in version 2: one JSON object without blanks, with the nine keys in the
-/// order of their bytes. It has at most 330,000,000 bytes (`limits::MAX_WRITTEN_BYTES`), and `read_model` reads the model
-/// back from it.
+/// The text of a model in version 2: one JSON object without blanks, with the nine keys in the order of their bytes. The model
+/// must be well shaped.
+///
+/// The text has at most 330,000,000 bytes (`limits::MAX_WRITTEN_BYTES`, law `texts_are_short`), and `read_model` reads this
+/// model back from it. The only error is out of memory.
 pub fn write_model(alloc: Global, model: &Model) -> Result<Seq<u8>, AllocError>
     requires { IsWellShaped model.now }
     ensures value { IfOk result (λ text. text ≡ file_text model.now) }

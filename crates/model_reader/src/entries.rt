@@ -33,7 +33,7 @@ fn are_rising(first: (u32, u32), second: (u32, u32)) -> bool {
     first.0 < second.0 || first.0 == second.0 && first.1 < second.1
 }
 
-/// Invariants are listed so that these two numbers rise.
+/// The two numbers by which listed invariants ascend.
 #[inline(always)]
 fn invariant_key(inv: Invariant) -> (u32, u32) {
     (
@@ -133,8 +133,8 @@ impl Spelled for Merge {
     }
 }
 
-/// Takes a path. A shortest path to a bad state goes from INITIAL to TERMINAL and has each partition in each of the three
-/// states of a monitor at most once, so no shorter and no longer one is written.
+/// Takes a path. A shortest path to a bad state goes from INITIAL to TERMINAL and meets each partition in each of the three
+/// states of a monitor at most once. So any path that is written has at least 2 and at most 3,072 ids.
 #[inline(always)]
 fn take_path(alloc: Global, rest: &mut Rest<'_>) -> Option<Seq<u32>>
     ensures { IfSome result (λ path. rest.old ≡ compact_text (path_data path) ++ rest.new) }

@@ -7,7 +7,7 @@ use crate::rest::Rest;
 use invariants::Seq;
 use std::alloc::Global;
 
-/// An entry of a model, as it is spelled where nothing but what is needed stands.
+/// An entry of a model in its shortest spelling.
 pub(crate) trait Spelled: Sized {
     ghost use Rattle.serde_json.specs.Data.{Data};
 
@@ -36,8 +36,8 @@ fn fits<T: Spelled>(entries: &[T], entry: &T, most: usize) -> bool {
 
 /// Takes the entries of a list up to its closing bracket, after its opening bracket.
 ///
-/// It gives up at more than `most` entries, and at entries in an order that no model has, so that a file does not cost
-/// memory for what no model holds.
+/// It gives up after `most` entries, and at an order that no model has. So a file costs no memory for entries that no model
+/// has.
 #[inline(always)]
 fn take_entries<T: Spelled + Drop>(
     alloc: Global,
@@ -65,7 +65,7 @@ fn take_entries<T: Spelled + Drop>(
     }
 }
 
-/// Takes a list, of at most so many entries.
+/// Takes a list of at most `most` entries.
 #[inline(always)]
 pub(crate) fn take_list<T: Spelled + Drop>(
     alloc: Global,

@@ -1,4 +1,4 @@
-//! The members of the object that a model file is, in the order in which they are written.
+//! The members of the object in a model file, in the order in which they are written.
 ghost use Rattle.std.specs.Prelude.{◌≡◌, ◌++◌, map, IfSome, OnSome};
 ghost use Rattle.serde_json.specs.Written.{compact_text};
 ghost use Rattle.model_file.specs.Tree.{array_of, file_text};
@@ -10,7 +10,7 @@ use invariants::{Model, Seq};
 use limits::{FIRST_TYPE, MAX_INVARIANTS, MAX_PAIRS, MAX_PARTITIONS, MAX_STEPS, MAX_TYPES};
 use std::alloc::Global;
 
-/// Takes a key with what stands before and after it, and a list of at most so many entries.
+/// Takes a key with the punctuation around it, and a list of at most `most` entries.
 #[inline(always)]
 fn take_member<T: Spelled + Drop>(
     alloc: Global,

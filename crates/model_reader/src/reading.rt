@@ -24,7 +24,7 @@ fn empty(alloc: Global) -> Model {
     }
 }
 
-/// Each text is UTF-8, as its type has it: a call that does nothing.
+/// Each text is UTF-8. The call only passes this on to contracts.
 fn texts_are_utf8(texts: &[Text])
     ensures { All IsUtf8 texts.now }
 {
@@ -35,7 +35,7 @@ fn texts_are_utf8(texts: &[Text])
 
 /// The model whose text these bytes are, if they are spelled as `write_model` spells it.
 ///
-/// It answers None too if memory is wanted.
+/// It is also `None` if memory runs out.
 fn written_model(alloc: Global, bytes: &[u8]) -> Option<Model>
     ensures text { IfSome result (λ model. bytes.now ≡ file_text model) }
     ensures utf8 { IfSome result (λ model. All IsUtf8 model.types) }
@@ -63,15 +63,20 @@ fn shaped_model(alloc: Global, bytes: &[u8]) -> Option<Model>
     }
 }
 
-/// The model of the bytes of a file of version 2, or the first refusal, as `model_file::read_model` gives it.
+/// The model in the bytes of a file of version 2, or the first refusal, as `model_file::read_model` gives it. The refusals, in
+/// their order:
 ///
-/// `TooLong` comes for more than 536,870,912 bytes (`limits::MAX_MODEL_BYTES`), `NotJson` for bytes that are no JSON
-/// text, `Shape(Root)` for a value that is no object, `Shape(Version)` and `Version` for any version but 2,
-/// `Shape(Extra)` for a key that no file of version 2 has, and `Shape` of the first part that is not there, is not of its
-/// form or breaks its rule. `Memory` may come at any time.
+/// - `TooLong`: there are more than 536,870,912 bytes (`limits::MAX_MODEL_BYTES`).
+/// - `NotJson`: the bytes are not a JSON text.
+/// - `Shape(Root)`: the JSON value is not an object.
+/// - `Shape(Version)`: there is no version number. `Version`: it is not 2.
+/// - `Shape(Extra)`: there is a key that no file of version 2 has.
+/// - `Shape` of the first part, in the order of `Field`, that is missing, does not have its form or breaks its rule.
 ///
-/// Bytes that are spelled as `write_model` spells a model are read in one pass. All others are read again from their
-/// tokens, which gives the same model or a refusal in more time.
+/// `Memory` may be returned instead of any answer.
+///
+/// Bytes that are spelled as `write_model` spells a model are read in one pass. All others are read again by
+/// `model_file::read_model`, which takes longer and gives the same model or a refusal.
 pub fn read_model(alloc: Global, bytes: &[u8]) -> Result<Model, FileError>
     ensures ok { IfOk result (λ model. reads bytes.now ≡ Ok model) }
     ensures shape { IfOk result IsWellShaped }

@@ -1,4 +1,4 @@
-//! The bytes that are still to be read, from whose front tokens are taken in their shortest spelling.
+//! The bytes that are still to be read. Tokens in their shortest spelling are taken from the start.
 ghost use Rattle.std.specs.Prelude.{◌≡◌, ◌<◌, ◌+◌, ◌∷◌, ◌++◌, [], IfSome, OnSome, MatchOption, decimal};
 ghost use Rattle.std.specs.Bool.{OnTrue, OnFalse};
 
@@ -50,7 +50,7 @@ impl<'a> Rest<'a> {
         true
     }
 
-    /// Takes this byte, which has to come next.
+    /// Takes this byte, which must come next.
     #[inline(always)]
     pub(crate) fn byte(&mut self, byte: u8) -> Option<()>
         ensures { OnSome result (self.old ≡ byte ∷ self.new) }
@@ -67,7 +67,7 @@ impl<'a> Rest<'a> {
         Some(())
     }
 
-    /// Takes this text, if it comes next, and says so.
+    /// Takes this text, if it comes next, and returns whether it did.
     #[inline(always)]
     pub(crate) fn takes_text(&mut self, text: &[u8]) -> bool
         ensures yes { OnTrue result (self.old ≡ text.now ++ self.new) }
@@ -95,7 +95,7 @@ impl<'a> Rest<'a> {
         Some((*first - b'0') as u32)
     }
 
-    /// Takes a number of at most nine digits, of which the first is 0 only in `0`.
+    /// Takes a number of at most nine digits without leading zeros.
     #[inline(always)]
     pub(crate) fn number(&mut self) -> Option<u32>
         ensures { IfSome result (λ number. self.old ≡ decimal number ++ self.new) }
@@ -113,7 +113,7 @@ impl<'a> Rest<'a> {
         Some(number)
     }
 
-    /// Takes a string, and gives the bytes between its quotation marks.
+    /// Takes a string, and returns the bytes between its quotation marks.
     #[inline(always)]
     pub(crate) fn string(&mut self) -> Option<&'a [u8]>
         ensures { IfSome result (λ inside. self.old ≡ 34 ∷ (inside.now ++ 34 ∷ self.new)) }

@@ -60,7 +60,7 @@ pub(crate) fn take_kinds(rest: &mut Rest<'_>) -> Option<Kinds>
 fn are_labels(bytes: &[u8]) -> bool
     ensures { IsTrue result ↔ All IsLabelDigit bytes.now }
 {
-    // No way out before the last byte, so that many are tested at once.
+    // No early exit, so that many bytes are tested at once.
     let mut all = true;
     for byte in bytes {
         all = all & (*byte >= b'0') & (*byte <= b'7');
@@ -68,7 +68,7 @@ fn are_labels(bytes: &[u8]) -> bool
     all
 }
 
-/// Puts the number of each digit in its place.
+/// Replaces each digit by its number.
 fn digits_to_numbers(bytes: &mut [u8])
     requires { All IsLabelDigit bytes.old }
     ensures { bytes.new ≡ map (λ byte. byte - 48) bytes.old }
@@ -89,7 +89,7 @@ fn numbers_of(alloc: Global, digits: &[u8]) -> Result<Seq<u8>, AllocError>
     Ok(Seq::from_vec(labels))
 }
 
-/// The labels of digits from `0` to `7`, of no more than a model has partitions.
+/// The labels that digits from `0` to `7` write, at most as many as a model has partitions.
 fn labels_of(alloc: Global, digits: &[u8]) -> Option<Seq<u8>>
     ensures text { IfSome result (λ labels. digits.now ≡ map digit_of labels) }
     ensures plain { IfSome result (λ _. escape digits.now ≡ digits.now) }

@@ -7,12 +7,12 @@ use Rattle.invariants.specs.declared.records.Edge.{Edge}
 use Rattle.invariants.specs.declared.records.Block.{Block}
 use Rattle.invariants.specs.Candidates.{candidates_for}
 
--- k is before the first of the list, where there is one
+-- k is before the first item of the list, if there is one
 abbrev pub LeadsTo : {K : Type 0} → (K → K → Type 0) → K → List K → Type 0
 LeadsTo Before k [] = Unit {0}
 LeadsTo Before k (l ∷ ls) = Before k l
 
--- each is before the one behind it
+-- each item is before the next one
 abbrev pub Ascends : {K : Type 0} → (K → K → Type 0) → List K → Type 0
 Ascends Before [] = Unit {0}
 Ascends Before (k ∷ ks) = LeadsTo Before k ks × Ascends Before ks
@@ -29,7 +29,7 @@ EdgeBefore x y = (x.from < y.from) ⊎ ((x.from ≡ y.from) × (x.to < y.to))
 abbrev pub BlockBefore : Block → Block → Type 0
 BlockBefore x y = (x.p < y.p) ⊎ ((x.p ≡ y.p) × (x.q < y.q))
 
--- invariants by their places among the candidates of these kinds for so many types
+-- invariants by their places among the candidates of these kinds for this many types
 pub record CandidateBefore (kinds : Kinds) (types : ℕ) (x y : Invariant) : Type 0 where
   pub place : ℕ
   pub later : ℕ
@@ -37,7 +37,7 @@ pub record CandidateBefore (kinds : Kinds) (types : ℕ) (x y : Invariant) : Typ
   pub there : slice_get (candidates_for kinds types) later ≡ Some y
   pub order : place < later
 
--- each is before all that come later
+-- each item is before all later ones
 abbrev pub IsInOrder : {K : Type 0} → (K → K → Type 0) → List K → Type 0
 IsInOrder {K} Before ks =
     (i j : ℕ) (x y : K) → slice_get ks i ≡ Some x → slice_get ks j ≡ Some y → i < j → Before x y

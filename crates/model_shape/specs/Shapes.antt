@@ -1,4 +1,5 @@
--- What a model must be like to be written to a file and read from one: seven rules, one for each of its lists. A file of version 1 asks for two things more.
+-- What a model must satisfy to be written to a file and read from one: seven rules, one for each of its lists.
+-- A file of version 1 requires two things more.
 use Rattle.std.specs.Prelude.{◌≡◌, ◌≢◌, ℕ, ◌+◌, ◌<◌, ◌≤◌, ◌==◌, ◌||◌, Bool, true, false, if◌then◌else◌, List, [], ◌∷◌, length, map, slice_get, Some, Contains}
 use Rattle.std.specs.List.{AllByRecursion}
 use Rattle.limits.specs.declared.TheConstants.{INITIAL, TERMINAL, FIRST_TYPE, MAX_TYPES, MAX_EVENTS, MAX_EDGE_COUNT, MAX_TYPE_BYTES, MAX_PARTITIONS, MAX_PATH_NUMBERS, VERSION_1_TYPES}
@@ -18,12 +19,12 @@ use Rattle.model_shape.specs.Ascending.{Ascends, PartitionBefore, EdgeBefore, Bl
 
 -- ---- what the lists of a model say
 
--- whether the id is that of a partition
+-- whether the id is that of a partition of the list
 abbrev pub is_listed : ℕ → List Partition → Bool
 is_listed p [] = false
 is_listed p (x ∷ xs) = (x.id == p) || is_listed p xs
 
--- the type of an id, as the partitions have it
+-- the type that the list gives an id, or 0 if it has no such partition
 abbrev pub listed_type : ℕ → List Partition → ℕ
 listed_type p [] = 0
 listed_type p (x ∷ xs) = if x.id == p then x.typ else listed_type p xs
@@ -32,18 +33,18 @@ listed_type p (x ∷ xs) = if x.id == p then x.typ else listed_type p xs
 abbrev pub listing_of : Model → List Invariant
 listing_of m = map (λ l. l.inv) m.invariants
 
--- a number of 0 to 7, which is a set of the three states of a monitor
+-- a number from 0 to 7, which is a set of the three states of a monitor
 abbrev pub IsLabel : ℕ → Type 0
 IsLabel number = number ≤ 7
 
 -- ---- types
 
--- a text of 1 to so many bytes as a type may have
+-- a text of 1 to MAX_TYPE_BYTES bytes
 pub record IsTypeText (text : List ℕ) : Type 0 where
   pub some : 0 < length text
   pub short : length text ≤ MAX_TYPE_BYTES
 
--- no more types than a log may have, no two of them equal
+-- at most MAX_TYPES types, each a valid text, no two of them equal
 pub record AreTypes (types : List (List ℕ)) : Type 0 where
   pub few : length types ≤ MAX_TYPES
   pub each : AllByRecursion IsTypeText types
@@ -52,11 +53,11 @@ pub record AreTypes (types : List (List ℕ)) : Type 0 where
 
 -- ---- partitions
 
--- INITIAL or TERMINAL, of so many traces
+-- the partition of INITIAL or TERMINAL, with this many traces
 abbrev pub end_of : ℕ → ℕ → Partition
 end_of id traces = record { id = id; typ = id; count = traces }
 
--- a partition of events, of one of so many types
+-- a partition of events, with one of this many types
 pub record IsEventPartition (types : ℕ) (x : Partition) : Type 0 where
   pub id : x.id < MAX_PARTITIONS
   pub type_low : FIRST_TYPE ≤ x.typ
@@ -64,7 +65,7 @@ pub record IsEventPartition (types : ℕ) (x : Partition) : Type 0 where
   pub some : 0 < x.count
   pub few : x.count ≤ MAX_EVENTS
 
--- the two ends, of one number of traces, and then partitions of events; all ascend by their ids
+-- the two ends with the same count, and then partitions of events; all ascend by their ids
 pub record AreShapedPartitions (types : ℕ) (xs : List Partition) : Type 0 where
   pub traces : ℕ
   pub inner : List Partition
@@ -76,7 +77,7 @@ pub record AreShapedPartitions (types : ℕ) (xs : List Partition) : Type 0 wher
 
 -- ---- edges
 
--- an edge between partitions, neither out of TERMINAL nor into INITIAL; it is passed at most once after each event and once at the start of each trace
+-- an edge between partitions, not out of TERMINAL and not into INITIAL, with a count of 1 to MAX_EDGE_COUNT
 pub record IsShapedEdge (partitions : List Partition) (x : Edge) : Type 0 where
   pub has_from : is_listed x.from partitions ≡ true
   pub has_to : is_listed x.to partitions ≡ true
@@ -92,7 +93,7 @@ pub record AreShapedEdges (partitions : List Partition) (xs : List Edge) : Type 
 
 -- ---- invariants
 
--- a candidate of these kinds for so many types, with a label for each of so many partitions
+-- a candidate of these kinds for this many types, with a label for each of this many partitions
 pub record IsShapedListed (kinds : Kinds) (types partitions : ℕ) (x : Listed) : Type 0 where
   pub candidate : Contains (candidates_for kinds types) x.inv
   pub count : length x.labels ≡ partitions
@@ -110,7 +111,7 @@ pub record IsShapedMerge (x : Merge) : Type 0 where
   pub order : x.p < x.q
   pub high : x.q < MAX_PARTITIONS
 
--- such merges, no more than there are ids beside the two ends
+-- such merges, at most as many as there may be ids besides the two ends
 pub record AreShapedMerges (xs : List Merge) : Type 0 where
   pub few : length xs + FIRST_TYPE ≤ MAX_PARTITIONS
   pub each : AllByRecursion IsShapedMerge xs
@@ -121,13 +122,14 @@ pub record AreShapedMerges (xs : List Merge) : Type 0 where
 abbrev pub AreIds : List ℕ → Type 0
 AreIds path = AllByRecursion (λ p. p < MAX_PARTITIONS) path
 
--- a split for one of so many invariants, with its place on its path
+-- a split for one of this many invariants, with its place on its path
 pub record IsShapedSplit (invariants : ℕ) (x : Split) : Type 0 where
   pub names : x.inv < invariants
   pub place : x.place < length x.path
   pub path : AreIds x.path
 
--- such splits, no more than there are ids beside the two ends, and not too many numbers in their paths
+-- such splits, at most as many as there may be ids besides the two ends,
+-- with at most MAX_PATH_NUMBERS numbers in their paths
 pub record AreShapedSplits (invariants : ℕ) (xs : List Split) : Type 0 where
   pub few : length xs + FIRST_TYPE ≤ MAX_PARTITIONS
   pub each : AllByRecursion (IsShapedSplit invariants) xs
@@ -135,7 +137,7 @@ pub record AreShapedSplits (invariants : ℕ) (xs : List Split) : Type 0 where
 
 -- ---- blocks
 
--- a block of two partitions of one type, for one of so many invariants
+-- a block of two partitions of one type, for one of this many invariants
 pub record IsShapedBlock (invariants : ℕ) (partitions : List Partition) (x : Block) : Type 0 where
   pub order : x.p < x.q
   pub has_p : is_listed x.p partitions ≡ true
@@ -144,7 +146,7 @@ pub record IsShapedBlock (invariants : ℕ) (partitions : List Partition) (x : B
   pub names : x.inv < invariants
   pub path : AreIds x.path
 
--- such blocks, ascending by their two ids, and not too many numbers in the paths of splits and blocks
+-- such blocks, ascending by their two ids; the paths of splits and blocks have at most MAX_PATH_NUMBERS numbers
 pub record AreShapedBlocks (invariants : ℕ) (partitions : List Partition) (splits : List Split)
     (xs : List Block) : Type 0 where
   pub order : Ascends BlockBefore xs
@@ -163,7 +165,7 @@ pub record IsWellShaped (m : Model) : Type 0 where
   pub splits : AreShapedSplits (length m.invariants) m.splits
   pub blocks : AreShapedBlocks (length m.invariants) m.partitions m.splits m.blocks
 
--- what a file of version 1 can say: three kinds of invariants, and fewer types
+-- what a file of version 1 can contain: the three kinds of invariants, and at most VERSION_1_TYPES types
 pub record IsOfVersion1 (m : Model) : Type 0 where
   pub kinds : m.kinds ≡ Three
   pub types : length m.types ≤ VERSION_1_TYPES

@@ -17,7 +17,7 @@ use Rattle.models.specs.declared.parts.Part.TheVariants as part
 use Rattle.models.specs.Models.{TypedWords, mined_of, graph_of, IsLabelled}
 use Rattle.model_shape.specs.Shapes.{listing_of}
 
--- a block of the pair names a listed invariant, and a path of the merged graph that breaks it
+-- a block of the pair names a listed invariant, and its path breaks it in the merged graph
 pub record KeepsApart (m : Model) (p q : ℕ) (b : Block) (l : Listed) : Type 0 where
   pub there : Contains m.blocks b
   pub lower : b.p ≡ p
@@ -25,11 +25,11 @@ pub record KeepsApart (m : Model) (p q : ℕ) (b : Block) (l : Listed) : Type 0 
   pub names : slice_get m.invariants b.inv ≡ Some l
   pub breaks : Breaks (Merged (graph_of m) p q) l.inv b.path
 
--- some block does
+-- some block keeps the pair apart
 abbrev pub IsBlocked : Model → ℕ → ℕ → Type 0
 IsBlocked m p q = (b : Block) × (l : Listed) × KeepsApart m p q b l
 
--- the word is that of a path of the model
+-- the word, between its ends, is that of a path of the model
 abbrev pub IsAccepted : Model → List ℕ → Type 0
 IsAccepted m w = Accepts (graph_of m) (with_ends w)
 
@@ -47,7 +47,7 @@ IsFirstFailure P [] k = ⊥
 IsFirstFailure P (x ∷ xs) zero = P x → ⊥
 IsFirstFailure P (x ∷ xs) (suc k) = P x × IsFirstFailure P xs k
 
--- the first place at which the lists differ, or the length of the shorter one
+-- k is the first place at which the lists differ, or the length of the shorter one if it is a prefix
 abbrev pub DiffersAt : List Invariant → List Invariant → ℕ → Type 0
 DiffersAt [] [] k = ⊥
 DiffersAt [] (y ∷ ys) k = k ≡ 0
@@ -55,7 +55,7 @@ DiffersAt (x ∷ xs) [] k = k ≡ 0
 DiffersAt (x ∷ xs) (y ∷ ys) zero = x ≢ y
 DiffersAt (x ∷ xs) (y ∷ ys) (suc k) = (x ≡ y) × DiffersAt xs ys k
 
--- the parts before it stand, and this one fails, first at the number or the pair that it names
+-- the parts before this one hold, and this one fails, first at the number or the pair that it names
 abbrev pub IsFirstPart : Model → TypedWords → Part → Type 0
 IsFirstPart m log part.Types = m.types ≢ log.types
 IsFirstPart m log (part.Listing k) =
@@ -72,11 +72,11 @@ IsFirstPart m log (part.Block p q) =
     × IsPair (graph_of m) p q × (IsBlocked m p q → ⊥)
     × ((r s : ℕ) → IsPair (graph_of m) r s → PairBefore r s p q → IsBlocked m r s)
 
--- what a valid model promises of the log, in plain words
+-- what a valid model promises about the log, by places
 pub record Promises (m : Model) (log : TypedWords) : Type 0 where
   -- its types are those of the log
   pub types : m.types ≡ log.types
-  -- it lists exactly the candidates of the kinds asked for that hold, by places, of every word
+  -- it lists exactly the candidates of the log's kinds that hold, by places, of every word
   pub listed : (inv : Invariant)
       → Contains (listing_of m) inv ↔ IsListed log.kinds (length log.types) (map with_ends log.words) inv
   -- in the order of the candidates, none twice
@@ -91,7 +91,7 @@ pub record Promises (m : Model) (log : TypedWords) : Type 0 where
   -- each listed invariant holds of the word of each path
   pub satisfied : (inv : Invariant) (path : List ℕ) → Contains (listing_of m) inv
       → IsPath (graph_of m) path → Holds inv (word (graph_of m) path)
-  -- for each pair of one type the path that is written for it is one of the merged graph, and its word breaks the listed invariant that is named
+  -- for each pair of one type a block has a path of the merged graph, and its word breaks the listed invariant that the block names
   pub apart : (p q : ℕ) → IsPair (graph_of m) p q
       → (b : Block) × (l : Listed) × Contains m.blocks b × (b.p ≡ p) × (b.q ≡ q)
       × (slice_get m.invariants b.inv ≡ Some l)

@@ -28,24 +28,24 @@ OneModel = (a b : Model) (log : TypedWords) → IsModelOf a log → IsModelOf b 
 abbrev pub IsTypedLog : TypedWords → Type 0
 IsTypedLog log = AreTyped log.words (length log.types + FIRST_TYPE)
 
--- the model of a log passes both checks, where its ids keep the limit
+-- the model of a log passes both checks, if its ids keep the limit
 abbrev pub ModelsPass : Type 0
 ModelsPass =
     (m : Model) (log : TypedWords) → IsTypedLog log → IsModelOf m log
     → length log.types + FIRST_TYPE + length m.splits ≤ MAX_PARTITIONS
     → IsValid m log × IsJustified m log
 
--- so it promises all that a valid model does, however many ids there are
+-- the model of a log promises all that a valid model does, however many ids there are
 abbrev pub ModelsTell : Type 0
 ModelsTell = (m : Model) (log : TypedWords) → IsTypedLog log → IsModelOf m log → Promises m log
 
--- where ids are below n, a model has the graph of an assignment exactly where its lists are those of the assignment
+-- if ids are below n, a model has the graph of an assignment exactly if its lists are those of the assignment
 abbrev pub GraphIsListed : Type 0
 GraphIsListed =
     (m : Model) (h : Assignment) (n : ℕ) → FIRST_TYPE ≤ n → AreBelow n h
     → IsGraphOf m h ↔ ((m.partitions ≡ partitions_below n h) × (m.edges ≡ edges_below n h))
 
--- numbers of the states that are reached at the partitions, in their order
+-- a number for each partition, in their order: the set of the states that are reached there
 pub record AreReachedNumbers (inv : Invariant) (h : Assignment) (partitions : List Partition)
     (numbers : List ℕ) : Type 0 where
   pub count : length numbers ≡ length partitions
@@ -54,19 +54,19 @@ pub record AreReachedNumbers (inv : Invariant) (h : Assignment) (partitions : Li
       → slice_get numbers k ≡ Some number → s < 3
       → (has_state number s ≡ true) ↔ Reached inv (G h) x.id s
 
--- these are the labels
+-- such numbers are the labels of the reached states
 abbrev pub NumbersGiveLabels : Type 0
 NumbersGiveLabels =
     (inv : Invariant) (h : Assignment) (partitions : List Partition) (numbers : List ℕ)
     → ArePartitions partitions h
     → AreReachedNumbers inv h partitions numbers → AreReached inv h partitions numbers
 
--- whatever is valid for a log satisfies each invariant that it lists
+-- a valid model satisfies each invariant that it lists
 abbrev pub ValidSatisfies : Type 0
 ValidSatisfies =
     (m : Model) (log : TypedWords) → IsValid m log → SatisfiesAll (graph_of m) (listing_of m)
 
--- and this is what it promises
+-- and it keeps its promises about the log
 abbrev pub ValidTells : Type 0
 ValidTells = (m : Model) (log : TypedWords) → IsValid m log → Promises m log
 
@@ -75,12 +75,12 @@ abbrev pub FirstPartExists : Type 0
 FirstPartExists =
     (m : Model) (log : TypedWords) → IsValid m log ⊎ ((part : Part) × IsFirstPart m log part)
 
--- a part that fails first does fail
+-- if some part fails first, the model is not valid
 abbrev pub FirstPartFails : Type 0
 FirstPartFails =
     (m : Model) (log : TypedWords) (part : Part) → IsFirstPart m log part → IsValid m log → ⊥
 
--- and no other part fails first
+-- and at most one part fails first
 abbrev pub OneFirstPart : Type 0
 OneFirstPart =
     (m : Model) (log : TypedWords) (a b : Part) → IsFirstPart m log a → IsFirstPart m log b → a ≡ b
@@ -91,13 +91,13 @@ FirstStepExists =
     (m : Model) (log : TypedWords)
     → IsJustified m log ⊎ ((step : ReplayPart) × IsFirstStep m log step)
 
--- a step that fails first does fail
+-- if some step fails first, the history is not justified
 abbrev pub FirstStepFails : Type 0
 FirstStepFails =
     (m : Model) (log : TypedWords) (step : ReplayPart)
     → IsFirstStep m log step → IsJustified m log → ⊥
 
--- and no other step fails first
+-- and at most one step fails first
 abbrev pub OneFirstStep : Type 0
 OneFirstStep =
     (m : Model) (log : TypedWords) (a b : ReplayPart)
@@ -108,7 +108,7 @@ abbrev pub ShapedAreFormed : Type 0
 ShapedAreFormed =
     (m : Model) → IsWellShaped m → IsFormed (graph_of m) × IsBelow MAX_PARTITIONS (graph_of m)
 
--- the model of a log is well shaped, where the log and the run keep the limits
+-- the model of a log is well shaped, if the log and the run keep the limits
 abbrev pub ModelsAreShaped : Type 0
 ModelsAreShaped =
     (m : Model) (log : TypedWords) → IsTypedLog log → IsWithinLimits log → KeepsLimits m

@@ -17,13 +17,13 @@ use Rattle.partition_model.specs.Refinement.{IsRefined}
 use Rattle.partition_model.specs.Coarsening.{Coarsens, AreBlocks}
 use Rattle.model_shape.specs.Shapes.{listed_type, is_listed, listing_of, IsLabel}
 
--- what inference needs of a log: the kinds of invariants that it is asked for, the texts of its types, and its words without their ends
+-- what inference needs of a log: the kinds of invariants to mine, the texts of its types, and its words without their ends
 pub record TypedWords : Type 0 where
   pub kinds : Kinds
   pub types : List (List ℕ)
   pub words : List (List ℕ)
 
--- the same of the log of some traces, which is asked for these kinds
+-- the same of a log of traces, with these kinds to mine
 abbrev pub typed_words : Kinds → Log → TypedWords
 typed_words kinds log = record { kinds = kinds; types = log.types; words = map (λ trace. trace.events) log.traces }
 
@@ -45,14 +45,14 @@ graph_of m =
       listed = λ p. is_listed p m.partitions;
     }
 
--- whether the state is in the set of this number: 1 is for the state 0, 2 for the state 1, and 4 for the state 2
+-- whether the state is in the set with this number: 1 is for the state 0, 2 for the state 1, and 4 for the state 2
 abbrev pub has_state : ℕ → ℕ → Bool
 has_state number zero = number % 2 == 1
 has_state number (suc zero) = (number / 2) % 2 == 1
 has_state number (suc (suc zero)) = (number / 4) % 2 == 1
 has_state number (suc (suc (suc s))) = false
 
--- the label that stands beside the id
+-- the label at the place of the id, or 0 if there is none
 abbrev pub label_at : ℕ → List Partition → List ℕ → ℕ
 label_at p [] labels = 0
 label_at p (x ∷ xs) [] = 0
@@ -66,7 +66,7 @@ IsInLabel partitions labels p s = has_state (label_at p partitions labels) s ≡
 abbrev pub IsLabelled : Model → Listed → Type 0
 IsLabelled m l = IsInductive l.inv (graph_of m) (IsInLabel m.partitions l.labels)
 
--- a label for each partition, which says the states that are reached there
+-- a label for each partition: the set of the states that are reached there
 pub record AreReached (inv : Invariant) (h : Assignment) (partitions : List Partition)
     (labels : List ℕ) : Type 0 where
   pub count : length labels ≡ length partitions
@@ -74,7 +74,8 @@ pub record AreReached (inv : Invariant) (h : Assignment) (partitions : List Part
   pub states : (p s : ℕ) → is_live h p ≡ true → s < 3
       → IsInLabel partitions labels p s ↔ Reached inv (G h) p s
 
--- the model of a log, which is asked for some kinds of invariants: the run of refinement and then that of coarsening, the graph at their end with the reached states, and why no further merge is made
+-- the model of a log: the whole run of refinement and then that of coarsening, the graph at their end with the
+-- reached states, and the blocks that show why no further merge is made
 pub record IsModelOf (m : Model) (log : TypedWords) : Type 0 where
   pub types : m.types ≡ log.types
   pub kinds : m.kinds ≡ log.kinds

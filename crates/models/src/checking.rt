@@ -6,22 +6,24 @@ pub fn valid_satisfies()
     ensures { ValidSatisfies }
 {}
 
-/// A valid model lists exactly the candidates of the kinds asked for that hold of every word, has a path for each word and no path that breaks one of them, and for each pair of one type the path that is written breaks one once the two are merged.
+/// A valid model lists exactly the candidates of the kinds asked for that hold of every word, in their order. It has a path for
+/// each word, and no path that breaks a listed invariant. For each pair of partitions of one type it has a block, whose path
+/// breaks a listed invariant once the two are merged. So no merge of such a pair keeps all of them.
 pub fn valid_tells()
     ensures { ValidTells }
 {}
 
-/// A model is valid for a log, or a part of it is the first that fails.
+/// A model is valid for a log, or some part of it is the first that fails.
 pub fn first_part_exists()
     ensures { FirstPartExists }
 {}
 
-/// Where a part fails first, the model is not valid.
+/// If a part fails first, the model is not valid.
 pub fn first_part_fails()
     ensures { FirstPartFails }
 {}
 
-/// No two parts fail first.
+/// At most one part fails first.
 pub fn one_first_part()
     ensures { OneFirstPart }
 {}

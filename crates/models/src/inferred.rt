@@ -6,32 +6,33 @@ pub fn one_model()
     ensures { OneModel }
 {}
 
-/// The model of a log is valid, and its history is justified.
+/// If the refinement of a log uses at most `MAX_PARTITIONS` ids, the model of the log is valid, and its history is justified.
 pub fn models_pass()
     ensures { ModelsPass }
 {}
 
-/// So it promises all that a valid model does.
+/// However many ids it uses, the model of a log has all the properties that `valid_tells` lists.
 pub fn models_tell()
     ensures { ModelsTell }
 {}
 
-/// A model has the graph of an assignment exactly where its lists are those of the partitions and edges of the assignment.
+/// A model has the graph of an assignment exactly if its lists are those of the partitions and edges of the assignment.
 pub fn graph_is_listed()
     ensures { GraphIsListed }
 {}
 
-/// Numbers that say, place by place, the states that are reached at the partitions are the labels of an invariant.
+/// If numbers give, partition by partition, the states that are reached there, they are the labels of the invariant.
 pub fn numbers_give_labels()
     ensures { NumbersGiveLabels }
 {}
 
-/// The model of a log within the limits is well shaped.
+/// If a log and its model are within the limits, the model is well shaped.
 pub fn models_are_shaped()
     ensures { ModelsAreShaped }
 {}
 
-/// The graph of a well-shaped model lists both ends with their own types, its edges go between listed ids, none into INITIAL and none out of TERMINAL, and its ids are below `MAX_PARTITIONS`.
+/// The graph of a well-shaped model lists both ends with their own types, and its ids are below `MAX_PARTITIONS`. Its edges go
+/// between listed ids, none into INITIAL and none out of TERMINAL.
 pub fn shaped_are_formed()
     ensures { ShapedAreFormed }
 {}

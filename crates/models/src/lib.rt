@@ -1,6 +1,8 @@
-//! What a model of a log is, when a model is valid for a log, and when its history is justified: each by a definition in `specs/`, with the laws of these. When a model is well shaped is defined in `model_shape`, and has its laws here.
+//! What a model of a log is, when a model is valid for a log, and when its history is justified: each by a definition in
+//! `specs/`, with the laws of these. `model_shape` defines when a model is well shaped; the laws of that are here.
 //!
-//! Each function here is a law: its body is empty, and its contract is what is proved. No call takes memory or does anything when it runs.
+//! Each function here is a law: its body is empty, and its contract is what is proved. No call takes memory or does anything when
+//! it runs.
 #![tactic(auto)]
 
 mod checking;

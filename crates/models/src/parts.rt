@@ -1,29 +1,30 @@
-//! What fails first in a check of a model against a log. Places count from 0; partitions are told by their ids.
+//! What fails first in a check of a model against a log. Places count from 0, and partitions are given by their ids.
 
-/// The part in which a model is not valid for a log.
+/// The first part in which a model is not valid for a log.
 #[derive(Clone, Copy, Debug, PartialEq, Eq)]
 pub enum Part {
     /// Its types are not those of the log.
     Types,
-    /// Its list of invariants differs from the mined one first at this place, or is shorter or longer from there on.
+    /// This is the first place at which its list of invariants differs from the mined one. If one list is a prefix of the other,
+    /// it is the length of the shorter one.
     Listing(u32),
-    /// The word of this trace is that of no path.
+    /// No path has the word of this trace.
     Trace(u32),
     /// The labels of this invariant are not inductive.
     Label(u32),
-    /// These two partitions of one type have no block whose path breaks its invariant once they are merged.
+    /// These two partitions of one type, the lower id first, have no block whose path breaks its invariant once they are merged.
     Block(u32, u32),
 }
 
-/// The step at which the history of a model is not justified by a log.
+/// The first step at which the history of a model is not justified by a log.
 #[derive(Clone, Copy, Debug, PartialEq, Eq)]
 pub enum ReplayPart {
     /// Its types are not those of the log.
     Types,
-    /// This split.
+    /// This split is not justified.
     Split(u32),
-    /// This merge.
+    /// This merge is not of two partitions of one type that are there in its turn.
     Merge(u32),
-    /// The partitions and edges, counts included, to which the steps lead.
+    /// The steps do not lead to its partitions and edges with their counts.
     Graph,
 }

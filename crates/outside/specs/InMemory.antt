@@ -11,9 +11,9 @@ use Rattle.outside.specs.Sinks.{SinkState}
 pub record StoredInputs : Type 0 where
   -- the files, in their order
   pub files : Files
-  -- the bytes that the open input still has, none where nothing is open
+  -- the bytes left in the open input; none if nothing is open
   pub rest : List ℕ
-  -- how many bytes a read gives at most
+  -- the most bytes that a read gives
   pub piece : ℕ
   -- the numbers of the calls that fail
   pub failing : List ℕ
@@ -21,12 +21,12 @@ pub record StoredInputs : Type 0 where
   pub calls : ℕ
   -- how many calls of open were answered by Ok
   pub opens : ℕ
-  -- how many of them failed
+  -- how many calls failed
   pub faults : ℕ
-  -- how many files, in their order, were opened in turn, each but the last read to its end; none once another was opened
+  -- how many files, in their order, were opened in turn, each but the last read to its end; None once another was opened
   pub followed : Option ℕ
 
--- inputs over these files before the first call, with nothing open
+-- inputs over these files before the first call: nothing is open
 abbrev pub unused_inputs : Files → ℕ → List ℕ → StoredInputs
 unused_inputs files piece failing =
     record {
@@ -40,12 +40,12 @@ unused_inputs files piece failing =
       followed = Some 0;
     }
 
--- what the file at a place has from a byte on
+-- the bytes of the file at a place from this one on; empty without a place
 abbrev pub rest_of : Files → Option ℕ → ℕ → List ℕ
 rest_of files None at = []
 rest_of files (Some place) at = drop at (get_or files place ([], [])).1
 
--- inputs in memory tell all, and may fail each name
+-- the contents of inputs in memory are known, and each name may fail
 abbrev pub input_state : StoredInputs → InputState
 input_state s = record {
   files = Some s.files;
@@ -57,12 +57,12 @@ input_state s = record {
   followed = s.followed;
 }
 
--- one more call, which leaves this rest and this count of faults
+-- after one more call, with these bytes left and this count of faults
 abbrev pub after_input : StoredInputs → List ℕ → ℕ → StoredInputs
 after_input old rest faults =
     record old { rest = rest; calls = next_call old.calls; faults = faults }
 
--- what `open(name)` answers, and all that it leaves beside how many files were opened in turn
+-- what `open(name)` answers, and the state after it, except how many files were opened in turn
 abbrev pub OpensStored
     : {T : Type 0} → StoredInputs → List ℕ → Result T OpenError → StoredInputs → Type 0
 OpensStored old name (Ok x) new =
@@ -78,7 +78,7 @@ OpensStored old name (Err Failed) new =
 abbrev pub read_count : StoredInputs → ℕ → ℕ
 read_count s room = min room (min s.piece (length s.rest))
 
--- what `read(buf)` answers, and all that it leaves
+-- what `read(buf)` answers, and the buffer and the state after it
 abbrev pub ReadsStored
     : {E : Type 0} → StoredInputs → List ℕ → Result ℕ E → List ℕ → StoredInputs → Type 0
 ReadsStored old before (Ok n) buf new =
@@ -93,23 +93,23 @@ ReadsStored old before (Err e) buf new =
 pub record StoredSink : Type 0 where
   -- the bytes written
   pub bytes : List ℕ
-  -- how many bytes it takes in all
+  -- the most bytes that it takes in all
   pub room : ℕ
-  -- how many bytes a write takes at most
+  -- the most bytes that a write takes
   pub piece : ℕ
   -- the numbers of the calls that fail
   pub failing : List ℕ
   -- how many writes were tried
   pub calls : ℕ
-  -- how many of them failed
+  -- how many writes failed
   pub faults : ℕ
 
--- an empty sink of so much room before the first call
+-- an empty sink with this much room before the first call
 abbrev pub unused_sink : ℕ → ℕ → List ℕ → StoredSink
 unused_sink room piece failing =
     record { bytes = []; room = room; piece = piece; failing = failing; calls = 0; faults = 0 }
 
--- a sink in memory tells all
+-- the bytes of a sink in memory are known
 abbrev pub sink_state : StoredSink → SinkState
 sink_state s = record { written = Some s.bytes; faults = s.faults }
 
@@ -117,7 +117,7 @@ sink_state s = record { written = Some s.bytes; faults = s.faults }
 abbrev pub room_left : StoredSink → ℕ
 room_left s = s.room - length s.bytes
 
--- one more call, which leaves these bytes and this count of faults
+-- after one more call, with these bytes and this count of faults
 abbrev pub after_write : StoredSink → List ℕ → ℕ → StoredSink
 after_write old bytes faults =
     record old { bytes = bytes; calls = next_call old.calls; faults = faults }
@@ -126,11 +126,11 @@ after_write old bytes faults =
 abbrev pub RefusesNext : StoredSink → List ℕ → Type 0
 RefusesNext s piece = FailsNext s.failing s.calls ⊎ ((room_left s ≡ 0) × (0 < length piece))
 
--- how many bytes a write of this many takes
+-- how many bytes a write of this many bytes takes
 abbrev pub write_count : StoredSink → ℕ → ℕ
 write_count s given = min given (min s.piece (room_left s))
 
--- what `write(piece)` answers, and all that it leaves
+-- what `write(piece)` answers, and the state after it
 abbrev pub WritesStored : {E : Type 0} → StoredSink → List ℕ → Result ℕ E → StoredSink → Type 0
 WritesStored old piece (Ok n) new =
     ¬ RefusesNext old piece × (n ≡ write_count old (length piece))

@@ -9,13 +9,13 @@ use Rattle.outside.specs.Counts.{Rose, next_call}
 use Rattle.outside.specs.Inputs.{Files, InputState, Lacks, bytes_of}
 use Rattle.outside.specs.Turns.{OpensInTurn}
 
--- where files are told, the name is among them, and P holds of its bytes
+-- if files are known, the name is among them, and P holds of its bytes
 abbrev pub IfTold : Option Files → List ℕ → (List ℕ → Type 0) → Type 0
 IfTold None name P = ⊤
 IfTold (Some files) name P = (content : List ℕ) × (bytes_of files name ≡ Some content) × P content
 
 -- the named input was opened once and read, with no fault, and is open;
--- these are its bytes, or its first ones up to one past the limit
+-- these are its bytes, up to one past the limit
 pub record ReadsInput (old new : InputState) (name : List ℕ) (limit : ℕ) (bytes : List ℕ)
     : Type 0 where
   pub opens : new.opens ≡ next_call old.opens
@@ -32,11 +32,11 @@ pub record OpensNone (old new : InputState) : Type 0 where
   pub closed : new.rest ≡ Some []
   pub opens : new.opens ≡ old.opens
 
--- a front of what was left is gone, with at most one byte past the limit
+-- a prefix of what was left is gone, with at most one byte past the limit
 abbrev pub LosesFront : Option (List ℕ) → Option (List ℕ) → ℕ → Type 0
 LosesFront old new limit = (front : List ℕ) × (length front ≤ limit + 1) × Consumes old new front
 
--- the named input was opened once and is open, and it has left what stands behind some front
+-- the named input was opened once and is open; what is left are its bytes after some prefix
 pub record OpensNamed (old new : InputState) (name : List ℕ) (limit : ℕ) : Type 0 where
   pub opens : new.opens ≡ next_call old.opens
   pub mark : new.mark ≡ old.may_fail name

@@ -11,11 +11,11 @@ use Rattle.outside.specs.Sinks.{SinkState}
 
 -- what contracts see of standard input and files
 pub record StreamState : Type 0 where
-  -- what is open, a file with the bytes that it will give, where its type tells them
+  -- what is open; a file with the bytes that it will give, if they are known
   pub source : Source (Option (List ℕ))
   -- how many inputs were opened
   pub opens : ℕ
-  -- the bytes that standard input will give, where its type tells them
+  -- the bytes that standard input will give, if they are known
   pub remaining : Option (List ℕ)
   -- how many faults were counted
   pub faults : ℕ
@@ -24,7 +24,7 @@ pub record StreamState : Type 0 where
 abbrev pub unused_streams : Option (List ℕ) → StreamState
 unused_streams remaining = record { source = Nothing; opens = 0; remaining = remaining; faults = 0 }
 
--- a stream that tells nothing of what it holds, before the first write
+-- an output whose bytes are not known, before the first write
 abbrev pub unused_output : SinkState
 unused_output = record { written = None; faults = 0 }
 
@@ -34,13 +34,13 @@ source_of remaining Nothing = Nothing
 source_of remaining Standard = Standard
 source_of remaining (File f) = File (remaining f)
 
--- what the open input still has, where that is told, and nothing where nothing is open
+-- what is left in the open input, if it is known; nothing if nothing is open
 abbrev pub rest_in : Source (Option (List ℕ)) → Option (List ℕ) → Option (List ℕ)
 rest_in Nothing remaining = Some []
 rest_in Standard remaining = remaining
 rest_in (File rest) remaining = rest
 
--- no file is told, and each name may fail, and each read
+-- no file is known, and each name and each read may fail
 abbrev pub stream_state : StreamState → InputState
 stream_state s = record {
   files = None;
@@ -58,7 +58,7 @@ IsSourceOf name Nothing = ⊥
 IsSourceOf name Standard = name ≡ []
 IsSourceOf name (File rest) = name ≢ []
 
--- what `open(name)` answers, and all that it leaves: the empty name opens
+-- what `open(name)` answers, and the state after it: the empty name always opens
 abbrev pub OpensStream
     : {T : Type 0} → StreamState → List ℕ → Result T OpenError → StreamState → Type 0
 OpensStream old name (Ok x) new =
@@ -74,14 +74,13 @@ IsFile Nothing = ⊥
 IsFile Standard = ⊥
 IsFile (File rest) = ⊤
 
--- what a read moves: nothing but what is open
+-- a read changes nothing but what is open
 abbrev pub MovesOpen : Source (Option (List ℕ)) → StreamState → StreamState → Type 0
 MovesOpen Nothing old new = new ≡ old
 MovesOpen Standard old new = new ≡ record old { remaining = new.remaining }
 MovesOpen (File rest) old new = IsFile new.source × (new ≡ record old { source = new.source })
 
--- what `read` leaves beside the bytes: a failure is one fault, and comes only where something is
--- open
+-- what `read` leaves, besides the bytes: a failure is one fault, and only what is open can fail
 abbrev pub ReadsStream : {E : Type 0} → StreamState → Result ℕ E → StreamState → Type 0
 ReadsStream old (Ok n) new = MovesOpen old.source old new
 ReadsStream old (Err e) new =

@@ -1,4 +1,4 @@
--- Which inputs were opened: files that are told, opened in their order.
+-- Which inputs were opened: known files, opened in their order.
 use Rattle.std.specs.Prelude.{ℕ, zero, suc, ◌≡◌, ◌≤◌, ◌⊎◌, ◌+◌, ◌-◌, ◌^◌, ◌==◌, min, Bool, true, false, if◌then◌else◌}
 use Rattle.std.specs.Prelude.{List, [], ◌∷◌, length, take, slice_get, Option, Some, None, Result, Ok, Err}
 use Rattle.std.specs.Option.{option_map_or}
@@ -14,32 +14,32 @@ at_end (Some bytes) = length bytes == 0
 abbrev pub stands_at : Files → ℕ → List ℕ → Bool
 stands_at files n name = option_map_or (λ file. bytes_eq file.0 name) (slice_get files n) false
 
--- the number, if that is so
+-- the number if the condition is true, otherwise None
 abbrev pub if_so : Option ℕ → Bool → Option ℕ
 if_so None so = None
 if_so (Some n) so = if so then Some n else None
 
--- how many files were opened in turn, after one of this name: one more, if it is the next
+-- how many files were opened in turn, after one with this name: one more if it is the next, otherwise None
 abbrev pub in_turn : Option Files → List ℕ → Option ℕ → Option ℕ
 in_turn None name followed = None
 in_turn (Some files) name None = None
 in_turn (Some files) name (Some n) = if stands_at files n name then Some (n + 1) else None
 
--- after several names, one after another
+-- the same after several names, one after another
 abbrev pub all_in_turn : Option Files → Option ℕ → List (List ℕ) → Option ℕ
 all_in_turn files followed [] = followed
 all_in_turn files followed (name ∷ names) = all_in_turn files (in_turn files name followed) names
 
--- once what is open is closed, which has to be at its end
+-- the same once the open input is closed: None if it is not at its end
 abbrev pub followed_to_end : InputState → Option ℕ
 followed_to_end s = if_so s.followed (at_end s.rest)
 
--- after `open(name)`, which is answered so
+-- the same after `open(name)` with this answer
 abbrev pub followed_after : {T E : Type 0} → InputState → List ℕ → Result T E → Option ℕ
 followed_after old name (Ok x) = in_turn old.files name (followed_to_end old)
 followed_after old name (Err e) = followed_to_end old
 
--- how many inputs were opened, after so many more: the count stands still at its type's end
+-- how many inputs were opened, after this many more; the count stops at 2^64 - 1
 abbrev pub opens_after : ℕ → ℕ → ℕ
 opens_after opens zero = opens
 opens_after opens (suc count) = min (opens + suc count) (2 ^ 64 - 1)
@@ -48,7 +48,7 @@ opens_after opens (suc count) = min (opens + suc count) (2 ^ 64 - 1)
 abbrev pub OpensInTurn : List (List ℕ) → InputState → InputState → Type 0
 OpensInTurn names old new = new.followed ≡ all_in_turn old.files (followed_to_end old) names
 
--- no call was made, or the first so many of these inputs were opened in turn, and no others
+-- nothing changed, or some first ones of these inputs were opened in turn, and no others
 abbrev pub OpensFirst : List (List ℕ) → InputState → InputState → Type 0
 OpensFirst names old new =
     (new ≡ old)

@@ -1,9 +1,9 @@
-//! The calls that inputs and sinks in memory are told to fail.
+//! The calls that inputs and sinks in memory are set to fail.
 ghost use Rattle.std.specs.Prelude.{◌≡◌, ◌↔◌, IsTrue};
 ghost use Rattle.std.specs.Bool.{OnTrue, OnFalse};
 ghost use Rattle.outside.specs.Counts.{next_call, raised, FailsNext};
 
-/// Counts a call, and a fault where it is one of those that are to fail.
+/// Counts a call. If it is one of those that are to fail, it counts a fault too and returns true.
 pub(crate) fn fails(calls: &mut u64, faults: &mut u64, failing: &[u64]) -> bool
     ensures exact { IsTrue result ↔ FailsNext failing.now calls.old }
     ensures call { calls.new ≡ next_call calls.old }

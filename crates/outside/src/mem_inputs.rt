@@ -1,4 +1,4 @@
-//! Inputs in memory, which fail at the calls that they are told.
+//! Inputs in memory, which fail at given calls.
 ghost use Rattle.std.specs.Prelude.{◌≡◌, ◌≤◌, ◌<◌, ◌+◌, ◌^◌, min, ◌++◌, length, take, drop};
 ghost use Rattle.std.specs.Prelude.{IfNone, IfSome, Some, None};
 ghost use Rattle.outside.specs.Told.{told};
@@ -10,11 +10,11 @@ use crate::failing::fails;
 use crate::{Failed, Inputs, OpenError};
 use std::marker::Model;
 
-/// Files in memory, whose calls fail exactly where they are told to.
+/// Files in memory, with the numbers of the calls that fail.
 ///
-/// Contracts see the files, the rest of the open file, the piece that a read gives at most, the
-/// numbers of the calls that fail, how many calls were made, how many opened and how many failed, and
-/// how many files were opened in turn.
+/// Contracts see the files, the unread bytes of the open file, how many bytes a read gives at most,
+/// the numbers of the calls that fail, how many calls were made, how many opened a file and how
+/// many failed, and how many files were opened in turn.
 #[derive(Drop)]
 pub struct MemInputs {
     files: Vec<(String, Vec<u8>)>,
@@ -53,9 +53,9 @@ impl Model for MemInputs {
 impl MemInputs {
     /// Inputs over these files, with nothing open and no call made.
     ///
-    /// Where a name is there twice, its first file is what counts. A read gives at most `piece`
-    /// bytes. Calls of `open` and `read` are counted together from 1, and the number stands still
-    /// at `u64::MAX`. A call fails exactly where its number is in `failing`.
+    /// If two files have the same name, the first counts. A read gives at most `piece` bytes, which
+    /// is at least 1. Calls of `open` and `read` are counted together from 1, and the number stays
+    /// at `u64::MAX` once it is reached. A call fails exactly if its number is in `failing`.
     pub fn new(files: Vec<(String, Vec<u8>)>, piece: usize, failing: Vec<u64>) -> MemInputs
         requires { 1 ≤ piece }
         ensures { result ≡ unused_inputs (told files.items) piece failing.items }
@@ -74,7 +74,7 @@ impl MemInputs {
     }
 }
 
-/// Where the first file of this name stands.
+/// The place of the first file of this name.
 fn place_of(files: &[(String, Vec<u8>)], name: &str) -> Option<usize>
     ensures none { IfNone result (bytes_of (told files.now) name.now ≡ None) }
     ensures some { IfSome result (λ place.
@@ -88,7 +88,7 @@ fn place_of(files: &[(String, Vec<u8>)], name: &str) -> Option<usize>
     None
 }
 
-/// What the open file has from a byte on.
+/// The bytes of the open file from this one on.
 fn rest_at(files: &[(String, Vec<u8>)], place: Option<usize>, from: usize) -> &[u8]
     ensures rest { result.now ≡ rest_of (told files.now) place from }
     ensures room { from + length result.now < 2 ^ 64 }
@@ -105,7 +105,8 @@ fn rest_at(files: &[(String, Vec<u8>)], place: Option<usize>, from: usize) -> &[
     &file.1[from..]
 }
 
-/// How many files were opened in turn, once the open one is closed: none is, if it was not read to its end.
+/// How many files were opened in turn, once the open one is closed. If it was not read to its end,
+/// there is no number.
 fn closed(
     files: &[(String, Vec<u8>)],
     place: Option<usize>,
@@ -130,7 +131,7 @@ fn next_in_turn(files: &[(String, Vec<u8>)], name: &str, followed: Option<usize>
     }
 }
 
-/// Copies as much of the bytes' front as the buffer and the piece allow.
+/// Copies the first bytes, as many as the buffer and the piece allow.
 fn fill(bytes: &[u8], piece: usize, buf: &mut [u8]) -> usize
     ensures count { result ≡ min (length buf.old) (min piece (length bytes.now)) }
     ensures front { buf.new ≡ take result bytes.now ++ drop result buf.old }
@@ -150,7 +151,7 @@ impl Inputs for MemInputs {
         ensures turn { (input_state self.new).followed
             ≡ followed_after (input_state self.old) name.now result }
 
-        // The answer and all that is left, by the number of the call and the name.
+        // The result and the whole state afterwards, by the number of the call and the name.
         ensures exact { OpensStored self.old name.now result self.new }
     {
         self.followed = closed(&self.files, self.opened, self.at, self.followed);
@@ -176,7 +177,8 @@ impl Inputs for MemInputs {
         ensures turn { (input_state self.new).followed ≡ (input_state self.old).followed }
         ensures gives { ReadGives (input_state self.old) result buf.new (input_state self.new) }
 
-        // The answer, the buffer and all that is left, by the number of the call and the room.
+        // The result, the buffer and the whole state afterwards, by the number of the call and the
+        // room.
         ensures exact { ReadsStored self.old buf.old result buf.new self.new }
     {
         if fails(&mut self.calls, &mut self.faults, &self.failing) {

@@ -1,4 +1,4 @@
-//! A sink in memory, which fails at the calls that it is told.
+//! A sink in memory, which fails at given calls.
 ghost use Rattle.std.specs.Prelude.{◌≡◌, ◌≤◌, ◌<◌, ◌^◌, IfOk};
 ghost use Rattle.outside.specs.Sinks.{WriteGives};
 ghost use Rattle.outside.specs.InMemory.{WritesStored, sink_state, unused_sink};
@@ -8,9 +8,9 @@ use crate::{Failed, Sink};
 use std::alloc::{AllocError, Global};
 use std::marker::Model;
 
-/// A sink in memory with a fixed room, whose calls fail exactly where they are told to.
+/// A sink in memory with a fixed room, and with the numbers of the calls that fail.
 ///
-/// Contracts see the bytes written, the room in all, the piece that a write takes at most, the
+/// Contracts see the bytes written, the room in all, how many bytes a write takes at most, the
 /// numbers of the calls that fail, how many calls were made and how many failed.
 #[derive(Drop)]
 pub struct MemSink {
@@ -42,11 +42,12 @@ impl Model for MemSink {
 }
 
 impl MemSink {
-    /// An empty sink with room for `room` bytes, which are taken here, or the memory's refusal.
+    /// An empty sink with room for `room` bytes. The memory for them is taken here. The only error
+    /// is that memory runs out.
     ///
-    /// A write takes at most `piece` bytes. Writes are counted from 1, and the number stands still
-    /// at `u64::MAX`. A write fails exactly where its number is in `failing`, or where no room is
-    /// left and its piece is not empty.
+    /// A write takes at most `piece` bytes, which is at least 1. Writes are counted from 1, and the
+    /// number stays at `u64::MAX` once it is reached. A write fails exactly if its number is in
+    /// `failing`, or if no room is left and its piece is not empty.
     pub fn make(
         alloc: Global,
         room: usize,
@@ -82,7 +83,8 @@ impl Sink for MemSink {
         ensures bounded { (sink_state self.new).faults < 2 ^ 64 }
         ensures gives { WriteGives (sink_state self.old) piece.now result (sink_state self.new) }
 
-        // The answer and all that is left, by the number of the call, the piece and the room.
+        // The result and the whole state afterwards, by the number of the call, the piece and the
+        // room.
         ensures exact { WritesStored self.old piece.now result self.new }
     {
         if fails(&mut self.calls, &mut self.faults, &self.failing) {

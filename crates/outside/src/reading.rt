@@ -13,15 +13,15 @@ use std::alloc::Global;
 /// Why an input was not read.
 #[derive(Clone, Copy, Debug, PartialEq, Eq)]
 pub enum InputError {
-    /// The inputs have none of this name.
+    /// The inputs' files are known, and this name is not among them.
     Missing,
     /// It could not be opened or read.
     Fault,
-    /// Memory was wanted.
+    /// Memory ran out.
     Memory,
 }
 
-/// Reads a piece of the open input. No read that failed is made good by another, and a failure is a fault.
+/// Reads a piece of the open input. A read that failed is not tried again.
 fn read_piece<I: Inputs>(inputs: &mut I, buf: &mut [u8]) -> Result<usize, InputError>
     ensures stays { Stays (I.state inputs.old) (I.state inputs.new) }
     ensures opens { (I.state inputs.new).opens ≡ (I.state inputs.old).opens }
@@ -41,14 +41,14 @@ fn read_piece<I: Inputs>(inputs: &mut I, buf: &mut [u8]) -> Result<usize, InputE
 fn read_rest<I: Inputs>(alloc: Global, inputs: &mut I, limit: usize) -> Result<Vec<u8>, InputError>
     requires { limit < 2 ^ 32 }
 
-    // What stays of the inputs, and how much is gone from the rest.
+    // What stays of the inputs, and how much of the unread bytes is gone.
     ensures stays { Stays (I.state inputs.old) (I.state inputs.new) }
     ensures opens { (I.state inputs.new).opens ≡ (I.state inputs.old).opens }
     ensures mark { (I.state inputs.new).mark ≡ (I.state inputs.old).mark }
     ensures turn { (I.state inputs.new).followed ≡ (I.state inputs.old).followed }
     ensures left { LosesFront (I.state inputs.old).rest (I.state inputs.new).rest limit }
 
-    // At Ok the bytes are those that are gone from the rest, and no fault was counted.
+    // At Ok the bytes are those that are gone from the unread ones, and no fault was counted.
     ensures no_fault { OnOk result ((I.state inputs.new).faults ≡ (I.state inputs.old).faults) }
     ensures read { IfOk result (λ bytes.
         Consumes (I.state inputs.old).rest (I.state inputs.new).rest bytes.items) }
@@ -84,16 +84,19 @@ fn read_rest<I: Inputs>(alloc: Global, inputs: &mut I, limit: usize) -> Result<V
 
 /// Reads the named input to its end, or to one byte past the limit, which is below 2^32 bytes.
 ///
-/// No other input is opened, and none twice. No call that failed is made good by another.
+/// No other input is opened, and none is opened twice. A call that failed is not tried again.
 ///
-/// - `Ok`: the input was opened, no fault was counted, and the bytes are those of the input, or its
-///   first `limit + 1`. It stays open, with what stands behind them.
-/// - `Missing`: the inputs tell their files, and this name is not among them. Nothing was opened,
+/// - `Ok`: the input was opened, no fault was counted, and there are at most `limit + 1` bytes. If
+///   files are known, they are the first `limit + 1` bytes of the input, or all if it has fewer.
+///   The input stays open, with the bytes after these unread. With at most `limit` bytes, it is at
+///   its end.
+/// - `Missing`: the inputs' files are known, and this name is not among them. Nothing was opened,
 ///   nothing is open, and no fault was counted.
-/// - `Fault`: the inputs counted a fault, and may fail this name. Either its opening failed, and
-///   then nothing was opened and nothing is open; or a read failed, and then the input stays open,
-///   with what stands behind the front that was read.
-/// - `Memory`: memory was wanted. The input was opened and stays open, as after a read that failed,
+/// - `Fault`: the inputs counted a fault, and may fail this name. If its opening failed, nothing
+///   was opened and nothing is open. If a read failed, the input was opened and stays open. If
+///   files are known, it has left the bytes after a prefix that was read. This prefix has at most
+///   `limit + 1` bytes.
+/// - `Memory`: memory ran out. The input was opened and stays open, as after a read that failed,
 ///   and no fault was counted.
 pub fn read_input<I: Inputs>(
     alloc: Global,

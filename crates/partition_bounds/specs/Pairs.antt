@@ -1,4 +1,4 @@
--- The pairs of partitions of one type, as a list, and how much there may be.
+-- The pairs of partitions of one type, as a list, and the bounds.
 use Rattle.std.specs.Prelude.{ℕ, ◌*◌, ◌-◌, ◌==◌, ◌&&◌, Bool, nat_lt, List, map, filter}
 use Rattle.std.specs.List.{flat_map}
 use Rattle.limits.specs.declared.TheConstants.{TERMINAL, FIRST_TYPE, MAX_PARTITIONS}
@@ -11,7 +11,7 @@ use Rattle.partition_model.specs.Listings.{ids_below}
 abbrev pub is_pair : Graph → ℕ → ℕ → Bool
 is_pair g p q = nat_lt TERMINAL p && nat_lt p q && g.listed p && g.listed q && g.typ p == g.typ q
 
--- two ids as a pair
+-- two ids as a merge
 abbrev pub pair_of : ℕ → ℕ → Merge
 pair_of p q = record { p = p; q = q }
 
@@ -27,10 +27,10 @@ pairs_below n g = flat_map (pairs_from n g) (ids_below n)
 abbrev pub pairs_of : List Block → List Merge
 pairs_of blocks = map (λ b. pair_of b.p b.q) blocks
 
--- how many of n ids are beside the two ends
+-- how many of n ids are not ends
 abbrev pub inner_count : ℕ → ℕ
 inner_count n = n - FIRST_TYPE
 
--- how many ids a least violation has at most: three times as many as there may be, less five
+-- the most ids that a least violation has: three times the limit on ids, less five
 abbrev pub longest_path : ℕ
 longest_path = 3 * MAX_PARTITIONS - 5

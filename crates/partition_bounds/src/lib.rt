@@ -1,6 +1,7 @@
-//! How much there is of what inference makes: pairs of partitions, blocks, ids of a path, and splits.
+//! Bounds on what inference makes: pairs of partitions, blocks, ids of a path, and splits.
 //!
-//! `specs/` has the list of the pairs of one type that coarsening goes over. Each function here is a law: its body is empty, and its contract is what is proved. No call takes memory or does anything when it runs.
+//! `specs/` defines the list of the pairs of one type that coarsening visits. Each function here is a law: its body is empty, and
+//! its contract is what is proved. No call takes memory or does anything when it runs.
 #![tactic(auto)]
 
 mod pairs;

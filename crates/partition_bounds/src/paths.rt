@@ -1,32 +1,33 @@
 //! Laws on the length of a least violation and of a run of splits.
 ghost use Rattle.partition_bounds.specs.Laws.{LeastIsShort, LeastIsShorter, LeastWithinLimit, SplitPathsWithinLimit, SplitsBegin, StepsExclude};
 
-/// A least violation has at most three times as many ids as the graph, less four.
+/// The length of a least violation is at most three times the number of ids of the graph, minus 4.
 pub fn least_is_short()
     ensures { LeastIsShort }
 {}
 
-/// And one less where there are ids beside the ends, since some id never stands in it with some state of the monitor.
+/// If the graph has ids besides the two ends, it is at most three times their total number, minus 5. Some id never occurs in it
+/// with some state of the monitor.
 pub fn least_is_shorter()
     ensures { LeastIsShorter }
 {}
 
-/// So it has at most 3,067 where there are at most 1,024 ids.
+/// So the length is at most 3,067 if all ids are below 1,024.
 pub fn least_within_limit()
     ensures { LeastWithinLimit }
 {}
 
-/// So the paths of splits have together at most 3,067 numbers for each split, where the run keeps within 1,024 ids.
+/// So if a run of refinement uses at most 1,024 ids, the paths of its splits contain together at most 3,067 ids for each split.
 pub fn split_paths_within_limit()
     ensures { SplitPathsWithinLimit }
 {}
 
-/// The first splits of a run of refinement begin the whole run.
+/// The first splits of a run of refinement are a prefix of the whole run, and the suffix is the whole run from where they lead.
 pub fn splits_begin()
     ensures { SplitsBegin }
 {}
 
-/// Where a split follows the first ones, the whole run has more.
+/// If a split follows the first ones, the whole run has more splits than these.
 pub fn steps_exclude()
     ensures { StepsExclude }
 {}

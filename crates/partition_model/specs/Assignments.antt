@@ -13,7 +13,7 @@ pub record Event : Type 0 where
 abbrev pub Assignment : Type 0
 Assignment = List (List Event)
 
--- between INITIAL and TERMINAL
+-- the list between INITIAL and TERMINAL
 abbrev pub with_ends : List ℕ → List ℕ
 with_ends xs = INITIAL ∷ xs ++ TERMINAL ∷ []
 
@@ -33,7 +33,7 @@ id_list trace = with_ends (ids_of trace)
 abbrev pub word_of : List Event → List ℕ
 word_of trace = with_ends (types_of trace)
 
--- the words without their ends
+-- the words of the traces, without their ends
 abbrev pub inner_words : Assignment → List (List ℕ)
 inner_words h = map types_of h
 
@@ -42,12 +42,12 @@ abbrev pub begins_with : ℕ → List ℕ → Bool
 begins_with q [] = false
 begins_with q (x ∷ xs) = x == q
 
--- at how many places of the list p is followed at once by q
+-- the number of places in the list at which q directly follows p
 abbrev pub pairs : ℕ → ℕ → List ℕ → ℕ
 pairs p q [] = 0
 pairs p q (x ∷ xs) = (if x == p && begins_with q xs then 1 else 0) + pairs p q xs
 
--- at how many places of all traces p is followed at once by q
+-- the number of places in all traces, with their ends, at which q directly follows p
 abbrev pub edge_count : Assignment → ℕ → ℕ → ℕ
 edge_count h p q = sum_by (λ trace. pairs p q (id_list trace)) h
 
@@ -68,15 +68,15 @@ abbrev pub first_type : ℕ → List Event → ℕ
 first_type p [] = 0
 first_type p (e ∷ es) = if e.id == p then e.typ else first_type p es
 
--- the type of an id; the two ends have their own
+-- the type of an id; the two ends are their own types
 abbrev pub type_of : Assignment → ℕ → ℕ
 type_of h p = if nat_lt p FIRST_TYPE then p else first_type p (events h)
 
--- the two ends, and the ids that events have
+-- whether the id is that of an end or of some event
 abbrev pub is_live : Assignment → ℕ → Bool
 is_live h p = nat_lt p FIRST_TYPE || nat_lt 0 (members h p)
 
--- the graph of an assignment: the live ids, with an edge where there are neighbours
+-- the graph of an assignment: the live ids, with an edge from p to q if q directly follows p somewhere
 abbrev pub G : Assignment → Graph
 G h =
     record {
@@ -89,7 +89,7 @@ G h =
 abbrev pub AllEvents : (Event → Type 0) → Assignment → Type 0
 AllEvents P h = AllByRecursion P (events h)
 
--- ids are not those of the ends, and events of one id have one type
+-- no event has the id of an end, and all events of one id have one type
 abbrev pub IsTyped : Assignment → Type 0
 IsTyped h = AllEvents (λ e. (FIRST_TYPE ≤ e.id) × (e.typ ≡ type_of h e.id)) h
 
@@ -97,10 +97,10 @@ IsTyped h = AllEvents (λ e. (FIRST_TYPE ≤ e.id) × (e.typ ≡ type_of h e.id)
 abbrev pub renamed_event : (ℕ → ℕ) → Event → Event
 renamed_event f e = record { typ = e.typ; id = f e.id }
 
--- each event in place, with another id
+-- each event in its place, with another id
 abbrev pub renamed : (ℕ → ℕ) → Assignment → Assignment
 renamed f h = map (λ trace. map (renamed_event f) trace) h
 
--- the first assignment: each event has its type's number
+-- the first assignment: the id of each event is its type
 abbrev pub by_type : List (List ℕ) → Assignment
 by_type inner = map (λ w. map (λ t. record { typ = t; id = t }) w) inner

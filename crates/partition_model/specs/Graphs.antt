@@ -4,19 +4,19 @@ use Rattle.limits.specs.declared.TheConstants.{INITIAL, TERMINAL}
 use Rattle.invariants.specs.declared.Invariant.{Invariant}
 use Rattle.invariants.specs.Holds.{Holds}
 
--- typ p is the type of the id p, and edge p q says whether there is an edge from p to q.
--- Which ids are listed matters only where pairs of ids are meant.
+-- typ p is the type of the id p, edge p q says whether there is an edge from p to q,
+-- and listed p says whether the graph has the id p. Paths depend on the edges only.
 pub record Graph : Type 0 where
   pub typ : ℕ → ℕ
   pub edge : ℕ → ℕ → Bool
   pub listed : ℕ → Bool
 
--- p and then the list go along edges, and end with q
+-- p and then the list follow edges, and end with q
 abbrev pub Walk : Graph → ℕ → List ℕ → ℕ → Type 0
 Walk g p [] q = p ≡ q
 Walk g p (r ∷ rs) q = (g.edge p r ≡ true) × Walk g r rs q
 
--- a list of ids that begins with INITIAL, ends with TERMINAL and goes along edges
+-- a list of ids that begins with INITIAL, ends with TERMINAL and follows edges
 abbrev pub IsPath : Graph → List ℕ → Type 0
 IsPath g [] = ⊥
 IsPath g (x ∷ xs) = (x ≡ INITIAL) × Walk g x xs TERMINAL
@@ -33,7 +33,7 @@ Accepts g w = (path : List ℕ) × IsPath g path × (word g path ≡ w)
 abbrev pub Satisfies : Graph → Invariant → Type 0
 Satisfies g inv = (path : List ℕ) → IsPath g path → Holds inv (word g path)
 
--- the path is one of the graph, and its word breaks the invariant
+-- the list is a path of the graph, and its word breaks the invariant
 abbrev pub Breaks : Graph → Invariant → List ℕ → Type 0
 Breaks g inv path = IsPath g path × (Holds inv (word g path) → ⊥)
 
@@ -43,7 +43,7 @@ IsBefore [] ys = ⊥
 IsBefore (x ∷ xs) [] = ⊥
 IsBefore (x ∷ xs) (y ∷ ys) = (x < y) ⊎ ((x ≡ y) × IsBefore xs ys)
 
--- a path that breaks the invariant: no path that breaks it is shorter, and none as long is lexicographically smaller
+-- a shortest path that breaks the invariant, the first in lexicographic order among those of equal length
 pub record IsLeastViolation (g : Graph) (inv : Invariant) (path : List ℕ) : Type 0 where
   pub breaks : Breaks g inv path
   pub shortest : (other : List ℕ) → Breaks g inv other → length path ≤ length other
@@ -59,7 +59,7 @@ pub record IsFormed (g : Graph) : Type 0 where
   pub none_into_start : (p : ℕ) → g.edge p INITIAL ≡ true → ⊥
   pub none_out_of_end : (q : ℕ) → g.edge TERMINAL q ≡ true → ⊥
 
--- whether there is an edge from u to v where q is replaced by p
+-- whether there is an edge from u to v after q is replaced by p
 abbrev pub merged_edge : Graph → ℕ → ℕ → ℕ → ℕ → Bool
 merged_edge g p q u v =
     not (u == q) && not (v == q)

@@ -18,7 +18,7 @@ partition_of h p = record { id = p; typ = type_of h p; count = size h p }
 abbrev pub partitions_below : ℕ → Assignment → List Partition
 partitions_below n h = map (partition_of h) (filter (is_live h) (ids_below n))
 
--- two ids with the number of places where they are neighbours
+-- the edge from p to q, with the number of places at which q directly follows p
 abbrev pub edge_between : Assignment → ℕ → ℕ → Edge
 edge_between h p q = record { from = p; to = q; count = edge_count h p q }
 
@@ -49,12 +49,12 @@ pub record IsLast (h : Assignment) (event : ℕ) : Type 0 where
 abbrev pub AreBelow : ℕ → Assignment → Type 0
 AreBelow n h = AllByRecursion (λ e. e.id < n) (events h)
 
--- no id of the list is below the bound, and each is less than those behind it
+-- the ids ascend strictly, and the first is not below the bound
 abbrev pub AscendIds : ℕ → List Partition → Type 0
 AscendIds low [] = Unit {0}
 AscendIds low (x ∷ xs) = (low ≤ x.id) × AscendIds (suc x.id) xs
 
--- no edge of the list is before this pair, and each is before those behind it
+-- the edges ascend strictly, and the first is not before (p, q)
 abbrev pub AscendEdges : ℕ → ℕ → List Edge → Type 0
 AscendEdges p q [] = Unit {0}
 AscendEdges p q (x ∷ xs) = ((p < x.from) ⊎ ((p ≡ x.from) × (q ≤ x.to))) × AscendEdges x.from (suc x.to) xs
@@ -69,13 +69,14 @@ pub record AreEdges (xs : List Edge) (h : Assignment) : Type 0 where
   pub order : AscendEdges 0 0 xs
   pub members : (x : Edge) → Contains xs x ↔ ((0 < x.count) × (x ≡ edge_between h x.from x.to))
 
--- where ids are below n, the lists have all partitions and all edges
+-- if all ids are below n, these lists have exactly the partitions and the edges
 abbrev pub ListingsTell : Type 0
 ListingsTell =
     (h : Assignment) (n : ℕ) → FIRST_TYPE ≤ n → AreBelow n h
     → ArePartitions (partitions_below n h) h × AreEdges (edges_below n h) h
 
--- where ids are below n, the counts of the edges out of an id add up to its size, but for TERMINAL, and so do those of the edges into it, but for INITIAL
+-- if all ids are below n, the counts of the edges out of each id except TERMINAL add up to its size,
+-- and so do the counts of the edges into each id except INITIAL
 abbrev pub CountsAddUp : Type 0
 CountsAddUp =
     (h : Assignment) (n : ℕ) → IsTyped h → FIRST_TYPE ≤ n → AreBelow n h

@@ -1,4 +1,5 @@
-//! Laws of graphs: what the graph of an assignment is like, what its lists have, and how labels show that an invariant is satisfied.
+//! Laws of graphs: what the graph of an assignment is like, what its lists contain, and how labels show that an invariant is
+//! satisfied.
 ghost use Rattle.partition_model.specs.Laws.{AcceptsTraces, TracesBreakNone, GraphsAreFormed, MergedAreFormed, OneLeast, InductiveSatisfies, ReachedIsInductive, ReachedSatisfies};
 ghost use Rattle.partition_model.specs.Listings.{CountsAddUp, ListingsTell};
 
@@ -12,7 +13,8 @@ pub fn traces_break_none()
     ensures { TracesBreakNone }
 {}
 
-/// The graph of an assignment lists both ends with their own types, and its edges go between listed ids, none into INITIAL and none out of TERMINAL.
+/// The graph of an assignment lists both ends with their own types. Its edges go between listed ids, none into INITIAL and none
+/// out of TERMINAL.
 pub fn graphs_are_formed()
     ensures { GraphsAreFormed }
 {}
@@ -22,12 +24,14 @@ pub fn merged_are_formed()
     ensures { MergedAreFormed }
 {}
 
-/// The lists of the partitions and of the edges below a bound on ids have each of them once, in order, and no others.
+/// If the ids of all events are below a bound of at least 2, the lists of the partitions and of the edges below it contain each
+/// of them once, in ascending order, and nothing else.
 pub fn listings_tell()
     ensures { ListingsTell }
 {}
 
-/// The counts of the edges out of a partition add up to its size, but for TERMINAL, and so do those of the edges into it, but for INITIAL.
+/// The counts of the edges out of a partition other than TERMINAL add up to its size. So do the counts of the edges into a
+/// partition other than INITIAL.
 pub fn counts_add_up()
     ensures { CountsAddUp }
 {}
@@ -37,17 +41,17 @@ pub fn one_least()
     ensures { OneLeast }
 {}
 
-/// Where a labelling is inductive, the word of every path keeps the invariant.
+/// If a labelling is inductive, the word of every path keeps the invariant.
 pub fn inductive_satisfies()
     ensures { InductiveSatisfies }
 {}
 
-/// Where the word of every path keeps the invariant, the reached states are an inductive labelling.
+/// If the word of every path keeps the invariant, the reached states are an inductive labelling.
 pub fn reached_is_inductive()
     ensures { ReachedIsInductive }
 {}
 
-/// And where the reached states are an inductive labelling, the word of every path keeps the invariant.
+/// And if the reached states are an inductive labelling, the word of every path keeps the invariant.
 pub fn reached_satisfies()
     ensures { ReachedSatisfies }
 {}

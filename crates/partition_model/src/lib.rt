@@ -1,8 +1,11 @@
-//! What model inference means: graphs of partitions, assignments of events to them, refinement, coarsening and labels, each by a definition in `specs/`, and the laws of these.
+//! What model inference means: graphs of partitions, assignments of events to them, refinement, coarsening and labels, each by a
+//! definition in `specs/`, and the laws of these.
 //!
 //! The rules are those of Beschastnikh, Brun, Schneider, Sloan and Ernst (ESEC/FSE 2011).
-//! A partition has an id and a type; the ids 0 and 1 are the ends INITIAL and TERMINAL, with the types 0 and 1, and all others are at least 2.
-//! Each function here is a law: its body is empty, and its contract is what is proved. No call takes memory or does anything when it runs.
+//! A partition has an id and a type; the ids 0 and 1 are the ends INITIAL and TERMINAL, with the types 0 and 1, and all others
+//! are at least 2.
+//! Each function here is a law: its body is empty, and its contract is what is proved. No call takes memory or does anything when
+//! it runs.
 #![tactic(auto)]
 
 mod coarsening;

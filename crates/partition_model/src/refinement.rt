@@ -1,7 +1,7 @@
-//! Laws of refinement: a split loses nothing, each step divides a partition, and a run has one end.
+//! Laws of refinement: a split loses no invariant, each step divides a partition, and there is at most one run.
 ghost use Rattle.partition_model.specs.Laws.{DivisionShrinks, DivisionKeeps, SplitIsDivision, SplitShrinks, SplitKeeps, StitchIsLast, StitchDivides, RunsKeep, RestsStayTogether, IdsWithinRests, FewerSplitsThanEvents, OnePassSplits, OnePassRefines, RefinementKeeps, OneRefinement};
 
-/// Where any events of one id get a new one, every word of a path after was a word of a path before.
+/// If any events of one id get a new id, every word of a path afterwards was a word of a path before.
 pub fn division_shrinks()
     ensures { DivisionShrinks }
 {}
@@ -26,32 +26,35 @@ pub fn split_keeps()
     ensures { SplitKeeps }
 {}
 
-/// Where there is a trace, a path follows the traces up to the place of its stitch and no further.
+/// If there is a trace, a path from INITIAL follows the traces up to the place of its stitch and no further.
 pub fn stitch_is_last()
     ensures { StitchIsLast }
 {}
 
-/// A violation leaves the traces strictly between its ends, and both parts of the partition there have events.
+/// If an invariant holds of every trace, a path that breaks it leaves the traces strictly between its ends. Both parts of the
+/// partition that is divided there have events.
 pub fn stitch_divides()
     ensures { StitchDivides }
 {}
 
-/// Each state of refinement has the words of the log, one type for each id, and events for each id up to the last.
+/// Each state of refinement has the words of the log and one type for each id. The ids in use are those below the next id, and
+/// each of them has events.
 pub fn runs_keep()
     ensures { RunsKeep }
 {}
 
-/// Events with equal remaining words have one id through all of refinement.
+/// In each state of refinement, two events have the same id if the words from them to the ends of their traces are equal.
 pub fn rests_stay_together()
     ensures { RestsStayTogether }
 {}
 
-/// Refinement makes no more ids than there are different remaining words, besides the two ends.
+/// If a list names each suffix of a word that is not empty, refinement uses no more ids besides the two ends than the list has
+/// entries.
 pub fn ids_within_rests()
     ensures { IdsWithinRests }
 {}
 
-/// Where the log has an event, there are fewer splits than events.
+/// If the log has an event, there are fewer splits than events.
 pub fn fewer_splits()
     ensures { FewerSplitsThanEvents }
 {}
@@ -71,7 +74,7 @@ pub fn refinement_keeps()
     ensures { RefinementKeeps }
 {}
 
-/// A run of refinement can end in one way alone.
+/// From each assignment there is at most one run of refinement, and it has one end.
 pub fn one_refinement()
     ensures { OneRefinement }
 {}

@@ -5,7 +5,7 @@ use Rattle.path_finder.specs.Keeping.{is_around}
 use Rattle.path_finder.specs.Nearness.{narrowed}
 use Rattle.path_finder.specs.Walks.{Asked}
 
--- the graph that the question's view shows, in which only edges of ids around the key ids are looked at, its
--- invariant, and the number of ids
+-- the graph that the question's view shows, with only the edges of ids around the key ids; the invariant; and the
+-- number of ids
 abbrev pub asked : Question → Asked
 asked q = record { graph = narrowed (is_around q.around.now) (seen q.sight.now.view); inv = q.inv; ids = q.ids }

@@ -1,8 +1,8 @@
--- Whose edges a question looks at.
+-- Which edges a question looks at.
 use Rattle.std.specs.Prelude.{ℕ, Bool, ◌||◌}
 use Rattle.path_finder.specs.declared.reach.Around.{Around}
 use Rattle.path_finder.specs.Nearness.{is_met}
 
--- whether walks lead to the id, or from it
+-- whether a forward or a backward walk met the id
 abbrev pub is_around : Around → ℕ → Bool
 is_around a p = is_met a.ahead p || is_met a.behind p

@@ -1,4 +1,4 @@
--- Ids to which walks lead from some ids, and a graph in which edges of some ids alone are looked at.
+-- Ids that walks lead to from given ids, and a graph restricted to the edges of some ids.
 use Rattle.std.specs.Prelude.{ℕ, ◌≡◌, ◌≢◌, ◌==◌, ◌&&◌, nat_lt, Bool, true, false, List, slice_index_or}
 use Rattle.std.specs.List.{AllByRecursion}
 use Rattle.invariants.specs.declared.Kind.{Kind}
@@ -7,7 +7,7 @@ use Rattle.partition_model.specs.Graphs.{Graph}
 use Rattle.partition_graph.specs.declared.view.View.{View}
 use Rattle.partition_graph.specs.declared.view.View.TheVariants.{Plain, Merged}
 
--- for each id whether it is met, and those that are met
+-- a flag for each id that says whether it is met, and the list of the met ids
 pub record Met : Type 0 where
   pub flags : List Bool
   pub list : List ℕ
@@ -16,32 +16,32 @@ pub record Met : Type 0 where
 abbrev pub is_met : Met → ℕ → Bool
 is_met m p = slice_index_or m.flags p false
 
--- the graph without the edges of ids that are not kept
+-- the graph without the edges that have an end that is not kept
 abbrev pub narrowed : (ℕ → Bool) → Graph → Graph
 narrowed kept g =
     record { typ = g.typ; edge = λ p q. (kept p && kept q) && g.edge p q; listed = g.listed }
 
--- each to which an edge leads from one that is met is met
+-- each id that an edge leads to from a met id is met
 abbrev pub IsClosed : (ℕ → Bool) → (ℕ → ℕ → Bool) → Type 0
 IsClosed met edge = (p q : ℕ) → met p ≡ true → edge p q ≡ true → met q ≡ true
 
--- these ids are met, and so is each to which a walk leads from one of them
+-- these ids are met, and so is each id that a walk leads to from one of them
 pub record IsReachedFrom (met starts : ℕ → Bool) (edge : ℕ → ℕ → Bool) : Type 0 where
   pub first : (p : ℕ) → starts p ≡ true → met p ≡ true
   pub along : IsClosed met edge
 
--- the ids below this number with the type
+-- whether the id is below this number and has the type
 abbrev pub is_of_type : Graph → ℕ → ℕ → ℕ → Bool
 is_of_type g ids typ p = nat_lt p ids && (g.typ p == typ)
 
--- the type that each word has which breaks the invariant
+-- the type that occurs in every word that breaks the invariant
 abbrev pub key_of : Kind → ℕ → ℕ → ℕ
 key_of AF a b = a
 key_of NF a b = a
 key_of AP a b = b
 key_of IB a b = a
 
--- the path does not name the id that is gone from a merged view
+-- the path does not contain the id that a merged view removes
 abbrev pub AvoidsGone : View → List ℕ → Type 0
 AvoidsGone (Plain g) path = Unit {0}
 AvoidsGone (Merged g p q) path = AllByRecursion (λ x. x ≢ q) path

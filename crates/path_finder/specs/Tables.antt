@@ -1,4 +1,4 @@
--- What the search has found: lengths of walks that end badly, and the pairs in the order in which they were entered.
+-- What the search has found: lengths of walks that end badly, and the pairs in the order they were entered.
 use Rattle.std.specs.Prelude.{◌≡◌, ◌==◌, ℕ, ◌+◌, ◌*◌, ◌<◌, ◌≤◌, true, List, [], ◌∷◌, ◌++◌, length, slice_index, slice_get, slice_set, count_by, Some}
 use Rattle.limits.specs.declared.TheConstants.{TERMINAL}
 use Rattle.invariants.specs.Monitors.{is_bad}
@@ -7,7 +7,7 @@ use Rattle.path_finder.specs.declared.table.TheConstants.{OPEN}
 use Rattle.path_finder.specs.declared.pair.Pair.{Pair}
 use Rattle.path_finder.specs.Walks.{Asked, IsPairOf, Leads, Finishes}
 
--- a distance for each pair, OPEN where it was not entered, and the pairs that were entered
+-- a distance for each pair, OPEN if it was not entered, and the pairs that were entered
 pub record Entries : Type 0 where
   pub distances : List ℕ
   pub entered : List Pair
@@ -28,12 +28,12 @@ open_count e = count_by (λ d. d == OPEN) e.distances
 abbrev pub with_pair : Entries → Pair → ℕ → Entries
 with_pair e r d = record { distances = slice_set e.distances (place r) d; entered = e.entered ++ r ∷ [] }
 
--- all pairs that lead to this one are entered, with at most one more
+-- each pair that leads to this one has a distance at most one greater
 abbrev pub IsClosedAt : Asked → Entries → Pair → Type 0
 IsClosedAt a e q = (p : Pair) → IsPairOf a p → Leads a p q → at e p ≤ at e q + 1
 
--- the search, where the pairs entered before the place next are closed: the distances of pairs never fall in the order
--- in which they were entered, and none is more than one above that of the next pair
+-- the search, after the pairs entered before the place `next` are closed: distances do not fall in the order of entry,
+-- and none is more than one above that of the next pair
 pub record IsSearched (a : Asked) (next : ℕ) (e : Entries) : Type 0 where
   pub size : length e.distances ≡ a.ids * STATES
   pub count : length e.entered + open_count e ≤ a.ids * STATES
@@ -46,12 +46,12 @@ pub record IsSearched (a : Asked) (next : ℕ) (e : Entries) : Type 0 where
       → slice_get e.entered next ≡ Some r → slice_get e.entered j ≡ Some s → at e s ≤ at e r + 1
   pub done : (i : ℕ) (r : Pair) → i < next → slice_get e.entered i ≡ Some r → IsClosedAt a e r
 
--- what was entered stays, with its distance and its place in the order
+-- what was entered keeps its distance and its place in the order
 pub record Grows (old new : Entries) : Type 0 where
   pub known : (r : Pair) → at old r < OPEN → at new r ≡ at old r
   pub listed : (i : ℕ) (r : Pair) → slice_get old.entered i ≡ Some r → slice_get new.entered i ≡ Some r
 
--- TERMINAL is entered with 0 in each bad state
+-- TERMINAL is entered with distance 0 in each bad state
 abbrev pub HasEnds : Asked → Entries → Type 0
 HasEnds a e = (r : Pair) → r.id ≡ TERMINAL → r.state < 3 → is_bad a.inv r.state ≡ true → at e r ≡ 0
 
@@ -62,7 +62,7 @@ pub record IsBegun (a : Asked) (state : ℕ) (e : Entries) : Type 0 where
   pub ends : (r : Pair) → r.id ≡ TERMINAL → r.state < state → is_bad a.inv r.state ≡ true → at e r ≡ 0
   pub rest : (r : Pair) → r.id ≡ TERMINAL → state ≤ r.state → r.state < 3 → at e r ≡ OPEN
 
--- the distance of each pair is known up to that of the start, and where the start is open all are known
+-- distances less than that of the start are exact; if the start is open, all are
 pub record IsMeasured (a : Asked) (start : Pair) (e : Entries) : Type 0 where
   pub size : length e.distances ≡ a.ids * STATES
   pub short : (r : Pair) → IsPairOf a r → at e r < OPEN → at e r ≤ a.ids * STATES
@@ -70,13 +70,13 @@ pub record IsMeasured (a : Asked) (start : Pair) (e : Entries) : Type 0 where
   pub whole : (r : Pair) (k : ℕ) → IsPairOf a r → (at e start < OPEN → k < at e start) → Finishes a r k
       → (at e r ≤ k) × (at e r < OPEN)
 
--- a table in which all walks shorter than this are known
+-- a table in which all distances below the bound are exact
 pub record IsKnown (a : Asked) (bound : ℕ) (e : Entries) : Type 0 where
   pub size : length e.distances ≡ a.ids * STATES
   pub sound : (r : Pair) → IsPairOf a r → at e r < OPEN → Finishes a r (at e r)
   pub whole : (r : Pair) (k : ℕ) → IsPairOf a r → k < bound → Finishes a r k → (at e r ≤ k) × (at e r < OPEN)
 
--- the pair of the least id to which p leads with the distance d
+-- q is the pair with the least id that p leads to and that has the distance d
 pub record IsNextPair (a : Asked) (e : Entries) (p : Pair) (d : ℕ) (q : Pair) : Type 0 where
   pub leads : Leads a p q
   pub value : at e q ≡ d

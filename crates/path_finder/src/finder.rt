@@ -23,7 +23,7 @@ use std::alloc::{AllocError, Global};
 use std::sync::ledger::Ledger;
 use steps::Steps;
 
-/// Finds least violations. It keeps its memory from one ask to the next, and nothing else of an ask.
+/// Finds least violations. It keeps its memory from one call to the next, and nothing else of a call.
 #[derive(Drop)]
 pub struct Finder {
     table: Table,
@@ -32,7 +32,7 @@ pub struct Finder {
     ghost room: { MAX_ENTRIES < vec_capacity path },
 }
 
-/// Leaves the least violation in the path, and says whether there is one. It counts one step.
+/// Writes the least violation to `path`, and returns whether there is one. It counts one step.
 fn search<L: Ledger>(
     question: &Question<'_, '_>,
     table: &mut Table,
@@ -41,7 +41,7 @@ fn search<L: Ledger>(
 ) -> bool
     requires room { MAX_ENTRIES < vec_capacity path.old }
 
-    // What the path is, where there is one.
+    // What the path is, if there is one.
     ensures satisfied { result ≡ false
         → Satisfies (asked question.now).graph (asked question.now).inv }
     ensures found { result ≡ true → IsLeastOf (asked question.now) path.new.items }
@@ -64,7 +64,7 @@ fn search<L: Ledger>(
     true
 }
 
-/// The type that each word has which breaks the invariant.
+/// The type that occurs in every word that breaks the invariant.
 fn key_of(inv: Invariant) -> u16
     ensures { result ≡ key_of inv.kind inv.a inv.b }
 {
@@ -75,7 +75,8 @@ fn key_of(inv: Invariant) -> u16
 }
 
 impl Finder {
-    /// A finder with all the memory that its asks need. `AllocError` comes where there is not as much.
+    /// A finder with all the memory that its searches need. Only this call allocates; `AllocError` is returned if there
+    /// is not enough memory.
     pub fn make(alloc: Global) -> Result<Finder, AllocError> {
         let path = Vec::with_capacity(alloc, MAX_ENTRIES + 1)?;
         let table = Table::make(alloc)?;
@@ -87,12 +88,14 @@ impl Finder {
         })
     }
 
-    /// The least violation of the invariant in the graph, or `None` where the graph satisfies it: of the paths that
-    /// break the invariant one of the fewest ids, and of these the first in lexicographic order. It begins with
-    /// INITIAL and ends with TERMINAL, and has at most one id more than there are pairs of an id and a state of a monitor.
-    /// In a merged view it never names the id that is gone.
+    /// The least violation of the invariant in the graph that `view` shows: the shortest path that breaks the invariant
+    /// (the first in lexicographic order among those of equal length). `None` is returned if the graph satisfies the
+    /// invariant. A merged view must be of two partitions of one type.
     ///
-    /// It counts one step, and takes no memory.
+    /// The path begins with INITIAL and ends with TERMINAL, and has at most `3 * MAX_PARTITIONS + 1` ids. In a merged
+    /// view it never has the id that is merged away.
+    ///
+    /// It counts one step, and allocates nothing.
     pub fn least_violation<L: Ledger>(
         &mut self,
         view: &View<'_>,
@@ -101,7 +104,7 @@ impl Finder {
     ) -> Option<&[u32]>
         requires { IsSound view.now }
 
-        // What the path is, where there is one.
+        // What the path is, if there is one.
         ensures found { MatchOption result
             (Satisfies (seen view.now) inv)
             (λ path. IsLeastViolation (seen view.now) inv path.now) }
@@ -121,12 +124,14 @@ impl Finder {
         Some(&self.path)
     }
 
-    /// The least violation in the graph as it would be after the merge, which is of two partitions of one type,
-    /// or `None` where that graph satisfies the invariant: the answer of `least_violation` for the merged view. Where the
-    /// graph as it is is known to satisfy the invariant, a path that breaks it goes through the merged partition, and
-    /// only ids before and behind that one are looked at.
+    /// The least violation of the invariant in the graph as it would be after the merge, which is of two partitions of
+    /// one type. `None` is returned if that graph satisfies the invariant. The path has at most
+    /// `3 * MAX_PARTITIONS + 1` ids.
     ///
-    /// It counts one step, and takes no memory.
+    /// `satisfied` may be true only if the graph before the merge satisfies the invariant. Then a path that breaks it
+    /// goes through the merged partition, and only ids before and after that one are visited.
+    ///
+    /// It counts one step, and allocates nothing.
     pub fn least_loss<L: Ledger>(
         &mut self,
         graph: &PartGraph,
@@ -138,7 +143,7 @@ impl Finder {
         requires pair { IsPair (G (graph.now).traces) merge.p merge.q }
         requires known { satisfied ≡ true → Satisfies (G (graph.now).traces) inv }
 
-        // What the path is, where there is one.
+        // What the path is, if there is one.
         ensures found { MatchOption result
             (Satisfies (merged_graph (G (graph.now).traces) merge.p merge.q) inv)
             (λ path. IsLeastViolation

@@ -1,10 +1,12 @@
-//! Least violations: for an invariant and a graph, a path that breaks it, of the fewest ids, and of these the first
-//! in lexicographic order.
+//! Least violations: for an invariant and a graph, the shortest path that breaks the invariant (the first in
+//! lexicographic order among those of equal length).
 //!
-//! The search goes backwards over pairs of an id and a state of the invariant's monitor, from TERMINAL in the bad
-//! state on, and then forwards from INITIAL by least ids. Only ids are looked at that lie around the key ids: those to
-//! which walks lead from a key id, or from which walks lead to one. The key ids are those of the invariant's key type;
-//! where a merge is asked for an invariant that the graph satisfies, the merged one alone.
+//! The search runs backwards over pairs of an id and a state of the invariant's monitor, starting from TERMINAL in the
+//! bad state. Then the path is followed forwards from INITIAL by least ids.
+//!
+//! Only ids around the key ids are visited: those that walks from a key id reach, and those from which walks reach a
+//! key id. The key ids are those of the invariant's key type. If the question is about a merge and an invariant that
+//! the graph satisfies, the only key id is the merged one.
 #![tactic(auto)]
 
 mod finder;

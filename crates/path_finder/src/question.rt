@@ -1,4 +1,4 @@
-//! What the finder is asked.
+//! The question that the finder answers.
 ghost use Rattle.std.specs.Prelude.{◌≡◌, ◌≤◌, ◌<◌, IfSome, MatchOption};
 ghost use Rattle.limits.specs.declared.TheConstants.{FIRST_TYPE, MAX_PARTITIONS};
 ghost use Rattle.partition_graph.specs.Parts.{HasEdgesBelow};
@@ -11,8 +11,8 @@ use crate::sight::Sight;
 use invariants::{Invariant, Monitor};
 use limits::{FIRST_TYPE, MAX_PARTITIONS};
 
-/// An invariant, and a graph that may break it. Edges go between the ids below `ids`, and those between some of these
-/// alone are looked at.
+/// An invariant, and a graph that may break it. Edges go between ids below `ids`. Only those between the ids in
+/// `around` are visited.
 #[derive(Drop)]
 pub(crate) struct Question<'v, 'a> {
     sight: &'v Sight<'v>,
@@ -30,7 +30,7 @@ impl<'v, 'a> Question<'v, 'a> {
     ghost use Rattle.path_finder.specs.Asking.{asked};
     ghost use Rattle.path_finder.specs.Walks.{state_at};
 
-    /// The question whether the graph breaks the invariant by edges between these ids.
+    /// The question whether the graph breaks the invariant by edges between the ids in `around`.
     pub fn new(sight: &'v Sight<'v>, inv: Invariant, around: &'a Around) -> Question<'v, 'a>
         ensures graph { (asked result).graph ≡ narrowed (is_around around.now) (seen sight.now.view) }
         ensures inv { (asked result).inv ≡ inv }
@@ -52,7 +52,7 @@ impl<'v, 'a> Question<'v, 'a> {
         self.ids
     }
 
-    /// The least id at or above `from` that has an edge to q.
+    /// The least id at or above `from` that has an edge to q; `None` if there is none.
     pub fn next_source(&self, q: u32, from: u32) -> Option<u32>
         ensures next { MatchOption result
             (HasNoSource (asked self.now).graph q from)
@@ -72,7 +72,7 @@ impl<'v, 'a> Question<'v, 'a> {
         None
     }
 
-    /// The least id at or above `from` to which p has an edge.
+    /// The least id at or above `from` to which p has an edge; `None` if there is none.
     pub fn next_target(&self, p: u32, from: u32) -> Option<u32>
         ensures next { MatchOption result
             (HasNoTarget (asked self.now).graph p from)

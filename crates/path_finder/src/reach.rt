@@ -1,4 +1,4 @@
-//! The ids that walks lead to from some ids, or from which walks lead to one of them.
+//! The ids that walks from some ids reach, and those from which walks reach one of them.
 ghost use Rattle.std.specs.Prelude.{◌≡◌, ◌==◌, ℕ, ◌≤◌, ◌<◌, ◌+◌, [], Bool, true, length, replicate, IfSome, MatchOption, false};
 ghost use Rattle.limits.specs.declared.TheConstants.{MAX_PARTITIONS};
 ghost use Rattle.partition_graph.specs.Seen.{parts_seen, seen};
@@ -16,7 +16,7 @@ use std::marker::Model;
 /// How many ids there may be.
 const IDS: usize = MAX_PARTITIONS as usize;
 
-/// Which way walks are followed.
+/// In which direction walks are followed.
 #[derive(Clone, Copy)]
 pub(crate) enum Way {
     /// From an id to those to which it has an edge.
@@ -45,7 +45,7 @@ impl Model for Reach {
         (MAX_PARTITIONS ≤ vec_capacity r.flags) × (MAX_PARTITIONS ≤ vec_capacity r.list) };
 }
 
-/// The next neighbour of the id that way, from an id on.
+/// The least neighbour of the id in this direction, at or above `from`; `None` if there is none.
 fn next_on(sight: &Sight<'_>, way: Way, id: u32, from: u32) -> Option<u32>
     ensures next { MatchOption result
         (HasNoneOn (edge_by way (seen sight.now.view)) id from)
@@ -59,7 +59,7 @@ fn next_on(sight: &Sight<'_>, way: Way, id: u32, from: u32) -> Option<u32>
 }
 
 impl Reach {
-    /// Room for all ids, none of them met. `AllocError` comes where there is not as much.
+    /// Room for all ids. `AllocError` is returned if there is not enough memory.
     pub fn make(alloc: Global) -> Result<Reach, AllocError> {
         let flags = Vec::with_capacity(alloc, IDS)?;
         let list = Vec::with_capacity(alloc, IDS)?;
@@ -102,7 +102,7 @@ impl Reach {
         self.list.push_reserved(id);
     }
 
-    /// Meets the ids to which an edge leads from the one at this place of the list.
+    /// Meets the neighbours in this direction of the id at this place of the list.
     fn follow(&mut self, sight: &Sight<'_>, way: Way, next: usize)
         requires place { next < length (self.old).list }
         requires reaching { IsReaching (edge_by way (seen sight.now.view)) next self.old }
@@ -117,7 +117,7 @@ impl Reach {
         }
     }
 
-    /// Meets all to which walks lead that way from those that are met.
+    /// Meets all ids that walks in this direction reach from those that are met.
     fn follow_all(&mut self, sight: &Sight<'_>, way: Way)
         requires { IsReaching (edge_by way (seen sight.now.view)) 0 self.old }
         ensures more { MeetsMore self.old self.new }
@@ -144,7 +144,7 @@ impl Reach {
         self.meet(id);
     }
 
-    /// Meets the ids of the type, and no others before.
+    /// Forgets all ids, and meets those of the type.
     fn begin_with_type(&mut self, view: &View<'_>, typ: u16)
         ensures reaching { (edge : ℕ → ℕ → Bool) → IsReaching edge 0 self.new }
         ensures first { (p : ℕ) → is_of_type (seen view.now) (parts_seen view.now).used typ p ≡ true
@@ -156,7 +156,7 @@ impl Reach {
         }
     }
 
-    /// Meets the id and all to which walks lead from it that way.
+    /// Forgets all ids, and meets this one and all that walks in this direction reach from it.
     fn reach_from(&mut self, sight: &Sight<'_>, way: Way, start: u32)
         requires { start < MAX_PARTITIONS }
         ensures { IsReachedFrom (is_met self.new) (λ p. p == start) (edge_by way (seen sight.now.view)) }
@@ -166,7 +166,7 @@ impl Reach {
         self.follow_all(sight, way);
     }
 
-    /// Meets the ids of the type and all to which walks lead from them that way.
+    /// Forgets all ids, and meets those of the type and all that walks in this direction reach from them.
     fn reach_from_type(&mut self, sight: &Sight<'_>, way: Way, typ: u16)
         ensures { IsReachedFrom (is_met self.new)
             (is_of_type (seen sight.now.view) (parts_seen sight.now.view).used typ)
@@ -177,7 +177,7 @@ impl Reach {
     }
 }
 
-/// The ids to which walks lead from some ids, and those from which they lead to these.
+/// The ids that walks from some ids reach, and those from which walks reach one of them.
 #[derive(Drop)]
 pub(crate) struct Around {
     ahead: Reach,
@@ -185,14 +185,14 @@ pub(crate) struct Around {
 }
 
 impl Around {
-    /// Room for all ids. `AllocError` comes where there is not as much.
+    /// Room for all ids. `AllocError` is returned if there is not enough memory.
     pub fn make(alloc: Global) -> Result<Around, AllocError> {
         let ahead = Reach::make(alloc)?;
         let behind = Reach::make(alloc)?;
         Ok(Around { ahead, behind })
     }
 
-    /// Finds those around this id, which is one of both.
+    /// Finds the ids around this id. The id itself is among both kinds.
     pub fn find(&mut self, sight: &Sight<'_>, id: u32)
         requires { id < MAX_PARTITIONS }
         ensures ahead { IsReachedFrom (is_met (self.new).ahead) (λ p. p == id)
@@ -204,9 +204,9 @@ impl Around {
         self.behind.reach_from(sight, Way::Behind, id);
     }
 
-    /// Finds those around the ids of this type.
+    /// Finds the ids around those of this type.
     pub fn find_type(&mut self, sight: &Sight<'_>, typ: u16)
-        // The ids of the type are met both ways, and so is each to which a walk leads from one of them.
+        // In each direction, the ids of the type are met, and so is each id that a walk from one of them reaches.
         ensures ahead { IsReachedFrom (is_met (self.new).ahead)
             (is_of_type (seen sight.now.view) (parts_seen sight.now.view).used typ)
             (edge_by Ahead (seen sight.now.view)) }
@@ -218,7 +218,7 @@ impl Around {
         self.behind.reach_from_type(sight, Way::Behind, typ);
     }
 
-    /// Whether the id is one of either.
+    /// Whether the id is of either kind.
     pub fn has(&self, id: u32) -> bool
         ensures { result ≡ is_around self.now id }
     {

@@ -1,4 +1,4 @@
-//! The search backwards: the distances of pairs, from TERMINAL in the bad state on.
+//! The search backwards: the distances of pairs, starting from TERMINAL in the bad state.
 ghost use Rattle.std.specs.Prelude.{◌≡◌, ◌<◌, ◌+◌, true};
 ghost use Rattle.path_finder.specs.Asking.{asked};
 ghost use Rattle.path_finder.specs.Walks.{IsPairOf, Leads};

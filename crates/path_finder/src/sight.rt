@@ -1,4 +1,4 @@
-//! A graph whose neighbours are asked for.
+//! Views in which neighbours can be looked up.
 ghost use Rattle.partition_graph.specs.Seen.{IsSound};
 ghost use Rattle.path_finder.specs.Sound.{sound-prop};
 

@@ -58,7 +58,7 @@ impl Table {
         }
     }
 
-    /// The distance of the pair, which is `OPEN` where it was not entered.
+    /// The distance of the pair; `OPEN` if it was not entered.
     pub fn distance(&self, pair: Pair) -> u16
         requires { place pair < length (self.now).distances }
         ensures { result ≡ at self.now pair }
@@ -66,7 +66,7 @@ impl Table {
         self.distances[pair.id as usize * STATES + pair.state as usize]
     }
 
-    /// The pair that was entered as this one, counted from 0.
+    /// The pair that was entered as number `index`, counted from 0; `None` if fewer pairs were entered.
     pub fn entered(&self, index: usize) -> Option<Pair>
         ensures { result ≡ slice_get (self.now).entered index }
     {

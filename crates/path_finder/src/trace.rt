@@ -1,4 +1,4 @@
-//! The way forwards: from the start along the least ids to TERMINAL.
+//! The path forwards: from the start along the least ids to TERMINAL.
 ghost use Rattle.std.specs.Prelude.{◌≡◌, ◌≤◌, ◌<◌, ◌+◌, MatchOption, length, true, vec_capacity};
 ghost use Rattle.path_finder.specs.Asking.{asked};
 ghost use Rattle.path_finder.specs.Walks.{state_at, IsLeastOf, IsPairOf, Leads};
@@ -22,7 +22,7 @@ fn next_at(
     requires id { id < (asked question.now).ids }
     requires edge { (asked question.now).graph.edge pair.id id ≡ true }
 
-    // What the pair is, where there is one.
+    // What the pair is, if there is one.
     ensures { MatchOption result
         ((r : Pair) → r.id ≡ id → Leads (asked question.now) pair r → at table.now r ≡ distance → ⊥)
         (λ q. (q.id ≡ id) × IsPairOf (asked question.now) q × Leads (asked question.now) pair q
@@ -38,7 +38,7 @@ fn next_at(
     Some(next)
 }
 
-/// The pair of the least id to which the pair leads, with this distance: one less than its own.
+/// The pair of the least id to which `pair` leads with this distance, one less than that of `pair`.
 fn next_pair(question: &Question<'_, '_>, table: &Table, pair: Pair, distance: u16) -> Pair
     requires known { IsKnown (asked question.now) (distance + 1) table.now }
     requires pair { IsPairOf (asked question.now) pair }
@@ -57,7 +57,7 @@ fn next_pair(question: &Question<'_, '_>, table: &Table, pair: Pair, distance: u
     unreachable!()
 }
 
-/// Leaves the ids of the least violation in the path, which has the memory for them.
+/// Writes the ids of the least violation to `path`, which has the capacity for them.
 pub(crate) fn trace(question: &Question<'_, '_>, table: &Table, start: Pair, path: &mut Vec<u32>)
     requires measured { IsMeasured (asked question.now) start table.now }
     requires pair { IsPairOf (asked question.now) start }

@@ -1,4 +1,4 @@
--- What there is: least violations, next splits, and whole runs of refinement.
+-- What exists: least violations, next splits, and whole runs of refinement.
 use Rattle.std.specs.Prelude.{◌≡◌, ◌↔◌, ◌⊎◌, ◌+◌, ℕ, ◌<◌, ◌≤◌, List, ◌++◌, length}
 use Rattle.limits.specs.declared.TheConstants.{FIRST_TYPE}
 use Rattle.invariants.specs.declared.Invariant.{Invariant}
@@ -38,7 +38,7 @@ abbrev pub NextSplitExists : Type 0
 NextSplitExists =
     (invs : List Invariant) (h : Assignment) → IsTyped h → HasNext invs h ↔ (SatisfiesAll (G h) invs → ⊥)
 
--- in a state of refinement the next split divides an id: both parts of it have events, and the new id is the next one
+-- in a state of refinement the next split divides an id: both its parts have events, and the state stays one
 abbrev pub NextSplitDivides : Type 0
 NextSplitDivides =
     (invs : List Invariant) (words : List (List ℕ)) (h : Assignment) (n : ℕ) (s : Split)
@@ -55,8 +55,8 @@ RunsEnd =
     (invs : List Invariant) (words : List (List ℕ)) (h : Assignment) (n : ℕ)
     → IsRun words h n → FIRST_TYPE ≤ n → HoldAll words invs → HasRun invs h n
 
--- the splits are the whole run of refinement of the words, and no others are; it has no more ids than events, and no
--- more than suffixes of the words that are not empty, besides the two ends; its end keeps what refinement is for
+-- the splits are the only whole run of refinement of the words. Besides the two ends it has at most as many ids as
+-- events, and as non-empty suffixes of the words. It ends with an assignment that keeps the words and the invariants.
 pub record IsWholeRun (invs : List Invariant) (words : List (List ℕ)) (n : ℕ) (splits : List Split)
     (end : Assignment) : Type 0 where
   pub run : Refines invs (by_type words) n splits end
@@ -66,13 +66,13 @@ pub record IsWholeRun (invs : List Invariant) (words : List (List ℕ)) (n : ℕ
   pub rests : (names : List (List ℕ)) → NamesRests names end → n + length splits ≤ length names + FIRST_TYPE
   pub keeps : Keeps invs words end
 
--- the words of each log have one
+-- there is one for the words of each log
 abbrev pub RefinementEnds : Type 0
 RefinementEnds =
     (invs : List Invariant) (words : List (List ℕ)) (n : ℕ) → AreTyped words n → HoldAll words invs
     → (splits : List Split) × (end : Assignment) × IsWholeRun invs words n splits end
 
--- whatever splits were made, the whole run begins with them
+-- any splits of a run of refinement are a prefix of the whole run
 abbrev pub SplitsGoOn : Type 0
 SplitsGoOn =
     (invs : List Invariant) (words : List (List ℕ)) (n : ℕ) (splits : List Split) (mid : Assignment)
@@ -97,13 +97,13 @@ StopsFull limit invs words n =
     (splits : List Split) × (mid : Assignment) × Splits invs (by_type words) n splits mid
     × (n + length splits ≡ limit) × HasNext invs mid
 
--- that each whole run needs more ids than the limit says that there is one and that it does
+-- each whole run needs more ids than the limit exactly if there is one and it does
 abbrev pub RefusalsTell : Type 0
 RefusalsTell =
     (limit : ℕ) (invs : List Invariant) (words : List (List ℕ)) (n : ℕ) → AreTyped words n → HoldAll words invs
     → EachNeedsMore limit invs words n ↔ RunNeedsMore limit invs words n
 
--- so does that the run stops at the limit, if the first graph is within it
+-- and exactly if the run stops at the limit, provided that the first graph keeps it
 abbrev pub StopsTell : Type 0
 StopsTell =
     (limit : ℕ) (invs : List Invariant) (words : List (List ℕ)) (n : ℕ) → AreTyped words n → HoldAll words invs

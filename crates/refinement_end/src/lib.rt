@@ -1,7 +1,10 @@
 //! Refinement has an end: as long as the graph breaks an invariant there is a next split, and each log has a whole run of splits.
 //!
-//! `partition_model` defines a least violation (a shortest counterexample path, the first in lexicographic order among those of equal length), the next split and the whole run. The laws here say that these exist, with no limit on ids. So a statement about each whole run is one about a run that exists.
-//! Each function here is a law: its body is empty, and its contract is what is proved. No call takes memory or does anything when it runs.
+//! `partition_model` defines a least violation (a shortest counterexample path, the first in lexicographic order among those of
+//! equal length), the next split and the whole run. The laws here say that these exist, with no limit on ids. So a statement
+//! about each whole run is one about a run that exists.
+//! Each function here is a law: its body is empty, and its contract is what is proved. No call takes memory or does anything when
+//! it runs.
 #![tactic(auto)]
 
 ghost use Rattle.refinement_end.specs.Laws.{LeastExists, NextSplitDivides, NextSplitExists, RefinementEnds, RefusalsTell, RunsEnd, SatisfiedOrSplit, SatisfiedOrViolated, SplitsGoOn, StopsTell};
@@ -26,7 +29,8 @@ pub fn next_split_exists()
     ensures { NextSplitExists }
 {}
 
-/// If the invariants hold of every trace, the next split divides a partition in each state of refinement: both parts have events, and the new one has the next id.
+/// If the invariants hold of every trace, the next split divides a partition in each state of refinement: both parts have events,
+/// and the new one has the next id.
 pub fn next_split_divides()
     ensures { NextSplitDivides }
 {}
@@ -36,7 +40,9 @@ pub fn runs_end()
     ensures { RunsEnd }
 {}
 
-/// The words of each log have exactly one whole run of refinement, for each list of invariants that hold of every trace. Besides the two ends it has no more ids than the log has events, and no more than its words have different suffixes that are not empty.
+/// The words of each log have exactly one whole run of refinement, for each list of invariants that hold of every trace. Besides
+/// the two ends it has no more ids than the log has events, and no more than its words have different suffixes that are not
+/// empty.
 pub fn refinement_ends()
     ensures { RefinementEnds }
 {}
@@ -46,12 +52,14 @@ pub fn splits_go_on()
     ensures { SplitsGoOn }
 {}
 
-/// For any limit on ids: each whole run needs more ids exactly if there is a whole run and it needs more. So a refusal that states the first says that the run exists.
+/// For any limit on ids: each whole run needs more ids exactly if there is a whole run and it needs more. So a refusal that
+/// states the first says that the run exists.
 pub fn refusals_tell()
     ensures { RefusalsTell }
 {}
 
-/// For any limit that the ids of the first graph keep: there is a whole run that needs more ids exactly if the first splits use all ids and there is a next split.
+/// For any limit that the ids of the first graph keep: there is a whole run that needs more ids exactly if the first splits use
+/// all ids and there is a next split.
 pub fn stops_tell()
     ensures { StopsTell }
 {}

@@ -1,4 +1,4 @@
--- What the lists of a replay show of an assignment.
+-- What the lists of a replay say of an assignment.
 use Rattle.std.specs.Prelude.{ℕ, ◌≡◌, ◌+◌, ◌*◌, ◌<◌, ◌≤◌, nat_lt, Bool, true, false, List, slice_index, slice_index_or}
 use Rattle.limits.specs.declared.TheConstants.{FIRST_TYPE, MAX_PARTITIONS}
 use Rattle.bit_rows.specs.Tables.{row_at, is_set}
@@ -10,7 +10,7 @@ use Rattle.replay_check.specs.Laid.{laid, HaveIdsBelow}
 abbrev pub HasTypes : Assignment → List ℕ → Type 0
 HasTypes h types = (p : ℕ) → is_live h p ≡ true → slice_index types p ≡ type_of h p
 
--- the ids of an assignment, which are below n and of one type each, and their types
+-- the ids of an assignment, which are below n and have one type each, and their types
 pub record Shows (h : Assignment) (n : ℕ) (ids types : List ℕ) : Type 0 where
   pub ids_are : ids ≡ laid h
   pub typed : IsTyped h
@@ -18,7 +18,7 @@ pub record Shows (h : Assignment) (n : ℕ) (ids types : List ℕ) : Type 0 wher
   pub below : HaveIdsBelow n h
   pub types_are : HasTypes h types
 
--- whether an id is live, and the types of those that are
+-- the flags say which ids are live, and the types are those of the live ids
 pub record Knows (h : Assignment) (live : List Bool) (types : List ℕ) : Type 0 where
   pub typed : IsTyped h
   pub below : HaveIdsBelow MAX_PARTITIONS h
@@ -29,15 +29,15 @@ pub record Knows (h : Assignment) (live : List Bool) (types : List ℕ) : Type 0
 abbrev pub count_at : List ℕ → ℕ → ℕ → ℕ
 count_at counts p q = slice_index counts (p * MAX_PARTITIONS + q)
 
--- whether the row of an id has the one that follows it
+-- whether the row of the first id has the second
 abbrev pub has_edge : List (List Bool) → ℕ → ℕ → Bool
 has_edge rows p q = is_set (row_at rows p) q
 
--- no edge is marked
+-- no edge is set
 abbrev pub AreBlank : List (List Bool) → Type 0
 AreBlank rows = (p q : ℕ) → p < MAX_PARTITIONS → has_edge rows p q ≡ false
 
--- the graph that rows of edges and types of ids show
+-- the graph given by rows of edges and types of ids
 abbrev pub graph_in : List (List Bool) → List ℕ → Graph
 graph_in rows types =
     record {
@@ -46,23 +46,23 @@ graph_in rows types =
       listed = λ p. nat_lt p MAX_PARTITIONS;
     }
 
--- the edges of an assignment
+-- the rows are the edges of the assignment
 abbrev pub HasEdges : Assignment → List (List Bool) → Type 0
 HasEdges h rows = (p q : ℕ) → p < MAX_PARTITIONS → has_edge rows p q ≡ nat_lt 0 (edge_count h p q)
 
--- the counts of the edges of an assignment
+-- the counts are those of the edges of the assignment
 abbrev pub HasCounts : Assignment → List ℕ → Type 0
 HasCounts h counts =
     (p q : ℕ) → p < MAX_PARTITIONS → q < MAX_PARTITIONS → count_at counts p q ≡ edge_count h p q
 
--- the sizes of the ids of an assignment
+-- the sizes are those of the ids of the assignment
 abbrev pub HasSizes : Assignment → List ℕ → Type 0
 HasSizes h sizes = (p : ℕ) → p < MAX_PARTITIONS → slice_index sizes p ≡ size h p
 
--- each number stands at its own place
+-- each number stands at the place with its own number
 abbrev pub AreOwnPlaces : List ℕ → Type 0
 AreOwnPlaces names = (p : ℕ) → p < MAX_PARTITIONS → slice_index names p ≡ p
 
--- each event has the new name of its id
+-- each event gets the new name of its id
 abbrev pub named_by : List ℕ → Assignment → Assignment
 named_by names h = renamed (λ p. slice_index names p) h

@@ -8,21 +8,21 @@ use crate::ids::IDS;
 use limits::{INITIAL, TERMINAL};
 use std::alloc::{AllocError, Global};
 
-/// A count for each two ids, row by row.
+/// A count for each pair of ids, row by row.
 #[derive(Drop)]
 pub struct EdgeCounts {
     counts: Vec<u32>,
     ghost size: { length counts.items ≡ MAX_PARTITIONS * MAX_PARTITIONS },
 }
 
-/// So many zeros.
+/// A list of `count` zeros.
 fn zeros(alloc: Global, count: usize) -> Result<Vec<u32>, AllocError>
     ensures { IfOk result (λ zeros. length zeros.items ≡ count) }
 {
     Vec::from_elem(alloc, 0, count)
 }
 
-/// Counts that `before` is followed by `id`, where no trace begins with it.
+/// Counts that `before` is followed by `id`, unless a trace begins with `id`.
 fn count_step(counts: &mut [u32], before: usize, id: usize)
     requires size { length counts.old ≡ MAX_PARTITIONS * MAX_PARTITIONS }
     requires from { before < MAX_PARTITIONS }
@@ -38,7 +38,7 @@ fn count_step(counts: &mut [u32], before: usize, id: usize)
     counts[before * IDS + id] += 1;
 }
 
-/// Counts the edges along these ids, which begin with a trace. What was counted before does not matter.
+/// Counts the edges along these ids, which begin with a trace. The former counts are overwritten.
 fn count_along(counts: &mut [u32], ids: &[u16])
     requires size { length counts.old ≡ MAX_PARTITIONS * MAX_PARTITIONS }
     requires within { All (λ p. p < MAX_PARTITIONS) ids.now }
@@ -56,7 +56,7 @@ fn count_along(counts: &mut [u32], ids: &[u16])
 }
 
 impl EdgeCounts {
-    /// A table of counts, in which nothing is counted yet.
+    /// A new table of counts.
     pub fn make(alloc: Global) -> Result<EdgeCounts, AllocError> {
         Ok(EdgeCounts {
             counts: zeros(alloc, IDS * IDS)?,
@@ -72,7 +72,7 @@ impl EdgeCounts {
         self.counts[p * IDS + q]
     }
 
-    /// Counts the edges along these ids, which begin with a trace. What was counted before does not matter.
+    /// Counts the edges along these ids, which begin with a trace. The former counts are overwritten.
     pub fn count(&mut self, ids: &[u16])
         requires within { All (λ p. p < MAX_PARTITIONS) ids.now }
         requires few { length ids.now < 2 ^ 31 }

@@ -1,4 +1,4 @@
-//! Which ids are followed at once by which.
+//! Which ids are immediately followed by which ids.
 ghost use Rattle.std.specs.Prelude.{◌≡◌, ◌==◌, ◌<◌, ◌||◌, ◌&&◌, ℕ, nat_lt, false, All, IfOk};
 ghost use Rattle.limits.specs.declared.TheConstants.{MAX_PARTITIONS};
 ghost use Rattle.bit_rows.specs.Tables.{HasShape};
@@ -10,17 +10,17 @@ use bit_rows::Rows;
 use limits::{INITIAL, TERMINAL};
 use std::alloc::{AllocError, Global};
 
-/// Up to how many ids it is faster to go along them than through all rows.
+/// Up to this many ids, unmarking along the ids is faster than clearing all rows.
 const FEW_IDS: usize = 8_192;
 
-/// A row for each id, with a bit for each id that may follow it. It takes 128 KiB.
+/// A row for each id, with a bit for each id that may follow it: 128 KiB.
 #[derive(Drop)]
 pub struct EdgeRows {
     rows: Rows,
     ghost shape: { HasShape rows MAX_PARTITIONS MAX_PARTITIONS },
 }
 
-/// Marks that `before` is followed by `id`, where no trace begins with it.
+/// Marks that `before` is followed by `id`, unless a trace begins with `id`.
 fn mark_step(rows: &mut Rows, before: usize, id: usize)
     requires shape { HasShape rows.old MAX_PARTITIONS MAX_PARTITIONS }
     requires from { before < MAX_PARTITIONS }
@@ -35,7 +35,7 @@ fn mark_step(rows: &mut Rows, before: usize, id: usize)
     rows.put(before, id, true);
 }
 
-/// Takes away the mark that `before` is followed by `id`, where no trace begins with it.
+/// Removes the mark that `before` is followed by `id`, unless a trace begins with `id`.
 fn unmark_step(rows: &mut Rows, before: usize, id: usize)
     requires shape { HasShape rows.old MAX_PARTITIONS MAX_PARTITIONS }
     requires from { before < MAX_PARTITIONS }
@@ -50,7 +50,7 @@ fn unmark_step(rows: &mut Rows, before: usize, id: usize)
     rows.put(before, id, false);
 }
 
-/// Takes all marks away.
+/// Removes all marks.
 fn clear_all(rows: &mut Rows)
     requires { HasShape rows.old MAX_PARTITIONS MAX_PARTITIONS }
     ensures shape { HasShape rows.new MAX_PARTITIONS MAX_PARTITIONS }
@@ -77,7 +77,7 @@ fn mark_along(rows: &mut Rows, ids: &[u16])
     }
 }
 
-/// Takes away the marks of the edges along these ids, which begin with a trace, where no others are marked.
+/// Removes the marks of the edges along these ids, which begin with a trace. No others are marked before the call.
 fn unmark_along(rows: &mut Rows, ids: &[u16])
     requires shape { HasShape rows.old MAX_PARTITIONS MAX_PARTITIONS }
     requires marks { (p q : ℕ) → p < MAX_PARTITIONS
@@ -93,7 +93,8 @@ fn unmark_along(rows: &mut Rows, ids: &[u16])
     }
 }
 
-/// Takes all marks away, where those of the edges along these ids, which begin with a trace, are marked: along the ids if they are few, else row by row.
+/// Removes all marks, which are those of the edges along these ids: along the ids if they are few, otherwise row by row. The
+/// ids begin with a trace.
 fn unmark_all(rows: &mut Rows, ids: &[u16])
     requires shape { HasShape rows.old MAX_PARTITIONS MAX_PARTITIONS }
     requires marks { (p q : ℕ) → p < MAX_PARTITIONS
@@ -109,7 +110,7 @@ fn unmark_all(rows: &mut Rows, ids: &[u16])
 }
 
 impl EdgeRows {
-    /// Rows in which nothing is marked yet.
+    /// Rows without marks.
     pub fn make(alloc: Global) -> Result<EdgeRows, AllocError>
         ensures { IfOk result (λ made. AreBlank made.rows) }
     {
@@ -136,7 +137,7 @@ impl EdgeRows {
         mark_along(&mut self.rows, ids);
     }
 
-    /// Takes away the marks of the edges along these ids, which begin with a trace, where no others are marked.
+    /// Removes the marks of the edges along these ids, which begin with a trace. No others are marked before the call.
     pub fn unmark(&mut self, ids: &[u16])
         requires marks { (p q : ℕ) → p < MAX_PARTITIONS
             → has_edge (self.old).rows p q ≡ nat_lt 0 (edges_along p q ids.now) }

@@ -22,7 +22,7 @@ use models::ReplayPart;
 use std::alloc::{AllocError, Global};
 use traces::TraceSet;
 
-/// Follows the merges from the assignment that the ids show, and compares the graph to which they lead.
+/// Follows the merges from the assignment that the ids show, and compares the resulting graph.
 fn follow_merges(
     alloc: Global,
     model: &Model,
@@ -55,7 +55,8 @@ fn follow_merges(
     Ok(Replay::No(ReplayPart::Graph))
 }
 
-/// Gathers the ids of all traces from those of the words, follows the merges from the assignment that they show, and compares the graph to which they lead.
+/// Gathers the ids of all traces from those of the words, follows the merges from the assignment that they show, and compares
+/// the resulting graph.
 fn follow_traces(
     alloc: Global,
     model: &Model,
@@ -80,7 +81,7 @@ fn follow_traces(
     follow_merges(alloc, model, all.as_mut_slice(), types, &mut counts)
 }
 
-/// The first new id of a split of the first assignment of the log.
+/// The new id of the first split of the first assignment of the log.
 fn first_new(traces: &TraceSet) -> u32
     ensures value { result ≡ length (traces.now).types + FIRST_TYPE }
     ensures few { result ≤ MAX_PARTITIONS }

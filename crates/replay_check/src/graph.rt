@@ -14,7 +14,7 @@ use invariants::{Edge, Model, Partition};
 use limits::FIRST_TYPE;
 use std::alloc::{AllocError, Global};
 
-/// Counts how often each id stands in the list. What stood in `sizes` before does not matter.
+/// Counts how often each id occurs in the list. The former `sizes` are overwritten.
 fn count_ids(sizes: &mut [u32], ids: &[u16])
     requires size { length sizes.old ≡ MAX_PARTITIONS }
     requires within { All (λ p. p < MAX_PARTITIONS) ids.now }
@@ -29,7 +29,7 @@ fn count_ids(sizes: &mut [u32], ids: &[u16])
     }
 }
 
-/// How often each id stands in the list.
+/// How often each id occurs in the list.
 fn sizes_of(alloc: Global, ids: &[u16]) -> Result<Vec<u32>, AllocError>
     requires within { All (λ p. p < MAX_PARTITIONS) ids.now }
     requires few { length ids.now < 2 ^ 31 }
@@ -42,7 +42,7 @@ fn sizes_of(alloc: Global, ids: &[u16]) -> Result<Vec<u32>, AllocError>
     Ok(sizes)
 }
 
-/// Marks each id from 2 on that has a size.
+/// Marks each id from 2 on whose size is not 0.
 fn mark_live(live: &mut [bool], sizes: &[u32])
     requires live_size { length live.old ≡ MAX_PARTITIONS }
     requires size { length sizes.now ≡ MAX_PARTITIONS }
@@ -70,7 +70,7 @@ pub fn live_ids(alloc: Global, ids: &[u16]) -> Result<Vec<bool>, AllocError>
     Ok(live)
 }
 
-/// The partitions, by their ids.
+/// The partitions, by ascending id.
 fn partitions_of(
     alloc: Global,
     live: &[bool],
@@ -96,7 +96,7 @@ fn partitions_of(
     Ok(list)
 }
 
-/// Puts the edges from `p` to ids below `n` behind the others.
+/// Appends the edges from `p` to ids below `n` to the list.
 fn push_edges_from(
     counts: &EdgeCounts,
     n: usize,
@@ -121,7 +121,7 @@ fn push_edges_from(
     Ok(())
 }
 
-/// The edges between ids below `n`, by the ids that they leave and then by those that they enter.
+/// The edges between ids below `n`, ordered by the ids that they leave and then by those that they enter.
 fn edges_of(alloc: Global, counts: &EdgeCounts, n: usize) -> Result<Vec<Edge>, AllocError>
     requires bound { n ≤ MAX_PARTITIONS }
     ensures { IfOk result (λ list. (h : Assignment) → HasCounts h (counts.now).counts.items
@@ -134,7 +134,8 @@ fn edges_of(alloc: Global, counts: &EdgeCounts, n: usize) -> Result<Vec<Edge>, A
     Ok(list)
 }
 
-/// Whether the model has the partitions and the edges of the assignment that the ids show, counts included. What is counted before does not matter.
+/// Whether the model has the partitions and the edges of the assignment that the ids show, counts included. The former `counts`
+/// are overwritten.
 pub fn has_graph(
     alloc: Global,
     model: &Model,

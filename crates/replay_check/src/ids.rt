@@ -1,4 +1,4 @@
-//! The ids of all events, trace behind trace, each trace between INITIAL and TERMINAL.
+//! The ids of all events, trace after trace, each trace between INITIAL and TERMINAL.
 ghost use Rattle.std.specs.Prelude.{◌≡◌, ◌==◌, ◌&&◌, ◌<◌, ℕ, if◌then◌else◌, length, map, slice_index, IfOk, All};
 ghost use Rattle.limits.specs.declared.TheConstants.{MAX_PARTITIONS};
 ghost use Rattle.partition_model.specs.Coarsening.{onto};
@@ -8,7 +8,7 @@ ghost use Rattle.replay_check.specs.Shown.{AreOwnPlaces};
 use limits::MAX_PARTITIONS;
 use std::alloc::{AllocError, Global};
 
-/// How many ids there are at most.
+/// The maximum number of ids.
 pub(crate) const IDS: usize = MAX_PARTITIONS as usize;
 
 /// The numbers below `MAX_PARTITIONS`, each at its own place.
@@ -24,7 +24,7 @@ pub fn own_places(alloc: Global) -> Result<Vec<u16>, AllocError>
     Ok(places)
 }
 
-/// The id of an event, where those of `p` that are followed at once by `q` get the id `n`.
+/// The new id of an event: `n` if its id is `p` and the next id is `q`, otherwise `id`.
 fn moved_id(p: u16, q: u16, n: u16, id: u16, next: u16) -> u16
     ensures { result ≡ (if id == p && next == q then n else id) }
 {
@@ -40,14 +40,14 @@ pub fn move_events(ids: &mut [u16], p: u16, q: u16, n: u16)
     }
 }
 
-/// The id, with `p` in place of `q`.
+/// The id; `p` instead of `q`.
 fn onto(p: u16, q: u16, id: u16) -> u16
     ensures { result ≡ onto p q id }
 {
     if id == q { p } else { id }
 }
 
-/// Gives the number `p` to each `q`.
+/// Replaces each `q` by `p`.
 pub fn replace(numbers: &mut [u16], p: u16, q: u16)
     ensures { numbers.new ≡ map (onto p q) numbers.old }
 {

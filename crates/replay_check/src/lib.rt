@@ -1,6 +1,10 @@
-//! Whether the history of a model is justified: its splits and its merges, followed one after another from the first graph of a log, are each permitted in their turn and lead to the graph of the model.
+//! Whether the history of a model is justified. Its splits and merges are followed one by one from the first graph of a log.
+//! Each must be permitted in its turn, and together they must lead to the graph of the model.
 //!
-//! Nothing here infers. The ids of events stand in one list, trace behind trace. The splits are judged and made over the words of the log, where a word that many traces have stands seldom more than once: which edges there are is read from rows of bits, and a split gives some events a new id. Then each trace gets the ids of its word, and the merges rename ids. At the end partitions and edges are counted once and compared with those of the model.
+//! No inference is run. The ids of events are in one list, trace after trace. The splits are judged and made over the words of
+//! the log. A word is seldom kept twice there, however many traces have it. Edges are read from rows of bits, and a split gives
+//! some events a new id. Then each trace gets the ids of its word, and the merges rename ids. At the end partitions and edges
+//! are counted once and compared with those of the model.
 #![tactic(auto)]
 
 ghost use Rattle.std.specs.Prelude.{IfOk};
@@ -30,7 +34,12 @@ use std::alloc::{AllocError, Global};
 use traces::TraceSet;
 use words::lay_words;
 
-/// Whether the history of the well-shaped model is justified by the log of these traces: `Yes`, or `No` with the first step that fails, in the order types, splits, merges, graph. Neither the model nor the traces change. `AllocError` comes where there is not enough memory for the ids of the events or for the tables of ids and edges.
+/// Checks whether the history of the model is justified by the log of these traces. The model must be well shaped.
+///
+/// The answer is `Yes` if it is, and otherwise `No` with the first step that fails, in the order of `ReplayPart`: types,
+/// splits, merges, graph.
+///
+/// `AllocError` means that memory ran out; no clause says when it is returned.
 pub fn replay(alloc: Global, model: &Model, traces: &TraceSet) -> Result<Replay, AllocError>
     requires { IsWellShaped model.now }
     ensures { IfOk result (λ answer. IsReplay model.now (typed_words (model.now).kinds traces.now) answer) }

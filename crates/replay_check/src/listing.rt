@@ -1,4 +1,4 @@
-//! The lists of a model, beside those that are made from a log, and the words of two traces.
+//! Comparisons of the lists of a model with those that are made from a log, and of the words of two traces.
 ghost use Rattle.std.specs.Prelude.{◌≡◌, ◌↔◌, IsTrue};
 
 use invariants::{Edge, Partition, Text};

@@ -12,7 +12,7 @@ use crate::ids::replace;
 use invariants::Merge;
 use limits::FIRST_TYPE;
 
-/// Whether both ids are live, neither is that of an end, the lower one stands first, and they are of one type.
+/// Whether both ids are live, neither is that of an end, the lower one comes first, and they are of one type.
 fn is_pair(merge: Merge, live: &[bool], types: &[u16]) -> bool
     requires shaped { IsShapedMerge merge }
     requires live_size { length live.now ≡ MAX_PARTITIONS }
@@ -35,7 +35,9 @@ fn is_pair(merge: Merge, live: &[bool], types: &[u16]) -> bool
     types[p] == types[q]
 }
 
-/// The number of the first merge that is not right in its turn, from an assignment of which `live` and `types` tell. `None` where all are right: `live` and `types` tell then of the assignment after all merges, and `names` has the new name of each id, where it had its own.
+/// The number of the first merge that is not right in its turn; `None` if all are right. Before the call, `live` and `types`
+/// describe an assignment, and each id is its own name. If all merges are right, `live` and `types` describe the assignment
+/// after them, and `names` has the new name of each id.
 pub fn first_wrong_merge(
     merges: &[Merge],
     live: &mut [bool],
@@ -49,7 +51,7 @@ pub fn first_wrong_merge(
     requires names { AreOwnPlaces names.old }
     requires names_within { All (λ p. p < MAX_PARTITIONS) names.old }
 
-    // The answer, and what stands then.
+    // The answer, and the state afterwards.
     ensures first { (h : Assignment) → Knows h live.old types.now → MatchOption result
         (MergeInTurn h merges.now × Knows (merged_by merges.now h) live.new types.now
         × (named_by names.new h ≡ merged_by merges.now h))

@@ -15,7 +15,7 @@ use crate::stitch::followed;
 use invariants::{Invariant, Model, Monitor, Split};
 use limits::{FIRST_TYPE, INITIAL, MAX_PARTITIONS, TERMINAL};
 
-/// Whether the path goes along edges from INITIAL to TERMINAL, and its word breaks the invariant.
+/// Whether the path follows edges from INITIAL to TERMINAL, and its word breaks the invariant.
 fn breaks(edges: &EdgeRows, types: &[u16], inv: Invariant, path: &[u32]) -> bool
     requires size { length types.now ≡ MAX_PARTITIONS }
     requires within { All (λ p. p < MAX_PARTITIONS) path.now }
@@ -36,7 +36,8 @@ fn breaks(edges: &EdgeRows, types: &[u16], inv: Invariant, path: &[u32]) -> bool
     before == TERMINAL && Monitor::bad(inv, state)
 }
 
-/// Whether the split, whose new id is `n`, is right at the assignment that the ids show. No edge is marked before, and none afterwards.
+/// Whether the split, whose new id is `n`, is right for the assignment that the ids show. No edge is marked before the call,
+/// and none after it.
 fn is_justified(
     model: &Model,
     n: u32,
@@ -52,7 +53,7 @@ fn is_justified(
     ensures right { (h : Assignment) (m : ℕ) → Shows h m ids.now types.now
         → IsTrue result ↔ IsJustifiedSplit model.now h n split.now }
 
-    // What a split has to be that is made.
+    // What holds of a split that is right.
     ensures room { IsTrue result → n < MAX_PARTITIONS }
     ensures inside { IsTrue result → (split.now).place + 1 < length (split.now).path }
     ensures blank { AreBlank (edges.new).rows }
@@ -83,7 +84,7 @@ fn divide(split: &Split, n: u32, ids: &mut [u16], types: &mut [u16])
     requires size { length types.old ≡ MAX_PARTITIONS }
     requires within { All (λ p. p < MAX_PARTITIONS) ids.old }
 
-    // What the ids and the types show then.
+    // What the ids and the types show afterwards.
     ensures shows { (h : Assignment) → Shows h n ids.old types.old
         → Shows (after_split n split.now h) (n + 1) ids.new types.new }
     ensures size { length types.new ≡ MAX_PARTITIONS }
@@ -100,7 +101,9 @@ fn divide(split: &Split, n: u32, ids: &mut [u16], types: &mut [u16])
     types[n as usize] = types[p as usize];
 }
 
-/// The number of the first split that is not right in its turn, from the assignment that the ids show, where the first new id is `first`. `None` where all are right: the ids and their types are then those after all splits. No edge is marked before.
+/// The number of the first split that is not right in its turn, from the assignment that the ids show; `None` if all are right.
+/// The first new id is `first`. If all are right, the ids and their types are those after all splits. No edge is marked before
+/// the call.
 pub fn first_wrong_split(
     model: &Model,
     first: u32,
@@ -114,7 +117,7 @@ pub fn first_wrong_split(
     requires within { All (λ p. p < MAX_PARTITIONS) ids.old }
     requires blank { AreBlank (edges.old).rows }
 
-    // The answer, and what the ids and the types show then.
+    // The answer, and what the ids and the types show afterwards.
     ensures first { (h : Assignment) → Shows h first ids.old types.old
         → MatchOption result
         (SplitInTurn model.now h first (model.now).splits

@@ -4,7 +4,7 @@ ghost use Rattle.replay_check.specs.Laid.{common_in_trace, longest};
 
 use limits::{INITIAL, TERMINAL};
 
-/// How many leading ids of the path the ids have in common with it from a place on, up to the end of the trace that begins there.
+/// The length of the common prefix of the path and the ids from `from` on, up to the end of the trace that begins there.
 fn common_from(ids: &[u16], from: usize, path: &[u32]) -> usize
     requires { from ≤ length ids.now }
     ensures { result ≡ common_in_trace path.now (drop from ids.now) }
@@ -23,7 +23,7 @@ fn common_from(ids: &[u16], from: usize, path: &[u32]) -> usize
     path.len()
 }
 
-/// How many leading ids of the path begin some trace.
+/// The length of the longest prefix of the path that some trace begins with.
 pub fn followed(ids: &[u16], path: &[u32]) -> usize
     ensures { result ≡ longest path.now ids.now }
 {

@@ -1,4 +1,4 @@
-//! The ids of the words of a log, most of them once, however many traces have them, and those of all traces.
+//! The ids of the words of a log, and those of all traces. A word is seldom kept twice, however many traces have it.
 ghost use Rattle.std.specs.Prelude.{◌≡◌, ◌+◌, ◌-◌, ◌<◌, ◌≤◌, ◌^◌, ℕ, [], drop, length, take, slice_index, slice_index_or, All, IfOk, OnOk};
 ghost use Rattle.limits.specs.declared.TheConstants.{FIRST_TYPE};
 ghost use Rattle.traces.specs.Kept.{IsTypeNumber};
@@ -12,7 +12,7 @@ use limits::{INITIAL, TERMINAL};
 use std::alloc::{AllocError, Global};
 use traces::TraceSet;
 
-/// How many slots there are, in each of which the number of a trace is kept.
+/// The number of slots. Each keeps the number of a trace.
 const SLOTS: usize = 65_536;
 
 /// The slot of a word.
@@ -26,9 +26,8 @@ fn slot_of(word: &[u16]) -> usize
     (hash >> 32) as usize % SLOTS
 }
 
-/// Lays the ids of the word of trace `t` behind the others, with their place, and keeps its number in the slot of the word,
-/// unless the trace that is kept there has the same word, and so the same place. A slot where none was kept yet has the
-/// number of the first trace.
+/// Appends the ids of the word of trace `t` with their place, and keeps `t` in the slot of the word. If the trace in the slot
+/// has the same word, `t` shares its place instead. A slot that was never used has the number of the first trace.
 fn note(
     traces: &TraceSet,
     t: u32,
@@ -61,8 +60,8 @@ fn note(
     Ok(())
 }
 
-/// The ids of the first assignment of some traces, which have all words of the log and no others, and for each trace the
-/// place where the ids of its word begin.
+/// The ids of the first assignment, for traces that have all words of the log and no others, and for each trace the place where
+/// the ids of its word begin.
 pub fn lay_words(
     alloc: Global,
     traces: &TraceSet,
@@ -72,7 +71,7 @@ pub fn lay_words(
     ensures laid { IfOk result (λ ids.
         AreIdsOf (inner_words_of traces.now) ids.items places.new.items) }
 
-    // What the first assignment of the log is like.
+    // What holds of the first assignment of the log.
     ensures below { IfOk result (λ ids.
         HaveIdsBelow (length (traces.now).types + FIRST_TYPE) (by_type (inner_words_of traces.now))) }
 {
@@ -84,7 +83,7 @@ pub fn lay_words(
     Ok(ids)
 }
 
-/// So many of the ids, from this place on.
+/// This many of the ids, from this place on.
 fn part(ids: &[u16], from: usize, count: usize) -> &[u16]
     requires { from + count ≤ length ids.now }
     ensures { result.now ≡ take count (drop from ids.now) }
@@ -92,7 +91,7 @@ fn part(ids: &[u16], from: usize, count: usize) -> &[u16]
     &ids[from..from + count]
 }
 
-/// The ids of all traces, trace behind trace: those of each word with its ends, from its place on.
+/// The ids of all traces, trace after trace: those of each word with its ends, from its place on.
 pub fn gather(
     alloc: Global,
     traces: &TraceSet,
@@ -107,7 +106,7 @@ pub fn gather(
         all.items ≡ gathered ids.now places.now (inner_words_of traces.now)) }
     ensures few { IfOk result (λ all. length all.items < 2 ^ 31) }
 {
-    // Called for its contract alone, which says how many events there are at most: so the ids are few.
+    // Called only for its contract, which bounds the number of events: so the ids are few.
     let _events = traces.event_count();
     let mut all = Vec::new(alloc);
     for t in 0..traces.trace_count() {

@@ -1,4 +1,4 @@
--- What the log of a run says, as the records of a model.
+-- The contents of a run's log, as the records of a model.
 use Rattle.std.specs.Prelude.{ℕ, ◌≤◌, ◌+◌, List, length, map, All}
 use Rattle.invariants.specs.declared.records.Split.{Split}
 use Rattle.invariants.specs.declared.records.Merge.{Merge}
@@ -14,27 +14,27 @@ use Rattle.cell_pool.specs.RunLists.{RunLists}
 abbrev pub path_of : List ℕ → Span → List ℕ
 path_of numbers span = list_at numbers span.from span.len
 
--- an entry of a split, with its path
+-- the record of a split's entry, with its path
 abbrev pub split_of : List ℕ → SplitEntry → Split
 split_of numbers e = record { inv = e.inv; place = e.place; path = path_of numbers e.path }
 
--- an entry of a merge
+-- the record of a merge's entry
 abbrev pub merge_of : MergeEntry → Merge
 merge_of e = record { p = e.p; q = e.q }
 
--- an entry of a block, with its path
+-- the record of a block's entry, with its path
 abbrev pub block_of : List ℕ → BlockEntry → Block
 block_of numbers e = record { p = e.p; q = e.q; inv = e.inv; path = path_of numbers e.path }
 
--- the splits of the run's log, in their order
+-- the splits of the run's log, in order
 abbrev pub splits_of : RunLists → Numbers → List Split
 splits_of run_log spans = map (split_of spans.numbers) run_log.splits
 
--- the merges of the run's log, in their order
+-- the merges of the run's log, in order
 abbrev pub merges_of : RunLists → List Merge
 merges_of run_log = map merge_of run_log.merges
 
--- the blocks of the run's log, in their order
+-- the blocks of the run's log, in order
 abbrev pub blocks_of : RunLists → Numbers → List Block
 blocks_of run_log spans = map (block_of spans.numbers) run_log.blocks
 

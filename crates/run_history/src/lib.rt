@@ -1,5 +1,5 @@
-//! What the log of a run says, as the records of a model: the splits, merges and blocks, each with the numbers of its
-//! path in memory of its own.
+//! The splits, merges and blocks of a run's log, as the records of a model. Each split and each block has a copy of its
+//! path.
 #![tactic(auto)]
 
 ghost use Rattle.std.specs.Prelude.{◌≡◌, IfOk};
@@ -9,7 +9,7 @@ use cell_pool::{RunLog, Span, Spans};
 use invariants::{Block, Merge, Seq, Split};
 use std::alloc::{AllocError, Global};
 
-/// A copy of the numbers of the span, which lies within those that were pushed.
+/// A copy of the numbers of the span. The span must lie within the numbers that were pushed.
 fn copy_of(alloc: Global, spans: &Spans, span: Span) -> Result<Seq<u32>, AllocError>
     requires { IsWithin (spans.now).numbers span }
     ensures { IfOk result (λ path. path ≡ path_of (spans.now).numbers span) }
@@ -18,8 +18,8 @@ fn copy_of(alloc: Global, spans: &Spans, span: Span) -> Result<Seq<u32>, AllocEr
     Ok(Seq::from_vec(path))
 }
 
-/// The splits of the run's log, in their order, each with its path. The spans hold the log's paths. `AllocError` comes
-/// where there is not the memory for the list and for each path.
+/// The splits of the run's log, in their order, each with its path. `spans` must hold the log's paths. `AllocError` is
+/// returned if there is not enough memory for the list and the paths.
 pub fn splits(alloc: Global, run_log: &RunLog, spans: &Spans) -> Result<Seq<Split>, AllocError>
     requires { HoldsPaths run_log.now spans.now }
     ensures { IfOk result (λ list. list ≡ splits_of run_log.now spans.now) }
@@ -36,7 +36,7 @@ pub fn splits(alloc: Global, run_log: &RunLog, spans: &Spans) -> Result<Seq<Spli
     Ok(Seq::from_vec(list))
 }
 
-/// The merges of the run's log, in their order. `AllocError` comes where there is not the memory for the list.
+/// The merges of the run's log, in their order. `AllocError` is returned if there is not enough memory for the list.
 pub fn merges(alloc: Global, run_log: &RunLog) -> Result<Seq<Merge>, AllocError>
     ensures { IfOk result (λ list. list ≡ merges_of run_log.now) }
 {
@@ -51,8 +51,8 @@ pub fn merges(alloc: Global, run_log: &RunLog) -> Result<Seq<Merge>, AllocError>
     Ok(Seq::from_vec(list))
 }
 
-/// The blocks of the run's log, in their order, each with its path. The spans hold the log's paths. `AllocError` comes
-/// where there is not the memory for the list and for each path.
+/// The blocks of the run's log, in their order, each with its path. `spans` must hold the log's paths. `AllocError` is
+/// returned if there is not enough memory for the list and the paths.
 pub fn blocks(alloc: Global, run_log: &RunLog, spans: &Spans) -> Result<Seq<Block>, AllocError>
     requires { HoldsPaths run_log.now spans.now }
     ensures { IfOk result (λ list. list ≡ blocks_of run_log.now spans.now) }

@@ -21,18 +21,19 @@ pub record IsShown (inv : Invariant) (words : List (List ℕ)) : Type 0 where
   pub second : Occurs inv.b words
   pub of_every : All (λ word. Holds inv word) words
 
--- the words lack what a kind speaks of: AlwaysFollowedBy of each a, NeverFollowedBy of an a and a b, AlwaysPrecedes of each b, InterruptedBy of an a and a b, or of two a in one word
+-- the words lack what the kind is about. AlwaysFollowedBy: an a. NeverFollowedBy: an a or a b.
+-- AlwaysPrecedes: a b. InterruptedBy: an a, or both a b and two a in one word.
 abbrev pub LacksAs : Kind → ℕ → ℕ → List (List ℕ) → Type 0
 LacksAs AF a b words = Occurs a words → ⊥
 LacksAs NF a b words = Occurs a words → Occurs b words → ⊥
 LacksAs AP a b words = Occurs b words → ⊥
 LacksAs IB a b words = (Occurs a words → ⊥) ⊎ ((Occurs b words → ⊥) × All (NeverFollowedBy a a) words)
 
--- the words lack what the invariant speaks of
+-- the words lack what the invariant is about
 abbrev pub Lacks : Invariant → List (List ℕ) → Type 0
 Lacks inv words = LacksAs inv.kind inv.a inv.b words
 
--- the words of the whole are those of the shards, in any order
+-- the whole has exactly the words that some shard has
 abbrev pub IsCutInto : List (List ℕ) → List (List (List ℕ)) → Type 0
 IsCutInto whole shards =
     (word : List ℕ)
@@ -44,7 +45,8 @@ pub record Shard : Type 0 where
   pub number : ℕ → ℕ
   pub words : List (List ℕ)
 
--- each word goes from INITIAL to TERMINAL, and has types of the shard alone; each of these occurs; in the whole the two ends are themselves, and no two types are one
+-- each word goes from INITIAL to TERMINAL and has only types of the shard, and each of these occurs;
+-- the two ends keep their numbers in the whole, and no two types have the same one
 pub record IsNumbered (shard : Shard) : Type 0 where
   pub words : All IsWord shard.words
   pub within : All (λ word. AllByRecursion (λ x. x < shard.count + FIRST_TYPE) word) shard.words

@@ -14,7 +14,7 @@ use Rattle.partition_model.specs.Refinement.{Splits, Refines, SatisfiesAll, IsNe
 use Rattle.partition_graph.specs.Parts.{Parts, divided, start_of}
 use Rattle.partition_graph.specs.Starts.{AreTypedParts}
 
--- the graph is the first one of its words: each event has the number of its type, and each such number is that of an
+-- the graph is the first one of its words, each event has the number of a type, and each such number is that of an
 -- event
 pub record IsOpened (parts : Parts) : Type 0 where
   pub start : parts.traces ≡ by_type (inner_words parts.traces)
@@ -24,67 +24,67 @@ pub record IsOpened (parts : Parts) : Type 0 where
 abbrev pub event_count : Parts → ℕ
 event_count parts = length (events parts.traces)
 
--- the parts after a split: the events at its place that go on as its path does have a new id
+-- the parts after a split: the events at its place that go on along its path get a new id
 abbrev pub after : Split → Parts → Parts
 after s parts = divided (slice_index s.path s.place) (slice_index s.path (s.place + 1)) parts
 
--- the split for the invariant with this number, by this path, at the place of the path's stitch
+-- the split for the invariant with this number by this path, at the stitch of the path
 abbrev pub split_by : Parts → List ℕ → ℕ → Split
 split_by parts path number = record { inv = number; place = stitch parts.traces path; path = path }
 
--- whether a flag says that the graph satisfies the invariant with this number
+-- whether the flag says that the graph satisfies the invariant with this number
 abbrev pub is_known : List Bool → ℕ → Bool
 is_known known k = slice_index_or known k false
 
--- the graph satisfies each invariant of which a flag says so
+-- the graph satisfies each invariant whose flag is set
 abbrev pub AreKnown : List Bool → List Invariant → Graph → Type 0
 AreKnown known invs g =
     (k : ℕ) (inv : Invariant) → slice_get invs k ≡ Some inv → is_known known k ≡ true → Satisfies g inv
 
--- of how many of the first n invariants no flag says that they are satisfied
+-- how many of the first n invariants have no flag set
 abbrev pub asked_count : List Bool → ℕ → ℕ
 asked_count known n = count_by (λ b. not b) (map (λ k. is_known known k) (range_with_len 0 n))
 
--- the splits are the whole run of refinement, each with one new id, and the ids suffice
+-- the splits are the complete run of refinement, each adds one id, and the ids suffice
 pub record EndsRefined (invs : List Invariant) (old : Parts) (splits : List Split)
     (new : Parts) : Type 0 where
   pub run : Refines invs old.traces old.used splits new.traces
   pub used : new.used ≡ old.used + length splits
   pub within : new.used ≤ MAX_PARTITIONS
 
--- the splits are the first steps of refinement, each with one new id, and so many steps were counted: at most one for
--- each invariant and one for each split
+-- the splits are the first steps of refinement, and each adds one id; at most one step is counted per invariant and one
+-- per split
 pub record IsStopped (invs : List Invariant) (old new : Parts) (splits : List Split)
     (counted : ℕ) : Type 0 where
   pub run : Splits invs old.traces old.used splits new.traces
   pub used : new.used ≡ old.used + length splits
   pub steps : counted ≤ length invs + length splits
 
--- all ids are used, and a further step is wanted
+-- all ids are used, and refinement needs a further split
 pub record IsFull (invs : List Invariant) (new : Parts) : Type 0 where
   pub used : new.used ≡ MAX_PARTITIONS
   pub broken : SatisfiesAll (G new.traces) invs → ⊥
   pub next : Split
   pub is_next : IsNextSplit invs new.traces next
 
--- each whole run of refinement wants more ids than there may be
+-- each complete run of refinement needs more ids than the limit
 abbrev pub WantsMoreIds : List Invariant → Parts → Type 0
 WantsMoreIds invs old =
     (splits : List Split) (end : Assignment) → Refines invs old.traces old.used splits end
     → MAX_PARTITIONS < old.used + length splits
 
--- there are fewer splits than events, and none where there is no event
+-- there are fewer splits than events, and none if there is no event
 pub record AreFewer (splits : List Split) (count : ℕ) : Type 0 where
   pub some : 0 < count → length splits < count
   pub none : count ≡ 0 → splits ≡ []
 
--- the traces end in so few different words that each of these can have an id of its own beside the two ends
+-- the traces have few enough distinct suffixes that each can have its own id beside the two ends
 pub record HaveFewRests (parts : Parts) : Type 0 where
   pub names : List (List ℕ)
   pub rests : NamesRests names parts.traces
   pub few : length names + FIRST_TYPE ≤ MAX_PARTITIONS
 
--- what is mined of a log holds of each word of its first graph
+-- the invariants mined from a log hold of each word of its first graph
 abbrev pub MinedHold : Type 0
 MinedHold =
     (log : Log) (kinds : Kinds) (types : ℕ) → HoldAll (inner_words (start_of log).traces) (mined_for kinds types (words_of log))

@@ -5,7 +5,7 @@ ghost use Rattle.splitter.specs.Refining.{IsOpened, MinedHold};
 use partition_graph::set_is_typed;
 use traces::TraceSet;
 
-/// What is mined of a log holds of each word of its first graph.
+/// The invariants that are mined from a log hold of each word of its first graph.
 pub fn mined_hold()
     ensures { MinedHold }
 {}

@@ -1,8 +1,9 @@
-//! Refinement: the partitions of a log are divided, one after another, until no path of their graph breaks an
-//! invariant that holds of every trace.
+//! Refinement: the partitions of a log are divided, one after another, until no path of their graph breaks an invariant
+//! that holds of every trace.
 //!
-//! A step takes the first invariant that the graph does not satisfy and its least violation. The traces follow that
-//! path up to the place of its stitch and no further; the events there that go on as the path does get a new id.
+//! Each step takes the first invariant that the graph does not satisfy, and its least violation. Some trace follows
+//! that path up to the place of its stitch, and none follows it further. The events at that place that go on as the
+//! path does get a new id.
 #![tactic(auto)]
 
 mod law;

@@ -16,11 +16,11 @@ use path_finder::Finder;
 use std::sync::ledger::Ledger;
 use steps::Steps;
 
-/// Why refinement did not end: a further step wants an id, and `MAX_PARTITIONS` are used.
+/// Why refinement did not end: a further split needs an id, and all `MAX_PARTITIONS` ids are used.
 #[derive(Clone, Copy, Debug, PartialEq, Eq)]
 pub struct PartitionLimit;
 
-/// The place of the stitch of a violation, which is not the last one.
+/// The place of the stitch of a violation. It is never the last place of the path.
 fn place_before_end(graph: &PartGraph, stitcher: &mut Stitcher, path: &[u32]) -> usize
     requires divides { Divides (graph.now).traces path.now (graph.now).used }
     requires starts { slice_get path.now 0 ≡ Some INITIAL }
@@ -49,13 +49,13 @@ fn divide(
         → length (run_log.old).splits < (run_log.old).split_room }
     requires numbers { length (spans.old).numbers + length path.now ≤ (spans.old).room }
 
-    // The split, and what is written of it.
+    // The split, and what is written about it.
     ensures split { OnOk result (graph.new ≡ after (split_by graph.old path.now k) graph.old) }
     ensures adds { OnOk result
         (AddsSplit run_log.old run_log.new spans.old spans.new (split_by graph.old path.now k)) }
     ensures room { OnOk result ((graph.old).used < MAX_PARTITIONS) }
 
-    // The limit comes exactly where no id is left, and then nothing is changed.
+    // The limit is returned exactly if no id is left. Then nothing is changed.
     ensures full { OnErr result ((graph.old).used ≡ MAX_PARTITIONS) }
     ensures graph { OnErr result (graph.new ≡ graph.old) }
     ensures run_log { OnErr result (run_log.new ≡ run_log.old) }
@@ -73,22 +73,31 @@ fn divide(
     Ok(())
 }
 
-/// Whether the flag with this number says true. One that is not there does not.
+/// Whether the flag with this number is true. A flag that is not there counts as false.
 fn is_known(known: &[bool], k: usize) -> bool
     ensures { result ≡ is_known known.now k }
 {
     k < known.len() && known[k]
 }
 
-/// Divides partitions until the graph satisfies each invariant of the list, and writes the splits to the run's log, in
-/// their order, and their paths to the spans, one behind the other. Each split is for the first invariant that is not
-/// satisfied, by its least violation, at the place of that path's stitch.
+/// Divides partitions until the graph satisfies each invariant of the list. Each split is for the first invariant that
+/// is not satisfied, by its least violation, at the place of that path's stitch.
 ///
-/// It begins with an empty log of the run and empty spans, which have the room for all that it can write, and it takes no
-/// memory. It counts a step for each invariant and one for each split.
+/// - `graph`: the graph to refine. It must be the first one of its words: each event is in the partition of its type.
+/// - `finder`: finds the least violations.
+/// - `stitcher`: finds the places of the splits. It must be made for as many events as the graph has, and does not
+///   change.
+/// - `invs`: the invariants, fewer than 2^32. Each must hold of each trace of the graph.
+/// - `spans`: gets the paths of the splits, one after another. It must be empty, with room for `MAX_PATH_NUMBERS` ids.
+/// - `run_log`: gets the splits, in their order. It must be empty, with room for `MAX_STEPS` splits.
+/// - `steps`: counts one step for each invariant and one for each split.
 ///
-/// `PartitionLimit` comes exactly where all `MAX_PARTITIONS` ids are used and a further split is wanted. Then the graph,
-/// the run's log and the spans stand as the last split left them, and at most as many steps are counted.
+/// If it succeeds, there are fewer splits than events, or none if there is no event. It allocates nothing.
+///
+/// `PartitionLimit` is returned exactly if all `MAX_PARTITIONS` ids are used and a further split is needed. Then the
+/// graph, the run's log and the spans are as the last split left them, and at most one step for each invariant and one
+/// for each split is counted. The limit is never reached if the traces have so few different suffixes that each can
+/// have an id besides the two ends.
 pub fn refine<L: Ledger>(
     graph: &mut PartGraph,
     finder: &mut Finder,
@@ -116,7 +125,7 @@ pub fn refine<L: Ledger>(
         (steps.new ≡ steps.old + length invs.now + length (splits_of run_log.new spans.new)) }
     ensures fewer { OnOk result (AreFewer (splits_of run_log.new spans.new) (event_count graph.old)) }
 
-    // When the limit comes, and what it leaves.
+    // When the limit is returned, and what stands then.
     ensures full { OnErr result (IsFull invs.now graph.new) }
     ensures excludes { OnErr result (WantsMoreIds invs.now graph.old) }
     ensures rests { HaveFewRests graph.old → IsOk result }
@@ -126,11 +135,16 @@ pub fn refine<L: Ledger>(
     refine_skipping(graph, finder, stitcher, invs, &[], spans, run_log, steps)
 }
 
-/// Refines as `refine` does, where flags tell which invariants the graph satisfies at the beginning. Where `known` has
-/// true, the graph satisfies the invariant with that number; it may be shorter than the list. Splits keep what is
-/// satisfied, so no path is asked for these.
+/// Refines as `refine` does, but without a search for the invariants that the graph is known to satisfy before the
+/// first split. Splits keep what is satisfied, so no path is searched for these.
 ///
-/// It counts a step for each invariant that is not known, and one for each split. All else is as `refine` has it.
+/// - `known`: the flag at place k may be true only if the graph satisfies the invariant at place k of `invs` before the
+///   call. A flag that is false says nothing. `known` may be shorter than `invs`: a flag that is not there counts as
+///   false.
+/// - `steps`: counts one step for each invariant whose flag is not true, and one for each split.
+/// - `graph`, `finder`, `stitcher`, `invs`, `spans` and `run_log`: as for `refine`.
+///
+/// The result, and what stands after `PartitionLimit`, are as for `refine`.
 pub fn refine_skipping<L: Ledger>(
     graph: &mut PartGraph,
     finder: &mut Finder,
@@ -160,7 +174,7 @@ pub fn refine_skipping<L: Ledger>(
         + length (splits_of run_log.new spans.new)) }
     ensures fewer { OnOk result (AreFewer (splits_of run_log.new spans.new) (event_count graph.old)) }
 
-    // When the limit comes, and what it leaves.
+    // When the limit is returned, and what stands then.
     ensures full { OnErr result (IsFull invs.now graph.new) }
     ensures excludes { OnErr result (WantsMoreIds invs.now graph.old) }
     ensures rests { HaveFewRests graph.old → IsOk result }

@@ -11,7 +11,7 @@ use std::marker::Model;
 
 /// Finds the places at which paths leave the traces.
 ///
-/// Contracts see how many events the graphs have that it was made for.
+/// Contracts see how many events the graphs have for which it was made.
 #[derive(Drop)]
 pub struct Stitcher {
     event_count: u32,
@@ -25,7 +25,7 @@ impl Model for Stitcher {
     ghost view = { λ s. s.event_count };
 }
 
-/// The number behind that of the last event of trace t.
+/// The number after that of the last event of trace t.
 fn end_of(graph: &PartGraph, t: u32) -> u32
     requires { t < length (graph.now).traces }
     ensures { result ≡ first_event (graph.now).traces (t + 1) }
@@ -37,7 +37,7 @@ fn end_of(graph: &PartGraph, t: u32) -> u32
     graph.event_count()
 }
 
-/// With how many of the path's first ids the ids of trace t begin, INITIAL and TERMINAL among them.
+/// How many leading ids of the path the ids of trace t begin with, including INITIAL and TERMINAL.
 fn followed_in(graph: &PartGraph, path: &[u32], t: u32) -> usize
     requires starts { slice_get path.now 0 ≡ Some INITIAL }
     requires there { t < length (graph.now).traces }
@@ -57,10 +57,11 @@ fn followed_in(graph: &PartGraph, path: &[u32], t: u32) -> usize
     place
 }
 
-/// The greater one of `longest` and of how many of the path's first ids the ids of trace t begin with. The events of the
-/// trace are numbered from `first` on, and `end` is the number behind the last.
+/// The greater one of `longest` and the number of leading ids of the path that the ids of trace t begin with. The
+/// events of the trace are numbered from `first` on, and `end` is the number after the last.
 ///
-/// A trace begins with more than `longest` of them only where its id at that place is the path's. No other is followed.
+/// A trace begins with more than `longest` of them only if its id at that place is the path's. No other trace is
+/// followed.
 fn longest_with(
     graph: &PartGraph,
     path: &[u32],
@@ -92,8 +93,8 @@ fn longest_with(
     longest.max(followed_in(graph, path, t))
 }
 
-/// How many ids the path's longest front has with which the ids of some trace begin. They are at most `most`, so no trace
-/// is looked at behind the first one that has so many.
+/// The length of the longest prefix of the path with which the ids of some trace begin. It is at most `most`, so the
+/// search ends at the first trace that begins with so many.
 fn longest_front(graph: &PartGraph, path: &[u32], most: usize) -> usize
     requires starts { slice_get path.now 0 ≡ Some INITIAL }
     requires some { 0 < length (graph.now).traces }
@@ -115,8 +116,8 @@ fn longest_front(graph: &PartGraph, path: &[u32], most: usize) -> usize
 }
 
 impl Stitcher {
-    /// A stitcher for graphs with as many events as this one. It takes no memory, so it never refuses; its answer is
-    /// that of all that takes memory.
+    /// A stitcher for graphs with as many events as this one. It allocates nothing and never returns an error. It
+    /// returns a `Result` because the other tools of inference do.
     pub fn make(alloc: Global, graph: &PartGraph) -> Result<Stitcher, AllocError>
         ensures value { IfOk result (λ s. s ≡ length (events (graph.now).traces)) }
         ensures never { IsOk result }
@@ -127,8 +128,8 @@ impl Stitcher {
         })
     }
 
-    /// The place of the path's stitch: the last place, counted from 0, of its longest front with which the ids of some
-    /// trace begin. They stand between those of INITIAL and TERMINAL. It takes no memory.
+    /// The place of the path's stitch: the last place, counted from 0, of the path's longest prefix with which the ids
+    /// of some trace begin. The ids of a trace stand between those of INITIAL and TERMINAL. It allocates nothing.
     pub fn place(&mut self, graph: &PartGraph, path: &[u32]) -> usize
         requires starts { slice_get path.now 0 ≡ Some INITIAL }
         requires some { 0 < length (graph.now).traces }
@@ -140,8 +141,8 @@ impl Stitcher {
         longest_front(graph, path, path.len()) - 1
     }
 
-    /// The same for a path that the traces leave before its last id, so that no trace is looked at behind the first one
-    /// that follows it to there.
+    /// The same for a path that no trace follows to its last id. The search ends at the first trace that follows the
+    /// path to the id before the last.
     pub(crate) fn place_before_end(&mut self, graph: &PartGraph, path: &[u32]) -> usize
         requires starts { slice_get path.now 0 ≡ Some INITIAL }
         requires some { 0 < length (graph.now).traces }

@@ -1,7 +1,7 @@
 //! A counter of steps that costs nothing when the program runs.
 //!
-//! A function that is said to take so many steps is lent a [`Steps`], and its contract tells how far the counter goes
-//! on. What a step is, the function says: it calls [`Steps::tick`] where that step is taken.
+//! A function whose contract states how many steps it takes is lent a [`Steps`]. The contract says how far the counter
+//! advances. The function defines what a step is: it calls [`Steps::tick`] where that step is taken.
 #![tactic(auto)]
 
 ghost use Rattle.std.specs.Prelude.{◌≡◌, ◌+◌, ◌<◌};
@@ -9,10 +9,10 @@ ghost use Rattle.std.specs.Prelude.{◌≡◌, ◌+◌, ◌<◌};
 use std::marker::Model;
 use std::sync::ledger::{Blank, Book, Ledger, Share};
 
-/// How many steps were taken. It takes no bytes, and only [`Steps::tick`] changes it. Contracts see a number.
+/// How many steps were taken. It occupies no bytes, and only [`Steps::tick`] changes it. Contracts see a number.
 ///
-/// A caller that counts nothing has a function over `L: Ledger` that takes a `Blank` and opens the counter, and calls
-/// it with `Brand` for `L` and `Blank::new(1)`.
+/// To call such a function without counting, write a function over `L: Ledger` that takes a `Blank` and opens the
+/// counter, and call it with `Brand` for `L` and `Blank::new(1)`.
 #[derive(Drop)]
 pub struct Steps<L: Ledger> {
     book: Book<L>,
@@ -30,7 +30,7 @@ impl<L: Ledger> Model for Steps<L> {
 }
 
 impl<L: Ledger> Steps<L> {
-    /// A counter that stands at 0, of a ledger that nothing was counted in.
+    /// A counter at 0, for a ledger in which nothing was counted.
     pub fn open(blank: Blank) -> Steps<L>
         requires name { blank.name ≡ L.name }
         requires parts { blank.parts ≡ L.parts }
@@ -41,7 +41,7 @@ impl<L: Ledger> Steps<L> {
         Steps { book, share }
     }
 
-    /// One more step was taken.
+    /// Counts one more step.
     pub fn tick(&mut self)
         ensures { self.new ≡ self.old + 1 }
     {

@@ -1,4 +1,4 @@
-//! The program: it makes the real inputs and sinks, does what the words ask, and ends with the status.
+//! The program: it makes the real inputs and sinks, runs with the arguments, and exits with the status.
 #![tactic(auto)]
 
 use line_rules::{Patterns, RegexPatterns};
@@ -10,7 +10,7 @@ use std::process::ExitCode;
 use std::rt::Env;
 use synoptic_cli::{ErrorStream, Status, run, tell};
 
-/// The words after the program's name. A word that is not UTF-8 is a faulty command line.
+/// The arguments after the program's name. An argument that is not UTF-8 is a usage error.
 fn words<R: Env + AllocGlobal>(rt: &R) -> Result<Vec<String>, Status> {
     let args = match env::args(rt) {
         Ok(args) => args,
@@ -20,7 +20,7 @@ fn words<R: Env + AllocGlobal>(rt: &R) -> Result<Vec<String>, Status> {
     args.skip(1).collect(rt.alloc()).map_err(|_| Status::Memory)
 }
 
-/// Does what the words ask, if there are any that can be read, and gives the status.
+/// Runs with the arguments, if they could be read, and returns the status.
 fn ended<I: Inputs, P: Patterns, O: Sink, E: ErrorStream>(
     alloc: Global,
     words: Result<Vec<String>, Status>,

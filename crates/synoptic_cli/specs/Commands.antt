@@ -1,4 +1,4 @@
--- The table of the commands: what each answers. Each has a file of its own.
+-- The table of the commands and their answers. Each command has its own file.
 use Rattle.std.specs.Prelude.{Result}
 use Rattle.command_line.specs.Task.{Task}
 use Rattle.command_line.specs.declared.table.Command.{Command}
@@ -29,7 +29,7 @@ pub mod ReplayModel
 pub mod RunBench
 pub mod TypeNames
 
--- this is what the command answers of what was read: an answer, or the limit that it stops at
+-- what the command answers for what was read: an answer, or the limit that it stops at
 abbrev pub AnswersBy : Command → Task → Material → Result Answer LimitKind → Type 0
 AnswersBy Invariants task m r = print_invariants.Answers (kinds_of task) m r
 AnswersBy Graph task m r = print_graph.Answers m r
@@ -41,6 +41,6 @@ AnswersBy Paths task m r = print_paths.Answers (kinds_of task) m r
 AnswersBy Bench task m r = run_bench.Answers task.number r
 AnswersBy Migrate task m r = migrate_model.Answers m r
 
--- the same of the task's command
+-- the same for the task's command
 abbrev pub Answers : Task → Material → Result Answer LimitKind → Type 0
 Answers task m r = AnswersBy task.command task m r

@@ -1,4 +1,4 @@
--- How a run ends, by the bytes of its inputs, where the inputs tell them and where they do not.
+-- How a run ends, given the bytes of its inputs, if the files are known and if they are not.
 use Rattle.std.specs.Prelude.{ℕ, ◌≡◌, ◌<◌, ◌⊎◌, List, [], ◌∷◌, map, Option, Some, None, ⊤, Result, Ok, Err}
 use Rattle.std.specs.Io.KnownBytes.{IsAtEnd}
 use Rattle.outside.specs.Inputs.{Files, InputState, bytes_of}
@@ -14,20 +14,20 @@ use Rattle.synoptic_cli.specs.Task.{Stage, stage_names, input_count, stages_of}
 use Rattle.synoptic_cli.specs.Stages.{SoFar, Stop, Filled, at_start, reads, stop_after}
 use Rattle.synoptic_cli.specs.Commands.{Answers}
 
--- the stages with the bytes of their files, each up to the first that is not there
+-- the stages with the bytes of their files, each up to the first missing file
 abbrev pub told_stages : Files → List Stage → List Filled
 told_stages files stages = map (λ stage. (stage, told_contents files (stage_names stage))) stages
 
--- P holds of the bytes of the stages' inputs, where files are told; else of some bytes of a front of each stage's
--- inputs
+-- P holds of the bytes of the stages' inputs if files are known; else, for each stage, of some bytes for a prefix of
+-- its inputs
 abbrev pub SomeBytes : Option Files → List Stage → (List Filled → Type 0) → Type 0
 SomeBytes files [] P = P []
 SomeBytes files (stage ∷ stages) P =
     SomeContents files (stage_names stage)
     (λ contents. SomeBytes files stages (λ rest. P ((stage, contents) ∷ rest)))
 
--- a run ends so after this reading: by the stop of the reading; or by what the task's command answers of what was read,
--- and at a limit by a stop after all inputs
+-- how a run ends after this reading: with the stop of the reading; or with the command's answer, or at a limit with a
+-- stop after all inputs
 abbrev pub EndsAfter : Task → Result SoFar Stop → Result Answer Stop → Type 0
 EndsAfter task (Err stop) (Err last) = last ≡ stop
 EndsAfter task (Err stop) (Ok a) = ⊥
@@ -36,7 +36,7 @@ EndsAfter task (Ok so_far) (Err last) =
     (kind : LimitKind) × Answers task so_far.material (Err kind)
     × (last ≡ stop_after (input_count (stages_of task)) (Limit kind))
 
--- a run of the task ends so over these bytes: by an answer, or by a stop
+-- how a run of the task ends over these bytes: with an answer or with a stop
 abbrev pub EndsOver : Task → List Filled → Result Answer Stop → Type 0
 EndsOver task filled end = EndsAfter task (reads at_start filled) end
 
@@ -51,52 +51,52 @@ pub record EndsTold (files : Files) (task : Task) (status : Status) : Type 0 whe
   pub ends : EndsOver task (told_stages files (stages_of task)) end
   pub is : end_status end ≡ status
 
--- the status that what the words ask for has over these files: without any task it is Usage
+-- the status over these files of what the arguments ask for; without a task it is Usage
 abbrev pub HasStatus : Option Task → Files → Status → Type 0
 HasStatus None files status = status ≡ Usage
 HasStatus (Some task) files status = EndsTold files task status
 
--- the status that these words have over these files, where nothing outside fails, no pattern is refused for its size or
--- depth, and memory is there; there is no other
+-- the status of these arguments over these files, if nothing outside fails, memory suffices, and no pattern is refused
+-- for its size or depth
 abbrev pub IsStatusOf : List (List ℕ) → Files → Status → Type 0
 IsStatusOf words files status = HasStatus (task_of words) files status
 
--- a run over told files ends in one way alone
+-- a run over known files has only one ending
 abbrev pub EndsAreOne : Type 0
 EndsAreOne =
     (task : Task) (files : Files) (a b : Result Answer Stop)
     → EndsOver task (told_stages files (stages_of task)) a
     → EndsOver task (told_stages files (stages_of task)) b → a ≡ b
 
--- so the words and the files have one status alone
+-- the arguments and the files have only one status
 abbrev pub StatusesAreOne : Type 0
 StatusesAreOne =
     (words : List (List ℕ)) (files : Files) (a b : Status) → IsStatusOf words files a
     → IsStatusOf words files b → a ≡ b
 
--- where files are told, these are the bytes of the named one
+-- if files are known, these are the bytes of the named one
 abbrev pub IsTold : Option Files → List ℕ → List ℕ → Type 0
 IsTold None name bytes = ⊤
 IsTold (Some files) name bytes = bytes_of files name ≡ Some bytes
 
--- files are told, and the input is the first that is not there, where nothing before it is refused
+-- files are known, nothing before this input is refused, and it is the first one missing
 abbrev pub IsFirstLacking : Option Files → Task → Source → Type 0
 IsFirstLacking None task source = ⊥
 IsFirstLacking (Some files) task source =
     (count : ℕ)
     × (reads at_start (told_stages files (stages_of task)) ≡ Err (stop_after count (ReadFault source)))
 
--- so many inputs were opened, with no fault; or there is none, and nothing was touched
+-- this many inputs were opened without a fault; if there are none, nothing was touched
 abbrev pub OpenedAll : ℕ → InputState → InputState → Type 0
 OpenedAll count old new = ((0 < count) × Opened count old new) ⊎ ((count ≡ 0) × (new ≡ old))
 
--- so many inputs were opened, with no fault, and the last was read to its end; or there is none, and nothing was
+-- this many inputs were opened without a fault, and the last was read to its end; if there are none, nothing was
 -- touched
 abbrev pub ReadAll : ℕ → InputState → InputState → Type 0
 ReadAll count old new = ((0 < count) × Opened count old new × IsAtEnd new.rest) ⊎ ((count ≡ 0) × (new ≡ old))
 
--- the inputs of these names were opened in turn, each but the last was read to its end, and no others were opened; or
--- there is none, and nothing was touched
+-- the inputs with these names, and no others, were opened in turn, each but the last read to its end; if there are
+-- none, nothing was touched
 abbrev pub OpensAll : List (List ℕ) → InputState → InputState → Type 0
 OpensAll [] old new = new ≡ old
 OpensAll (name ∷ names) old new = OpensInTurn (name ∷ names) old new

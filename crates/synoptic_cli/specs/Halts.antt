@@ -42,35 +42,35 @@ use Rattle.synoptic_cli.specs.Stages.{SoFar, at_start, reads}
 use Rattle.synoptic_cli.specs.Endings.{IsTold, OpensAll, SomeBytes, ReadAll}
 use Rattle.synoptic_cli.specs.Causes.{HasCause, world}
 
--- the status that a refusal of the file of rules is answered by: want of memory is no fault of the file
+-- the status for a refusal of the rules file; out of memory is no fault of the file
 abbrev pub rules_answer : RuleError → Status
 rules_answer rule_error.Memory = Memory
 rules_answer e = Expressions e
 
--- a status that a file of rules is answered by, which gives none
+-- a status that a rules file can cause
 abbrev pub IsOfRules : Status → Type 0
 IsOfRules (Expressions e) = ⊤
 IsOfRules (ReadFault source) = ⊤
 IsOfRules Memory = ⊤
 IsOfRules status = ⊥
 
--- the status of words that give no task
+-- the status if the arguments give no task
 abbrev pub status_without_task : ParseError → Status
 status_without_task parse_error.Usage = Usage
 status_without_task parse_error.Memory = Memory
 
--- a run that asks for this task and ends here, with nothing written, has a cause for this status
+-- a run of this task that ends here, with nothing written, has a cause for this status
 abbrev pub Ends : Status → Task → (old new : InputState) (before after : PatternsState) → Type 0
 Ends status task old new before after =
     (words : List (List ℕ)) (out : SinkState) → task_of words ≡ Some task
     → HasCause status words (world old before out) (world new after out)
 
--- so it is for each task that reads its lines by the rules of the named file
+-- the same for each task that reads its lines by the rules of the named file
 abbrev pub EndsByRules : Status → List ℕ → (old new : InputState) (before after : PatternsState) → Type 0
 EndsByRules status name old new before after =
     (task : Task) → rules_name task.form ≡ Some name → Ends status task old new before after
 
--- the named file was read to its end, and its rules are these, up to what a search tells apart
+-- the named file was read to its end, and its rules are equivalent to these
 pub record ReadsRules (old new : InputState) (name : List ℕ) (rules : List Rule) : Type 0 where
   pub bytes : List ℕ
   pub told : IsTold old.files name bytes
@@ -80,7 +80,7 @@ pub record ReadsRules (old new : InputState) (name : List ℕ) (rules : List Rul
   pub opened : ReadAll 1 old new
   pub turn : OpensInTurn (name ∷ []) old new
 
--- a model that a file of this version can say: it is well shaped, and of version 1 where the file is
+-- a model that a file of this version can contain: it is well shaped, and a version 1 file has a model of that version
 abbrev pub FitsVersion : Version → Model → Type 0
 FitsVersion One model = IsWellShaped model × IsOfVersion1 model
 FitsVersion Two model = IsWellShaped model
@@ -94,7 +94,7 @@ pub record ReadsModel (version : Version) (old new : InputState) (name : List �
   pub opened : ReadAll 1 old new
   pub turn : OpensInTurn (name ∷ []) old new
 
--- the named file was read to its end, or to one byte past the limit of this version, and is refused so
+-- the named file is refused so by this version, after it was read to its end or to one byte past the limit
 pub record RefusesFile (version : Version) (old new : InputState) (name : List ℕ) (e : FileError) : Type 0 where
   pub bytes : List ℕ
   pub told : IsTold old.files name bytes
@@ -112,62 +112,62 @@ ModelHalts version old new name halts.Fault =
 ModelHalts version old new name (halts.Refused e) = RefusesFile version old new name e
 ModelHalts version old new name halts.Memory = OpensNamed old new name (max_bytes version)
 
--- what a refusal of the file is: want of memory is no fault of the file
+-- why the refused file gives no model; out of memory is no fault of the file
 abbrev pub halt_of : FileError → ModelHalt
 halt_of file_error.Memory = halts.Memory
 halt_of e = halts.Refused e
 
--- the status that is answered where the model's file gives none
+-- the status if the model's file gives no model
 abbrev pub halt_status : ModelHalt → Status
 halt_status halts.Missing = ReadFault sources.ModelFile
 halt_status halts.Fault = ReadFault sources.ModelFile
 halt_status (halts.Refused e) = ModelFile e
 halt_status halts.Memory = Memory
 
--- what decides the lines of a log: the rules that were read, where some were
+-- how the lines of a log are read: by the rules that were read, or else in the plain form
 abbrev pub form_with : Option (List Rule) → Form
 form_with None = form.Plain
 form_with (Some rules) = form.Rules rules
 
--- the two decide lines by rules that no search tells apart, or both in the plain form
+-- both forms are plain, or their rules are equivalent
 abbrev pub AreAlikeForms : Form → Form → Type 0
 AreAlikeForms form.Plain form.Plain = ⊤
 AreAlikeForms (form.Rules rules) (form.Rules others) = AreAlike rules others
 AreAlikeForms f g = ⊥
 
--- how the program reads its lines by what it holds
+-- the form that the program's value gives
 abbrev pub held_form : rust.SoFar → Form
 held_form held = form_with (option_map rules_in held.rules)
 
--- how a task's log is read, where this decides its lines
+-- how a task's log is read, if its lines have this form
 abbrev pub setting_of : Task → Form → Setting
 setting_of task f = record { form = f; ignore = task.ignore; join = task.join }
 
--- the task reads a log, and its reading ends by this answer of the log's reader, for a cause
+-- the task reads a log, and its reading ends with this refusal for a cause
 pub record LogHalts (task : Task) (f : Form) (old new : InputState) (e : ReadError) : Type 0 where
   pub reads : IsSome task.form
   pub cause : HasReadCause (setting_of task f) (inputs_of task.files) old new e
   pub opens : new.opens ≤ old.opens + length (inputs_of task.files)
 
--- the program holds what was read so far, with rules that are alike, and its model is one of a file of this version
+-- the program's value is what was read so far, with equivalent rules, and its model fits this version
 pub record IsHeld (version : Version) (held : rust.SoFar) (so_far : SoFar) : Type 0 where
   pub form : AreAlikeForms (held_form held) so_far.form
   pub material : so_far.material ≡ held.material
   pub shaped : FitsVersion version held.material.model
 
--- the inputs of the stages were read, and take what was read before to what is read now
+-- the inputs of the stages were read, and turn what was read before into what is read now
 pub record HasRead (stages : List Stage) (old new : InputState) (before now : SoFar) : Type 0 where
   pub bytes : SomeBytes old.files stages (λ filled. reads before filled ≡ Ok now)
   pub inputs : ReadAll (input_count stages) old new
   pub turn : OpensAll (input_names stages) old new
 
--- the stages were read, after what the program held, and gave what it holds now, for models of this version
+-- the stages were read after the program's old value and give its new one, for models of this version
 abbrev pub Reads : Version → List Stage → rust.SoFar → (old new : InputState) → rust.SoFar → Type 0
 Reads version stages before old new now =
     (so_far : SoFar) → IsHeld version before so_far
     → (next : SoFar) × IsHeld version now next × HasRead stages old new so_far next
 
--- the task's inputs were read, and this is what the command is to work on, with a model of the version that it reads
+-- the task's inputs were read, and give the command this material, with a model of the version that it reads
 pub record ReadsTask (task : Task) (old new : InputState) (material : Material) : Type 0 where
   pub so_far : SoFar
   pub value : so_far.material ≡ material
@@ -181,7 +181,7 @@ IsVerdict (NoCheck part) = ⊤
 IsVerdict (NoReplay part) = ⊤
 IsVerdict status = ⊥
 
--- what a command gives is what it is to answer, with a verdict, or its limit; where memory is wanted nothing is said
+-- what a command gives is its answer, with a verdict's status, or its limit; nothing is stated if memory ran out
 abbrev pub Gives : (Result Answer LimitKind → Type 0) → Result Answer NoAnswer → Type 0
 Gives ToAnswer (Ok a) = ToAnswer (Ok a) × IsVerdict a.status
 Gives ToAnswer (Err (no_answer.Limit kind)) = ToAnswer (Err kind)

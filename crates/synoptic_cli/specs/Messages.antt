@@ -1,4 +1,4 @@
--- What is written where errors go, and the status of the process.
+-- The error message and the exit status of the process.
 use Rattle.std.specs.Prelude.{ℕ, ◌≡◌, ◌==◌, ◌⊎◌, List, [], ◌++◌, length, codes, decimal, Option, Some, None, if◌then◌else◌}
 use Rattle.std.specs.Io.KnownBytes.{Appends}
 use Rattle.outside.specs.Counts.{Rose}
@@ -21,7 +21,7 @@ use Rattle.synoptic_cli.specs.declared.status.Source.{Source}
 use Rattle.synoptic_cli.specs.declared.status.Source.TheVariants as sources
 use Rattle.synoptic_cli.specs.Task.{source_name}
 
--- the name of an input as it is shown: as it was given, and standard input by these two words
+-- the name of an input as messages show it: as given, or `standard input` if it is empty
 abbrev pub shown : Option (List ℕ) → List ℕ
 shown None = []
 shown (Some name) = if length name == 0 then codes "standard input" else name
@@ -31,7 +31,7 @@ abbrev pub shown_source : Option Task → Source → List ℕ
 shown_source None source = []
 shown_source (Some task) source = shown (source_name task source)
 
--- what is wrong with a file of rules, and in which line
+-- what is wrong with a rules file, and in which line
 abbrev pub rule_message : RuleError → List ℕ
 rule_message rule_error.TooLong = codes ": too long\n"
 rule_message (rule_error.BadLine number) = codes " line " ++ decimal number ++ codes ": bad line\n"
@@ -43,7 +43,7 @@ rule_message (rule_error.MixedTime number) = codes " line " ++ decimal number ++
 rule_message rule_error.NoEvent = codes ": no event rule\n"
 rule_message rule_error.Memory = codes ": out of memory\n"
 
--- the line of a log, and what is wrong with it
+-- the place of a line of a log, and what is wrong with it
 abbrev pub line_message : Option Task → At → List ℕ → List ℕ
 line_message task at what =
     codes "synoptic: " ++ shown_source task (sources.Log at.file) ++ codes ":" ++ decimal at.line
@@ -57,7 +57,7 @@ log_message task (faults.BadTime at) = line_message task at (codes "bad time")
 log_message task (faults.TypeTooLong at) = line_message task at (codes "type too long")
 log_message task (faults.TraceTooLong at) = line_message task at (codes "trace too long")
 
--- which quantity passes its limit, and the limit
+-- which quantity exceeds its limit, and the limit
 abbrev pub limit_message : LimitKind → List ℕ
 limit_message limits.Types = codes "synoptic: limit: types 256\n"
 limit_message limits.Events = codes "synoptic: limit: events 1000000\n"
@@ -65,7 +65,7 @@ limit_message limits.Input = codes "synoptic: limit: input 268435456\n"
 limit_message limits.Partitions = codes "synoptic: limit: partitions 1024\n"
 limit_message limits.Paths = codes "synoptic: limit: paths 4000000\n"
 
--- the part of a model's file that is bad
+-- the part of a model's file that is wrong
 abbrev pub field_name : Field → List ℕ
 field_name fields.Root = codes "root"
 field_name fields.Version = codes "version"
@@ -87,7 +87,7 @@ file_fault (file_error.Shape field) = codes "bad " ++ field_name field
 file_fault (file_error.Version number) = codes "version " ++ decimal number
 file_fault file_error.Memory = codes "out of memory"
 
--- what is written where errors go, for a status and the task that was asked for
+-- the error message for a status and a task
 abbrev pub task_message : Option Task → Status → List ℕ
 task_message task Done = []
 task_message task (NoCheck part) = []
@@ -104,17 +104,17 @@ task_message task WriteFault = codes "synoptic: cannot write\n"
 task_message task Memory = codes "synoptic: out of memory\n"
 task_message task (ModelFile e) = codes "synoptic: model file: " ++ file_fault e ++ codes "\n"
 
--- the same for the words of the command line
+-- the same for the arguments
 abbrev pub message_of : List (List ℕ) → Status → List ℕ
 message_of words status = task_message (task_of words) status
 
--- the whole text was appended and no fault was counted, or a front of it and the count rose
+-- the whole text was appended and no fault was counted; or a prefix of it was appended and the fault count rose
 abbrev pub Tells : List ℕ → SinkState → SinkState → Type 0
 Tells text before after =
     (Appends before.written after.written text × (after.faults ≡ before.faults))
     ⊎ (AppendsFront before text after × Rose before.faults after.faults)
 
--- the status of the process
+-- the exit status of the process
 abbrev pub code_of : Status → ℕ
 code_of Done = 0
 code_of (NoCheck part) = 1

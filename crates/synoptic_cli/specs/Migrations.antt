@@ -1,4 +1,4 @@
--- How a migration ends, and what a check says of what it wrote.
+-- How a migration ends, and what a check answers for its output.
 use Rattle.std.specs.Prelude.{ℕ, ◌≡◌, ◌↔◌, false, List, [], Some, None, Result, Ok, Err}
 use Rattle.outside.specs.Inputs.{Files, bytes_of}
 use Rattle.invariants.specs.declared.Kinds.TheVariants.{Three}
@@ -34,12 +34,12 @@ migrating name =
       files = [];
     }
 
--- how it ends, by what the file is read as: with the text of version 2 of its model, or with its refusal
+-- how it ends: with the text of the model in version 2, or with the refusal of the file
 abbrev pub migrated : Result Model FileError → Result Answer Stop
 migrated (Ok model) = Ok (done (file_text model))
 migrated (Err e) = Err (stop_after 1 (ModelFile e))
 
--- where the named file is there, its migration ends so, by what version 1 reads of it
+-- if the named file is there, its migration ends so, by what version 1 reads from it
 abbrev pub MigrationsEnd : Type 0
 MigrationsEnd =
     (files : Files) (name bytes : List ℕ) (end : Result Answer Stop)
@@ -47,9 +47,9 @@ MigrationsEnd =
     → EndsOver (migrating name) (told_stages files (stages_of (migrating name))) end
     → end ≡ migrated (reads_version_1 bytes)
 
--- What a migration writes is as valid for a log as the model that version 1 read, whose invariants are of three kinds.
--- Over files in which the named one has that text, its check against the log that a task reads ends with yes exactly
--- where that model is valid for it.
+-- The output of a migration is as valid for a log as the model that version 1 read, with invariants of three kinds.
+-- If the named file has that output, its check against the log of a task ends with yes exactly if that model is valid
+-- for the log.
 abbrev pub MigratedAreAlike : Type 0
 MigratedAreAlike =
     (before after : Files) (former name bytes : List ℕ) (model : Model) (a : Answer) (task : Task)

@@ -1,4 +1,4 @@
--- How each command ends where the inputs of its task are read without a refusal.
+-- How each command ends if the inputs of its task are read without a refusal.
 use Rattle.std.specs.Prelude.{◌≡◌, ◌⊎◌, Ok}
 use Rattle.std.specs.Option.{IsSomeAnd}
 use Rattle.outside.specs.Inputs.{Files}
@@ -22,25 +22,25 @@ use Rattle.synoptic_cli.specs.Stages.{at_start, reads, SoFar}
 use Rattle.synoptic_cli.specs.Commands.Inference.{PassesLimit, PassesNone}
 use Rattle.synoptic_cli.specs.Endings.{EndsTold, told_stages}
 
--- the inference of the log passes no limit, and the status is Done; or it passes one, and the status names it
+-- inference of the log exceeds no limit and the status is Done; or it exceeds one and the status names it
 abbrev pub IsOfInference : TypedWords → Status → Type 0
 IsOfInference log status =
     (PassesNone log × (status ≡ Done)) ⊎ ((kind : LimitKind) × PassesLimit kind log × (status ≡ Limit kind))
 
--- the model is valid for the log, and the status is Done; or it is not, and the status names the first part that fails
+-- the model is valid for the log and the status is Done; or it is not, and the status names the first part that fails
 abbrev pub IsOfCheck : Model → TypedWords → Status → Type 0
 IsOfCheck m log status =
     (IsValid m log × (status ≡ Done))
     ⊎ ((IsValid m log → ⊥) × ((part : Part) × IsFirstPart m log part × (status ≡ NoCheck part)))
 
--- the model's history is justified by the log, and the status is Done; or it is not, and the status names the first step
+-- the model's history is justified by the log and the status is Done; or it is not, and the status names the first step
 -- that fails
 abbrev pub IsOfReplay : Model → TypedWords → Status → Type 0
 IsOfReplay m log status =
     (IsJustified m log × (status ≡ Done))
     ⊎ ((IsJustified m log → ⊥) × ((part : ReplayPart) × IsFirstStep m log part × (status ≡ NoReplay part)))
 
--- the status of the command over what was read: Done, its stated no, or the limit that its inference passes
+-- the status of the command for what was read: Done, its own no, or the limit that its inference exceeds
 abbrev pub IsOutcome : Command → Task → Material → Status → Type 0
 IsOutcome Invariants task m status = status ≡ Done
 IsOutcome Graph task m status = status ≡ Done
@@ -52,8 +52,8 @@ IsOutcome Paths task m status = IsOfInference (typed_words (kinds_of task) m.log
 IsOutcome Bench task m status = IsSomeAnd task.number (λ n. IsOfInference (typed_words Three (made_log n)) status)
 IsOutcome Migrate task m status = status ≡ Done
 
--- where the inputs of a task are read without a refusal over the files, a run of the task ends with the status of its
--- command over what is read
+-- if the inputs of a task are read without a refusal, a run of the task ends with the status of its command for what
+-- was read
 abbrev pub OutcomesAreKnown : Type 0
 OutcomesAreKnown =
     (files : Files) (task : Task) (so_far : SoFar) (status : Status)

@@ -1,4 +1,4 @@
--- What a check and a replay say of what was inferred.
+-- How a check and a replay judge what was inferred.
 use Rattle.std.specs.Prelude.{ℕ, ◌≡◌, false, List, Some, None, Result, Ok}
 use Rattle.outside.specs.Inputs.{Files, bytes_of}
 use Rattle.invariants.specs.declared.records.Model.{Model}
@@ -19,12 +19,12 @@ use Rattle.synoptic_cli.specs.Commands.CheckModel.{answer_of}
 use Rattle.synoptic_cli.specs.Commands.ReplayModel as replay_model
 use Rattle.synoptic_cli.specs.Endings.{EndsOver, EndsTold, told_stages}
 
--- the check of the named file against the log that the task reads; the kinds of invariants are those that the file says
+-- the check of the named file against the log of the task; the model's file gives the kinds of invariants
 abbrev pub checking : Task → List ℕ → Task
 checking task name = record task { command = commands.Check; model = Some name; interrupted = false }
 
--- where the file says the model of the log that the task reads, by the kinds that are named there, and the words of the log
--- use exactly its types, its check against that log ends with yes
+-- if the file is the model of the task's log for the kinds it names, and the words of the log use exactly its types,
+-- then its check against that log ends with yes
 abbrev pub ModelsAreAccepted : Type 0
 ModelsAreAccepted =
     (files : Files) (task : Task) (name bytes : List ℕ) (model : Model) (so_far : SoFar)
@@ -36,9 +36,8 @@ ModelsAreAccepted =
     → EndsOver (checking task name) (told_stages files (stages_of (checking task name))) end
     → end ≡ Ok (answer_of Yes)
 
--- What the inference of a log answers over some files is accepted, whichever kinds the task asks for: over files in which
--- the task's own inputs are the same, and the named one has that answer's text, the check of it ends with yes, and so with
--- this status alone.
+-- What inference answers for a log passes its check, whichever kinds the task asks for. If the named file has the text
+-- of that answer and the task's own inputs are unchanged, the check ends with yes and the status Done.
 abbrev pub InferredAreAccepted : Type 0
 InferredAreAccepted =
     (before after : Files) (task : Task) (name : List ℕ) (a : Answer) (status : Status)
@@ -48,12 +47,12 @@ InferredAreAccepted =
     → (told : EndsTold after (checking task name) status)
     → (told.end ≡ Ok (answer_of Yes)) × (status ≡ Done)
 
--- the replay of the named file against the log that the task reads; again the kinds are those that the file says
+-- the replay of the named file against the log of the task; again the model's file gives the kinds
 abbrev pub replaying : Task → List ℕ → Task
 replaying task name = record task { command = commands.Replay; model = Some name; interrupted = false }
 
--- where the file says the model of the log that the task reads, by the kinds that are named there and within the limits, and
--- the words of the log use exactly its types, its replay against that log ends with yes
+-- if the file is the model of the task's log for the kinds it names and keeps the limits, and the words of the log
+-- use exactly its types, then its replay against that log ends with yes
 abbrev pub HistoriesAreAccepted : Type 0
 HistoriesAreAccepted =
     (files : Files) (task : Task) (name bytes : List ℕ) (model : Model) (so_far : SoFar)
@@ -66,9 +65,8 @@ HistoriesAreAccepted =
     → EndsOver (replaying task name) (told_stages files (stages_of (replaying task name))) end
     → end ≡ Ok (replay_model.answer_of outcomes.Yes)
 
--- What the inference of a log answers over some files is accepted by its replay too, whichever kinds the task asks for: over
--- files in which the task's own inputs are the same, and the named one has that answer's text, the replay ends with yes, and
--- so with this status alone.
+-- What inference answers for a log passes its replay, whichever kinds the task asks for. If the named file has the text
+-- of that answer and the task's own inputs are unchanged, the replay ends with yes and the status Done.
 abbrev pub InferredAreReplayed : Type 0
 InferredAreReplayed =
     (before after : Files) (task : Task) (name : List ℕ) (a : Answer) (status : Status)

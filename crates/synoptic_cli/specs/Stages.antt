@@ -1,4 +1,4 @@
--- What each stage of a run makes of the bytes of its inputs, and where the reading stops.
+-- What each stage of a run reads from its inputs, and where reading stops.
 use Rattle.std.specs.Prelude.{ℕ, ◌+◌, Bool, List, [], ◌∷◌, length, nat_lt, Option, Some, None, Result, Ok, Err, if◌then◌else◌}
 use Rattle.traces.specs.Words.{log_of}
 use Rattle.limits.specs.declared.TheConstants.{INITIAL, TERMINAL}
@@ -25,12 +25,12 @@ use Rattle.synoptic_cli.specs.declared.status.LogFault.TheVariants as faults
 use Rattle.synoptic_cli.specs.declared.status.LimitKind.TheVariants as limits
 use Rattle.synoptic_cli.specs.declared.status.Source.TheVariants as sources
 
--- what was read so far: what decides the lines of a log, and what the command is to work on
+-- what was read so far: the form of the lines, and the material for the command
 pub record SoFar : Type 0 where
   pub form : Form
   pub material : Material
 
--- a model that says nothing: of no types and of no traces
+-- an empty model: no types and no traces
 abbrev pub no_model : Model
 no_model =
     record {
@@ -44,40 +44,40 @@ no_model =
       blocks = [];
     }
 
--- what is there before the first stage: what no stage reads says nothing
+-- before the first stage: the plain form, an empty log and an empty model
 abbrev pub at_start : SoFar
 at_start = record { form = form.Plain; material = record { log = log_of []; model = no_model } }
 
--- where the reading stops: the status, and how many inputs were opened by then
+-- where reading stops: the status, and how many inputs were opened by then
 pub record Stop : Type 0 where
   pub status : Status
   pub count : ℕ
 
--- it stops after so many inputs
+-- a stop after this many inputs
 abbrev pub stop_after : ℕ → Status → Stop
 stop_after count status = record { status = status; count = count }
 
--- what the file of rules gives, once it is read as rules or refused
+-- the rules of the file, or the stop at its refusal
 abbrev pub with_rules : SoFar → Result (List Rule) RuleError → Result SoFar Stop
 with_rules so_far (Ok rules) = Ok (record { form = form.Rules rules; material = so_far.material })
 with_rules so_far (Err e) = Err (stop_after 1 (Expressions e))
 
--- what the stage of the rules gives over the bytes of its file, if that is there
+-- the stage of the rules over the bytes of its file, if it is there
 abbrev pub reads_rules : SoFar → List (List ℕ) → Result SoFar Stop
 reads_rules so_far [] = Err (stop_after 0 (ReadFault sources.Expressions))
 reads_rules so_far (bytes ∷ more) = with_rules so_far (rules_of bytes)
 
--- what the file of a model gives, once it is read as a model or refused
+-- the model of the file, or the stop at its refusal
 abbrev pub with_model : SoFar → Result Model FileError → Result SoFar Stop
 with_model so_far (Ok model) = Ok (record so_far { material = record so_far.material { model = model } })
 with_model so_far (Err e) = Err (stop_after 1 (statuses.ModelFile e))
 
--- what the stage of the model gives over the bytes of its file, if that is there
+-- the stage of the model over the bytes of its file, if it is there
 abbrev pub reads_model : Version → SoFar → List (List ℕ) → Result SoFar Stop
 reads_model version so_far [] = Err (stop_after 0 (ReadFault sources.ModelFile))
 reads_model version so_far (bytes ∷ more) = with_model so_far (model_file.reads_as version bytes)
 
--- the status that a refusal of the log is answered by
+-- the status for a refusal of the log
 abbrev pub status_of : ReadError → Status
 status_of (refused.ReadFault number) = ReadFault (sources.Log number)
 status_of (refused.LineTooLong at) = Log (faults.LineTooLong at)
@@ -90,16 +90,16 @@ status_of (refused.EventLimit at) = Limit limits.Events
 status_of refused.InputLimit = Limit limits.Input
 status_of refused.Memory = Memory
 
--- a refusal stops at the input with this number, which has the line that is refused, or the byte past the limit
+-- the stop at the input with this number, or at none
 abbrev pub stop_at : Option ℕ → Status → Stop
 stop_at (Some number) status = stop_after (number + 1) status
 stop_at None status = stop_after 0 status
 
--- how a log is read after what was read before it
+-- how a log is read, given what was read before it
 abbrev pub setting_by : SoFar → (ignore join : Bool) → Setting
 setting_by so_far ignore join = record { form = so_far.form; ignore = ignore; join = join }
 
--- what a log of so many files gives, by its first refusal: that comes first, then the first file that is not there
+-- the log of `count` files, or the stop: first at its first refusal, then at the first missing file
 abbrev pub with_log : SoFar → Setting → ℕ → List (List ℕ) → Option ReadError → Result SoFar Stop
 with_log so_far s count contents (Some e) = Err (stop_at (refused_input e contents) (status_of e))
 with_log so_far s count contents None =
@@ -107,11 +107,11 @@ with_log so_far s count contents None =
     then Err (stop_after (length contents) (ReadFault (sources.Log (length contents))))
     else Ok (record so_far { material = record so_far.material { log = log_of (events_of s contents) } })
 
--- what the stage of the log gives over the bytes of its files, up to the first that is not there
+-- the stage of the log over the bytes of its files, up to the first missing one
 abbrev pub reads_log : SoFar → Setting → ℕ → List (List ℕ) → Result SoFar Stop
 reads_log so_far s count contents = with_log so_far s count contents (first_refusal s contents)
 
--- what a stage makes of the bytes of its inputs, up to the first that is not there, after what was read so far
+-- a stage over the bytes of its inputs, up to the first missing one, after what was read so far
 abbrev pub stage_reads : Stage → SoFar → List (List ℕ) → Result SoFar Stop
 stage_reads (RulesFile name) so_far contents = reads_rules so_far contents
 stage_reads (ModelFile version name) so_far contents = reads_model version so_far contents
@@ -122,12 +122,12 @@ stage_reads (LogFiles names ignore join) so_far contents =
 abbrev pub Filled : Type 0
 Filled = Stage × List (List ℕ)
 
--- a later stop comes after so many inputs more
+-- a stop in later stages counts this many more inputs
 abbrev pub after : ℕ → Result SoFar Stop → Result SoFar Stop
 after count (Ok so_far) = Ok so_far
 after count (Err stop) = Err (record { status = stop.status; count = count + stop.count })
 
--- what comes after a stage of so many inputs, unless that stops
+-- the next stages after a stage of this many inputs, unless that one stops
 abbrev pub and_then : Result SoFar Stop → ℕ → (SoFar → Result SoFar Stop) → Result SoFar Stop
 and_then (Ok so_far) count next = after count (next so_far)
 and_then (Err stop) count next = Err stop

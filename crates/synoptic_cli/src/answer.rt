@@ -1,4 +1,4 @@
-//! What a command answers.
+//! The answer of a command.
 ghost use Rattle.std.specs.Prelude.{◌≡◌};
 ghost use Rattle.synoptic_cli.specs.declared.answer.NoAnswer.TheVariants.{Memory};
 
@@ -9,7 +9,7 @@ use std::alloc::AllocError;
 /// A command's answer.
 #[derive(Drop)]
 pub struct Answer {
-    /// The status that comes with it.
+    /// The status that the run ends with, once the text is written.
     pub status: Status,
     /// The text that is written to the output.
     pub text: Seq<u8>,
@@ -18,9 +18,9 @@ pub struct Answer {
 /// Why a command has no answer.
 #[derive(Clone, Copy)]
 pub enum NoAnswer {
-    /// A quantity passes its limit.
+    /// A quantity exceeds its limit.
     Limit(LimitKind),
-    /// Memory was wanted.
+    /// Out of memory.
     Memory,
 }
 

@@ -1,4 +1,4 @@
-//! The table of the commands: what each answers of what was read. Each has a file of its own.
+//! The table of the commands. Each command has a file of its own, with the answer that it computes from what was read.
 ghost use Rattle.command_line.specs.Task.{HasSessions, task_held};
 ghost use Rattle.synoptic_cli.specs.Commands.{Answers};
 ghost use Rattle.synoptic_cli.specs.Halts.{Gives, FitsVersion};
@@ -22,7 +22,7 @@ use crate::task::kinds_of;
 use command_line::{Command, Task};
 use std::alloc::Global;
 
-/// What the task's command answers of what was read.
+/// The answer of the task's command for what was read, or why there is none.
 pub fn answer(alloc: Global, task: &Task<'_>, material: Material) -> Result<Answer, NoAnswer>
     requires shaped { FitsVersion (version_of (task_held task.now).command) material.model }
     requires sessions { HasSessions (task_held task.now) }

@@ -1,8 +1,7 @@
-//! The command line of the program, as a library: what the words ask, from the bytes of the inputs to the bytes
-//! of the output.
+//! The program `synoptic` as a library: from its arguments and the bytes of the inputs to the bytes of the output.
 //!
-//! `run` is the top call. It reads what the task asks for, stage after stage, has its command answer, writes the
-//! answer, and gives a `Status`. `tell` writes the line of a status where errors go.
+//! `run` is the top call. It reads the inputs that the task needs, stage by stage, has the task's command compute the answer,
+//! writes the answer, and returns a `Status`. `tell` writes the message of a status to an `ErrorStream`.
 #![tactic(auto)]
 
 mod answer;

@@ -1,4 +1,4 @@
-//! What is written where errors go.
+//! The messages for standard error.
 ghost use Rattle.std.specs.Prelude.{◌≡◌, ◌++◌, Some, codes, decimal, option_map};
 ghost use Rattle.std.specs.List.{flat_map};
 ghost use Rattle.outside.specs.Sinks.{SinkState, WholeGives};
@@ -17,21 +17,21 @@ use outside::{Failed, Sink, write_whole};
 const USAGE: &str =
     "usage: synoptic infer|check|replay|invariants|graph|paths|bench|migrate [-e FILE] [-p] [-m FILE] [-i] [-j] [-n N] [-r] [--] [FILE]...\n";
 
-/// Where messages go, such as standard error. Each `Sink` is one.
+/// A stream for messages, for example standard error. Each `Sink` is one.
 ///
-/// It takes texts and gives no answer. So a function that is lent an `ErrorStream`, and no `Sink`, cannot learn whether a
-/// text was taken, and does the same whether it was or not.
+/// It takes texts and returns nothing. So a function that is handed an `ErrorStream`, and no `Sink`, cannot learn whether a
+/// text was written, and does the same in both cases.
 pub trait ErrorStream {
     ghost heard: { Self → SinkState };
 
-    /// Appends the texts, one after another, and takes no memory.
+    /// Appends the texts in order, without allocating memory.
     ///
-    /// Either all were appended without a fault, or a prefix of all was, and a fault was counted.
+    /// Either all were appended and no fault counted, or a prefix of all was appended and a fault counted.
     fn put(&mut self, texts: &[&str])
         ensures { Tells (flat_map (λ text. text.now) texts.now) (heard self.old) (heard self.new) };
 }
 
-/// Writes the texts, one after another, and takes no memory.
+/// Writes the texts in order, without allocating memory.
 fn write_texts<S: Sink>(texts: &[&str], sink: &mut S) -> Result<(), Failed>
     ensures { WholeGives (S.state sink.old)
         (flat_map (λ text. text.now) texts.now) result (S.state sink.new) }
@@ -57,7 +57,7 @@ fn tell_text<E: ErrorStream>(text: &str, err: &mut E)
     err.put(&[text]);
 }
 
-/// The name as it is shown: as it was given, and standard input by these two words.
+/// The name as it is shown in a message: the name that was given, or `standard input`.
 fn shown(name: &str) -> &str
     ensures { result.now ≡ shown (Some name.now) }
 {
@@ -67,7 +67,7 @@ fn shown(name: &str) -> &str
     name
 }
 
-/// The name of an input of the task as it is shown; the empty text where there is no such input.
+/// The name of an input of the task as it is shown in a message; the empty text if there is no such input.
 pub fn shown_source<'a>(task: Option<&Task<'a>>, source: Source) -> &'a str
     ensures { result.now ≡ shown_source (option_map (λ t. task_held t.now) task.entry) source }
 {
@@ -80,7 +80,7 @@ pub fn shown_source<'a>(task: Option<&Task<'a>>, source: Source) -> &'a str
     }
 }
 
-/// Writes what is wrong with a line of the file of rules.
+/// Writes what is wrong with a line of the rules file.
 fn tell_rule_line<E: ErrorStream>(line: u32, what: &str, err: &mut E)
     ensures { Tells (codes "synoptic: expressions line " ++ decimal line ++ what.now)
         (E.heard err.old) (E.heard err.new) }
@@ -89,7 +89,7 @@ fn tell_rule_line<E: ErrorStream>(line: u32, what: &str, err: &mut E)
     err.put(&["synoptic: expressions line ", digits.format(line), what]);
 }
 
-/// Writes what is wrong with the file of rules.
+/// Writes what is wrong with the rules file.
 fn tell_rule_error<E: ErrorStream>(error: RuleError, err: &mut E)
     ensures { Tells (codes "synoptic: expressions" ++ rule_message error)
         (E.heard err.old) (E.heard err.new) }
@@ -132,7 +132,7 @@ fn tell_log_fault<E: ErrorStream>(task: Option<&Task<'_>>, fault: LogFault, err:
     }
 }
 
-/// The line that says which quantity passes its limit.
+/// The line that names the quantity that exceeds its limit.
 fn limit_line(kind: LimitKind) -> &'static str
     ensures { result.now ≡ limit_message kind }
 {
@@ -145,7 +145,7 @@ fn limit_line(kind: LimitKind) -> &'static str
     }
 }
 
-/// The name of a part of a model's file.
+/// The name of a part of the model file.
 fn field_name(field: Field) -> &'static str
     ensures { result.now ≡ field_name field }
 {
@@ -164,7 +164,7 @@ fn field_name(field: Field) -> &'static str
     }
 }
 
-/// Writes what is wrong with a model's file, by two words.
+/// Writes what is wrong with the model file, as two texts.
 fn tell_file_fault<E: ErrorStream>(what: &str, which: &str, err: &mut E)
     ensures { Tells (codes "synoptic: model file: " ++ what.now ++ which.now ++ codes "\n")
         (E.heard err.old) (E.heard err.new) }
@@ -172,7 +172,7 @@ fn tell_file_fault<E: ErrorStream>(what: &str, which: &str, err: &mut E)
     err.put(&["synoptic: model file: ", what, which, "\n"]);
 }
 
-/// Writes what is wrong with a model's file.
+/// Writes what is wrong with the model file.
 fn tell_file_error<E: ErrorStream>(error: FileError, err: &mut E)
     ensures { Tells (codes "synoptic: model file: " ++ file_fault error ++ codes "\n")
         (E.heard err.old) (E.heard err.new) }
@@ -196,10 +196,10 @@ fn tell_read_fault<E: ErrorStream>(task: Option<&Task<'_>>, source: Source, err:
     err.put(&["synoptic: cannot read ", shown_source(task, source), "\n"]);
 }
 
-/// Writes the status's message where errors go, for a run that was asked for this task, if for one. It takes no
-/// memory.
+/// Writes the message of a status to `err`, without allocating memory. `task` is the task of the run, if the arguments gave
+/// one.
 ///
-/// Where the sink fails, a front of the message was written, and the sink counted the fault.
+/// Either the whole message was appended and no fault counted, or a prefix of it was appended and a fault counted.
 pub fn tell<E: ErrorStream>(task: Option<&Task<'_>>, status: Status, err: &mut E)
     ensures { Tells (task_message (option_map (λ t. task_held t.now) task.entry) status)
         (E.heard err.old) (E.heard err.new) }

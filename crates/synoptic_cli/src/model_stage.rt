@@ -1,4 +1,4 @@
-//! Reads the file of a model.
+//! Reads the model file.
 ghost use Rattle.std.specs.Prelude.{◌≡◌, [], ◌∷◌, Ok, Err, IfOk, IfErr};
 ghost use Rattle.outside.specs.Inputs.{Stays};
 ghost use Rattle.outside.specs.Reading.{InputGives};
@@ -14,20 +14,20 @@ use model_reader::read_model;
 use outside::{InputError, Inputs, read_input};
 use std::alloc::Global;
 
-/// Why the file of a model gives none.
+/// Why the model file gives no model.
 #[derive(Clone, Copy)]
 pub enum ModelHalt {
-    /// The inputs have none of this name.
+    /// There is no file with this name.
     Missing,
     /// It could not be opened or read.
     Fault,
     /// It is refused.
     Refused(FileError),
-    /// Memory was wanted.
+    /// Out of memory.
     Memory,
 }
 
-/// What a refusal of the file is: want of memory is no fault of the file.
+/// The halt for a refusal of the file. Out of memory is not a refusal of the file.
 fn halt_of(error: FileError) -> ModelHalt
     ensures { result ≡ halt_of error }
 {
@@ -37,7 +37,7 @@ fn halt_of(error: FileError) -> ModelHalt
     }
 }
 
-/// The model of the bytes of a file of this version.
+/// The model in the bytes of a file of this version.
 fn read_of(alloc: Global, version: Version, bytes: &[u8]) -> Result<Model, FileError>
     ensures ok { IfOk result (λ model. reads_as version bytes.now ≡ Ok model) }
     ensures shaped { IfOk result (FitsVersion version) }
@@ -49,7 +49,7 @@ fn read_of(alloc: Global, version: Version, bytes: &[u8]) -> Result<Model, FileE
     }
 }
 
-/// Reads the named file, to its end or to one byte past the most that a file of this version has.
+/// Reads the named file, to its end or to one byte beyond the limit of this version.
 fn read_bytes<I: Inputs>(
     alloc: Global,
     version: Version,
@@ -64,7 +64,8 @@ fn read_bytes<I: Inputs>(
     read_input(alloc, inputs, name, version.max_bytes())
 }
 
-/// Reads the model of the named file of this version, to its end or to one byte past the most that the version allows.
+/// Reads the model in the named file of this version. The file is read to its end or to one byte beyond the limit of the
+/// version.
 pub fn read_model_file<I: Inputs>(
     alloc: Global,
     version: Version,
@@ -90,7 +91,7 @@ pub fn read_model_file<I: Inputs>(
     }
 }
 
-/// The status that the halt is answered by.
+/// The status for a halt.
 pub fn halt_status(halt: ModelHalt) -> Status
     ensures { result ≡ halt_status halt }
 {

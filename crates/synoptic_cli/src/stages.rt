@@ -1,4 +1,4 @@
-//! Reads what a task works on: stage after stage.
+//! Reads what a task works on, stage by stage.
 ghost use Rattle.std.specs.Prelude.{◌≡◌, ◌<◌, ◌^◌, Err, IfOk, IfErr, OnOk, length};
 ghost use Rattle.std.specs.Option.{IsSomeAnd};
 ghost use Rattle.outside.specs.Inputs.{Stays};
@@ -29,13 +29,13 @@ use std::alloc::Global;
 /// What the stages have read so far.
 #[derive(Drop)]
 pub struct SoFar {
-    /// The rules that decide the lines of the log; None where lines are in the plain form.
+    /// The rules that decide the lines of the log; `None` if lines are in the plain form.
     pub rules: Option<LineRules>,
-    /// What the command is to work on.
+    /// What the command works on.
     pub material: Material,
 }
 
-/// The stage of the rules: reads their file, where lines are read by one.
+/// The stage of the rules: reads the rules file, if the task has one.
 fn read_rules_stage<I: Inputs, P: Patterns>(
     alloc: Global,
     task: &Task<'_>,
@@ -46,12 +46,12 @@ fn read_rules_stage<I: Inputs, P: Patterns>(
     ensures stays { Stays (I.state inputs.old) (I.state inputs.new) }
     ensures kept { PatternsStay (P.state patterns.old) (P.state patterns.new) }
 
-    // What is counted of faults and refused patterns.
+    // Which counts of faults and refused patterns stay.
     ensures memory { result ≡ Err Status.Memory
         → (I.state inputs.new).faults ≡ (I.state inputs.old).faults }
     ensures count { KeepsCounts result (P.state patterns.old) (P.state patterns.new) }
 
-    // What is read where the run goes on, and why it ends.
+    // What is read if the run goes on, and why it ends otherwise.
     ensures ok { OnOk result
         (Reads (version_of (task_held task.now).command)
         (rules_stages (task_held task.now)) so_far.old
@@ -74,7 +74,7 @@ fn read_rules_stage<I: Inputs, P: Patterns>(
     }
 }
 
-/// The stage of the model: reads its file, where the task has one, of the version that the command reads.
+/// The stage of the model: reads the model file, if the task has one, in the version that the command reads.
 fn read_model_stage<I: Inputs>(
     alloc: Global,
     task: &Task<'_>,
@@ -83,7 +83,7 @@ fn read_model_stage<I: Inputs>(
 ) -> Result<(), ModelHalt>
     ensures stays { Stays (I.state inputs.old) (I.state inputs.new) }
 
-    // What is read where the run goes on, and why it ends.
+    // What is read if the run goes on, and why it ends otherwise.
     ensures ok { OnOk result
         (Reads (version_of (task_held task.now).command)
         (model_stages (task_held task.now)) so_far.old
@@ -92,7 +92,7 @@ fn read_model_stage<I: Inputs>(
         (λ name. ModelHalts (version_of (task_held task.now).command)
         (I.state inputs.old) (I.state inputs.new) name halt)) }
 
-    // Want of memory hides no fault.
+    // Running out of memory hides no fault.
     ensures memory { result ≡ Err ModelHalt.Memory
         → (I.state inputs.new).faults ≡ (I.state inputs.old).faults }
     ensures turn { OpensFirst (input_names (model_stages (task_held task.now)))
@@ -110,7 +110,7 @@ fn read_model_stage<I: Inputs>(
     }
 }
 
-/// Reads the inputs of the task, stage after stage, over what is there before the first.
+/// Reads the inputs of the task, stage by stage, starting from `start`.
 fn read_stages<I: Inputs, P: Patterns>(
     alloc: Global,
     task: &Task<'_>,
@@ -123,7 +123,7 @@ fn read_stages<I: Inputs, P: Patterns>(
     ensures stays { Stays (I.state inputs.old) (I.state inputs.new) }
     ensures kept { PatternsStay (P.state patterns.old) (P.state patterns.new) }
 
-    // What is counted of faults and refused patterns.
+    // Which counts of faults and refused patterns stay.
     ensures memory { result ≡ Err Status.Memory
         → (I.state inputs.new).faults ≡ (I.state inputs.old).faults }
     ensures count { KeepsCounts result (P.state patterns.old) (P.state patterns.new) }
@@ -152,7 +152,7 @@ fn read_stages<I: Inputs, P: Patterns>(
     }
 }
 
-/// What the task's command is to work on, read from the inputs.
+/// Reads from the inputs what the task's command works on.
 pub fn read_material<I: Inputs, P: Patterns>(
     alloc: Global,
     task: &Task<'_>,
@@ -163,7 +163,7 @@ pub fn read_material<I: Inputs, P: Patterns>(
     ensures stays { Stays (I.state inputs.old) (I.state inputs.new) }
     ensures kept { PatternsStay (P.state patterns.old) (P.state patterns.new) }
 
-    // What is counted of faults and refused patterns.
+    // Which counts of faults and refused patterns stay.
     ensures memory { result ≡ Err Status.Memory
         → (I.state inputs.new).faults ≡ (I.state inputs.old).faults }
     ensures count { KeepsCounts result (P.state patterns.old) (P.state patterns.new) }

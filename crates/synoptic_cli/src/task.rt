@@ -1,4 +1,4 @@
-//! The inputs of the task that the words of the command line ask for.
+//! The inputs of the task that the arguments ask for.
 ghost use Rattle.std.specs.Prelude.{◌≡◌, ◌<◌, ◌^◌, IfOk, length, map, option_map, slice_get};
 ghost use Rattle.std.specs.String.{string_bytes};
 ghost use Rattle.log_reader.specs.Inputs.{inputs_of};
@@ -11,7 +11,7 @@ use invariants::Kinds;
 use model_file::Version;
 use std::alloc::{AllocError, Global};
 
-/// The name of the file of rules, where lines are read by one.
+/// The name of the rules file, if lines are read by rules.
 pub fn rules_name<'a>(form: Option<LineForm<'a>>) -> Option<&'a str>
     ensures { option_map (λ s. s.now) result ≡ rules_name (option_map form_held form.entry) }
 {
@@ -22,7 +22,7 @@ pub fn rules_name<'a>(form: Option<LineForm<'a>>) -> Option<&'a str>
     }
 }
 
-/// The name of the log's input with this number: without any file, the empty name is that of input 0.
+/// The name of the log's input with this number. If there are no files, input 0 is standard input, with the empty name.
 fn input_name<'a>(files: &[&'a str], number: u32) -> Option<&'a str>
     ensures { option_map (λ s. s.now) result
         ≡ slice_get (inputs_of (map (λ s. s.now) files.now)) number }
@@ -33,7 +33,7 @@ fn input_name<'a>(files: &[&'a str], number: u32) -> Option<&'a str>
     files.get(number as usize).copied()
 }
 
-/// The name of an input of a task; the empty one is standard input.
+/// The name of an input of a task. The empty name is standard input. `None` if the task has no such input.
 pub fn source_name<'a>(task: &Task<'a>, source: Source) -> Option<&'a str>
     ensures { option_map (λ s. s.now) result ≡ source_name (task_held task.now) source }
 {
@@ -65,7 +65,7 @@ pub fn version_of(command: Command) -> Version
     }
 }
 
-/// The names, each in memory of its own.
+/// Copies of the names.
 fn owned(alloc: Global, files: &[&str]) -> Result<Vec<String>, AllocError>
     ensures { IfOk result (λ names. map string_bytes names.items ≡ map (λ s. s.now) files.now) }
 {
@@ -76,7 +76,7 @@ fn owned(alloc: Global, files: &[&str]) -> Result<Vec<String>, AllocError>
     Ok(names)
 }
 
-/// The names of the log's files, as its reader takes them: fewer than 2^32.
+/// The names of the log's files, fewer than 2^32, as its reader takes them.
 pub fn names_of(alloc: Global, task: &Task<'_>) -> Result<Vec<String>, AllocError>
     requires { length (task_held task.now).files < 2 ^ 32 }
     ensures names { IfOk result (λ names.

@@ -18,7 +18,7 @@ use line_rules::Patterns;
 use outside::{Inputs, Sink, write_whole};
 use std::alloc::Global;
 
-/// Does the task, and writes no message.
+/// Runs the task, and writes no message.
 fn answer<I: Inputs, P: Patterns, O: Sink>(
     alloc: Global,
     task: &Task<'_>,
@@ -29,13 +29,13 @@ fn answer<I: Inputs, P: Patterns, O: Sink>(
     requires sessions { HasSessions (task_held task.now) }
     requires few { length (task_held task.now).files < 2 ^ 32 }
 
-    // What the status says, for all words that ask for the task.
+    // What the status says, for all arguments that ask for the task.
     ensures cause { (words : List (List ℕ)) → task_of words ≡ Some (task_held task.now)
         → HasCause result words
         (world (I.state inputs.old) (P.state patterns.old) (O.state out.old))
         (world (I.state inputs.new) (P.state patterns.new) (O.state out.new)) }
 
-    // What is counted of faults and refused patterns, and what stays.
+    // Which counts of faults and refused patterns stay, and what else does.
     ensures memory { result ≡ Status.Memory
         → (I.state inputs.new).faults ≡ (I.state inputs.old).faults }
     ensures count { KeepsCount result (P.state patterns.old) (P.state patterns.new) }
@@ -62,7 +62,7 @@ fn answer<I: Inputs, P: Patterns, O: Sink>(
     }
 }
 
-/// The status of words that give no task.
+/// The status if the arguments give no task.
 fn status_without_task(error: ParseError) -> Status
     ensures { result ≡ status_without_task error }
 {
@@ -72,7 +72,7 @@ fn status_without_task(error: ParseError) -> Status
     }
 }
 
-/// Does the task, and tells its status.
+/// Runs the task, and writes the message of its status.
 fn run_task<I: Inputs, P: Patterns, O: Sink, E: ErrorStream>(
     alloc: Global,
     task: &Task<'_>,
@@ -84,7 +84,7 @@ fn run_task<I: Inputs, P: Patterns, O: Sink, E: ErrorStream>(
     requires sessions { HasSessions (task_held task.now) }
     requires few { length (task_held task.now).files < 2 ^ 32 }
 
-    // What the status says, for all words that ask for the task.
+    // What the status says, for all arguments that ask for the task.
     ensures cause { (words : List (List ℕ)) → task_of words ≡ Some (task_held task.now)
         → HasCause result words
         (world (I.state inputs.old) (P.state patterns.old) (O.state out.old))
@@ -94,7 +94,7 @@ fn run_task<I: Inputs, P: Patterns, O: Sink, E: ErrorStream>(
         (world (I.state inputs.old) (P.state patterns.old) (O.state out.old))
         (world (I.state inputs.new) (P.state patterns.new) (O.state out.new)) }
 
-    // What is counted of faults and refused patterns, and what stays.
+    // Which counts of faults and refused patterns stay, and what else does.
     ensures memory { result ≡ Status.Memory
         → (I.state inputs.new).faults ≡ (I.state inputs.old).faults }
     ensures count { KeepsCount result (P.state patterns.old) (P.state patterns.new) }
@@ -102,7 +102,7 @@ fn run_task<I: Inputs, P: Patterns, O: Sink, E: ErrorStream>(
         (world (I.state inputs.old) (P.state patterns.old) (O.state out.old))
         (world (I.state inputs.new) (P.state patterns.new) (O.state out.new)) }
 
-    // Which inputs were opened, and what is told of the status.
+    // Which inputs were opened, and the message of the status.
     ensures turn { OpensFirst (input_names (stages_of (task_held task.now)))
         (I.state inputs.old) (I.state inputs.new) }
     ensures told { (words : List (List ℕ)) → task_of words ≡ Some (task_held task.now)
@@ -113,58 +113,61 @@ fn run_task<I: Inputs, P: Patterns, O: Sink, E: ErrorStream>(
     status
 }
 
-/// Does what the words ask: reads the inputs, writes the answer to `out`, and a line to `err` where it refuses.
+/// Runs the program: reads the inputs, writes the answer to `out`, and the message of the status to `err`.
 ///
-/// The words are the arguments without the program's name; `command_line::parse` says what they ask for. A run has three
-/// steps. It reads the inputs of its task in this order, as far as the task has them: the file of rules, the file of a model,
-/// the files of the log, or standard input. Then the task's command answers what was read. Then the answer is written.
+/// `words` are the arguments without the program's name. `command_line::parse` returns the task that they ask for. A run reads
+/// the inputs of its task in this order, as far as the task has them: the rules file, the model file, and the files of the log
+/// or standard input. Then the task's command computes the answer from what was read, and then the answer is written.
+/// docs/PROVED.md, section "The promise of `run`", has a table of all statuses.
 ///
-/// - `cause`: why the run ended with its status. Of the inputs, it says how many were opened, from the first on. Of one that
-///   is still open, at most one byte past the room for it was read. The room for the file of rules, or for the file of a
-///   model, is its limit. For an input of the log it is what those before it leave of the limit on all input.
-///   - `Done`: `out` has the whole answer of the command, and counted no fault. All inputs of the task were opened without a
-///     fault, and the last was read to its end. For each command, a file of `specs/Commands/` says what the answer is and
-///     what is promised of it. Invariants are of the kinds that the words ask for (`invariants`, `infer`, `paths`), of
-///     those that the file of the model names (`check`, `replay`), or of three kinds (`bench`). `migrate` writes the
-///     model of a file of version 1 as the text of version 2 that is read back as that very model.
-///   - `NoCheck`: as `Done`, for `check` alone. The model in the file is not valid for the log. The named part is the first
-///     that fails, in the order of `Part`, first at the number or the pair that it names. The answer names it.
-///   - `NoReplay`: as `Done`, for `replay` alone. The history of the model in the file is not justified by the log. The named
-///     step is the first that fails, in the order of `ReplayPart`. The answer names it.
-///   - `Usage`: the words ask for nothing that is known. Inputs and patterns are untouched.
-///   - `Expressions`: the file of rules has this refusal, which is never want of memory. It alone was opened, and was read
-///     to its end, or to one byte past its limit. A pattern that is too deep or too large is refused at the named line only
-///     if no line before it is refused. Too large comes only if the patterns counted a refusal and may refuse this pattern.
-///   - `Log`, and `Limit` of types, events or input: this is the first refusal of the log, in the order of its bytes. The
-///     inputs up to the one with that line, or with the byte past the limit, were opened without a fault. That one is open, and
-///     has left what stands behind some front of it.
-///   - `Limit` of partitions or paths: nothing in the inputs is refused. All were opened without a fault, and the last was
-///     read to its end. Refinement of the log wants one partition more than 1,024, or the paths of its splits and blocks have
-///     more than 4,000,000 numbers.
-///   - `ModelFile`: the file of the model has this refusal, which is never want of memory: as a file of version 1 for
-///     `migrate`, and as one of version 2 for all others. The inputs up to it were opened without a fault, and it was read
-///     to its end, or to one byte past the limit of that version.
-///   - `ReadFault`: the inputs counted a fault and may fail the named input. Or files are known, the named input is the first
-///     that is not there, nothing before it is refused, and no fault was counted. The inputs before it were opened, and it
-///     too unless its opening failed. Where a read of it failed, it is still open, with what stands behind some front of it;
-///     otherwise nothing is open.
-///   - `WriteFault`: the task has an answer, as for `Done`, `NoCheck` or `NoReplay`. `out` counted a fault, and has a front of
-///     the answer.
-///   - `Memory`: memory was wanted, for the words, the inputs or the answer. No clause says when. No more inputs were opened
-///     than the task has, and none without a task. The last that was opened was read to its end; or it is open, and has left
-///     what stands behind some front of it.
+/// Files are *known* if contracts can name their bytes, as for files in memory. If they are known, the clauses state everything
+/// below. If not, what they state about the contents of an input holds for some bytes, and they do not state how far an input
+/// was read. A sink is treated alike: what was appended is stated only if its bytes are known. Counts are stated always.
 ///
-///   But for `Done`, `NoCheck`, `NoReplay` and `WriteFault`, `out` is untouched.
-/// - `expected`: where files are known and no fault or refusal was counted, the status is the one that the words and the
-///   files have (`runs_end_alike`: there is no other; `outcomes_are_known`: by command, where no input is refused). The
-///   exceptions are want of memory, and a pattern that nests too deep, at the named line.
-/// - `memory`: want of memory hides no fault of the inputs.
+/// The *room* for the rules file or the model file is its limit. The room for an input of the log is what the ones before it
+/// leave of the limit on all input. If an input is still open, at most one byte beyond its room was read.
+///
+/// - `cause`: why the run ended with its status. For all but the first three and `WriteFault`, `out` is untouched.
+///   - `Done`: the whole answer was appended to `out`, and no fault counted. All inputs of the task were opened without a
+///     fault, nothing in them is refused, and the last was read to its end. For each command a file of `specs/Commands/`
+///     defines the answer and what it promises. The kinds of invariants are those that the arguments ask for (`invariants`,
+///     `infer`, `paths`), those that the model file names (`check`, `replay`), or three (`bench`).
+///   - `NoCheck`: as `Done`, only for `check`. The model in the file is not valid for the log. The named part is the first that
+///     fails, in the order of `Part`, first at the number or the pair that it names. The answer names it too.
+///   - `NoReplay`: as `Done`, only for `replay`. The history of the model in the file is not justified by the log. The named
+///     step is the first that fails, in the order of `ReplayPart`. The answer names it too.
+///   - `Usage`: the arguments ask for no task. Inputs and patterns are untouched.
+///   - `Expressions`: the rules file has this refusal, never out of memory. Only this file was opened, without a fault, and it
+///     was read to its end or to one byte beyond its limit. A pattern that nests too deep or is too large is refused at the
+///     named line only if no line before it is refused. Too large requires that the patterns counted a refusal and may refuse
+///     this pattern.
+///   - `Log`, and `Limit` of types, events or input: this is the first refusal of the log, in byte order. The inputs up to the
+///     one with that line, or with the byte beyond the limit, were opened without a fault. The last of them is still open.
+///   - `Limit` of partitions or paths: nothing in the inputs is refused. All were opened without a fault, and the last was read
+///     to its end. Refinement of the log needs one partition more than 1,024, or the paths of its splits and blocks have more
+///     than 4,000,000 ids.
+///   - `ModelFile`: the model file has this refusal, never out of memory. It is read by version 1 for `migrate`, and by version
+///     2 for all other commands. The inputs up to it were opened without a fault, and it was read to its end or to one byte
+///     beyond its limit.
+///   - `ReadFault`: the inputs counted a fault and may fail the named input. Then those before it were opened, and either
+///     nothing is open, or the named one was opened too and is still open. Or files are known, the named input is the first
+///     that does not exist, nothing before it is refused, and no fault was counted. Then those before it were opened, and
+///     nothing is open.
+///   - `WriteFault`: the task has an answer, as for `Done`, `NoCheck` or `NoReplay`. A prefix of it was appended to `out`, and
+///     a fault counted.
+///   - `Memory`: memory ran out. No clause says when. At most as many inputs were opened as the task has. Without a task, the
+///     inputs are as before. The last that was opened was read to its end, or is still open.
+/// - `expected`: if files are known, and no fault of the inputs or of `out` and no refusal of a pattern was counted, the status
+///   is the one that the arguments and the files have. There is only one (`runs_end_alike`), and `outcomes_are_known` gives it
+///   by command if no input is refused. The exceptions are `Memory`, and a pattern that nests too deep, at the named line.
+/// - `memory`: with `Memory` the count of faults of the inputs is as before. So running out of memory hides no fault.
 /// - `count`: no pattern was refused for its size, unless that is the answer.
-/// - `stays`: the inputs' files, the names that they may fail and the patterns that may be refused stay as they were.
-/// - `turn`: the inputs that were opened are the first of those of the task, in this order, each but the last was read to its
-///   end, and no others were opened; or no call of the inputs was made. How many there were, `cause` says.
-/// - `told`: `err` has the status's message and counted no fault, or a front of it if it counted one. No call of `err` gives
-///   an answer, so no fault there changes the status or anything else.
+/// - `stays`: the files of the inputs, the names that they may fail and the patterns that may be refused stay as they were.
+/// - `turn`: the inputs are as before; or those that were opened are the first of the task, in the order above, and no others,
+///   and each but the last was read to its end. `cause` states how many. Which ones they were is stated only if files are known
+///   and stand in this order.
+/// - `told`: the message of the status was appended to `err` and no fault counted, or a prefix of it was appended and a fault
+///   counted. Calls of `err` return nothing, so no fault there changes the status or anything else.
 pub fn run<I: Inputs, P: Patterns, O: Sink, E: ErrorStream>(
     alloc: Global,
     words: &[String],
@@ -180,7 +183,7 @@ pub fn run<I: Inputs, P: Patterns, O: Sink, E: ErrorStream>(
         (world (I.state inputs.old) (P.state patterns.old) (O.state out.old))
         (world (I.state inputs.new) (P.state patterns.new) (O.state out.new)) }
 
-    // What is counted of faults and refused patterns, and what stays.
+    // Which counts of faults and refused patterns stay, and what else does.
     ensures memory { result ≡ Status.Memory
         → (I.state inputs.new).faults ≡ (I.state inputs.old).faults }
     ensures count { KeepsCount result (P.state patterns.old) (P.state patterns.new) }
@@ -192,7 +195,7 @@ pub fn run<I: Inputs, P: Patterns, O: Sink, E: ErrorStream>(
     ensures turn { OpensFirst (names_of (map string_bytes words.now))
         (I.state inputs.old) (I.state inputs.new) }
 
-    // What is told of the status.
+    // The message of the status.
     ensures told { Tells (message_of (map string_bytes words.now) result)
         (E.heard err.old) (E.heard err.new) }
 {

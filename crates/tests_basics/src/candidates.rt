@@ -26,7 +26,7 @@ pub fn kinds(word: &str) -> Kinds {
     }
 }
 
-/// The invariant of a word, as `AF,0,2`.
+/// The invariant of an argument, for example `AF,0,2`.
 pub fn invariant(word: &str) -> Invariant {
     let (name, types) = halves(word, ',');
     let (a, b) = halves(types, ',');
@@ -37,7 +37,7 @@ pub fn invariant(word: &str) -> Invariant {
     }
 }
 
-/// `candidate KINDS TYPES INDEX`: how many candidates there are, the one at the index, and where that stands.
+/// `candidate KINDS TYPES INDEX`: how many candidates there are, the one at the index, and its index.
 pub fn at_index(alloc: Global, words: &str) -> Result<String, AllocError> {
     let (number_of_kinds, rest) = halves(words, ' ');
     let (types, index) = halves(rest, ' ');

@@ -4,7 +4,7 @@ use crate::words::{halves, plain, text};
 use lines::{next_piece, plain_fields_ahead, without_return};
 use std::alloc::{AllocError, Global};
 
-/// The first piece of bytes, its line, and what stands after its line feed.
+/// The first piece of bytes, its line, and what follows its line feed.
 fn cut(alloc: Global, bytes: &[u8]) -> Result<String, AllocError> {
     if bytes.is_empty() {
         return String::from_str(alloc, "none");
@@ -20,7 +20,7 @@ pub fn piece(alloc: Global, word: &str) -> Result<String, AllocError> {
     cut(alloc, bytes.as_bytes())
 }
 
-/// The fields of a line with what stands behind it.
+/// The fields of a line with what follows it.
 fn parted(alloc: Global, line: &str, behind: &str) -> Result<String, AllocError> {
     let mut bytes = String::from_str(alloc, line)?;
     bytes.push_str(behind)?;

@@ -5,7 +5,7 @@ use limits::MAX_SESSIONS;
 use load_maker::make_log;
 use std::alloc::{AllocError, Global};
 
-/// How many lines the bytes have, some bytes at either end, and the checksum of all.
+/// The number of lines, some bytes at both ends, and the checksum of all bytes.
 fn ends(alloc: Global, bytes: &[u8], some: usize) -> Result<String, AllocError> {
     let lines = bytes.iter().filter(|byte| **byte == 10).count();
     let some = some.min(bytes.len());

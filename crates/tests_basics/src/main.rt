@@ -1,5 +1,5 @@
-//! Prints what the calls of the lower crates answer. Each line of standard input is a case: the name of what is called, and
-//! what it is called with. `cases/README.md` says how the lines are written, and `make` makes them.
+//! Prints the answers of calls of the lower crates. Each line of standard input is a case: the name of the call, and its
+//! arguments. `cases/README.md` explains the lines, and `make` makes them.
 #![tactic(auto)]
 
 mod candidates;
@@ -17,7 +17,7 @@ use std::alloc::{AllocError, Global};
 use std::io;
 use words::halves;
 
-/// What comes of a case on lines, invariants, miners and reports.
+/// The result of a case on lines, invariants, miners and reports.
 fn of_logs(alloc: Global, name: &str, rest: &str) -> Result<String, AllocError> {
     match name {
         "piece" => cuts::piece(alloc, rest),
@@ -36,7 +36,7 @@ fn of_logs(alloc: Global, name: &str, rest: &str) -> Result<String, AllocError> 
     }
 }
 
-/// What comes of a case on stores, sinks or logs.
+/// The result of a case on stores, sinks or logs.
 fn of_stores(alloc: Global, name: &str, rest: &str) -> Result<String, AllocError> {
     match name {
         "rows" => rows::told(alloc, rest),
@@ -50,7 +50,7 @@ fn of_stores(alloc: Global, name: &str, rest: &str) -> Result<String, AllocError
     }
 }
 
-/// What comes of a case.
+/// The result of a case.
 fn told(rt: &HostRuntime, case: &str) -> Result<String, AllocError> {
     let (name, rest) = halves(case, ' ');
     match name {

@@ -1,4 +1,4 @@
-//! Logs of types, and the invariants that are mined of them.
+//! Logs of types, and the invariants that are mined from them.
 
 use crate::candidates::kinds;
 use crate::words::{halves, number};
@@ -10,17 +10,17 @@ use std::alloc::{AllocError, Global};
 use trace_builder::Builder;
 use traces::TraceSet;
 
-/// How many invariants are shown at most.
+/// The maximum number of invariants that are shown.
 const SHOWN: usize = 100;
 
-/// The traces of a log, and the number behind each event.
+/// The traces of a log, and the number after each event.
 #[derive(Drop)]
 pub struct Log {
     pub traces: TraceSet,
     pub numbers: Vec<u32>,
 }
 
-/// Adds an event of a trace, as `TYPE` or `TYPE@NUMBER`.
+/// Adds an event of a trace, given as `TYPE` or `TYPE@NUMBER`.
 fn add(
     builder: &mut Builder,
     numbers: &mut Vec<u32>,
@@ -59,7 +59,7 @@ pub fn log_of(alloc: Global, log: &str) -> Result<Log, AllocError> {
     Ok(Log { traces, numbers })
 }
 
-/// Puts how many invariants there are, and the first of them, at the end of the text.
+/// Appends how many invariants there are, and the first of them, to the text.
 fn put(told: &mut String, mined: &[Invariant]) -> Result<(), AllocError> {
     write!(told, "{}:", mined.len())?;
     for inv in mined.iter().take(SHOWN) {
@@ -76,7 +76,7 @@ fn listed(alloc: Global, mined: Result<Seq<Invariant>, AllocError>) -> Result<St
     Ok(told)
 }
 
-/// Two texts, of which the second is not shown where it is the same.
+/// Two texts. The second is not shown if it equals the first.
 fn both(alloc: Global, first: String, second: String) -> Result<String, AllocError> {
     if first == second {
         return format!(in alloc; "{first}\nthe same");
@@ -84,7 +84,7 @@ fn both(alloc: Global, first: String, second: String) -> Result<String, AllocErr
     format!(in alloc; "{first}\n{second}")
 }
 
-/// `mine KINDS|TRACE|TRACE..`: what either miner finds.
+/// `mine KINDS|TRACE|TRACE..`: what each of the two miners finds.
 pub fn mined(alloc: Global, words: &str) -> Result<String, AllocError> {
     let (number_of_kinds, log) = halves(words, '|');
     let kinds = kinds(number_of_kinds);

@@ -1,5 +1,5 @@
-//! Stores whose memory is taken once, what a run's log says, and a counter. The calls are fixed, since what each requires of
-//! the store before it is seen where they stand.
+//! Stores that allocate their memory once, the log of a run, and a counter. The calls are fixed, so that what each requires of
+//! the store before it can be seen in the code.
 ghost use Rattle.std.specs.Prelude.{◌≡◌, ◌+◌, ◌<◌, length};
 ghost use Rattle.cell_pool.specs.Tables.{HasCells};
 
@@ -73,7 +73,7 @@ pub fn entries(alloc: Global) -> Result<String, AllocError> {
     )
 }
 
-/// Puts splits at the end of the text.
+/// Appends splits to the text.
 fn put_splits(told: &mut String, list: &[Split]) -> Result<(), AllocError> {
     for split in list {
         write!(
@@ -87,7 +87,7 @@ fn put_splits(told: &mut String, list: &[Split]) -> Result<(), AllocError> {
     Ok(())
 }
 
-/// Puts blocks at the end of the text.
+/// Appends blocks to the text.
 fn put_blocks(told: &mut String, list: &[Block]) -> Result<(), AllocError> {
     for block in list {
         write!(
@@ -102,7 +102,7 @@ fn put_blocks(told: &mut String, list: &[Block]) -> Result<(), AllocError> {
     Ok(())
 }
 
-/// Puts merges at the end of the text.
+/// Appends merges to the text.
 fn put_merges(told: &mut String, list: &[Merge]) -> Result<(), AllocError> {
     for merge in list {
         write!(told, "merge {} {}\n", merge.p, merge.q)?;
@@ -110,7 +110,7 @@ fn put_merges(told: &mut String, list: &[Merge]) -> Result<(), AllocError> {
     Ok(())
 }
 
-/// `history`: two paths, of which the second serves a split and a block.
+/// `history`: two paths. The second belongs to a split and a block.
 pub fn history(alloc: Global) -> Result<String, AllocError> {
     let mut told = String::new(alloc);
     let mut spans = Spans::make(alloc, 9)?;
@@ -132,7 +132,7 @@ pub fn history(alloc: Global) -> Result<String, AllocError> {
     Ok(told)
 }
 
-/// Three steps, by a counter that others may go on with.
+/// Three steps with a counter that others may use further.
 fn take_three<L: Ledger>(steps: &mut Steps<L>)
     ensures { steps.new ≡ steps.old + 3 }
 {
@@ -141,7 +141,7 @@ fn take_three<L: Ledger>(steps: &mut Steps<L>)
     steps.tick();
 }
 
-/// A call is proved only where the counter stands at this count.
+/// A call is proved only if the counter is at this count.
 fn stands_at<L: Ledger>(_steps: &Steps<L>, count: u32) -> u32
     requires { _steps.now ≡ count }
     ensures { result ≡ count }
@@ -149,7 +149,7 @@ fn stands_at<L: Ledger>(_steps: &Steps<L>, count: u32) -> u32
     count
 }
 
-/// As a caller that counts nothing calls what counts.
+/// How a caller that counts nothing calls a function that counts.
 fn count_six<L: Ledger>(blank: Blank) -> u32
     requires name { blank.name ≡ L.name }
     requires parts { blank.parts ≡ L.parts }
@@ -162,7 +162,7 @@ fn count_six<L: Ledger>(blank: Blank) -> u32
     stands_at(&steps, 6)
 }
 
-/// `steps`: a count, and how many bytes the counter takes.
+/// `steps`: a count, and the size of the counter in bytes.
 pub fn steps(alloc: Global) -> Result<String, AllocError> {
     let count = count_six::<Brand>(Blank::new(1));
     let size = std::mem::size_of::<Steps<Brand>>();

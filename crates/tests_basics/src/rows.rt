@@ -1,4 +1,4 @@
-//! Four rows of bits: a step on the first, and what the rows are then.
+//! Four rows of bits: a step on the first row, and the rows afterwards.
 ghost use Rattle.std.specs.Prelude.{◌≤◌, ◌<◌, IfOk};
 ghost use Rattle.bit_rows.specs.Tables.{HasShape};
 
@@ -36,7 +36,7 @@ fn step_of(word: &str) -> Step {
     }
 }
 
-/// Turns the bits of a row on where the word has a 1.
+/// Turns on the bits of a row at which the text has a 1.
 fn put_row(rows: &mut Rows, r: usize, bits: usize, word: &str)
     requires shape { HasShape rows.old 4 bits }
     requires row { r < 4 }
@@ -47,7 +47,7 @@ fn put_row(rows: &mut Rows, r: usize, bits: usize, word: &str)
     }
 }
 
-/// Four rows, each with the bits of a word.
+/// Four rows, each with the bits of a text.
 fn filled(alloc: Global, bits: usize, words: &str) -> Result<Rows, AllocError>
     requires { bits ≤ 1000 }
     ensures { IfOk result (λ made. HasShape made 4 bits) }
@@ -59,7 +59,7 @@ fn filled(alloc: Global, bits: usize, words: &str) -> Result<Rows, AllocError>
     Ok(rows)
 }
 
-/// Takes the step; whether the row changed, where the step says so.
+/// Takes the step. Returns whether the row changed, if the step reports this.
 fn take_step(rows: &mut Rows, step: Step, bits: usize) -> bool
     requires { HasShape rows.old 4 bits }
     ensures { HasShape rows.new 4 bits }
@@ -77,7 +77,7 @@ fn take_step(rows: &mut Rows, step: Step, bits: usize) -> bool
     false
 }
 
-/// Puts the bits of a row at the end of the text.
+/// Appends the bits of a row to the text.
 fn put_bits(told: &mut String, rows: &Rows, r: usize, bits: usize) -> Result<(), AllocError>
     requires shape { HasShape rows.now 4 bits }
     requires row { r < 4 }
@@ -88,8 +88,8 @@ fn put_bits(told: &mut String, rows: &Rows, r: usize, bits: usize) -> Result<(),
     Ok(())
 }
 
-/// Puts what is found in a row at the end of the text: whether all bits are off, the first that is on, and the next from
-/// each place.
+/// Appends what is found in a row to the text: whether all bits are off, the first bit that is on, and the next from each
+/// place.
 fn put_found(
     told: &mut String,
     rows: &Rows,
@@ -109,7 +109,7 @@ fn put_found(
     told.push('\n')
 }
 
-/// Puts whether the step changes the first row, and changes it once more, and what the rows are then, at the end of the text.
+/// Appends to the text whether the step changes the first row, whether it changes it again, and the rows afterwards.
 fn put_all(
     told: &mut String,
     rows: &mut Rows,
@@ -129,7 +129,8 @@ fn put_all(
     Ok(())
 }
 
-/// `rows STEP ROW ROW ROW ROW|PLACE PLACE ..`: the first row is as long as all, and a row that is shorter is off behind its end.
+/// `rows STEP ROW ROW ROW ROW|PLACE PLACE ..`: all rows are as long as the first. The bits of a shorter one are off after its
+/// end.
 pub fn told(alloc: Global, words: &str) -> Result<String, AllocError> {
     let (head, places) = halves(words, '|');
     let (step, words) = halves(head, ' ');

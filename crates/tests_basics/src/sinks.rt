@@ -5,7 +5,7 @@ use crate::words::{halves, number, plain, text};
 use outside::{Failed, MemSink, RealSink, Sink, write_whole};
 use std::alloc::{AllocError, Global};
 
-/// The answer of a call, and what the sink holds then.
+/// The answer of a call, and what the sink contains after it.
 fn step(alloc: Global, sink: &mut MemSink, step: &str) -> Result<String, AllocError> {
     let (verb, word) = halves(step, ',');
     let piece = plain(alloc, word)?;

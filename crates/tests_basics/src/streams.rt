@@ -34,19 +34,19 @@ fn whole<I: Inputs>(
     }
 }
 
-/// So many bytes.
+/// This many bytes.
 fn bytes_of(alloc: Global, count: u32) -> Result<Vec<u8>, AllocError> {
     (0..count).map(|i| (i % 251) as u8).collect(alloc)
 }
 
-/// Makes a file with so many bytes.
+/// Makes a file with this many bytes.
 fn make<R: Files>(rt: &R, alloc: Global, name: &str, count: &str) -> Result<String, AllocError> {
     let bytes = bytes_of(alloc, number(count))?;
     let made = fs::write(rt, name, bytes.as_slice()).is_ok();
     format!(in alloc; "{made} {}", checksum(&bytes))
 }
 
-/// What comes of one call.
+/// The result of one call.
 fn step<R: Files, I: Inputs>(
     rt: &R,
     alloc: Global,
@@ -65,7 +65,7 @@ fn step<R: Files, I: Inputs>(
     }
 }
 
-/// What comes of calls, a line for each.
+/// The results of calls, one line for each.
 fn told<R: Files, I: Inputs>(
     rt: &R,
     alloc: Global,
@@ -81,7 +81,7 @@ fn told<R: Files, I: Inputs>(
     Ok(told)
 }
 
-/// Files, as `NAME=BYTES`.
+/// Files, each given as `NAME=BYTES`.
 fn files_of(alloc: Global, words: &str) -> Result<Vec<(String, Vec<u8>)>, AllocError> {
     let mut files = Vec::new(alloc);
     for word in words.split(' ') {

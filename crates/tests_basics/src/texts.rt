@@ -30,7 +30,7 @@ pub fn invariants(alloc: Global, words: &str) -> Result<String, AllocError> {
     told(alloc, invariant_report(alloc, &types, &invs))
 }
 
-/// The partition of a word, as `7,3,4`.
+/// The partition of an argument, for example `7,3,4`.
 fn partition(word: &str) -> Partition {
     let (id, rest) = halves(word, ',');
     let (typ, count) = halves(rest, ',');
@@ -41,7 +41,7 @@ fn partition(word: &str) -> Partition {
     }
 }
 
-/// The edge of a word, as `0,2,3`.
+/// The edge of an argument, for example `0,2,3`.
 fn edge(word: &str) -> Edge {
     let (from, rest) = halves(word, ',');
     let (to, count) = halves(rest, ',');

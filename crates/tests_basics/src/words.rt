@@ -1,13 +1,13 @@
-//! The words of a case, and bytes as they are printed.
+//! The arguments of a case, and bytes as they are printed.
 
 use std::alloc::{AllocError, Global};
 
-/// What stands before and after the first such letter; without one, all and nothing.
+/// The parts before and after the first such letter; if there is none, all and nothing.
 pub fn halves<'a>(words: &'a str, at: char) -> (&'a str, &'a str) {
     words.split_once(at).unwrap_or((words, ""))
 }
 
-/// The letter that a letter of a word stands for.
+/// The letter that a letter of an argument stands for.
 fn meant(letter: char) -> char {
     match letter {
         '~' => '\n',
@@ -17,7 +17,7 @@ fn meant(letter: char) -> char {
     }
 }
 
-/// The text that a word stands for: `~` is a line feed, `^` a carriage return, `_` a space and `%` nothing.
+/// The text that an argument stands for: `~` is a line feed, `^` a carriage return, `_` a space and `%` nothing.
 pub fn plain(alloc: Global, word: &str) -> Result<String, AllocError> {
     word.chars()
         .filter(|letter| *letter != '%')
@@ -25,7 +25,7 @@ pub fn plain(alloc: Global, word: &str) -> Result<String, AllocError> {
         .collect(alloc)
 }
 
-/// The number that a word says, and 0 where it says none.
+/// The number in an argument; 0 if it is not a number.
 pub fn number(word: &str) -> u32 {
     word.parse().unwrap_or(0)
 }
@@ -35,7 +35,7 @@ pub fn text(bytes: &[u8]) -> &str {
     str::from_utf8(bytes).unwrap_or("?")
 }
 
-/// A number that tells long texts apart.
+/// A checksum, to compare long texts.
 pub fn checksum(bytes: &[u8]) -> u64 {
     bytes.iter().fold(7, |checksum: u64, byte| {
         checksum
@@ -44,7 +44,7 @@ pub fn checksum(bytes: &[u8]) -> u64 {
     })
 }
 
-/// The bytes where they are few, and else how many there are, and their checksum.
+/// The bytes if they are few; otherwise their number and their checksum.
 pub fn shown(alloc: Global, bytes: &[u8]) -> Result<String, AllocError> {
     if bytes.len() > 99 {
         return format!(in alloc; "{} bytes, {}", bytes.len(), checksum(bytes));

@@ -44,7 +44,7 @@ fn recheck(alloc: Global, workbench: &Workbench) -> Result<Verdict, AllocError>
     }
 }
 
-/// Infers the model of the log and checks it. None stands for a limit, or for too little memory.
+/// Infers the model of the log and checks it. `None` means that a limit was exceeded or memory ran out.
 fn verdict<L: Ledger>(alloc: Global, blank: Blank) -> Option<Verdict>
     requires name { blank.name ≡ L.name }
     requires parts { blank.parts ≡ L.parts }

@@ -1,4 +1,4 @@
-//! The desk: a log with its graph, invariants with their labels and marks, and a finder, of which steps ask.
+//! The desk: a log with its graph, invariants with their labels and marks, and a path finder. Steps query it.
 use crate::labels_and_marks::{LabelsAndMarks, labels_and_marks_of};
 use crate::logs::log_of;
 use crate::moves::{put_chain_of, put_moves};
@@ -16,7 +16,7 @@ use traces::TraceSet;
 #[derive(Drop)]
 pub struct Desk {
     log: Option<TraceSet>,
-    /// The graph, and for each trace the number of the one that has its word there, where words are shared.
+    /// The graph. If words are shared, also for each trace the number of the trace that has its word in the graph.
     graph: Option<(PartGraph, Vec<u32>)>,
     finder: Option<Finder>,
     labels_and_marks: Option<LabelsAndMarks>,
@@ -32,7 +32,7 @@ fn put_counts(told: &mut String, graph: &PartGraph, numbers: &[u32]) -> Result<(
 }
 
 impl Desk {
-    /// A desk with nothing on it.
+    /// An empty desk.
     pub fn new() -> Desk {
         Desk {
             log: None,
@@ -42,7 +42,7 @@ impl Desk {
         }
     }
 
-    /// Opens the graph of the log, of its distinct words where they are to be shared.
+    /// Opens the graph of the log, or that of its distinct words if they are to be shared.
     fn open(&mut self, alloc: Global, is_shared: bool) -> Result<(), AllocError> {
         let Some(log) = &self.log else {
             return Ok(());
@@ -56,7 +56,7 @@ impl Desk {
         )
     }
 
-    /// Makes what a step is to make.
+    /// Makes what a step asks for.
     fn make(&mut self, alloc: Global, word: &str, text: &str) -> Result<(), AllocError> {
         match word {
             "log" => {
@@ -70,7 +70,7 @@ impl Desk {
         }
     }
 
-    /// Asks for the least paths that break the invariants.
+    /// Queries the shortest counterexample paths of the invariants.
     fn ask_finder(&mut self, told: &mut String, text: &str) -> Result<(), AllocError> {
         let Some((graph, _)) = &self.graph else {
             return Ok(());
@@ -84,7 +84,7 @@ impl Desk {
         }
     }
 
-    /// Asks the labels and the marks.
+    /// Queries the labels and the marks.
     fn ask_labels_and_marks(
         &mut self,
         alloc: Global,
@@ -111,7 +111,7 @@ impl Desk {
         }
     }
 
-    /// Asks the graph.
+    /// Queries the graph.
     fn ask_graph(
         &mut self,
         alloc: Global,
@@ -135,7 +135,7 @@ impl Desk {
         }
     }
 
-    /// Runs refinement on the first graph of the log, and coarsening too where the run is to be whole.
+    /// Runs refinement on the first graph of the log, and also coarsening if the run is to be whole.
     fn run(
         &self,
         alloc: Global,
@@ -149,7 +149,7 @@ impl Desk {
         }
     }
 
-    /// Tells what comes of a step, where all is made for it.
+    /// Reports the result of a step, if everything it needs is there.
     fn ask(
         &mut self,
         alloc: Global,
@@ -168,7 +168,7 @@ impl Desk {
         }
     }
 
-    /// Takes a step, and tells what came of it.
+    /// Takes a step, and reports its result.
     pub fn step(&mut self, alloc: Global, line: &str) -> Result<String, AllocError> {
         let (word, text) = line.split_once(' ').unwrap_or((line, ""));
         self.make(alloc, word, text)?;

@@ -1,4 +1,4 @@
-//! What has to be known before a graph, a view, or labels and marks are asked.
+//! What must be known before a graph, a view, or labels and marks are queried.
 ghost use Rattle.std.specs.Prelude.{◌≡◌, ◌≤◌, ◌<◌, ℕ, All, Some, length, slice_get};
 ghost use Rattle.std.specs.Bool.{OnTrue};
 ghost use Rattle.limits.specs.declared.TheConstants.{LAST_TYPE, MAX_EVENTS, MAX_INVARIANTS};
@@ -39,7 +39,7 @@ pub fn can_be_spread(graph: &PartGraph, numbers: &[u32]) -> bool
     are_below(graph.trace_count(), numbers)
 }
 
-/// Whether there are not too many invariants, and each is of types that there may be.
+/// Whether there are not too many invariants, and each is of possible types.
 pub fn are_named(invs: &[Invariant]) -> bool
     ensures few { OnTrue result (length invs.now ≤ MAX_INVARIANTS) }
     ensures named { OnTrue result ((k : ℕ) (inv : Invariant) → slice_get invs.now k ≡ Some inv

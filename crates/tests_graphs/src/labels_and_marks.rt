@@ -1,4 +1,4 @@
-//! The labels of invariants, and the marks that tell what merges lose.
+//! The labels of invariants, and the marks that show what merges lose.
 ghost use Rattle.std.specs.Prelude.{◌≡◌, ◌≢◌, ◌≤◌, ◌<◌, ℕ, IfOk, Some, length, slice_get};
 ghost use Rattle.limits.specs.declared.TheConstants.{LAST_TYPE, MAX_INVARIANTS, MAX_PARTITIONS};
 ghost use Rattle.partition_graph.specs.Seen.{IsSound};
@@ -17,7 +17,7 @@ use std::marker::Brand;
 use std::sync::ledger::{Blank, Ledger};
 use steps::Steps;
 
-/// Invariants, with their labels and their marks: those that the labels keep beside them, and marks of their own.
+/// Invariants, with their labels and two sets of marks: those that the labels keep, and separate ones.
 #[derive(Drop)]
 pub struct LabelsAndMarks {
     pub invs: Vec<Invariant>,
@@ -26,7 +26,7 @@ pub struct LabelsAndMarks {
     ghost listed: { planes.invs ≡ invs.items },
 }
 
-/// The invariant of a text as `AF 2 4`.
+/// The invariant of a text, for example `AF 2 4`.
 fn invariant_of(text: &str) -> Option<Invariant> {
     let (name, pair) = text.split_once(' ')?;
     let (a, b) = pair.split_once(' ')?;
@@ -54,7 +54,7 @@ fn invariants_of(alloc: Global, text: &str) -> Result<Vec<Invariant>, AllocError
     Ok(invs)
 }
 
-/// The same, or none where they are too many or of types that there can't be.
+/// The same; none if they are too many or of impossible types.
 fn named_of(alloc: Global, text: &str) -> Result<Vec<Invariant>, AllocError>
     ensures few { IfOk result (λ invs. length invs.items ≤ MAX_INVARIANTS) }
     ensures named { IfOk result (λ invs. (k : ℕ) (inv : Invariant)
@@ -115,7 +115,7 @@ fn find_counted<L: Ledger>(
     clashes.find(graph, &mut steps);
 }
 
-/// Makes both marks those after a merge with a counter.
+/// Updates both marks for a merge, with a counter.
 fn join_counted<L: Ledger>(
     planes: &mut Planes,
     clashes: &mut Clashes,
@@ -136,7 +136,7 @@ fn join_counted<L: Ledger>(
     clashes.join(graph, pair.0, pair.1, &mut steps);
 }
 
-/// Says which invariants the graph satisfies with a counter.
+/// Reports which invariants the graph satisfies, with a counter.
 fn tell_counted<L: Ledger>(planes: &mut Planes, graph: &PartGraph, flags: &mut [bool], blank: Blank)
     requires room { length flags.old ≡ length (planes.old).invs }
     requires name { blank.name ≡ L.name }
@@ -148,7 +148,7 @@ fn tell_counted<L: Ledger>(planes: &mut Planes, graph: &PartGraph, flags: &mut [
     planes.tell_satisfied(&View::Plain(graph), flags, &mut steps);
 }
 
-/// Puts the labels of the invariant with this number behind the text.
+/// Appends the labels of the invariant with this number to the text.
 fn put_row(told: &mut String, planes: &Planes, number: usize) -> Result<(), AllocError>
     requires { number < length (planes.now).invs }
 {
@@ -159,7 +159,7 @@ fn put_row(told: &mut String, planes: &Planes, number: usize) -> Result<(), Allo
     Ok(())
 }
 
-/// Puts a number behind the text, where there is one.
+/// Appends a number to the text, if there is one.
 fn put_number(told: &mut String, number: Option<usize>) -> Result<(), AllocError> {
     match number {
         Some(number) => write!(told, " {number}"),
@@ -168,7 +168,7 @@ fn put_number(told: &mut String, number: Option<usize>) -> Result<(), AllocError
 }
 
 impl LabelsAndMarks {
-    /// Labels the graph, or the merge of a pair, as `2+5`, and says whether that is one.
+    /// Labels the graph, or the merge of a pair, for example `2+5`. Returns whether that is a pair.
     fn label(&mut self, graph: &PartGraph, pair: &str) -> bool {
         let Some((p, q)) = pair_of(pair, '+') else {
             label(&mut self.planes, &View::Plain(graph));
@@ -223,7 +223,7 @@ impl LabelsAndMarks {
         find_counted::<Brand>(&mut self.planes, &mut self.clashes, graph, Blank::new(1));
     }
 
-    /// Merges a pair, makes the marks those after it, and says whether it is one.
+    /// Merges a pair, updates the marks, and reports whether it is a pair.
     fn join(&mut self, graph: &mut PartGraph, p: u32, q: u32) -> bool {
         if q >= MAX_PARTITIONS || !is_pair(graph, p, q) {
             return false;
@@ -239,7 +239,7 @@ impl LabelsAndMarks {
         true
     }
 
-    /// The first invariant that the merge of two ids loses, as both marks tell it.
+    /// The first invariant that the merge of two ids loses, as both sets of marks report it.
     fn put_clash(&mut self, told: &mut String, p: u32, q: u32) -> Result<(), AllocError> {
         if p >= MAX_PARTITIONS || q >= MAX_PARTITIONS {
             return told.push_str(" no");
@@ -248,7 +248,7 @@ impl LabelsAndMarks {
         put_number(told, self.clashes.first_clash(p, q))
     }
 
-    /// Asks of two ids, as `3-7`, or merges them, as `3+7`.
+    /// Queries two ids, for example `3-7`, or merges them, for example `3+7`.
     fn put_ask(
         &mut self,
         told: &mut String,
@@ -266,7 +266,7 @@ impl LabelsAndMarks {
         })
     }
 
-    /// The same for all that is asked between spaces.
+    /// The same for all queries of a text, which are separated by spaces.
     pub fn put_clashes(
         &mut self,
         told: &mut String,

@@ -1,11 +1,11 @@
-//! Logs: traces between bars, each of types between spaces. `k:a` is an event of the trace with the key `k`, and `3*a` are
-//! three events.
+//! Logs: traces separated by bars, each of types separated by spaces. `k:a` is an event of the trace with the key `k`, and
+//! `3*a` are three events.
 use limits::{MAX_TRACE_BYTES, MAX_TYPE_BYTES};
 use std::alloc::{AllocError, Global};
 use trace_builder::Builder;
 use traces::TraceSet;
 
-/// Adds an event. One that there can't be is left out.
+/// Adds an event. An impossible one is left out.
 fn add_event(builder: &mut Builder, number: u32, event: &str) {
     let (key, type_text) = event.split_once(':').unwrap_or(("", event));
     if key.len() <= MAX_TRACE_BYTES && !type_text.is_empty() && type_text.len() <= MAX_TYPE_BYTES {
@@ -13,7 +13,7 @@ fn add_event(builder: &mut Builder, number: u32, event: &str) {
     }
 }
 
-/// Adds an event so many times.
+/// Adds an event a number of times.
 fn add_events(builder: &mut Builder, number: u32, events: &str) {
     let (count, event) = events.split_once('*').unwrap_or(("1", events));
     for _ in 0..count.parse().unwrap_or(0u32) {

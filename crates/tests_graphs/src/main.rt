@@ -1,22 +1,22 @@
-//! Tells what graphs of partitions answer: their splits, merges and views, shortest paths that break an invariant, labels,
-//! marks, and whole runs of refinement and coarsening. Each line of standard input is a step, and for each a line is printed:
-//! the step's first word, and what came of it.
+//! Prints what graphs of partitions answer: their splits, merges and views, shortest counterexample paths, labels, marks, and
+//! whole runs of refinement and coarsening. Each line of standard input is a step. For each step one line is printed: the name
+//! of the step and its result.
 //!
-//! - `log a b|a c` has the log of these traces, and its first graph; `shared` the graph of its distinct words. Told are how
-//!   many traces and events the graph has, and the number of each trace's word.
-//! - `take 3/6 2+4` makes the splits and merges; told is each new id, or whether two ids are a pair. `chain 3/6 9` splits by
+//! - `log a b|a c` makes the log of these traces, and its first graph; `shared` the graph of its distinct words. Printed are
+//!   the number of traces and events of the graph, and the number of each trace's word.
+//! - `take 3/6 2+4` makes the splits and merges. Printed is each new id, or whether two ids are a pair. `chain 3/6 9` splits by
 //!   6, then by the new id, and so on, nine times.
-//! - `graph` tells all of the graph, `spread` all of the graph that is spread over the traces, `sizes 3 4` how many events
+//! - `graph` prints all of the graph, `spread` all of the graph that is spread over the traces, `sizes 3 4` how many events
 //!   these ids have, `view` and `view 2+4` what the graph and the merged one show, `edges 2>3` whether there is this edge,
 //!   `places 0231` where this path leaves the traces.
-//! - `invs AF 2 4,NF 3 3` has these invariants; `paths` and `paths 2+4` tell the least path that breaks each of them, in the
-//!   graph and in the merged one, `label` and `label 2+4` label them, `labels` tells the labels again, `satisfied` which of
-//!   them hold.
-//! - `marks` finds the marks of the graph, and `clashes 3-7 3+8` asks them of two ids, or merges these.
-//! - `refine` runs refinement on the first graph of the log by what is mined of it, `infer` coarsening too; with a 4 behind
+//! - `invs AF 2 4,NF 3 3` sets these invariants; `paths` and `paths 2+4` print the shortest counterexample path of each of
+//!   them, in the graph and in the merged one, `label` and `label 2+4` label them, `labels` prints the labels again,
+//!   `satisfied` which of them hold.
+//! - `marks` finds the marks of the graph, and `clashes 3-7 3+8` queries them for two ids, or merges these.
+//! - `refine` runs refinement on the first graph of the log by what is mined from it, `infer` coarsening too. With a 4 after
 //!   it, four kinds are mined.
 //!
-//! The cases stand in the folder `cases`. The script `make` makes `stdin` and `stdout` of them and never runs this program.
+//! The cases are in the folder `cases`. The script `make` makes `stdin` and `stdout` from them and never runs this program.
 #![tactic(auto)]
 
 mod desk;

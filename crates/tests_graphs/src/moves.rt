@@ -3,7 +3,7 @@ use crate::known::is_pair;
 use partition_graph::PartGraph;
 use std::alloc::AllocError;
 
-/// The number of a text, and 0 where it is none.
+/// The number of a text; 0 if it is not a number.
 pub fn number_of(text: &str) -> u32 {
     text.parse().unwrap_or(0)
 }
@@ -14,7 +14,7 @@ pub fn pair_of(text: &str, sign: char) -> Option<(u32, u32)> {
     Some((number_of(p), number_of(q)))
 }
 
-/// Merges a pair, and says whether it is one, and nothing is left of q.
+/// Merges a pair, and returns whether it is one, and no event of q is left.
 fn merge(graph: &mut PartGraph, p: u32, q: u32) -> bool {
     if !is_pair(graph, p, q) {
         return false;
@@ -23,7 +23,8 @@ fn merge(graph: &mut PartGraph, p: u32, q: u32) -> bool {
     !graph.is_live(q) && graph.type_of(q) == 0
 }
 
-/// Makes a split, as `3/6`, and tells the new id, or a merge, as `2+4`, and tells whether it could be made.
+/// Makes a split, for example `3/6`, and reports the new id; or a merge, for example `2+4`, and reports whether it could be
+/// made.
 fn put_move(told: &mut String, graph: &mut PartGraph, text: &str) -> Result<(), AllocError> {
     if let Some((p, next)) = pair_of(text, '/') {
         return match graph.split(p, next) {
@@ -43,8 +44,8 @@ pub fn put_moves(told: &mut String, graph: &mut PartGraph, moves: &str) -> Resul
     Ok(())
 }
 
-/// Splits p by an id, then by the one that came of it, and so on, so many times, as long as the next id comes. Tells how
-/// often it came, and the last one.
+/// Splits p by an id, then by the new id, and so on, up to a number of times, as long as there is a new id. Reports how often
+/// there was one, and the last one.
 fn put_chain(
     told: &mut String,
     graph: &mut PartGraph,
@@ -63,7 +64,7 @@ fn put_chain(
     write!(told, " {count} {next}")
 }
 
-/// The same for the moves of a text, as `3/6 1017`.
+/// The same for the moves of a text, for example `3/6 1017`.
 pub fn put_chain_of(
     told: &mut String,
     graph: &mut PartGraph,

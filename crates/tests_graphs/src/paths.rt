@@ -16,7 +16,7 @@ use std::marker::Brand;
 use std::sync::ledger::{Blank, Ledger};
 use steps::Steps;
 
-/// Puts a path behind the text, where there is one.
+/// Appends a path to the text, if there is one.
 fn put_path(told: &mut String, path: Option<&[u32]>) -> Result<(), AllocError> {
     match path {
         Some(path) => put_ids(told, path),
@@ -24,7 +24,7 @@ fn put_path(told: &mut String, path: Option<&[u32]>) -> Result<(), AllocError> {
     }
 }
 
-/// Puts the least path behind the text that breaks the invariant, after a merge where one is given, by a counter that
+/// Appends the shortest counterexample path of the invariant to the text, after a merge if one is given, with a counter that
 /// nobody reads.
 fn put_least<L: Ledger>(
     told: &mut String,
@@ -51,7 +51,8 @@ fn put_least<L: Ledger>(
     put_path(told, finder.least_loss(graph, pair, inv, false, &mut steps))
 }
 
-/// Puts the least path of each invariant behind the text, after the merge of a pair, as `2+5`, where there is one.
+/// Appends the shortest counterexample path of each invariant to the text, after the merge of a pair, for example `2+5`, if one
+/// is given.
 pub fn put_paths(
     told: &mut String,
     finder: &mut Finder,
@@ -76,7 +77,7 @@ fn path_of(alloc: Global, ids: &str) -> Result<Vec<u32>, AllocError> {
     Ok(path)
 }
 
-/// Puts the place of the path's stitch behind the text, where the path begins with INITIAL and there is a trace.
+/// Appends the place of the path's stitch to the text, if the path begins with INITIAL and there is a trace.
 fn put_place(
     told: &mut String,
     stitcher: &mut Stitcher,
@@ -93,7 +94,7 @@ fn put_place(
     Ok(())
 }
 
-/// Puts the places of the stitches of paths between spaces behind the text, by one stitcher.
+/// Appends the places of the stitches of paths, which are separated by spaces, to the text, with one stitcher.
 pub fn put_places(
     alloc: Global,
     told: &mut String,

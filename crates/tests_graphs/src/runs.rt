@@ -1,4 +1,4 @@
-//! Whole runs: refinement by the invariants that are mined of a log, and coarsening with its blocks.
+//! Whole runs: refinement by the invariants that are mined from a log, and coarsening with its blocks.
 ghost use Rattle.std.specs.Prelude.{◌≡◌, ◌≤◌, ◌<◌, ◌^◌, ℕ, [], IfOk, Some, length, slice_get};
 ghost use Rattle.limits.specs.declared.TheConstants.{LAST_TYPE, MAX_INVARIANTS, MAX_PAIRS, MAX_PATH_NUMBERS, MAX_STEPS};
 ghost use Rattle.partition_graph.specs.Parts.{start_of};
@@ -32,7 +32,7 @@ pub enum Stop {
     EvidenceLimit,
 }
 
-/// What a run needs beside a graph and invariants, and what it writes.
+/// What a run needs besides a graph and invariants, and what it writes.
 #[derive(Drop)]
 struct Tools {
     finder: Finder,
@@ -75,7 +75,7 @@ fn tools_for(alloc: Global, graph: &PartGraph, invs: &[Invariant]) -> Result<Too
     })
 }
 
-/// A call is proved only where the counter stands at this count.
+/// A call is proved only if the counter is at this count.
 fn stands_at<L: Ledger>(_steps: &Steps<L>, count: usize) -> usize
     requires { _steps.now ≡ count }
     ensures { result ≡ count }
@@ -91,8 +91,8 @@ fn ended(end: Result<(), EvidenceLimit>, count: usize) -> Result<usize, Stop> {
     }
 }
 
-/// Refines the graph and answers how many steps were counted, and, where it is to be whole, merges the graph's pairs and
-/// tells the blocks.
+/// Refines the graph and returns how many steps were counted. If the run is to be whole, it also merges the graph's pairs and
+/// reports the blocks.
 fn run<L: Ledger>(
     graph: &mut PartGraph,
     invs: &[Invariant],
@@ -149,7 +149,7 @@ fn run<L: Ledger>(
     ended(end, count)
 }
 
-/// Puts the splits behind the text, each with its invariant, its place and its path.
+/// Appends the splits to the text, each with its invariant, its place and its path.
 fn put_splits(alloc: Global, told: &mut String, tools: &Tools) -> Result<(), AllocError>
     requires { HoldsPaths tools.now.run_log tools.now.spans }
 {
@@ -161,7 +161,7 @@ fn put_splits(alloc: Global, told: &mut String, tools: &Tools) -> Result<(), All
     Ok(())
 }
 
-/// Puts the merges behind the text.
+/// Appends the merges to the text.
 fn put_merges(alloc: Global, told: &mut String, tools: &Tools) -> Result<(), AllocError> {
     let merges = run_history::merges(alloc, &tools.run_log)?;
     for merge in merges.as_slice() {
@@ -170,7 +170,7 @@ fn put_merges(alloc: Global, told: &mut String, tools: &Tools) -> Result<(), All
     Ok(())
 }
 
-/// Puts the blocks behind the text, each with its pair, its invariant and its path.
+/// Appends the blocks to the text, each with its pair, its invariant and its path.
 fn put_blocks(alloc: Global, told: &mut String, tools: &Tools) -> Result<(), AllocError>
     requires { HoldsPaths tools.now.run_log tools.now.spans }
 {
@@ -182,14 +182,14 @@ fn put_blocks(alloc: Global, told: &mut String, tools: &Tools) -> Result<(), All
     Ok(())
 }
 
-/// Puts the id of each event behind the text.
+/// Appends the id of each event to the text.
 fn put_parts(alloc: Global, told: &mut String, graph: &PartGraph) -> Result<(), AllocError> {
     let parts = graph.parts(alloc)?;
     told.push_str("; ids:")?;
     put_ids(told, parts.as_slice())
 }
 
-/// Puts what a run wrote behind the text, and the ids of the events after it.
+/// Appends what a run wrote to the text, and then the ids of the events.
 fn put_written(
     alloc: Global,
     told: &mut String,
@@ -204,8 +204,8 @@ fn put_written(
     put_parts(alloc, told, graph)
 }
 
-/// Runs on the graph, and puts what came of it behind the text: how many invariants were mined, how many numbers paths
-/// have, what the run answered, and what it wrote.
+/// Runs on the graph, and appends the result to the text: how many invariants were mined, how many ids paths have, what the run
+/// answered, and what it wrote.
 fn put_run_by(
     alloc: Global,
     told: &mut String,
@@ -229,7 +229,7 @@ fn put_run_by(
     written
 }
 
-/// The same on the first graph of a log, by what is mined of it.
+/// The same on the first graph of a log, by what is mined from it.
 fn put_mined_run(
     alloc: Global,
     told: &mut String,
@@ -245,7 +245,7 @@ fn put_mined_run(
     put_run_by(alloc, told, graph, mined.as_slice(), is_whole)
 }
 
-/// The same for a log, by three kinds, or by four where the text says 4.
+/// The same for a log, for four kinds if the text is 4, and otherwise for three.
 pub fn put_run(
     alloc: Global,
     told: &mut String,

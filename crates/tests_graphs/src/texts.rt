@@ -1,13 +1,13 @@
-//! What a graph tells.
+//! The reports of a graph.
 use crate::known::can_be_spread;
 use crate::moves::number_of;
 use partition_graph::PartGraph;
 use std::alloc::{AllocError, Global};
 
-/// So many ids are told one by one.
+/// The maximum number of ids that are listed one by one.
 const FEW: usize = 40;
 
-/// Puts ids behind the text. Of many it tells how many they are, and a number that is made of all of them.
+/// Appends ids to the text. If there are many, their number and a checksum are appended instead.
 pub fn put_ids(told: &mut String, ids: &[u32]) -> Result<(), AllocError> {
     if ids.len() > FEW {
         let mut sum = 0u32;
@@ -22,7 +22,7 @@ pub fn put_ids(told: &mut String, ids: &[u32]) -> Result<(), AllocError> {
     Ok(())
 }
 
-/// Puts the partitions behind the text, each as its id, its type and its count.
+/// Appends the partitions to the text, each as its id, its type and its count.
 fn put_partitions(alloc: Global, told: &mut String, graph: &PartGraph) -> Result<(), AllocError> {
     let partitions = graph.partitions(alloc)?;
     for partition in partitions.as_slice() {
@@ -35,7 +35,7 @@ fn put_partitions(alloc: Global, told: &mut String, graph: &PartGraph) -> Result
     Ok(())
 }
 
-/// Puts the edges behind the text, each as its ids and its count.
+/// Appends the edges to the text, each as its ids and its count.
 fn put_edges(alloc: Global, told: &mut String, graph: &PartGraph) -> Result<(), AllocError> {
     let edges = graph.edges(alloc)?;
     for edge in edges.as_slice() {
@@ -44,7 +44,7 @@ fn put_edges(alloc: Global, told: &mut String, graph: &PartGraph) -> Result<(), 
     Ok(())
 }
 
-/// Puts the id of each event behind the text, and a bar behind each trace.
+/// Appends the id of each event to the text, with a bar after each trace.
 fn put_events(told: &mut String, graph: &PartGraph) -> Result<(), AllocError> {
     told.push_str(" ")?;
     for event in 0..graph.event_count() {
@@ -59,7 +59,7 @@ fn put_events(told: &mut String, graph: &PartGraph) -> Result<(), AllocError> {
     Ok(())
 }
 
-/// Puts the number of the first event of each trace behind the text, and then how many ids are used.
+/// Appends the number of the first event of each trace to the text, and then how many ids are used.
 fn put_firsts(told: &mut String, graph: &PartGraph) -> Result<(), AllocError> {
     for t in 0..graph.trace_count() {
         write!(told, "{}#", graph.first_event(t))?;
@@ -67,8 +67,8 @@ fn put_firsts(told: &mut String, graph: &PartGraph) -> Result<(), AllocError> {
     write!(told, "{}", graph.ids_used())
 }
 
-/// All that the graph tells: its partitions, its edges, the id of each event, the first event of each trace, and how many
-/// ids are used.
+/// All reports of the graph: its partitions, its edges, the id of each event, the first event of each trace, and how many ids
+/// are used.
 pub fn put_graph(alloc: Global, told: &mut String, graph: &PartGraph) -> Result<(), AllocError> {
     put_partitions(alloc, told, graph)?;
     put_edges(alloc, told, graph)?;
@@ -76,7 +76,7 @@ pub fn put_graph(alloc: Global, told: &mut String, graph: &PartGraph) -> Result<
     put_firsts(told, graph)
 }
 
-/// What a graph tells whose events have these ids, and that they have others where they do.
+/// The reports of a graph whose events have these ids, with a note if they have others.
 fn put_graph_with(
     alloc: Global,
     told: &mut String,
@@ -90,7 +90,7 @@ fn put_graph_with(
     put_graph(alloc, told, graph)
 }
 
-/// What the graph tells that is spread over traces with these numbers.
+/// The reports of the graph that is spread over traces with these numbers.
 pub fn put_spread(
     alloc: Global,
     told: &mut String,
@@ -107,7 +107,7 @@ pub fn put_spread(
     end
 }
 
-/// How many ids are used, and how many events each of the ids between spaces has.
+/// How many ids are used, and how many events each of the given ids has. The ids are separated by spaces.
 pub fn put_sizes(told: &mut String, graph: &PartGraph, ids: &str) -> Result<(), AllocError> {
     write!(told, " {}:", graph.ids_used())?;
     for id in ids.split_whitespace() {

@@ -1,9 +1,9 @@
-//! Things that are made of others, without a word on what becomes of them where there is not the memory.
+//! Things that are made of others. Running out of memory is handled here.
 ghost use Rattle.std.specs.Prelude.{◌≡◌, IfOk, Ok};
 
 use std::alloc::AllocError;
 
-/// Both, or the want of memory that either met. What was made beside it is dropped here, once for all callers.
+/// Both, or out of memory if either ran out. The other one is dropped here, once for all callers.
 pub fn both<A: Drop, B: Drop>(
     first: Result<A, AllocError>,
     second: Result<B, AllocError>,
@@ -17,7 +17,7 @@ pub fn both<A: Drop, B: Drop>(
     }
 }
 
-/// Puts what was made in its place, and drops what was there.
+/// Replaces what was there by what was made.
 pub fn put<T: Drop>(place: &mut Option<T>, made: Result<T, AllocError>) -> Result<(), AllocError> {
     *place = Some(made?);
     Ok(())

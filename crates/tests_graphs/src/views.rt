@@ -9,7 +9,7 @@ use std::alloc::{AllocError, Global};
 /// The ids below this number are shown.
 pub const SHOWN: u32 = 12;
 
-/// Puts an id behind the text as one sign, where there is one.
+/// Appends an id to the text as one character, if there is one.
 fn put_id(told: &mut String, id: Option<u32>) -> Result<(), AllocError> {
     match id {
         Some(id) => write!(told, "{id:x}"),
@@ -17,8 +17,8 @@ fn put_id(told: &mut String, id: Option<u32>) -> Result<(), AllocError> {
     }
 }
 
-/// Puts what a view shows of one id behind the text, for each other id: its type, whether there is an edge, and the next
-/// source and the next target from that one on.
+/// Appends what a view shows of one id to the text, for each other id: its type, whether there is an edge, and the next source
+/// and the next target from that id on.
 fn put_id_shown(told: &mut String, view: &View<'_>, id: u32) -> Result<(), AllocError>
     requires { IsSound view.now }
 {
@@ -37,7 +37,7 @@ fn put_id_shown(told: &mut String, view: &View<'_>, id: u32) -> Result<(), Alloc
     Ok(())
 }
 
-/// Puts the edges of a view behind the text, as they are gathered.
+/// Appends the edges of a view to the text, as they are gathered.
 fn put_links(alloc: Global, told: &mut String, view: &View<'_>) -> Result<(), AllocError>
     requires { IsSound view.now }
 {
@@ -49,7 +49,7 @@ fn put_links(alloc: Global, told: &mut String, view: &View<'_>) -> Result<(), Al
     Ok(())
 }
 
-/// Puts what a view shows behind the text.
+/// Appends what a view shows to the text.
 fn put_shown(alloc: Global, told: &mut String, view: &View<'_>) -> Result<(), AllocError>
     requires { IsSound view.now }
 {
@@ -61,7 +61,7 @@ fn put_shown(alloc: Global, told: &mut String, view: &View<'_>) -> Result<(), Al
     Ok(())
 }
 
-/// What the view of a graph shows, or that of the merge of a pair, as `2+5`.
+/// What the view of a graph shows, or the view of the merge of a pair, for example `2+5`.
 pub fn put_view(
     alloc: Global,
     told: &mut String,
@@ -77,7 +77,7 @@ pub fn put_view(
     put_shown(alloc, told, &View::Merged(graph, p, q))
 }
 
-/// Whether a graph has each of the edges, as `2>3`, between spaces.
+/// Whether a graph has each of the edges, for example `2>3`, which are separated by spaces.
 pub fn put_edges(told: &mut String, graph: &PartGraph, edges: &str) -> Result<(), AllocError> {
     let view = View::Plain(graph);
     for edge in edges.split_whitespace() {

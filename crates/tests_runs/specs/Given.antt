@@ -4,7 +4,7 @@ use Rattle.outside.specs.Inputs.{InputState}
 use Rattle.outside.specs.InMemory.{input_state}
 use Rattle.tests_runs.specs.declared.inputs.Given.{Given}
 
--- inputs that tell nothing, and may fail at each name
+-- inputs whose files are not known, and which may fail at each name
 abbrev pub untold : ℕ → InputState
 untold opens = record {
   files = None;
@@ -16,6 +16,6 @@ untold opens = record {
   followed = None;
 }
 
--- files in memory tell all, and endless inputs nothing
+-- files in memory are known, and endless inputs are not
 abbrev pub state_of : Given → InputState
 state_of given = if given.is_endless then untold given.opens else input_state given.files

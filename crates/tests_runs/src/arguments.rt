@@ -1,10 +1,10 @@
-//! Command lines: each line has the words of one, as `crates/tests_basics/cases` has them.
+//! Command lines: each line has the arguments of one, as in `crates/tests_basics/cases`.
 
 use command_line::parse;
 use std::alloc::{AllocError, Global};
 use std::fmt::Write;
 
-/// The words of a line, with one space between them; `%` stands for a word without letters.
+/// The arguments of a line, separated by one space; `%` stands for an empty argument.
 fn words_of(alloc: Global, line: &str) -> Result<Vec<String>, AllocError> {
     let mut words = Vec::new(alloc);
     for word in line.split(' ') {
@@ -15,7 +15,7 @@ fn words_of(alloc: Global, line: &str) -> Result<Vec<String>, AllocError> {
     Ok(words)
 }
 
-/// Puts the task that the words ask for at the end of the text, or why there is none.
+/// Appends the task that the arguments ask for to the text, or why there is none.
 fn tell_words(alloc: Global, words: &[String], out: &mut String) -> Result<(), AllocError> {
     match parse(alloc, words) {
         Ok(task) => writeln!(out, "{task:?}"),
@@ -23,7 +23,7 @@ fn tell_words(alloc: Global, words: &[String], out: &mut String) -> Result<(), A
     }
 }
 
-/// The same for the words of each line.
+/// The same for the arguments of each line.
 pub fn tell(alloc: Global, lines: &str, out: &mut String) -> Result<(), AllocError> {
     for line in lines.lines() {
         let words = words_of(alloc, line)?;

@@ -1,4 +1,4 @@
-//! The steps of a case: what they write is kept until the step `run`, which runs the program over it.
+//! The steps of a case. What they write is kept until the step `run`, which runs the program over it.
 
 use crate::inputs::Given;
 use line_rules::{ListedPatterns, RegexPatterns};
@@ -34,7 +34,7 @@ const NONE: Failing = Failing {
 pub struct Case {
     /// The text that is being written.
     text: Vec<u8>,
-    /// The words after the program's name.
+    /// The arguments after the program's name.
     words: Vec<String>,
     /// The names of the files with their bytes. That of standard input is empty.
     files: Vec<(String, Vec<u8>)>,
@@ -55,7 +55,7 @@ pub struct Case {
 /// How many bytes the message has room for.
 const MESSAGE_ROOM: usize = 1000;
 
-/// Puts a text behind another, in which a tilde stands for a line feed.
+/// Appends a text to another. A tilde in it stands for a line feed.
 fn put(to: &mut Vec<u8>, text: &str) -> Result<(), AllocError> {
     for &byte in text.as_bytes() {
         to.push(if byte == b'~' { b'\n' } else { byte })?;
@@ -63,7 +63,7 @@ fn put(to: &mut Vec<u8>, text: &str) -> Result<(), AllocError> {
     Ok(())
 }
 
-/// Puts a text behind another so many times.
+/// Appends a text to another a number of times.
 fn put_times(to: &mut Vec<u8>, count_and_text: &str) -> Result<(), AllocError> {
     let (count, text) = count_and_text.split_once(' ').unwrap_or(("", ""));
     for _ in 0..count.parse().unwrap_or(0u32) {
@@ -72,24 +72,24 @@ fn put_times(to: &mut Vec<u8>, count_and_text: &str) -> Result<(), AllocError> {
     Ok(())
 }
 
-/// Puts the byte of this number behind a text.
+/// Appends the byte with this number to a text.
 fn put_byte(to: &mut Vec<u8>, number: &str) -> Result<(), AllocError> {
     Ok(to.push(number.parse().unwrap_or(0))?)
 }
 
-/// A sink of so much room, of which this write fails.
+/// A sink with this much room. The write with this number fails.
 fn sink(alloc: Global, room: usize, piece: usize, failing: u64) -> Result<MemSink, AllocError> {
     let failing = vec![in alloc; failing]?;
     MemSink::make(alloc, room, piece.max(1), failing)
 }
 
-/// Tells how many bytes were written, and the bytes from the next line on.
+/// Reports how many bytes were written, and the bytes from the next line on.
 fn tell_bytes(told: &mut String, alloc: Global, bytes: &[u8]) -> Result<(), AllocError> {
     let text = String::from_utf8_lossy(alloc, bytes)?;
     write!(told, "{}\n{text}\n", bytes.len())
 }
 
-/// Tells how often a text stands in what was written, and this text from the next line on.
+/// Reports how often a text occurs in what was written, and this text from the next line on.
 fn tell_count(
     told: &mut String,
     alloc: Global,
@@ -117,7 +117,7 @@ impl Case {
         }
     }
 
-    /// The inputs, which are gone from the case then.
+    /// The inputs. The case no longer has them afterwards.
     fn inputs(&mut self, alloc: Global, failing: Vec<u64>) -> Given {
         let files = mem::replace(&mut self.files, Vec::new(alloc));
         let line = mem::replace(&mut self.endless, Vec::new(alloc));
@@ -130,7 +130,7 @@ impl Case {
         }
     }
 
-    /// Runs the program, and tells the status and what was opened.
+    /// Runs the program, and reports the status and what was opened.
     fn run(
         &mut self,
         told: &mut String,
@@ -147,7 +147,7 @@ impl Case {
         write!(told, "{code} {status:?}\nopened {opened}\n")
     }
 
-    /// Tells what stands in the output, which is kept, and the message.
+    /// Reports the output, which is kept, and the message.
     fn tell_written(
         &mut self,
         told: &mut String,
@@ -167,7 +167,7 @@ impl Case {
         tell_bytes(told, alloc, err.bytes())
     }
 
-    /// Runs the program over these sinks, and tells how it ended and what it wrote.
+    /// Runs the program over these sinks, and reports how it ended and what it wrote.
     fn tell_run(
         &mut self,
         told: &mut String,
@@ -179,7 +179,7 @@ impl Case {
         self.tell_written(told, alloc, out, err)
     }
 
-    /// Runs the program, and tells how it ended and what it wrote.
+    /// Runs the program, and reports how it ended and what it wrote.
     fn end(&mut self, told: &mut String, alloc: Global) -> Result<(), AllocError> {
         let mut out = sink(alloc, self.room, self.piece, self.failing.out)?;
         let mut err = sink(alloc, MESSAGE_ROOM, self.piece, self.failing.err)?;
@@ -187,7 +187,7 @@ impl Case {
         told.push('\n')
     }
 
-    /// Forgets what the steps have given, but for what the last run wrote.
+    /// Forgets what the steps have given, except what the last run wrote.
     fn reset(&mut self) {
         self.words.clear();
         self.sought.clear();
@@ -196,7 +196,7 @@ impl Case {
         self.failing = NONE;
     }
 
-    /// Takes a word of the command line.
+    /// Takes an argument of the command line.
     fn add_word(&mut self, alloc: Global, word: &str) -> Result<(), AllocError> {
         let word = String::from_str(alloc, word)?;
         Ok(self.words.push(word)?)
@@ -222,7 +222,7 @@ impl Case {
         }
     }
 
-    /// Takes a word that goes on with the text, or takes the text, or a number.
+    /// Takes a keyword that continues with the text, or takes the text, or a number.
     fn take(&mut self, alloc: Global, word: &str, text: &str) -> Result<(), AllocError> {
         match word {
             "put" => put(&mut self.text, text),
@@ -238,7 +238,7 @@ impl Case {
         }
     }
 
-    /// Takes a step, and puts what it has to tell, if anything, at the end of the text.
+    /// Takes a step, and appends what it reports, if anything, to the text.
     pub fn step(&mut self, alloc: Global, step: &str, told: &mut String) -> Result<(), AllocError> {
         let (word, text) = step.split_once(' ').unwrap_or((step, ""));
         match word {

@@ -1,7 +1,7 @@
 //! Cases of keys, events, rules, logs and models.
 //!
-//! A case ends at an empty line. Its first line is its kind, perhaps with words, and the lines after it are its steps. The
-//! first line is printed again, and then what comes of the steps.
+//! A case ends at an empty line. Its first line is its kind, perhaps with arguments, and the lines after it are its steps. The
+//! first line is printed again, followed by the result of the steps.
 
 mod changes;
 mod events;
@@ -18,7 +18,7 @@ mod verdict;
 use std::alloc::{AllocError, Global};
 use std::fmt::Write;
 
-/// Takes the steps of a case of this kind, and says what comes of them.
+/// Takes the steps of a case of this kind, and reports the result.
 fn take_steps(
     alloc: Global,
     heading: &str,
@@ -42,7 +42,7 @@ fn take_steps(
     }
 }
 
-/// Puts what comes of the cases at the end of the text.
+/// Appends the results of the cases to the text.
 pub fn tell(alloc: Global, cases: &str, out: &mut String) -> Result<(), AllocError> {
     for case in cases.split("\n\n") {
         if !case.is_empty() {

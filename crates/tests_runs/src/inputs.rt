@@ -11,7 +11,7 @@ use outside::{Failed, Inputs, MemInputs, OpenError};
 pub struct Given {
     /// Files in memory.
     pub files: MemInputs,
-    /// Whether each input is the line below without an end, and no file is there.
+    /// Whether each input is the line below without an end, and no file exists.
     pub is_endless: bool,
     /// What each read of an endless input gives.
     pub line: Vec<u8>,

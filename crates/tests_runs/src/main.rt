@@ -1,6 +1,6 @@
-//! Prints what comes of cases: of command lines, then, from the line `== formats` on, of keys, events, rules, logs and models,
-//! and from the line `== runs` on, of runs of the program over inputs and sinks in memory. `make` makes standard input and what
-//! has to be printed from files of cases, and never runs the program.
+//! Prints the results of cases: first of command lines; from the line `== formats` on of keys, events, rules, logs and models;
+//! and from the line `== runs` on of runs of the program over inputs and sinks in memory. `make` makes standard input and the
+//! expected output from files of cases, and never runs the program.
 #![tactic(auto)]
 
 mod arguments;
@@ -12,7 +12,7 @@ use case::Case;
 use std::alloc::{AllocError, Global};
 use std::io;
 
-/// Takes the steps of all runs, one a line, and puts what they tell at the end of the text.
+/// Takes the steps of all runs, one per line, and appends what they report to the text.
 fn take_steps(
     alloc: Global,
     case: &mut Case,
@@ -25,7 +25,7 @@ fn take_steps(
     Ok(())
 }
 
-/// What comes of the cases of all parts.
+/// The results of the cases of all parts.
 fn told(alloc: Global, cases: &str) -> Result<String, AllocError> {
     let (lines, rest) = cases.split_once("\n== formats\n").unwrap_or((cases, ""));
     let (formats, steps) = rest.split_once("\n== runs\n").unwrap_or((rest, ""));

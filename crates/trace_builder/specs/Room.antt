@@ -7,11 +7,11 @@ use Rattle.trace_builder.specs.declared.columns.Columns.{Columns}
 abbrev pub times_in : Columns → List ℕ
 times_in columns = times_beside columns.numbers.items columns.times.items
 
--- the time of the next event is not kept
+-- the time of the next event is not stored: it is 0, and no times are stored yet
 abbrev pub NeedsNoTime : Columns → ℕ → Type 0
 NeedsNoTime columns time = (time ≡ 0) × (columns.times.items ≡ [])
 
--- there is room for one event more, with this time
+-- there is room for one more event, with this time
 pub record HasRoom (columns : Columns) (time : ℕ) : Type 0 where
   pub places : vec_len columns.places < vec_capacity columns.places
   pub numbers : vec_len columns.numbers < vec_capacity columns.numbers

@@ -1,4 +1,4 @@
--- Slots that tell where the texts of types stand.
+-- Slots that give the places of the texts of types.
 use Rattle.std.specs.Prelude.{ℕ, ◌≡◌, ◌<◌, ◌≤◌, List, Some, slice_get, slice_index}
 use Rattle.trace_keys.specs.Keys.{Key}
 use Rattle.trace_keys.specs.Fingerprints.{fingerprint_of}
@@ -8,7 +8,7 @@ use Rattle.trace_builder.specs.declared.slots.Slot.{Slot}
 abbrev pub type_key : List ℕ → Key
 type_key text = record { file = 0; section = 0; text = text }
 
--- the text stands at the slot's place, and the slot has its fingerprint
+-- the text is at the slot's place, and the slot has its fingerprint
 pub record HasFingerprint (texts : List (List ℕ)) (slot : Slot) (text : List ℕ) : Type 0 where
   pub stands : slice_get texts slot.place ≡ Some text
   pub bytes : (i : ℕ) → slice_index text i < 256

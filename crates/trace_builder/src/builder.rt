@@ -1,4 +1,4 @@
-//! Events gathered to traces.
+//! Events gathered into traces.
 ghost use Rattle.std.specs.Prelude.{◌≡◌, ◌≤◌, ◌<◌, ◌+◌, ◌-◌, ◌^◌, ◌++◌, ◌∷◌, [], List, map, length, OnOk, OnErr, IfOk, Err, ◌≢◌, ◌↔◌, true, false, slice_index_or, slice_get, IfSome, None, ℕ, ◌*◌};
 ghost use Rattle.std.specs.List.{list_any, position_or_len};
 ghost use Rattle.std.specs.Str.{bytes_eq};
@@ -23,11 +23,11 @@ use traces::TraceSet;
 /// Why an event was not added.
 #[derive(Clone, Copy, Debug, PartialEq, Eq)]
 pub enum AddError {
-    /// Its text would be a 257th type.
+    /// Its type text would be the 257th type.
     TypeLimit,
-    /// It would be the 1,000,001st event, and meets no limit on types.
+    /// It would be the 1,000,001st event, and does not pass the limit on types.
     EventLimit,
-    /// Memory was wanted.
+    /// Memory ran out.
     Memory,
 }
 
@@ -47,10 +47,10 @@ impl<T: Drop> From<AllocFailed<T>> for AddError {
     }
 }
 
-/// Gathers events to types and traces, each in the order first met.
+/// Gathers events into types and traces, each in the order first met.
 ///
-/// Contracts see what it has gathered: the types, and for each trace its key and, in the order added, the number
-/// of each event's type and its time.
+/// Contracts see what it has gathered: the types, and for each trace its key and its events in the order added, each as the
+/// number of its type and its time.
 #[derive(Drop)]
 pub struct Builder {
     alloc: Global,
@@ -59,7 +59,7 @@ pub struct Builder {
     event_count: u32,
 }
 
-/// The place of a type's text, where the limits leave room for one more event of it.
+/// The place of a type's text, if the limits leave room for one more event of it.
 fn room_for(types: &TypeTable, event_count: u32, type_text: &str) -> Result<usize, AddError>
     requires few { length types.now ≤ MAX_TYPES }
     requires events { event_count ≤ MAX_EVENTS }
@@ -116,12 +116,12 @@ impl Builder {
         }
     }
 
-    /// Adds an event of the trace of this key, at most 1,024 bytes of text, and of the type of this text, 1 to
-    /// 256 bytes. Its time is in billionths of whatever unit the log takes, from any beginning; an event without a time has 0.
-    /// Returns the place of its trace and the number of its type.
+    /// Adds an event of the trace with this key and of the type with this text. The key's text has at most 1,024 bytes, and the
+    /// type's text has 1 to 256 bytes. The time is in billionths of the log's unit of time, counted from any origin. An event
+    /// without a time has 0. Returns the place of its trace and the number of its type.
     ///
-    /// `TypeLimit` comes exactly where the text is new and 256 types stand, `EventLimit` exactly where that is
-    /// not so and 1,000,000 events stand. Each refusal leaves the builder as it was.
+    /// `TypeLimit` is returned exactly if the type's text is new and there are 256 types. `EventLimit` is returned exactly if
+    /// that is not so and there are 1,000,000 events. Each error leaves the builder as it was.
     #[inline(never)]
     pub fn add(
         &mut self,
@@ -171,7 +171,7 @@ impl Builder {
         }
     }
 
-    /// Adds an event without a time, as `add` does, of which the words of the two texts are known.
+    /// Adds an event without a time, as `add` does, from texts with the words of their fingerprints.
     #[inline(always)]
     pub fn add_packed(
         &mut self,
@@ -219,8 +219,8 @@ impl Builder {
         self.add(file, section, text.text(), type_text.text(), 0)
     }
 
-    /// The types and traces of the events that were added, each trace by the times of its events; those of one
-    /// time keep their order. Where memory is wanted all are dropped.
+    /// The types and traces of the events that were added, each trace ordered by the times of its events. Events of the same time
+    /// keep their order. If memory runs out, all are dropped.
     pub fn finish(self) -> Result<TraceSet, AllocError>
         ensures { IfOk result (λ set. set ≡ in_order self) }
     {

@@ -5,17 +5,17 @@ ghost use Rattle.trace_builder.specs.Room.{times_in, HasRoom};
 
 use std::alloc::{AllocError, Global};
 
-/// Events in the order added: of each the place of its trace, the number of its type, and its time.
+/// Events in the order added. Each has the place of its trace, the number of its type, and its time.
 #[derive(Drop)]
 pub struct Columns {
     pub places: Vec<u32>,
     pub numbers: Vec<u16>,
-    /// One for each event; none at all while each time is 0.
+    /// One for each event, or none at all while each time is 0.
     pub times: Vec<u128>,
 }
 
-/// Makes room for the time of one event more, behind zeros where no time was kept. It stays a call, so that the way
-/// of an event without a time is short.
+/// Makes room for the time of one event more. If no time was kept, zeros are put before it. It stays a call, so that the path of
+/// an event without a time is short.
 #[inline(never)]
 fn reserve_time(times: &mut Vec<u128>, events: usize) -> Result<(), AllocError>
     requires few { length times.old.items ≤ events }
@@ -44,7 +44,7 @@ impl Columns {
         }
     }
 
-    /// The place of the event that was added last, or else 0.
+    /// The place of the trace of the event that was added last, or 0 if there is none.
     #[inline(always)]
     pub fn last_place(&self) -> usize {
         match self.places.last() {
@@ -69,7 +69,7 @@ impl Columns {
         reserve_time(&mut self.times, self.numbers.len())
     }
 
-    /// Whether there is room for one event more without a time, where no time is kept.
+    /// Whether no time is kept and there is room for one event more without a time.
     #[inline(always)]
     pub fn has_room(&self) -> bool
         requires beside { AreBeside self.now.numbers.items self.now.times.items }

@@ -32,7 +32,7 @@ pub struct NewEvent<'a> {
 }
 
 /// Puts an event of a new type at the end of its trace, and the type at the end of the types. Returns the place of the trace.
-/// It stays a call, so that the way of an event of a known type is short.
+/// It stays a call, so that the path of an event of a known type is short.
 #[inline(never)]
 fn put_with_type(
     alloc: Global,
@@ -50,7 +50,7 @@ fn put_with_type(
     ensures traces { OnOk result (traces.new
         ≡ with_event traces.old (key_in event.now.key) number event.now.time) }
 
-    // Where memory is wanted, nothing has changed.
+    // If memory runs out, nothing has changed.
     ensures err { OnErr result (types.new ≡ types.old) }
     ensures err_traces { OnErr result (traces.new ≡ traces.old) }
 {
@@ -62,8 +62,8 @@ fn put_with_type(
     put
 }
 
-/// Puts an event at the end of its trace, and its type at the end of the types where it is new.
-/// The place is that of the type's text.
+/// Puts an event at the end of its trace. If its type is new, it is put at the end of the types. `place` is that of the type's
+/// text.
 pub fn put_typed_event(
     alloc: Global,
     types: &mut TypeTable,
@@ -84,7 +84,7 @@ pub fn put_typed_event(
     ensures traces { OnOk result (traces.new
         ≡ with_event traces.old (key_in event.now.key) (place + FIRST_TYPE) event.now.time) }
 
-    // Where memory is wanted, nothing has changed.
+    // If memory runs out, nothing has changed.
     ensures err { OnErr result (types.new ≡ types.old) }
     ensures err_traces { OnErr result (traces.new ≡ traces.old) }
 {
@@ -93,7 +93,7 @@ pub fn put_typed_event(
         let trace = traces.put(alloc, &event.key, number, event.time)?;
         return Ok(Placed { trace, number });
     }
-    // One that is handed to a call has to stand in memory; a copy leaves the event where it is.
+    // An event that is passed to a call has to be in memory. A copy leaves the event itself where it is.
     let copy = NewEvent {
         key: KeyParts {
             file: event.key.file,
@@ -107,7 +107,8 @@ pub fn put_typed_event(
     Ok(Placed { trace, number })
 }
 
-/// Puts an event without a time at the end of its trace, where its type is short and a slot leads to it. Returns where, if it did.
+/// Puts an event without a time at the end of its trace, if its type's text is short and a slot leads to it. Returns where it was
+/// put, or None if nothing was done.
 #[inline(always)]
 pub fn put_packed(
     alloc: Global,
@@ -129,7 +130,7 @@ pub fn put_packed(
         (position_or_len (bytes_eq type_text.now) types.now + FIRST_TYPE) 0)) }
     ensures same { IfOk result (λ put. put ≡ None → traces.new ≡ traces.old) }
 
-    // Where memory is wanted, nothing has changed, and the type is known.
+    // If memory runs out, nothing has changed, and the type is known.
     ensures err { OnErr result (traces.new ≡ traces.old) }
     ensures err_type { OnErr result (list_any (bytes_eq type_text.now) types.now ≡ true) }
 {

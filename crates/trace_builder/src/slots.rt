@@ -1,4 +1,4 @@
-//! Slots that tell where the texts of types stand, so that a known type is found by its fingerprint.
+//! Slots that contain the places of types' texts, so that a known type is found by its fingerprint.
 ghost use Rattle.std.specs.Prelude.{◌≡◌, ◌<◌, ◌^◌, ℕ, List, true, false, length, slice_get, slice_index, Some, IfSome};
 ghost use Rattle.std.specs.List.{All};
 ghost use Rattle.std.specs.Option.{option_map_or};
@@ -13,23 +13,23 @@ use trace_keys::{Fingerprint, KeyParts, PackedText};
 /// How many homes there are: many more than types, so that most types have a home of their own.
 const HOMES: usize = 4096;
 
-/// How far what a fingerprint is mixed to is shifted to give the home.
+/// How far the mix of a fingerprint is shifted to give the home.
 const SHIFT: u32 = 52;
 
-/// In how many slots a type may stand, from its home on.
+/// In how many slots the place of a type may be, from its home on.
 const WINDOW: usize = 4;
 
-/// How many bytes of a text its fingerprint tells whole.
+/// How many bytes a text has at most if its fingerprint determines it.
 const MAX_TOLD: u32 = 16;
 
-/// The fingerprint of a type's text, and the place at which that text stands.
+/// The fingerprint of a type's text, and the place of that text.
 #[derive(Clone, Copy)]
 pub struct Slot {
     pub fingerprint: Fingerprint,
     pub place: usize,
 }
 
-/// A slot with no place: no text is as long as its fingerprint tells.
+/// A slot with no place: no text is as long as its fingerprint states.
 const EMPTY: Slot = Slot {
     fingerprint: Fingerprint {
         low: 0,
@@ -41,13 +41,13 @@ const EMPTY: Slot = Slot {
     place: 0,
 };
 
-/// Tells that bytes are below 256, and does nothing.
+/// States that bytes are below 256, and does nothing.
 #[inline]
 fn are_bytes(bytes: &[u8])
     ensures { (i : ℕ) → slice_index bytes.now i < 256 }
 {}
 
-/// Whether the text stands at this place. It stays a call, so that the way of a short text is short.
+/// Whether the text is at this place. It stays a call, so that the path of a short text is short.
 #[inline(never)]
 fn is_text_at(texts: &[Text], place: usize, text: &str) -> bool
     ensures { result ≡ option_map_or (bytes_eq text.now) (slice_get texts.now place) false }
@@ -71,7 +71,7 @@ fn fingerprint_of_text(text: &str) -> Fingerprint
     })
 }
 
-/// The first slot in which a type with this fingerprint may stand.
+/// The first slot in which the place of a type with this fingerprint may be.
 #[inline(always)]
 fn home_of(fingerprint: &Fingerprint) -> usize
     ensures { result < HOMES }
@@ -146,7 +146,7 @@ fn first_empty(slots: &[Slot], home: usize) -> Option<usize>
     None
 }
 
-/// Makes slots where there are none. Without memory for them there are none then.
+/// Makes slots if there are none. If memory runs out, there are still none.
 fn make(alloc: Global, slots: &mut Vec<Slot>)
     ensures { (texts : List (List ℕ)) → All (TellsText texts) slots.old.items → All (TellsText texts) slots.new.items }
 {
@@ -158,7 +158,7 @@ fn make(alloc: Global, slots: &mut Vec<Slot>)
     }
 }
 
-/// Notes where a text stands, in the first empty slot from its home on, if there is one.
+/// Notes the place of a text in the first empty slot from its home on, if there is one.
 pub fn note(alloc: Global, slots: &mut Vec<Slot>, text: &str, place: usize)
     requires short { length text.now < 2 ^ 32 }
     ensures { (texts : List (List ℕ)) → slice_get texts place ≡ Some text.now

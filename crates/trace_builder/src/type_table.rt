@@ -54,7 +54,7 @@ impl TypeTable {
         self.texts.len()
     }
 
-    /// Where the text stands by the ordered map, or the number of texts where it doesn't. It stays a call, so that the way of
+    /// The place of the text by the ordered map, or the number of texts if it is not there. It stays a call, so that the path of
     /// a type with a slot is short.
     #[inline(never)]
     fn mapped_place_of(&self, text: &str) -> usize
@@ -68,7 +68,7 @@ impl TypeTable {
         }
     }
 
-    /// Where a short text stands, if a slot leads to it.
+    /// The place of a short text, if a slot leads to it.
     #[inline(always)]
     pub fn short_place_of(&self, text: &PackedText<'_>) -> Option<usize>
         ensures place { IfSome result (λ place. place ≡ position_or_len (bytes_eq text.now) self.now) }
@@ -77,7 +77,7 @@ impl TypeTable {
         find_short(&self.slots, text)
     }
 
-    /// Where the text stands, or the number of texts where it doesn't.
+    /// The place of the text, which has at most 256 bytes, or the number of texts if it is not there.
     pub fn place_of(&self, text: &str) -> usize
         requires short { length text.now ≤ MAX_TYPE_BYTES }
         ensures place { result ≡ position_or_len (bytes_eq text.now) self.now }
@@ -107,7 +107,7 @@ impl TypeTable {
         Ok(())
     }
 
-    /// Takes out the text that was added last.
+    /// Removes the text that was added last.
     pub fn forget_last(&mut self, text: &str)
         requires last { self.old ≡ take (length self.old - 1) self.old ++ text.now ∷ [] }
         requires new { IsNewType (take (length self.old - 1) self.old) text.now }
@@ -118,7 +118,7 @@ impl TypeTable {
         self.texts.pop();
     }
 
-    /// The texts alone.
+    /// The texts, without the table.
     pub fn into_texts(self) -> Vec<Text>
         ensures texts { result.items ≡ self }
         ensures distinct { AreApart bytes_eq result.items }

@@ -1,4 +1,4 @@
--- Keys by their fingerprints, and all their texts behind one another.
+-- Keys by their fingerprints, and all their texts one after another.
 use Rattle.std.specs.Prelude.{ℕ, ◌≡◌, ◌<◌, List, [], ◌∷◌, map, length, take, drop, slice_index, slice_get, Some}
 use Rattle.std.specs.List.{sum_by}
 use Rattle.std.specs.Str.{IsUtf8}
@@ -6,7 +6,7 @@ use Rattle.trace_keys.specs.Keys.{Key}
 use Rattle.trace_keys.specs.Fingerprints.{fingerprint_of}
 use Rattle.trace_keys.specs.declared.fingerprint.Fingerprint.{Fingerprint}
 
--- the keys with these fingerprints: each has as much of the texts as its length says, from where the one before ends
+-- the keys with these fingerprints: the text of each is as long as its fingerprint says, and starts where the one before ends
 abbrev pub keys_in : List Fingerprint → List ℕ → List Key
 keys_in [] texts = []
 keys_in (fingerprint ∷ fingerprints) texts = record { file = fingerprint.file; section = fingerprint.section; text = take fingerprint.length texts } ∷ keys_in fingerprints (drop fingerprint.length texts)
@@ -19,7 +19,7 @@ length_of fingerprints = sum_by (λ fingerprint. fingerprint.length) fingerprint
 abbrev pub HaveTexts : List Key → Type 0
 HaveTexts keys = (i : ℕ) (key : Key) → slice_get keys i ≡ Some key → IsUtf8 key.text
 
--- fingerprints of the keys that they make with the texts, and where the text of each starts
+-- these are the fingerprints of the keys that they make with the texts, and the starts say where the text of each starts
 pub record AreKeysIn (fingerprints : List Fingerprint) (starts texts : List ℕ) : Type 0 where
   pub hashed : map fingerprint_of (keys_in fingerprints texts) ≡ fingerprints
   pub long : length_of fingerprints ≡ length texts

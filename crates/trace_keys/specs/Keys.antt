@@ -5,7 +5,7 @@ use Rattle.std.specs.Str.{bytes_eq}
 use Rattle.trace_keys.specs.declared.key.ShownKey.{ShownKey}
 use Rattle.trace_keys.specs.declared.key.KeyParts.{KeyParts}
 
--- what the events of one trace have in common: the number of a file, how many separators stand before them there, and a text
+-- what the events of one trace have in common: the number of a file, how many separators are before them there, and a text
 pub record Key : Type 0 where
   pub file : ℕ
   pub section : ℕ
@@ -15,7 +15,7 @@ pub record Key : Type 0 where
 abbrev pub key_in : KeyParts → Key
 key_in parts = record { file = parts.file; section = parts.section; text = parts.text.now }
 
--- the key that is shown so
+-- the key of a shown key
 abbrev pub key_shown : ShownKey → Key
 key_shown key = record { file = key.file; section = key.section; text = key.text.now }
 

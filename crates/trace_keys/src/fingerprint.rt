@@ -1,4 +1,4 @@
-//! Fingerprints of keys: numbers by which most keys are told apart.
+//! Fingerprints of keys: numbers that differ for most different keys.
 ghost use Rattle.std.specs.Prelude.{ℕ, ◌≡◌, ◌≤◌, ◌<◌, ◌+◌, ◌^◌, ◌↔◌, true, length, take, drop, slice_index};
 ghost use Rattle.std.specs.Int.{w64, from_le_bytes};
 ghost use Rattle.trace_keys.specs.Keys.{key_in};
@@ -6,7 +6,7 @@ ghost use Rattle.trace_keys.specs.Fingerprints.{hash_of_bytes, number_of, low_of
 
 use crate::key::KeyParts;
 
-/// How many bytes of a text are told whole by its two words.
+/// How many bytes a text has at most if its two words determine it.
 pub const MAX_TOLD: usize = 16;
 
 /// How many bytes a word has.
@@ -15,13 +15,13 @@ pub const WORD: usize = 8;
 /// The multiplier of the hash of a long text.
 const FACTOR: u64 = 1_099_511_628_211;
 
-/// The multipliers of what is mixed of a fingerprint.
+/// The multipliers for the mix of a fingerprint.
 const LOW_FACTOR: u64 = 0x9e37_79b9_7f4a_7c15;
 
 const HIGH_FACTOR: u64 = 0xc2b2_ae3d_27d4_eb4f;
 
-/// The numbers of a key, the length of its text, and two words of it. Short texts of one length have the same words only
-/// where they are equal.
+/// The numbers of a key, the length of its text, and two words of it. Texts of at most `MAX_TOLD` bytes and of the same length
+/// have the same words only if they are equal.
 #[derive(Clone, Copy)]
 pub struct Fingerprint {
     pub low: u64,
@@ -31,13 +31,13 @@ pub struct Fingerprint {
     pub length: u32,
 }
 
-/// Tells that bytes are below 256, and does nothing.
+/// States that bytes are below 256, and does nothing.
 #[inline]
 pub(crate) fn are_bytes(bytes: &[u8])
     ensures { (i : ℕ) → slice_index bytes.now i < 256 }
 {}
 
-/// A hash of bytes. It stays a call, so that the way of a short text is short.
+/// A hash of bytes. It stays a call, so that the path of a short text is short.
 #[inline(never)]
 fn hash_of(bytes: &[u8]) -> u64
     ensures { result ≡ hash_of_bytes bytes.now }
@@ -58,8 +58,8 @@ fn word_at(bytes: &[u8], at: usize) -> u64
     u64::from_le_bytes([b[0], b[1], b[2], b[3], b[4], b[5], b[6], b[7]])
 }
 
-/// Fewer than eight bytes as a number, the lowest first. It stays a call, since most such texts stand before more bytes, of
-/// which eight are taken at once.
+/// Fewer than eight bytes as a number, the lowest first. It stays a call, since most such texts stand before more bytes. Then
+/// eight bytes are taken at once.
 #[inline(never)]
 fn few_word(bytes: &[u8]) -> u64
     requires { length bytes.now < 8 }
@@ -75,7 +75,7 @@ fn few_word(bytes: &[u8]) -> u64
     word
 }
 
-/// The first of eight bytes as a number, fewer than eight, the lowest first.
+/// The first `count` bytes as a number, the lowest first. `count` is less than eight, and there are at least eight bytes.
 #[inline(always)]
 pub(crate) fn front_word(bytes: &[u8], count: usize) -> u64
     requires eight { 8 ≤ length bytes.now }
@@ -86,7 +86,7 @@ pub(crate) fn front_word(bytes: &[u8], count: usize) -> u64
     word_at(bytes, 0) % (1 << (8 * count))
 }
 
-/// The first word of a text; of one that is too long to be told whole, its hash.
+/// The first word of a text. If the text has more than `MAX_TOLD` bytes, it is its hash.
 #[inline(always)]
 #[tactic(auto, unfolding(crate::specs::Fingerprints::low_of))]
 pub(crate) fn low_word(bytes: &[u8]) -> u64
@@ -101,7 +101,7 @@ pub(crate) fn low_word(bytes: &[u8]) -> u64
     few_word(bytes)
 }
 
-/// The last word of a text that has as many bytes.
+/// The last eight bytes of a text as a word. If the text has fewer, it is 0.
 #[inline(always)]
 #[tactic(auto, unfolding(crate::specs::Fingerprints::high_of))]
 pub(crate) fn high_word(bytes: &[u8]) -> u64
@@ -133,7 +133,7 @@ impl Fingerprint {
         }
     }
 
-    /// Whether it is this fingerprint.
+    /// Whether the two fingerprints are equal.
     #[inline(always)]
     pub fn is(&self, other: &Fingerprint) -> bool
         ensures { (result ≡ true) ↔ (self.now ≡ other.now) }
@@ -145,7 +145,7 @@ impl Fingerprint {
             && self.length == other.length
     }
 
-    /// Its first word with the first byte as the highest, so that short texts come in their own order.
+    /// Its first word with the first byte as the highest, so that short texts are in their own order.
     #[inline(always)]
     #[tactic(auto, unfolding(crate::specs::Fingerprints::front_of))]
     pub fn front(&self) -> u64
@@ -163,7 +163,7 @@ impl Fingerprint {
         self.high.swap_bytes()
     }
 
-    /// What the fingerprint is mixed to.
+    /// The numbers of the fingerprint mixed into one.
     #[inline(always)]
     #[tactic(auto, unfolding(crate::specs::Fingerprints::mix_of))]
     pub fn mix(&self) -> u64

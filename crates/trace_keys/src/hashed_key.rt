@@ -8,7 +8,7 @@ use crate::key::KeyParts;
 use crate::packed_text::PackedText;
 use std::marker::Model;
 
-/// A key with its fingerprint, which is made once for all looks.
+/// A key with its fingerprint, which is computed once for all lookups.
 ///
 /// Contracts see the key.
 #[derive(Drop)]
@@ -31,7 +31,7 @@ impl<'a> Model for HashedKey<'a> {
 }
 
 impl<'a> HashedKey<'a> {
-    /// The key with these parts.
+    /// The key with these parts. Its text has fewer than 2^32 bytes.
     #[inline(always)]
     pub fn of(parts: &KeyParts<'a>) -> HashedKey<'a>
         requires short { length parts.now.text.now < 2 ^ 32 }
@@ -43,7 +43,7 @@ impl<'a> HashedKey<'a> {
         }
     }
 
-    /// The key with this text, by the words of the text, if that is short.
+    /// The key with these numbers and this text, made from the words of the text, if it is short.
     #[inline(always)]
     pub fn of_packed(file: u32, section: u32, text: &PackedText<'a>) -> Option<HashedKey<'a>>
         ensures some { IfSome result (λ key. key

@@ -1,4 +1,4 @@
-//! Keys in a list: a fingerprint of each, and the texts of all behind one another.
+//! Keys in a list: a fingerprint of each, and the texts of all, one after another.
 ghost use Rattle.std.specs.Prelude.{◌≡◌, ◌++◌, ◌∷◌, [], ◌<◌, false, length, slice_get, OnOk, OnErr, Some};
 ghost use Rattle.std.specs.Option.{option_map_or};
 ghost use Rattle.std.specs.Str.{IsUtf8};
@@ -79,7 +79,7 @@ impl KeyList {
         self.fingerprints[place]
     }
 
-    /// Whether a key stands at a place.
+    /// Whether this key is at this place. It is false if there is no such place.
     #[inline(always)]
     pub fn is_key_at(&self, place: usize, key: &HashedKey<'_>) -> bool
         ensures { result ≡ option_map_or (same_key key.now) (slice_get self.now place) false }
@@ -97,7 +97,7 @@ impl KeyList {
         }
     }
 
-    /// Whether the short key with this fingerprint stands at a place.
+    /// Whether the key with this fingerprint is at this place, if its text has at most 16 bytes.
     #[inline(always)]
     pub fn has_fingerprint_at(&self, place: usize, fingerprint: &Fingerprint) -> bool
         ensures { (key : Key) → fingerprint.now ≡ fingerprint_of key → IsTold key.text
@@ -110,8 +110,8 @@ impl KeyList {
         }
     }
 
-    /// Whether the key of these numbers and this text stands at a place, told without its fingerprint. It stays a call, so that
-    /// the way of a short key is short.
+    /// Whether the key of these numbers and this text is at this place, found without its fingerprint. It stays a call, so that
+    /// the path of a short key is short.
     #[inline(never)]
     fn has_text_at(&self, place: usize, file: u32, section: u32, text: &str) -> bool
         ensures { result ≡ option_map_or
@@ -124,7 +124,7 @@ impl KeyList {
         file == key.file && section == key.section && text.as_bytes() == key.text
     }
 
-    /// Whether the key with these parts stands at a place, told without its fingerprint.
+    /// Whether the key with these parts is at this place, found without its fingerprint. It is false if there is no such place.
     #[inline(always)]
     pub fn has_parts_at(&self, place: usize, parts: &KeyParts<'_>) -> bool
         ensures { result ≡ option_map_or (same_key (key_in parts.now)) (slice_get self.now place) false }
@@ -132,7 +132,7 @@ impl KeyList {
         self.has_text_at(place, parts.file, parts.section, parts.text)
     }
 
-    /// Puts a key at the end.
+    /// Puts a key at the end. At an error the keys are as before.
     pub fn push(&mut self, key: &HashedKey<'_>) -> Result<(), AllocError>
         ensures ok { OnOk result (self.new ≡ self.old ++ key.now ∷ []) }
         ensures err { OnErr result (self.new ≡ self.old) }

@@ -5,7 +5,7 @@ ghost use Rattle.trace_keys.specs.Fingerprints.{IsTold, fingerprint_of};
 use crate::fingerprint::{Fingerprint, MAX_TOLD, WORD, are_bytes, front_word, high_word, low_word};
 use std::marker::Model;
 
-/// A text with the words of its fingerprint, which are made once for all looks where it is short.
+/// A text with the words of its fingerprint. If the text is short, they are computed once for all lookups.
 ///
 /// Contracts see the bytes of the text.
 #[derive(Drop)]
@@ -47,7 +47,7 @@ impl<'a> PackedText<'a> {
         }
     }
 
-    /// A text with which these bytes begin. Where there are enough of them, a short one is taken with those behind it.
+    /// A text with which these bytes begin. If there are enough of them, a short text is taken together with those after it.
     #[inline(always)]
     pub fn at_start(text: &'a str, bytes: &[u8]) -> PackedText<'a>
         requires begins { take (length text.now) bytes.now ≡ text.now }
@@ -71,7 +71,7 @@ impl<'a> PackedText<'a> {
         self.text
     }
 
-    /// The fingerprint of a key with this text, if that is short.
+    /// The fingerprint of the key with these numbers and this text. It is returned only if the text has at most 16 bytes.
     #[inline(always)]
     pub fn fingerprint(&self, file: u32, section: u32) -> Option<Fingerprint>
         ensures { IfSome result (λ fingerprint.

@@ -11,14 +11,14 @@ use trace_keys::{KeyList, ShownKey};
 /// The events of traces, trace after trace: trace k has those from where it starts to where the next one does.
 #[derive(Drop)]
 pub struct Laid {
-    /// Where each trace starts, and behind the last where it ends.
+    /// Where each trace starts, and then where the last one ends.
     pub starts: Vec<u32>,
     pub numbers: Vec<u16>,
-    /// One for each event; none at all where each time is 0.
+    /// One for each event, or none at all, which stands for a time of 0 for each event.
     pub times: Vec<u128>,
 }
 
-/// The items from one place on, up to another.
+/// The items from one place up to another.
 fn part<T>(items: &[T], from: usize, to: usize) -> &[T]
     requires rise { from ≤ to }
     requires within { to ≤ length items.now }
@@ -28,7 +28,7 @@ fn part<T>(items: &[T], from: usize, to: usize) -> &[T]
 }
 
 impl Laid {
-    /// From where to where the events of trace k stand.
+    /// The place of the first event of trace k, and the place after its last one.
     pub fn bounds(&self, k: usize) -> (usize, usize)
         requires { suc k < length self.now.starts.items }
         ensures { result
@@ -40,15 +40,15 @@ impl Laid {
 
 /// The types and the traces of a log: at most 256 types and 1,000,000 events.
 ///
-/// Contracts see the log. A trace is the numbers of its events' types, counted from 2 in the order in which
-/// the types were first met; 0 and 1 are kept for its two ends, INITIAL and TERMINAL. The events of a trace stand
-/// by their times, and those of one time in the order in which they were added.
+/// Contracts see the log. A trace has the numbers of its events' types, counted from 2 in the order in which the types were first
+/// met. 0 and 1 are the numbers of its two ends, INITIAL and TERMINAL. The events of a trace are ordered by their times, and
+/// those of the same time by when they were added.
 #[derive(Drop)]
 pub struct TraceSet {
     types: Seq<Text>,
     keys: KeyList,
     events: Laid,
-    /// The times of each trace where none are kept.
+    /// The times of each trace if none are kept.
     zeros: Vec<u128>,
     event_count: u32,
 }
@@ -90,7 +90,7 @@ impl TraceSet {
     ghost use Rattle.traces.specs.Words.{event_count_of, AreApart, IsLog};
 
     /// The set of a log whose events are laid out trace after trace: the texts of its types, the key of each trace, the events,
-    /// zeros that serve as times where none are kept, and how many events there are. It is made by a builder.
+    /// zeros that serve as times if none are kept, and how many events there are. A builder makes these parts.
     pub fn of_parts(
         types: Seq<Text>,
         keys: KeyList,
@@ -124,8 +124,8 @@ impl TraceSet {
         }
     }
 
-    /// The texts of the types, in the order first met: the type with number n stands at place n - 2.
-    /// Each has 1 to 256 bytes, no two are equal, and each is the type of an event: the set is the log of some events.
+    /// The texts of the types, in the order first met: the type with number n is at place n - 2. Each has 1 to 256 bytes, and no
+    /// two are equal. Each is the type of an event, since the set is the log of some events.
     pub fn types(&self) -> &Seq<Text>
         ensures value { result.now ≡ (self.now).types }
         ensures few { length result.now ≤ MAX_TYPES }
@@ -137,7 +137,7 @@ impl TraceSet {
         &self.types
     }
 
-    /// How many traces there are: at most as many as events.
+    /// How many traces there are: at most `MAX_EVENTS`, since each has an event.
     pub fn trace_count(&self) -> u32
         ensures value { result ≡ length (self.now).traces }
         ensures few { result ≤ MAX_EVENTS }
@@ -145,7 +145,7 @@ impl TraceSet {
         self.keys.len() as u32
     }
 
-    /// How many events all traces have.
+    /// How many events all traces have together: at most `MAX_EVENTS`.
     pub fn event_count(&self) -> u32
         ensures value { result ≡ event_count_of (self.now).traces }
         ensures few { result ≤ MAX_EVENTS }
@@ -153,7 +153,7 @@ impl TraceSet {
         self.event_count
     }
 
-    /// What the events of trace t have in common, with a text that is UTF-8. Traces are counted from 0 in the order first met.
+    /// The key that the events of trace t have in common. Its text is UTF-8. Traces are counted from 0 in the order first met.
     pub fn key(&self, t: u32) -> ShownKey<'_>
         requires { t < length (self.now).traces }
         ensures value { IfSome (slice_get (self.now).traces t) (λ trace. key_shown result ≡ trace.key) }
@@ -162,8 +162,7 @@ impl TraceSet {
         self.keys.key(t as usize)
     }
 
-    /// The type numbers of the events of trace t, by their times and without the two ends. There is at least one,
-    /// since a trace begins with an event.
+    /// The type numbers of the events of trace t, in the order of their times and without the two ends. There is at least one.
     pub fn events(&self, t: u32) -> &[u16]
         requires { t < length (self.now).traces }
         ensures events { IfSome (slice_get (self.now).traces t) (λ trace. result.now ≡ trace.events) }
@@ -174,8 +173,8 @@ impl TraceSet {
         part(&self.events.numbers, from, to)
     }
 
-    /// The times of the events of trace t, in billionths of whatever unit the log takes: one for each event of `events`, in the same
-    /// order.
+    /// The times of the events of trace t, one for each event of `events`, in the same order. They are in billionths of the log's
+    /// unit of time.
     pub fn times(&self, t: u32) -> &[u128]
         requires { t < length (self.now).traces }
         ensures times { IfSome (slice_get (self.now).traces t) (λ trace. result.now ≡ trace.times) }

@@ -7,7 +7,7 @@ use std::alloc::{AllocError, Global};
 use std::collections::BTreeMap;
 use trace_keys::{Fingerprint, HashedKey, KeyList};
 
-/// The place that the rest have for a key.
+/// The place of a key among the rest.
 pub fn place_in(
     alloc: Global,
     rest: &BTreeMap<(u64, u64, u32, u32, String), usize>,

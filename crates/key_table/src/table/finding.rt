@@ -1,4 +1,4 @@
-//! Finds keys: by the slots, and else among the rest.
+//! Finds keys: by the slots, or else among the rest.
 ghost use Rattle.std.specs.Prelude.{◌≡◌, ◌<◌, ◌^◌, IfOk, IfSome, slice_get, false, Ok, Some, None};
 ghost use Rattle.std.specs.List.{list_any};
 ghost use Rattle.trace_keys.specs.Keys.{same_key};
@@ -31,7 +31,7 @@ pub fn find(
             if slot.tag == tag && keys.is_key_at(place, key) {
                 return Some(place);
             }
-            // No key stands behind a slot that was empty when it was put there.
+            // No key's place is after a slot that was empty when it was put there.
             if slot.place == u32::MAX {
                 return None;
             }
@@ -40,8 +40,8 @@ pub fn find(
     None
 }
 
-/// The place of a key to which no slot leads, if it is there. It stays a call, as all that new keys alone need, so that the way
-/// of a known key is short.
+/// The place of a key to which no slot leads, if it is there. It stays a call, as does everything that only new keys need, so
+/// that the path of a known key is short.
 #[inline(never)]
 pub fn find_in_rest(
     alloc: Global,

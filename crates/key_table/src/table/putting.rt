@@ -47,7 +47,7 @@ pub fn begin(
     }
 }
 
-/// Slots in which the keys stand by this shift. One whose slots are all taken is put among the rest.
+/// Slots with the places of the keys by this shift. A key whose slots are all taken is put among the rest.
 pub fn rehash(
     alloc: Global,
     keys: &KeyList,

@@ -1,4 +1,4 @@
-//! The bytes of a buffer: reads behind those that it holds, moves them to its front, and looks whether they are ASCII.
+//! The bytes of a buffer: reads after those that it holds, moves them to its start, and finds out whether they are ASCII.
 ghost use Rattle.std.specs.Prelude.{ℕ, ◌≡◌, ◌<◌, ◌≤◌, ◌+◌, ◌-◌, length, take, true, slice_index};
 ghost use Rattle.outside.specs.Inputs.{Stays};
 ghost use Rattle.log_reader.specs.Buffers.{IsClean, ReadsBehind, part_of};
@@ -23,8 +23,8 @@ fn are_clean(bytes: &[u8]) -> bool
     greatest(bytes) < 128
 }
 
-/// From where on the bytes before a place are ASCII, if those before an earlier one are from here on. Only the bytes between the
-/// two are looked at.
+/// A place from which on all bytes before `to` are ASCII, if those from `clean_from` up to `held` are. Only the bytes from `held`
+/// on are looked at.
 pub fn clean_after(buf: &[u8], clean_from: usize, held: usize, to: usize) -> usize
     requires order { held ≤ to }
     requires inside { to ≤ length buf.now }
@@ -38,7 +38,7 @@ pub fn clean_after(buf: &[u8], clean_from: usize, held: usize, to: usize) -> usi
     }
 }
 
-/// Moves the bytes between two places to the front of a buffer.
+/// Moves the bytes between two places to the start of a buffer.
 pub fn to_front(buf: &mut [u8], from: usize, to: usize)
     requires order { from ≤ to }
     requires inside { to ≤ length buf.old }
@@ -50,7 +50,7 @@ pub fn to_front(buf: &mut [u8], from: usize, to: usize)
     }
 }
 
-/// Reads into a buffer behind the bytes that it holds, at most so many.
+/// Reads into a buffer after the bytes that it holds, at most `room` bytes.
 pub fn read_behind<I: Inputs>(
     inputs: &mut I,
     buf: &mut [u8],

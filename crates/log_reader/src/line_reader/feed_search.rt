@@ -9,7 +9,7 @@ use std::simd::prelude::*;
 /// How many bytes are looked at together.
 pub const LANES: usize = 16;
 
-/// Where the first line feed stands, if there is one, by a search from a place before which none stands.
+/// The place of the first line feed, if there is one. The search starts at a place before which there is none.
 fn search_feed(bytes: &[u8], searched: usize) -> Option<usize>
     requires inside { searched ≤ length bytes.now }
     requires before { searched ≤ position_or_len is_feed bytes.now }
@@ -23,7 +23,7 @@ fn search_feed(bytes: &[u8], searched: usize) -> Option<usize>
     }
 }
 
-/// How many bytes stand before the first line feed, of those that are looked at together from a place on.
+/// How many of the next `LANES` bytes stand before the first line feed. They are looked at together.
 #[inline(always)]
 fn before_feed(bytes: &[u8], at: usize) -> usize
     requires { at + LANES ≤ length bytes.now }
@@ -39,8 +39,8 @@ fn before_feed(bytes: &[u8], at: usize) -> usize
     }
 }
 
-/// Where the first line feed stands, if there is one. None stands before the place from which the
-/// search begins. The end of a short line is found at the first look.
+/// The place of the first line feed, if there is one. The search starts at a place before which there is none. The end of a short
+/// line is found at the first look.
 #[inline(always)]
 pub fn first_feed(bytes: &[u8], searched: usize) -> Option<usize>
     requires inside { searched ≤ length bytes.now }
@@ -59,8 +59,8 @@ pub fn first_feed(bytes: &[u8], searched: usize) -> Option<usize>
     search_feed(bytes, searched + LANES)
 }
 
-/// Where the first line feed stands, if it is among the first `LANES` bytes, which are looked at together, and more bytes stand
-/// behind these; else none.
+/// The place of the first line feed, if it is among the first `LANES` bytes and more bytes follow these. Otherwise None is
+/// returned. These bytes are looked at together.
 #[inline(always)]
 pub fn near_feed(bytes: &[u8]) -> Option<usize>
     ensures some { IfSome result (λ n. n ≡ position_or_len is_feed bytes.now) }

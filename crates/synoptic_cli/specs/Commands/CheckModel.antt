@@ -1,4 +1,4 @@
--- `check`: whether the model of a file is valid for a log, and the first part in which it is not.
+-- `check`: whether the model of a file is valid for a log, and if not, the first part that fails.
 use Rattle.std.specs.Prelude.{ℕ, ◌≡◌, ◌++◌, List, codes, decimal, Result, Ok}
 use Rattle.invariants.specs.declared.records.Model.{Model}
 use Rattle.models.specs.Models.{typed_words, TypedWords}
@@ -13,7 +13,7 @@ use Rattle.synoptic_cli.specs.declared.status.LimitKind.{LimitKind}
 use Rattle.synoptic_cli.specs.declared.status.Status.TheVariants.{NoCheck}
 use Rattle.synoptic_cli.specs.Commands.Answered.{done}
 
--- the text that names the part that fails, with its numbers in decimal digits
+-- the text that names the part that fails, with decimal numbers
 abbrev pub no_text : Part → List ℕ
 no_text parts.Types = codes "no: types\n"
 no_text (parts.Listing k) = codes "no: listing " ++ decimal k ++ codes "\n"
@@ -21,19 +21,18 @@ no_text (parts.Trace t) = codes "no: trace " ++ decimal t ++ codes "\n"
 no_text (parts.Label i) = codes "no: label " ++ decimal i ++ codes "\n"
 no_text (parts.Block p q) = codes "no: block " ++ decimal p ++ codes " " ++ decimal q ++ codes "\n"
 
--- how a verdict is told
+-- the answer for a verdict
 abbrev pub answer_of : Verdict → Answer
 answer_of Yes = done (codes "yes\n")
 answer_of (No part) = record { status = NoCheck part; text = no_text part }
 
--- what it says: that the model is valid for the log, and so keeps all that a valid model promises; or that it is
--- not valid, and that this part is the first that fails
+-- what a verdict says: the model is valid for the log and keeps all that a valid model promises; or it is not valid,
+-- and this part is the first that fails
 abbrev pub Says : Model → TypedWords → Verdict → Type 0
 Says m log Yes = IsValid m log × Promises m log
 Says m log (No part) = (IsValid m log → ⊥) × IsFirstPart m log part
 
--- the answer: a verdict is told, and says so of the file's model and of the log, which is asked for the kinds that the model
--- says
+-- the answer reports a verdict, which is right for the file's model and the log, with the kinds that the model names
 pub record Answers (m : Material) (r : Result Answer LimitKind) : Type 0 where
   pub verdict : Verdict
   pub value : r ≡ Ok (answer_of verdict)

@@ -1,4 +1,4 @@
--- `infer`: the model of a log, which is asked for some kinds of invariants.
+-- `infer`: the model of a log, for the kinds of invariants asked for.
 use Rattle.std.specs.Prelude.{◌≡◌, Result, Ok}
 use Rattle.invariants.specs.declared.Kinds.{Kinds}
 use Rattle.invariants.specs.declared.records.Model.{Model}
@@ -14,8 +14,8 @@ use Rattle.synoptic_cli.specs.declared.status.LimitKind.{LimitKind}
 use Rattle.synoptic_cli.specs.Commands.Answered.{done}
 use Rattle.synoptic_cli.specs.Commands.Inference.{AnswersInferred}
 
--- the text is the file of the log's model, within the limits. It is read back as that very model, which promises
--- all that a valid model does, and whose history is justified.
+-- the text is the file of the log's model, within the limits. It reads back as the same model, which keeps all that a
+-- valid model promises, is valid, and has a justified history.
 pub record WritesModel (log : TypedWords) (a : Answer) : Type 0 where
   pub model : Model
   pub inferred : IsModelOf model log
@@ -26,6 +26,6 @@ pub record WritesModel (log : TypedWords) (a : Answer) : Type 0 where
   pub valid : IsValid model log
   pub justified : IsJustified model log
 
--- the answer: the file of the log's model, or the limit that its inference passes
+-- the answer: the file of the log's model, or the limit that its inference exceeds
 abbrev pub Answers : Kinds → Material → Result Answer LimitKind → Type 0
 Answers kinds m r = AnswersInferred (typed_words kinds m.log) (WritesModel (typed_words kinds m.log)) r

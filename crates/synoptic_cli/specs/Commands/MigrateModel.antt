@@ -1,4 +1,4 @@
--- `migrate`: the file of version 2 of the model that a file of version 1 says.
+-- `migrate`: the version 2 file of the model in a version 1 file.
 use Rattle.std.specs.Prelude.{◌≡◌, Result, Ok}
 use Rattle.model_shape.specs.Shapes.{IsOfVersion1}
 use Rattle.model_file.specs.Tree.{file_text}
@@ -8,7 +8,7 @@ use Rattle.synoptic_cli.specs.declared.material.Material.{Material}
 use Rattle.synoptic_cli.specs.declared.status.LimitKind.{LimitKind}
 use Rattle.synoptic_cli.specs.Commands.Answered.{done}
 
--- the answer: the text of version 2 of the file's model. It is read back as that very model, which has three kinds of
+-- the answer: the text in version 2 of the file's model. It reads back as the same model, which has three kinds of
 -- invariants and no more types than version 1 allows.
 pub record Answers (m : Material) (r : Result Answer LimitKind) : Type 0 where
   pub value : r ≡ Ok (done (file_text m.model))

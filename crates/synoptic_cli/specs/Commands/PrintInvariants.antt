@@ -14,11 +14,11 @@ use Rattle.synoptic_cli.specs.declared.status.LimitKind.{LimitKind}
 use Rattle.synoptic_cli.specs.Commands.Answered.{done}
 use Rattle.synoptic_cli.specs.Commands.TypeNames.{HasText}
 
--- the invariants that are listed
+-- the listed invariants
 abbrev pub listed : Kinds → Log → List Invariant
 listed kinds log = mined_for kinds (length log.types) (words_of log)
 
--- of two listed invariants the earlier one is the earlier candidate
+-- listed invariants keep the order of the candidates
 abbrev pub AreInOrder : Kinds → Log → Type 0
 AreInOrder kinds log =
     (j k m n : ℕ) (first second : Invariant)
@@ -33,9 +33,8 @@ AreOnce kinds log =
     (j k : ℕ) (inv : Invariant)
     → slice_get (listed kinds log) j ≡ Some inv → slice_get (listed kinds log) k ≡ Some inv → j ≡ k
 
--- the invariants listed are exactly the candidates of these kinds that hold, by places, of every word of the log; they
--- stand in the candidates' order, none twice; and each type that they name is INITIAL, as the first of the two, or has a
--- text
+-- the list contains exactly the candidates of these kinds that hold, by places, of every word of the log, in order,
+-- without duplicates; each type in it has a text, except INITIAL as the first of the two
 pub record ListsExactly (kinds : Kinds) (log : Log) : Type 0 where
   pub members : (inv : Invariant)
       → Contains (listed kinds log) inv ↔ IsListed kinds (length log.types) (words_of log) inv
@@ -44,7 +43,7 @@ pub record ListsExactly (kinds : Kinds) (log : Log) : Type 0 where
   pub named : AllByRecursion (λ inv. ((inv.a ≡ INITIAL) ⊎ HasText log.types inv.a) × HasText log.types inv.b)
       (listed kinds log)
 
--- the answer: they are printed, one a line, and are exactly those that hold
+-- the answer: the listed invariants, one per line, which are exactly those that hold
 pub record Answers (kinds : Kinds) (m : Material) (r : Result Answer LimitKind) : Type 0 where
   pub value : r ≡ Ok (done (invariant_report m.log.types (listed kinds m.log)))
   pub exact : ListsExactly kinds m.log

@@ -1,4 +1,4 @@
-//! `check`: tells whether the model of a file is valid for a log, by the kinds of invariants that it says.
+//! `check`: reports whether the model in a file is valid for a log, for the kinds of invariants that it names.
 ghost use Rattle.std.specs.Prelude.{◌≡◌, IfOk, Ok};
 ghost use Rattle.model_shape.specs.Shapes.{IsWellShaped};
 ghost use Rattle.synoptic_cli.specs.Commands.CheckModel.{Answers, answer_of, no_text};
@@ -39,7 +39,7 @@ fn no_line(alloc: Global, part: Part) -> Result<Seq<u8>, AllocError>
     }
 }
 
-/// How a verdict is told.
+/// The answer for a verdict.
 fn answer_of(alloc: Global, verdict: Verdict) -> Result<Answer, AllocError>
     ensures value { IfOk result (λ a. a ≡ answer_of verdict) }
     ensures verdict { IfOk result (λ a. IsVerdict a.status) }
@@ -56,7 +56,7 @@ fn answer_of(alloc: Global, verdict: Verdict) -> Result<Answer, AllocError>
     }
 }
 
-/// The answer, where memory is not wanted.
+/// The answer. The only error is out of memory.
 fn print(alloc: Global, material: &Material) -> Result<Answer, AllocError>
     requires { IsWellShaped material.now.model }
     ensures value { IfOk result (λ a. Answers material.now (Ok a)) }
@@ -68,7 +68,8 @@ fn print(alloc: Global, material: &Material) -> Result<Answer, AllocError>
     answer_of(alloc, verdict)
 }
 
-/// Whether the file's model is valid for the log, by the kinds of invariants that it says: `yes`, or `no` with the first part that fails.
+/// Whether the model in the file is valid for the log, for the kinds of invariants that it names: `yes`, or `no` with the first
+/// part that fails.
 pub fn answer(alloc: Global, material: Material) -> Result<Answer, NoAnswer>
     requires { IsWellShaped material.model }
     ensures { Gives (Answers material) result }

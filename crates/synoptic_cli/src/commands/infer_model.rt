@@ -14,7 +14,7 @@ use model_file::write_model;
 use models::{models_are_shaped, models_pass, models_tell};
 use std::alloc::{AllocError, Global};
 
-/// The file of the model that is inferred, where memory is not wanted.
+/// The text of the inferred model. The only error is out of memory.
 pub fn write(alloc: Global, workbench: &Workbench) -> Result<Answer, AllocError>
     requires { (workbench.now).stage ≡ Stage.Inferred }
     ensures { IfOk result (WritesModel (typed_words (workbench.now).kinds (workbench.now).log)) }
@@ -33,7 +33,8 @@ pub fn write(alloc: Global, workbench: &Workbench) -> Result<Answer, AllocError>
     })
 }
 
-/// The file of the log's model by these kinds of invariants. It promises all that a valid model does, is valid for the log, and its steps are justified by it.
+/// The text of the log's model for these kinds of invariants. The model is valid for the log, so it keeps what `Promises`
+/// states, and its history is justified by the log.
 pub fn answer(alloc: Global, kinds: Kinds, material: Material) -> Result<Answer, NoAnswer>
     ensures { Gives (Answers kinds material) result }
 {

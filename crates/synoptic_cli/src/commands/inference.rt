@@ -1,4 +1,4 @@
-//! The inference that commands rest on.
+//! The inference that commands share.
 ghost use Rattle.std.specs.Prelude.{◌≡◌, ◌<◌, IfOk, IfErr, OnOk};
 ghost use Rattle.models.specs.Models.{typed_words};
 ghost use Rattle.synoptic_cli.specs.Commands.Inference.{kind_of, NotInferred, PassesLimit, PassesNone};
@@ -13,7 +13,7 @@ use std::sync::ledger::{Blank, Ledger};
 use steps::Steps;
 use traces::TraceSet;
 
-/// The limit of a run that a limit of inference is.
+/// The limit of a run for a limit of inference.
 fn kind_of(limit: InferLimit) -> LimitKind
     ensures { result ≡ kind_of limit }
 {
@@ -23,15 +23,16 @@ fn kind_of(limit: InferLimit) -> LimitKind
     }
 }
 
-/// Infers the model of the log of a workbench, or answers the limit that its inference passes. Nobody reads how
-/// many steps it takes.
+/// Infers the model of the log of a workbench, or returns the limit that its inference exceeds. Nobody reads how many steps it
+/// takes.
 fn infer<L: Ledger>(workbench: &mut Workbench, blank: Blank) -> Result<(), LimitKind>
     requires name { blank.name ≡ L.name }
     requires parts { blank.parts ≡ L.parts }
     requires stands { 0 < blank.parts }
     requires opened { (workbench.old).stage ≡ Stage.Opened }
 
-    // The kinds that are asked for and the log stay. Its model is inferred, or the limit that its inference passes is answered.
+    // The kinds that are asked for and the log stay. The model is inferred, or the limit that its inference exceeds is
+    // returned.
     ensures kinds { (workbench.new).kinds ≡ (workbench.old).kinds }
     ensures log { (workbench.new).log ≡ (workbench.old).log }
     ensures stage { OnOk result ((workbench.new).stage ≡ Stage.Inferred) }
@@ -45,9 +46,9 @@ fn infer<L: Ledger>(workbench: &mut Workbench, blank: Blank) -> Result<(), Limit
     }
 }
 
-/// A workbench on which the model of the traces is inferred, by these kinds of invariants.
+/// A workbench on which the model of the traces is inferred, for these kinds of invariants.
 ///
-/// `Limit(Partitions)` and `Limit(Paths)` come exactly where inference passes them, but for want of memory.
+/// `Limit(Partitions)` and `Limit(Paths)` are returned exactly if inference exceeds them, unless memory runs out.
 pub fn inferred(alloc: Global, kinds: Kinds, traces: TraceSet) -> Result<Workbench, NoAnswer>
     ensures workbench { IfOk result (λ workbench. workbench ≡ record {
       kinds = kinds;

@@ -10,7 +10,7 @@ use crate::status::Status;
 use model_file::write_model;
 use std::alloc::{AllocError, Global};
 
-/// The answer, where memory is not wanted.
+/// The answer. The only error is out of memory.
 fn print(alloc: Global, material: &Material) -> Result<Answer, AllocError>
     requires shaped { IsWellShaped material.now.model }
     requires former { IsOfVersion1 material.now.model }
@@ -23,7 +23,7 @@ fn print(alloc: Global, material: &Material) -> Result<Answer, AllocError>
     })
 }
 
-/// The text of version 2 of the file's model, which is read back as that very model.
+/// The text of version 2 of the model in the file. It is read back as that very model.
 pub fn answer(alloc: Global, material: Material) -> Result<Answer, NoAnswer>
     requires shaped { IsWellShaped material.model }
     requires former { IsOfVersion1 material.model }

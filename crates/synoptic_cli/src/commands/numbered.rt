@@ -5,7 +5,7 @@ use invariants::Seq;
 use itoa::Buffer;
 use std::alloc::{AllocError, Global};
 
-/// Puts a number in decimal digits at the end of the text.
+/// Appends a number in decimal digits to the text.
 pub fn push_number(text: &mut Vec<u8>, number: u32) -> Result<(), AllocError>
     ensures { OnOk result (text.new.items ≡ text.old.items ++ decimal number) }
 {
@@ -13,7 +13,7 @@ pub fn push_number(text: &mut Vec<u8>, number: u32) -> Result<(), AllocError>
     text.extend_from_slice(digits.format(number).as_bytes())
 }
 
-/// The line of these words and a number.
+/// The line of this text and a number.
 pub fn numbered_line(alloc: Global, what: &str, number: u32) -> Result<Seq<u8>, AllocError>
     ensures { IfOk result (λ text. text ≡ what.now ++ decimal number ++ codes "\n") }
 {

@@ -11,7 +11,7 @@ use partition_model::{accepts_traces, graphs_are_formed, listings_tell};
 use reports::graph_report;
 use std::alloc::{AllocError, Global};
 
-/// The answer, where memory is not wanted.
+/// The answer. The only error is out of memory.
 fn print(alloc: Global, material: &Material) -> Result<Answer, AllocError>
     ensures { IfOk result (λ a. Answers material.now (Ok a)) }
 {
@@ -33,7 +33,7 @@ fn print(alloc: Global, material: &Material) -> Result<Answer, AllocError>
     })
 }
 
-/// The edges of the graph, one a line. They are exactly those of the log, and each trace is a path of it.
+/// The edges of the graph, one per line. They are exactly those of the log, and each trace is the word of a path of the graph.
 pub fn answer(alloc: Global, material: Material) -> Result<Answer, NoAnswer>
     ensures { Gives (Answers material) result }
 {

@@ -1,4 +1,4 @@
-//! `graph` with a model's file: prints the graph of that model.
+//! `graph` with a model file: prints the graph of that model.
 ghost use Rattle.std.specs.Prelude.{IfOk, Ok};
 ghost use Rattle.synoptic_cli.specs.Commands.PrintGraphOfModel.{Answers};
 ghost use Rattle.synoptic_cli.specs.Halts.{Gives};
@@ -9,7 +9,7 @@ use crate::status::Status;
 use reports::graph_report;
 use std::alloc::{AllocError, Global};
 
-/// The answer, where memory is not wanted.
+/// The answer. The only error is out of memory.
 fn print(alloc: Global, material: &Material) -> Result<Answer, AllocError>
     ensures { IfOk result (λ a. Answers material.now (Ok a)) }
 {
@@ -26,7 +26,7 @@ fn print(alloc: Global, material: &Material) -> Result<Answer, AllocError>
     })
 }
 
-/// The edges of the file's graph, one a line.
+/// The edges of the graph of the model in the file, one per line.
 pub fn answer(alloc: Global, material: Material) -> Result<Answer, NoAnswer>
     ensures { Gives (Answers material) result }
 {

@@ -11,7 +11,7 @@ use invariants::{Kinds, candidates_tell, mined_keeps_order, mined_tells};
 use reports::invariant_report;
 use std::alloc::{AllocError, Global};
 
-/// The answer, where memory is not wanted.
+/// The answer. The only error is out of memory.
 fn print(alloc: Global, kinds: Kinds, material: &Material) -> Result<Answer, AllocError>
     ensures { IfOk result (λ a. Answers kinds material.now (Ok a)) }
 {
@@ -27,7 +27,7 @@ fn print(alloc: Global, kinds: Kinds, material: &Material) -> Result<Answer, All
     })
 }
 
-/// The invariants of these kinds that hold in every trace, one a line. They are exactly the candidates that do.
+/// The invariants of these kinds that hold in every trace, one per line: exactly the candidates that do.
 pub fn answer(alloc: Global, kinds: Kinds, material: Material) -> Result<Answer, NoAnswer>
     ensures { Gives (Answers kinds material) result }
 {

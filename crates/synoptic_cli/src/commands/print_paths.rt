@@ -13,7 +13,7 @@ use partition_model::{accepts_traces, coarsening_keeps, refinement_keeps};
 use reports::{path_report, paths_tell};
 use std::alloc::{AllocError, Global};
 
-/// The paths through the model that is inferred, where memory is not wanted.
+/// The paths through the inferred model. The only error is out of memory.
 fn print(alloc: Global, workbench: &Workbench) -> Result<Answer, AllocError>
     requires { (workbench.now).stage ≡ Stage.Inferred }
     ensures { IfOk result (TellsPaths (workbench.now).kinds (workbench.now).log) }
@@ -32,8 +32,8 @@ fn print(alloc: Global, workbench: &Workbench) -> Result<Answer, AllocError>
     })
 }
 
-/// The paths of the traces, each with how many take it, one a line, through the model that `infer` writes by these kinds of
-/// invariants.
+/// The paths of the traces through the model that `infer` writes for these kinds of invariants, one per line, each with the
+/// number of traces that take it.
 pub fn answer(alloc: Global, kinds: Kinds, material: Material) -> Result<Answer, NoAnswer>
     ensures { Gives (Answers kinds material) result }
 {

@@ -1,4 +1,4 @@
-//! `replay`: tells whether the history of the model of a file is justified by a log.
+//! `replay`: reports whether the history of the model in a file is justified by a log.
 ghost use Rattle.std.specs.Prelude.{◌≡◌, IfOk, Ok};
 ghost use Rattle.model_shape.specs.Shapes.{IsWellShaped};
 ghost use Rattle.synoptic_cli.specs.Commands.ReplayModel.{Answers, answer_of, no_text};
@@ -25,7 +25,7 @@ fn no_line(alloc: Global, part: ReplayPart) -> Result<Seq<u8>, AllocError>
     }
 }
 
-/// How the outcome of a replay is told.
+/// The answer for the outcome of a replay.
 fn answer_of(alloc: Global, outcome: Replay) -> Result<Answer, AllocError>
     ensures value { IfOk result (λ a. a ≡ answer_of outcome) }
     ensures verdict { IfOk result (λ a. IsVerdict a.status) }
@@ -42,7 +42,7 @@ fn answer_of(alloc: Global, outcome: Replay) -> Result<Answer, AllocError>
     }
 }
 
-/// The answer, where memory is not wanted.
+/// The answer. The only error is out of memory.
 fn print(alloc: Global, material: &Material) -> Result<Answer, AllocError>
     requires { IsWellShaped material.now.model }
     ensures value { IfOk result (λ a. Answers material.now (Ok a)) }
@@ -53,7 +53,7 @@ fn print(alloc: Global, material: &Material) -> Result<Answer, AllocError>
     answer_of(alloc, outcome)
 }
 
-/// Whether the history of the file's model is justified by the log: `yes`, or `no` with the first step that fails.
+/// Whether the history of the model in the file is justified by the log: `yes`, or `no` with the first step that fails.
 pub fn answer(alloc: Global, material: Material) -> Result<Answer, NoAnswer>
     requires { IsWellShaped material.model }
     ensures { Gives (Answers material) result }

@@ -1,4 +1,5 @@
-//! `bench`: makes a log, infers its model by three kinds of invariants, writes it, reads it back and checks it, and prints how large all is.
+//! `bench`: makes a log, infers its model for three kinds of invariants, writes it, reads it back and checks it, and prints the
+//! sizes.
 ghost use Rattle.std.specs.Prelude.{◌≡◌, ◌++◌, IfOk, OnOk};
 ghost use Rattle.std.specs.Option.{IsSomeAnd};
 ghost use Rattle.command_line.specs.Task.{IsSessions};
@@ -28,7 +29,7 @@ struct Checked {
     verdict: Verdict,
 }
 
-/// Puts the line that says how many there are of something at the end of the text.
+/// Appends the line with the number of something to the text.
 fn push_count(text: &mut Vec<u8>, what: &str, number: usize) -> Result<(), AllocError>
     ensures { OnOk result (text.new.items ≡ text.old.items ++ count_line what.now number) }
 {
@@ -39,7 +40,7 @@ fn push_count(text: &mut Vec<u8>, what: &str, number: usize) -> Result<(), Alloc
     Ok(())
 }
 
-/// Puts how large the log is at the end of the text.
+/// Appends the lines with the sizes of the log to the text.
 fn push_log(text: &mut Vec<u8>, traces: &TraceSet) -> Result<(), AllocError>
     ensures { OnOk result (text.new.items ≡ text.old.items ++ log_lines traces.now) }
 {
@@ -49,7 +50,7 @@ fn push_log(text: &mut Vec<u8>, traces: &TraceSet) -> Result<(), AllocError>
     Ok(())
 }
 
-/// Puts how large the model is at the end of the text.
+/// Appends the lines with the sizes of the model to the text.
 fn push_model(text: &mut Vec<u8>, model: &Model) -> Result<(), AllocError>
     ensures { OnOk result (text.new.items ≡ text.old.items ++ model_lines model.now) }
 {
@@ -60,7 +61,7 @@ fn push_model(text: &mut Vec<u8>, model: &Model) -> Result<(), AllocError>
     Ok(())
 }
 
-/// The eight lines of a log and of its model, which the check accepts.
+/// The eight lines of a log and its model, for a model that the check accepts.
 fn summary(alloc: Global, traces: &TraceSet, model: &Model) -> Result<Seq<u8>, AllocError>
     ensures { IfOk result (λ text. text ≡ summary traces.now model.now) }
 {
@@ -71,7 +72,7 @@ fn summary(alloc: Global, traces: &TraceSet, model: &Model) -> Result<Seq<u8>, A
     Ok(Seq::from_vec(text))
 }
 
-/// Reads the model that stands in the text of a file, and checks it against the log.
+/// Reads the model in the text of a file, and checks it against the log.
 fn read_and_check(alloc: Global, text: &[u8], traces: &TraceSet) -> Result<Checked, AllocError>
     requires { SaysModel text.now }
     ensures { IfOk result (λ c. IsChecked text.now (typed_words c.model.kinds traces.now) c.model c.verdict) }
@@ -91,7 +92,7 @@ fn read_and_check(alloc: Global, text: &[u8], traces: &TraceSet) -> Result<Check
     }
 }
 
-/// How large the log and its model are, once the model was written, read back and checked, where memory is not wanted.
+/// The sizes of the log and its model, after the model was written, read back and checked. The only error is out of memory.
 fn tell(alloc: Global, workbench: &Workbench) -> Result<Answer, AllocError>
     requires kinds { (workbench.now).kinds ≡ Kinds.Three }
     requires stage { (workbench.now).stage ≡ Stage.Inferred }
@@ -117,7 +118,7 @@ fn tell(alloc: Global, workbench: &Workbench) -> Result<Answer, AllocError>
     }
 }
 
-/// How large the log of these traces and its model are, and that the check accepts it.
+/// The sizes of the log of these traces and its model, which the check accepts.
 fn tell_of(alloc: Global, traces: TraceSet) -> Result<Answer, NoAnswer>
     ensures { Gives (AnswersOf traces) result }
 {
@@ -127,7 +128,7 @@ fn tell_of(alloc: Global, traces: TraceSet) -> Result<Answer, NoAnswer>
     Ok(told?)
 }
 
-/// How large the made log of so many sessions and its model are, and that the check accepts it.
+/// The sizes of the made log of this number of sessions and its model, which the check accepts.
 pub fn answer(alloc: Global, number: Option<u32>) -> Result<Answer, NoAnswer>
     requires { IsSomeAnd number IsSessions }
     ensures { Gives (Answers number) result }

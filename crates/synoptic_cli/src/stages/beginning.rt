@@ -1,4 +1,4 @@
-//! What is there before the first stage.
+//! The state before the first stage.
 ghost use Rattle.std.specs.Prelude.{◌≡◌, ◌<◌, ◌^◌, IfOk};
 ghost use Rattle.model_file.specs.declared.version.Version.{Version};
 ghost use Rattle.model_shape.specs.Shapes.{end_of};
@@ -13,7 +13,7 @@ use std::alloc::{AllocError, Global};
 use trace_builder::Builder;
 use traces::gathering_in_order_is_the_log;
 
-/// The end with this number, of no traces.
+/// The end with this number, for no traces.
 fn end_of(number: u32) -> Partition
     requires { number < 2 ^ 16 }
     ensures { result ≡ end_of number 0 }
@@ -25,7 +25,7 @@ fn end_of(number: u32) -> Partition
     }
 }
 
-/// A model that says nothing: of no types and of no traces.
+/// A model of no types and no traces.
 fn no_model(alloc: Global) -> Result<Model, AllocError>
     ensures { IfOk result (λ model. model ≡ no_model) }
 {
@@ -42,7 +42,7 @@ fn no_model(alloc: Global) -> Result<Model, AllocError>
     })
 }
 
-/// What is there before the first stage: what no stage reads says nothing.
+/// The state before the first stage: no rules, a log without traces, and a model of no types.
 pub fn start(alloc: Global) -> Result<SoFar, AllocError>
     ensures { IfOk result (λ so_far. (version : Version) → IsHeld version so_far at_start) }
 {

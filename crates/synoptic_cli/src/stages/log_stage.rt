@@ -18,7 +18,7 @@ use outside::Inputs;
 use std::alloc::Global;
 use traces::TraceSet;
 
-/// What decides the lines: the rules that were read, where some were.
+/// What decides the lines: the rules that were read, if there are any, otherwise the plain form.
 fn form_of(rules: &Option<LineRules>) -> log_reader::Form<'_>
     ensures { form_view result ≡ form_with (option_map rules_in rules.now) }
 {
@@ -28,7 +28,7 @@ fn form_of(rules: &Option<LineRules>) -> log_reader::Form<'_>
     }
 }
 
-/// The log in the task's files, whose lines these rules decide.
+/// Reads the log in the task's files, whose lines these rules decide.
 fn read_files<I: Inputs>(
     alloc: Global,
     task: &Task<'_>,
@@ -46,7 +46,7 @@ fn read_files<I: Inputs>(
         (HasReadCause (setting_of (task_held task.now) (form_with (option_map rules_in rules.now)))
         (inputs_of (task_held task.now).files) (I.state inputs.old) (I.state inputs.new)) }
 
-    // Want of memory hides no fault, and no more inputs are opened than there are files.
+    // Running out of memory hides no fault, and no more inputs are opened than there are files.
     ensures memory { result ≡ Err ReadError.Memory
         → (I.state inputs.new).faults ≡ (I.state inputs.old).faults }
     ensures opens { (I.state inputs.new).opens
@@ -67,7 +67,7 @@ fn read_files<I: Inputs>(
     )
 }
 
-/// The stage of the log: reads its files, where the task reads one.
+/// The stage of the log: reads its files, if the task reads a log.
 pub fn read_log_stage<I: Inputs>(
     alloc: Global,
     task: &Task<'_>,
@@ -77,7 +77,7 @@ pub fn read_log_stage<I: Inputs>(
     requires few { length (task_held task.now).files < 2 ^ 32 }
     ensures stays { Stays (I.state inputs.old) (I.state inputs.new) }
 
-    // What is read where the run goes on, and why it ends.
+    // What is read if the run goes on, and why it ends otherwise.
     ensures ok { OnOk result
         (Reads (version_of (task_held task.now).command)
         (log_stages (task_held task.now)) so_far.old
@@ -86,7 +86,7 @@ pub fn read_log_stage<I: Inputs>(
         (LogHalts (task_held task.now) (held_form so_far.old)
         (I.state inputs.old) (I.state inputs.new)) }
 
-    // Want of memory hides no fault.
+    // Running out of memory hides no fault.
     ensures memory { result ≡ Err ReadError.Memory
         → (I.state inputs.new).faults ≡ (I.state inputs.old).faults }
     ensures turn { OpensFirst (input_names (log_stages (task_held task.now)))

@@ -8,7 +8,7 @@ use std::fmt::Write;
 use trace_builder::{AddError, Builder, PackedText};
 use traces::TraceSet;
 
-/// Adds an event whose texts are within the limits, and no other; one without a time by the words of its texts.
+/// Adds an event, if its texts are within the limits. An event without a time is added by the words of its texts.
 pub fn add(
     builder: &mut Builder,
     key: (u32, u32, &str),
@@ -29,7 +29,7 @@ pub fn add(
     }
 }
 
-/// Takes a step `COUNT FILE SECTION TIME TRACE|TYPE`: adds that event so many times, and says why one is refused.
+/// Takes a step `COUNT FILE SECTION TIME TRACE|TYPE`: adds that event `COUNT` times, and reports why one is refused.
 fn take_step(builder: &mut Builder, step: &str, out: &mut String) -> Result<(), AllocError> {
     let (count, rest) = number_of(step);
     let (file, rest) = number_of(rest);
@@ -61,7 +61,7 @@ fn log_of(alloc: Global, steps: &str, out: &mut String) -> Result<TraceSet, Allo
     builder.finish()
 }
 
-/// Takes the steps of a case, and says what is gathered.
+/// Takes the steps of a case, and reports what is gathered.
 pub fn run(alloc: Global, steps: &str, out: &mut String) -> Result<(), AllocError> {
     let log = log_of(alloc, steps, out)?;
     write_log(out, &log)

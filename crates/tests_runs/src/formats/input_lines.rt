@@ -7,7 +7,7 @@ use outside::{Inputs, MemInputs};
 use std::alloc::{AllocError, Global};
 use std::fmt::Write;
 
-/// Standard input with these bytes, of which a read gives at most a piece. The call of this number fails.
+/// Standard input with these bytes. A read gives at most a piece of them. The call with this number fails.
 fn input_of(
     alloc: Global,
     bytes: Vec<u8>,
@@ -20,7 +20,7 @@ fn input_of(
     Ok(MemInputs::new(files, piece.max(1), failing))
 }
 
-/// Says what the lines are, and how they end.
+/// Reports what the lines are, and how they end.
 fn write_lines(
     lines: &mut Lines,
     inputs: &mut MemInputs,
@@ -42,7 +42,7 @@ fn write_lines(
     Ok(())
 }
 
-/// Opens standard input, and says what its lines are.
+/// Opens standard input, and reports what its lines are.
 fn write_input(alloc: Global, inputs: &mut MemInputs, out: &mut String) -> Result<(), AllocError> {
     writeln!(out, "{:?}", inputs.open(""))?;
     let mut lines = Lines::make(alloc)?;
@@ -50,7 +50,7 @@ fn write_input(alloc: Global, inputs: &mut MemInputs, out: &mut String) -> Resul
     write_lines(&mut lines, inputs, out)
 }
 
-/// Says what the lines of the input are. The words are how many bytes a read gives at most, and which call fails.
+/// Reports the lines of the input. The arguments are the maximum number of bytes of a read, and the call that fails.
 pub fn run(alloc: Global, words: &str, input: &str, out: &mut String) -> Result<(), AllocError> {
     let (piece, failing) = number_of(words);
     let piece = usize::try_from(piece).unwrap_or(1);

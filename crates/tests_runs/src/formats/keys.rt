@@ -6,7 +6,7 @@ use std::alloc::{AllocError, Global};
 use std::fmt::Write;
 use trace_keys::{KeyParts, PackedText};
 
-/// Where the key of file 0 stands, or is put: by the words of its text where the place that is near is odd.
+/// The place where the key of file 0 is found or put. If the near place is odd, the words of its text are used.
 fn place(
     alloc: Global,
     table: &mut KeyTable,
@@ -31,7 +31,8 @@ fn place(
     Ok(Some(found))
 }
 
-/// Takes a step `NEAR SECTION TEXT`, and says where the key stands, and where else it is found by its words alone.
+/// Takes a step `NEAR SECTION TEXT`, and reports the place of the key, and where it is found by its words alone if that
+/// differs.
 fn take_step(
     alloc: Global,
     table: &mut KeyTable,
@@ -50,7 +51,7 @@ fn take_step(
     writeln!(out, "{found:?}")
 }
 
-/// Says which keys there are: their files, sections and texts.
+/// Reports which keys there are: their files, sections and texts.
 fn write_keys(table: &KeyTable, out: &mut String) -> Result<(), AllocError> {
     for place in 0..table.len() {
         let key = table.key(place);
@@ -61,7 +62,7 @@ fn write_keys(table: &KeyTable, out: &mut String) -> Result<(), AllocError> {
     Ok(())
 }
 
-/// Takes the steps of a case, and says which keys there are after them.
+/// Takes the steps of a case, and reports which keys there are after them.
 fn take_steps(
     alloc: Global,
     table: &mut KeyTable,

@@ -27,7 +27,7 @@ fn names_of(alloc: Global, words: &str) -> Result<Vec<String>, AllocError> {
     Ok(names)
 }
 
-/// Reads the log of the inputs, and says what it has, or why it is refused. The words are the options and the names.
+/// Reads the log of the inputs, and reports what it has, or why it is refused. The arguments are the options and the names.
 fn read(
     alloc: Global,
     inputs: &mut MemInputs,
@@ -66,7 +66,7 @@ fn read_by(
     }
 }
 
-/// Says what a further read gives.
+/// Reports what a further read gives.
 fn write_left(inputs: &mut MemInputs, out: &mut String) -> Result<(), AllocError> {
     let mut buf = [0u8; 7];
     let count = inputs.read(&mut buf);
@@ -75,9 +75,9 @@ fn write_left(inputs: &mut MemInputs, out: &mut String) -> Result<(), AllocError
     out.push('\n')
 }
 
-/// Says what the log of the inputs has. The words are how many bytes a read gives at most, which call fails, the options
-/// and the names. The first step is the file of rules, and the others are the inputs. Where a call fails, a further read
-/// tells what is left.
+/// Reports what the log of the inputs has. The arguments are the maximum number of bytes of a read, the call that fails, the
+/// options and the names. The first step is the rules file, and the others are the inputs. If a call fails, a further read
+/// reports what is left.
 pub fn run(alloc: Global, words: &str, steps: &str, out: &mut String) -> Result<(), AllocError> {
     let (piece, rest) = number_of(words);
     let (failing, words) = number_of(rest);

@@ -3,7 +3,7 @@
 use std::alloc::{AllocError, Global};
 use std::fmt::Write;
 
-/// Puts a byte at the end so many times, by the text of both numbers.
+/// Appends a byte a number of times. The text has both numbers.
 fn put_run(bytes: &mut Vec<u8>, run: &str) -> Result<(), AllocError> {
     let (count, byte) = run.split_once(' ').unwrap_or(("", ""));
     let byte = byte.parse().unwrap_or(0u8);
@@ -25,7 +25,7 @@ pub fn bytes_of(alloc: Global, text: &str) -> Result<Vec<u8>, AllocError> {
     Ok(bytes)
 }
 
-/// The text of which these are the bytes.
+/// The text with these bytes.
 pub fn text_of(alloc: Global, text: &str) -> Result<String, AllocError> {
     let bytes = bytes_of(alloc, text)?;
     let read = String::from_utf8_lossy(alloc, &bytes);
@@ -33,7 +33,7 @@ pub fn text_of(alloc: Global, text: &str) -> Result<String, AllocError> {
     read
 }
 
-/// Writes a byte that stands so many times in a row.
+/// Writes a byte that occurs a number of times in a row.
 fn write_run(out: &mut String, byte: u8, count: usize) -> Result<(), AllocError> {
     let is_plain = matches!(byte, b' '..=b'}') && count < 4;
     if !is_plain {
@@ -45,7 +45,8 @@ fn write_run(out: &mut String, byte: u8, count: usize) -> Result<(), AllocError>
     Ok(())
 }
 
-/// Writes these bytes: up to three of one kind as they stand, where they are plain ASCII, and else their number and kind.
+/// Writes these bytes. Up to three equal bytes are written as they are if they are plain ASCII; otherwise their number and
+/// value are written.
 pub fn write_bytes(out: &mut String, bytes: &[u8]) -> Result<(), AllocError> {
     let (mut last, mut count) = (b' ', 0usize);
     for &byte in bytes {
@@ -59,7 +60,7 @@ pub fn write_bytes(out: &mut String, bytes: &[u8]) -> Result<(), AllocError> {
     write_run(out, last, count)
 }
 
-/// The first number of a text of numbers between spaces, and what stands after it.
+/// The first number of a text of numbers separated by spaces, and what follows it.
 pub fn number_of(text: &str) -> (u128, &str) {
     let (number, rest) = text.split_once(' ').unwrap_or((text, ""));
     (number.parse().unwrap_or(0), rest)

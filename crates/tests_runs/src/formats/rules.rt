@@ -24,7 +24,7 @@ fn type_of<'t>(rules: &'t LineRules, line: &'t str) -> &'t str {
     }
 }
 
-/// Says what rules decide of a line: by themselves, and where it differs, by what is kept from line to line.
+/// Reports what rules decide of a line: on their own, and if it differs, with what is kept from line to line.
 fn write_decision(rules: &LineRules, line: &str, out: &mut String) -> Result<(), AllocError> {
     let mut matchers = rules.matchers()?;
     let first = matchers.decide(line);
@@ -40,7 +40,7 @@ fn write_decision(rules: &LineRules, line: &str, out: &mut String) -> Result<(),
     Ok(())
 }
 
-/// Says what rules decide of lines.
+/// Reports what rules decide of lines.
 fn write_decisions(
     alloc: Global,
     rules: &LineRules,
@@ -58,7 +58,7 @@ fn write_decisions(
     Ok(())
 }
 
-/// Reads a file of rules over these patterns.
+/// Reads a rules file with these patterns.
 fn read<P: Patterns>(
     alloc: Global,
     steps: &str,
@@ -75,8 +75,8 @@ fn read<P: Patterns>(
     }
 }
 
-/// Reads the file of the first step, and decides the lines of the others. The word of the heading is the number of a build
-/// that is refused.
+/// Reads the rules file of the first step, and decides the lines of the others. The argument of the heading is the number of a
+/// build that is refused.
 pub fn run(alloc: Global, words: &str, steps: &str, out: &mut String) -> Result<(), AllocError> {
     let patterns = RegexPatterns::new(alloc);
     let Ok(refused) = words.parse::<u64>() else {

@@ -7,7 +7,7 @@ use std::alloc::{AllocError, Global};
 use std::fmt::Write;
 use traces::TraceSet;
 
-/// Says which types there are.
+/// Reports which types there are.
 pub fn write_types(out: &mut String, types: &[Text]) -> Result<(), AllocError> {
     out.push_str("types")?;
     for text in types {
@@ -17,7 +17,7 @@ pub fn write_types(out: &mut String, types: &[Text]) -> Result<(), AllocError> {
     out.push('\n')
 }
 
-/// Says the keys of the traces, the numbers of their types, and their times.
+/// Reports the keys of the traces, the numbers of their types, and their times.
 fn write_traces(out: &mut String, log: &TraceSet) -> Result<(), AllocError> {
     for t in 0..log.trace_count() {
         let (key, events, times) = (log.key(t), log.events(t), log.times(t));
@@ -28,7 +28,7 @@ fn write_traces(out: &mut String, log: &TraceSet) -> Result<(), AllocError> {
     Ok(())
 }
 
-/// Says what a log has: of more than 1,000 events only how many there are.
+/// Reports what a log has: of more than 1,000 events only how many there are.
 pub fn write_log(out: &mut String, log: &TraceSet) -> Result<(), AllocError> {
     write_types(out, log.types().as_slice())?;
     writeln!(
@@ -66,7 +66,7 @@ fn write_blocks(out: &mut String, blocks: &[Block]) -> Result<(), AllocError> {
     Ok(())
 }
 
-/// Says what a model says.
+/// Reports what a model contains.
 fn write_model(out: &mut String, model: &Model) -> Result<(), AllocError> {
     write_types(out, model.types.as_slice())?;
     writeln!(out, "{:?}", model.kinds)?;
@@ -78,7 +78,7 @@ fn write_model(out: &mut String, model: &Model) -> Result<(), AllocError> {
     write_blocks(out, model.blocks.as_slice())
 }
 
-/// Says what the model of a file says.
+/// Reports what the model in a file contains.
 pub fn run(alloc: Global, file: &str, out: &mut String) -> Result<(), AllocError> {
     let file = bytes_of(alloc, file)?;
     let read = read_model(alloc, &file);

@@ -9,7 +9,7 @@ use model_reader::read_model;
 use std::alloc::{AllocError, Global};
 use std::fmt::Write;
 
-/// Says whether the model is well shaped, which types it has, and what its text is: the same as another, or not.
+/// Reports whether the model is well shaped, which types it has, and what its text is: the same as another, or not.
 fn write_text(
     alloc: Global,
     model: &Model,
@@ -28,7 +28,7 @@ fn write_text(
     write_types(out, model.types.as_slice())
 }
 
-/// Says what comes of a file: the text of its model, or why it is refused.
+/// Reports the result of reading a file: the text of its model, or why it is refused.
 fn write_answer(
     alloc: Global,
     file: &[u8],
@@ -41,7 +41,7 @@ fn write_answer(
     }
 }
 
-/// Says what comes of each change of the text of the first step.
+/// Reports the result of each change of the text of the first step.
 pub fn run(alloc: Global, steps: &str, out: &mut String) -> Result<(), AllocError> {
     let (base, changes) = steps.split_once('\n').unwrap_or((steps, ""));
     let base = bytes_of(alloc, base)?;
@@ -52,7 +52,7 @@ pub fn run(alloc: Global, steps: &str, out: &mut String) -> Result<(), AllocErro
     Ok(())
 }
 
-/// Says what comes of a file of version 1: the text of its model in version 2, or why it is refused.
+/// Reports the result of reading a file of version 1: the text of its model in version 2, or why it is refused.
 fn write_old_answer(
     alloc: Global,
     file: &[u8],
@@ -65,8 +65,8 @@ fn write_old_answer(
     }
 }
 
-/// Says what comes of each change of the text of the second step, of version 1, where that of the first step is the same model
-/// in version 2.
+/// Reports the result of each change of the text of the second step, which is of version 1. That of the first step is the same
+/// model in version 2.
 pub fn old(alloc: Global, steps: &str, out: &mut String) -> Result<(), AllocError> {
     let (new, rest) = steps.split_once('\n').unwrap_or((steps, ""));
     let (base, changes) = rest.split_once('\n').unwrap_or((rest, ""));
@@ -84,7 +84,7 @@ fn is_json(alloc: Global, bytes: &[u8]) -> bool {
     !matches!(read_model(alloc, bytes), Err(FileError::NotJson))
 }
 
-/// Says how many fronts of a file there are, and how many of them are no JSON.
+/// Reports how many prefixes a file has, and how many of them are not JSON.
 pub fn fronts(alloc: Global, file: &str, out: &mut String) -> Result<(), AllocError> {
     let file = bytes_of(alloc, file)?;
     let mut refused = 0usize;

@@ -10,7 +10,7 @@ use std::fmt::Write;
 use trace_builder::{AddError, Builder};
 use traces::TraceSet;
 
-/// Adds the events of a trace, whose types stand between spaces.
+/// Adds the events of a trace. Their types are separated by spaces.
 fn add_trace(builder: &mut Builder, file: u32, trace: &str) -> Result<(), AddError> {
     for typ in trace.split_whitespace() {
         add(builder, (file, 0, ""), typ, 0)?;
@@ -18,7 +18,7 @@ fn add_trace(builder: &mut Builder, file: u32, trace: &str) -> Result<(), AddErr
     Ok(())
 }
 
-/// Adds the events of traces, which are parted by semicolons, and says why one is refused.
+/// Adds the events of traces, which are separated by semicolons, and reports why one is refused.
 fn add_traces(builder: &mut Builder, traces: &str, out: &mut String) -> Result<(), AllocError> {
     let mut file = 0u32;
     for trace in traces.split(';') {
@@ -37,7 +37,7 @@ fn log_of(alloc: Global, traces: &str, out: &mut String) -> Result<TraceSet, All
     builder.finish()
 }
 
-/// Says whether the model of a file is valid for the log.
+/// Reports whether the model of a file is valid for the log.
 fn write_verdict(
     alloc: Global,
     file: &[u8],
@@ -53,7 +53,7 @@ fn write_verdict(
     writeln!(out, "{:?}", verdict?)
 }
 
-/// Says the verdict on each change of the model of the first step.
+/// Reports the verdict on each change of the model of the first step.
 fn write_verdicts(
     alloc: Global,
     log: &TraceSet,
@@ -69,7 +69,7 @@ fn write_verdicts(
     Ok(())
 }
 
-/// Says the verdicts on changes of a model for the log of these traces.
+/// Reports the verdicts on changes of a model for the log of these traces.
 pub fn run(alloc: Global, traces: &str, steps: &str, out: &mut String) -> Result<(), AllocError> {
     let log = log_of(alloc, traces, out)?;
     write_verdicts(alloc, &log, steps, out)
