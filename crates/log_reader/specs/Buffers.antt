@@ -12,7 +12,7 @@ use Rattle.log_reader.specs.declared.cut.Cut.{Cut}
 use Rattle.log_reader.specs.declared.cut.Extent.{Extent}
 use Rattle.log_reader.specs.declared.line_error.LineError.{LineError}
 use Rattle.log_reader.specs.declared.line_error.LineError.TheVariants.{ReadFault, TooLong, InputLimit}
-use Rattle.log_reader.specs.declared.line_reader.TheConstants.{BUFFER_BYTES}
+use Rattle.log_reader.specs.declared.line_reader.buffer.TheConstants.{BUFFER_BYTES}
 
 -- the bytes of a buffer from one place up to another
 abbrev pub part_of : List ℕ → ℕ → ℕ → List ℕ

@@ -13,17 +13,13 @@ mod feed_search;
 
 use crate::cut::{Cut, Extent, within_limits};
 use crate::line_error::LineError;
-use crate::line_reader::buffer::{clean_after, read_behind, to_front};
+use crate::line_reader::buffer::{BUFFER_BYTES, clean_after, read_behind, to_front};
 use crate::line_reader::feed_search::{LANES, first_feed, near_feed};
 use limits::MAX_INPUT_BYTES;
 use lines::without_return;
 use outside::{Failed, Inputs};
 use std::alloc::{AllocError, Global};
 use std::marker::Model;
-
-/// How many bytes the buffer has. It holds a piece of the greatest length with its line feed, and has room to read many more
-/// bytes at once.
-const BUFFER_BYTES: usize = 131_072;
 
 /// A reader of the lines of inputs, one input after the other. It has a buffer of 131,072 bytes, which is made once. A line is a
 /// part of the buffer and is not copied.

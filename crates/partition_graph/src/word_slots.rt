@@ -19,8 +19,9 @@ const FACTOR: u64 = 0x9e37_79b9_7f4a_7c15;
 /// Slots for the traces of a log. Each is empty or has the number of a trace.
 ///
 /// A word is looked for in `LOOKS` slots, from its home on. If all of them have traces with other words, the word is not
-/// kept, and no later trace finds it. A log can be written so that many words have one home. That gains nothing: a word
-/// that is not found costs what a new word does, so the log costs no more than one whose words are all different.
+/// kept, and no later trace finds it. A log can be written so that many words have one home. Each of its traces may then
+/// count as one with a new word, after a comparison with each of `LOOKS` words. Apart from these comparisons, such a log
+/// costs no more than one of whose words only two are equal.
 #[derive(Drop)]
 pub struct WordSlots {
     /// One more than the number of a trace, or 0 if the slot is empty.

@@ -5,6 +5,10 @@ ghost use Rattle.log_reader.specs.Buffers.{IsClean, ReadsBehind, part_of};
 
 use outside::{Failed, Inputs};
 
+/// How many bytes the buffer has. It holds a piece of the greatest length with its line feed, and has room to read many more
+/// bytes at once.
+pub const BUFFER_BYTES: usize = 131_072;
+
 /// The greatest of the bytes.
 fn greatest(bytes: &[u8]) -> u8
     ensures { (i : ℕ) → slice_index bytes.now i ≤ result }
