@@ -5,7 +5,7 @@ use Rattle.std.proofs.lemmas.List.{get_or-set_same, get_or-set_other}
 use Rattle.std.proofs.lemmas.List.Sums.{count_by-le-length}
 use Rattle.limits.specs.declared.TheConstants.{MAX_PARTITIONS}
 use Rattle.partition_model.specs.Assignments.{pairs}
-use Rattle.replay_check.specs.Shown.{count_at}
+use Rattle.replay_check.specs.Shown.{count_at, HasRow}
 use Rattle.replay_check.specs.Laid.{step_count}
 use Rattle.replay_check.proofs.Laying.{times}
 
@@ -61,9 +61,9 @@ steps-over p q x y xs z =
     none false = zero-add (pairs p q (y ∷ xs))
 
 -- one more in a table of counts
-pub count-more : (counts : List ℕ) (a b v : ℕ) → length counts ≡ MAX_PARTITIONS * MAX_PARTITIONS → a < MAX_PARTITIONS → b < MAX_PARTITIONS → v ≡ count_at counts a b + 1
-    → (p q : ℕ) → p < MAX_PARTITIONS → q < MAX_PARTITIONS → count_at (set counts (a * MAX_PARTITIONS + b) v) p q ≡ (if a == p && b == q then 1 else 0) + count_at counts p q
-count-more counts a b v size la lb e p q lp lq =
+pub count-more : (counts : List ℕ) (a b v : ℕ) → HasRow counts a → b < MAX_PARTITIONS → v ≡ count_at counts a b + 1
+    → (p q : ℕ) → q < MAX_PARTITIONS → count_at (set counts (a * MAX_PARTITIONS + b) v) p q ≡ (if a == p && b == q then 1 else 0) + count_at counts p q
+count-more counts a b v la lb e p q lq =
     elim (cases_eq a p) [
       | inl f ↦ elim (cases_eq b q) [
         | inl g ↦

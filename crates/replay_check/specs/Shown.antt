@@ -1,5 +1,5 @@
 -- What the lists of a replay say of an assignment.
-use Rattle.std.specs.Prelude.{ℕ, ◌≡◌, ◌+◌, ◌*◌, ◌<◌, ◌≤◌, nat_lt, Bool, true, false, List, slice_index, slice_index_or}
+use Rattle.std.specs.Prelude.{ℕ, ◌≡◌, ◌+◌, ◌*◌, ◌<◌, ◌≤◌, nat_lt, Bool, true, false, List, length, slice_index, slice_index_or}
 use Rattle.limits.specs.declared.TheConstants.{FIRST_TYPE, MAX_PARTITIONS}
 use Rattle.bit_rows.specs.Tables.{row_at, is_set}
 use Rattle.partition_model.specs.Graphs.{Graph}
@@ -29,6 +29,10 @@ pub record Knows (h : Assignment) (live : List Bool) (types : List ℕ) : Type 0
 abbrev pub count_at : List ℕ → ℕ → ℕ → ℕ
 count_at counts p q = slice_index counts (p * MAX_PARTITIONS + q)
 
+-- a table of counts has a row for the id
+abbrev pub HasRow : List ℕ → ℕ → Type 0
+HasRow counts p = p * MAX_PARTITIONS + MAX_PARTITIONS ≤ length counts
+
 -- whether the row of the first id has the second
 abbrev pub has_edge : List (List Bool) → ℕ → ℕ → Bool
 has_edge rows p q = is_set (row_at rows p) q
@@ -52,8 +56,7 @@ HasEdges h rows = (p q : ℕ) → p < MAX_PARTITIONS → has_edge rows p q ≡ n
 
 -- the counts are those of the edges of the assignment
 abbrev pub HasCounts : Assignment → List ℕ → Type 0
-HasCounts h counts =
-    (p q : ℕ) → p < MAX_PARTITIONS → q < MAX_PARTITIONS → count_at counts p q ≡ edge_count h p q
+HasCounts h counts = (p q : ℕ) → q < MAX_PARTITIONS → count_at counts p q ≡ edge_count h p q
 
 -- the sizes are those of the ids of the assignment
 abbrev pub HasSizes : Assignment → List ℕ → Type 0

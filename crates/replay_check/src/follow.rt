@@ -9,7 +9,6 @@ ghost use Rattle.replay_check.specs.Sharing.{gathered, AreIdsOf};
 ghost use Rattle.replay_check.specs.Shown.{AreOwnPlaces, Shows};
 
 use crate::answer::Replay;
-use crate::counts::EdgeCounts;
 use crate::edges::EdgeRows;
 use crate::graph::{has_graph, live_ids};
 use crate::ids::{own_places, rename};
@@ -28,7 +27,6 @@ fn follow_merges(
     model: &Model,
     ids: &mut [u16],
     types: &[u16],
-    counts: &mut EdgeCounts,
 ) -> Result<Replay, AllocError>
     requires shaped { IsWellShaped model.now }
     requires types_size { length types.now ≡ MAX_PARTITIONS }
@@ -48,7 +46,7 @@ fn follow_merges(
         return Ok(Replay::No(ReplayPart::Merge(k)));
     }
     rename(ids, names.as_slice());
-    let same = has_graph(alloc, model, ids, types, live.as_slice(), counts)?;
+    let same = has_graph(alloc, model, ids, types, live.as_slice())?;
     if same {
         return Ok(Replay::Yes);
     }
@@ -77,8 +75,7 @@ fn follow_traces(
         → n ≤ MAX_PARTITIONS → IsMerged model.now h answer) }
 {
     let mut all = gather(alloc, traces, ids, places)?;
-    let mut counts = EdgeCounts::make(alloc)?;
-    follow_merges(alloc, model, all.as_mut_slice(), types, &mut counts)
+    follow_merges(alloc, model, all.as_mut_slice(), types)
 }
 
 /// The new id of the first split of the first assignment of the log.

@@ -2,8 +2,8 @@
 ghost use Rattle.std.specs.Prelude.{◌≡◌, ◌↔◌, ◌+◌, ◌++◌, ◌<◌, ◌≤◌, ◌==◌, ◌^◌, ℕ, List, count_by, length, nat_lt, false, slice_index, slice_index_or, IfOk, IsTrue, OnOk, All};
 ghost use Rattle.limits.specs.declared.TheConstants.{FIRST_TYPE, MAX_PARTITIONS};
 ghost use Rattle.models.specs.Histories.{IsGraphOf};
-ghost use Rattle.partition_model.specs.Assignments.{Assignment};
-ghost use Rattle.partition_model.specs.Listings.{partitions_below, edges_below, edges_from};
+ghost use Rattle.partition_model.specs.Assignments.{Assignment, IsTyped};
+ghost use Rattle.partition_model.specs.Listings.{partitions_below, edges_below, edges_from, AreEdges};
 ghost use Rattle.replay_check.specs.Laid.{laid};
 ghost use Rattle.replay_check.specs.Shown.{HasCounts, HasSizes, Knows, Shows};
 
@@ -11,7 +11,7 @@ use crate::counts::EdgeCounts;
 use crate::ids::IDS;
 use crate::listing::{same_edges, same_partitions};
 use invariants::{Edge, Model, Partition};
-use limits::FIRST_TYPE;
+use limits::{FIRST_TYPE, TERMINAL};
 use std::alloc::{AllocError, Global};
 
 /// Counts how often each id occurs in the list. The former `sizes` are overwritten.
@@ -103,8 +103,8 @@ fn push_edges_from(
     p: usize,
     list: &mut Vec<Edge>,
 ) -> Result<(), AllocError>
-    requires bound { n ≤ MAX_PARTITIONS }
-    requires from { p < MAX_PARTITIONS }
+    requires bound { n ≤ (counts.now).bound }
+    requires from { p < (counts.now).bound }
     ensures { OnOk result ((h : Assignment) → HasCounts h (counts.now).counts.items
         → list.new.items ≡ list.old.items ++ edges_from n h p) }
 {
@@ -123,7 +123,7 @@ fn push_edges_from(
 
 /// The edges between ids below `n`, ordered by the ids that they leave and then by those that they enter.
 fn edges_of(alloc: Global, counts: &EdgeCounts, n: usize) -> Result<Vec<Edge>, AllocError>
-    requires bound { n ≤ MAX_PARTITIONS }
+    requires bound { n ≤ (counts.now).bound }
     ensures { IfOk result (λ list. (h : Assignment) → HasCounts h (counts.now).counts.items
         → list.items ≡ edges_below n h) }
 {
@@ -134,15 +134,38 @@ fn edges_of(alloc: Global, counts: &EdgeCounts, n: usize) -> Result<Vec<Edge>, A
     Ok(list)
 }
 
-/// Whether the model has the partitions and the edges of the assignment that the ids show, counts included. The former `counts`
-/// are overwritten.
+/// One more than the greatest id, or the number of ids of the two ends if there is no greater one.
+fn bound_of(ids: &[u16]) -> usize
+    requires within { All (λ p. p < MAX_PARTITIONS) ids.now }
+    ensures ends { FIRST_TYPE ≤ result }
+    ensures most { result ≤ MAX_PARTITIONS }
+    ensures within { All (λ p. p < result) ids.now }
+{
+    let mut greatest = TERMINAL as u16;
+    for k in 0..ids.len() {
+        greatest = ids[k].max(greatest);
+    }
+    usize::from(greatest) + 1
+}
+
+/// The edges of the assignment that the ids show, with their counts.
+fn edges_among(alloc: Global, ids: &[u16]) -> Result<Vec<Edge>, AllocError>
+    requires within { All (λ p. p < MAX_PARTITIONS) ids.now }
+    requires few { length ids.now < 2 ^ 31 }
+    ensures { IfOk result (λ list. (h : Assignment) → IsTyped h → ids.now ≡ laid h → AreEdges list.items h) }
+{
+    let bound = bound_of(ids);
+    let counts = EdgeCounts::of(alloc, ids, bound)?;
+    edges_of(alloc, &counts, bound)
+}
+
+/// Whether the model has the partitions and the edges of the assignment that the ids show, counts included.
 pub fn has_graph(
     alloc: Global,
     model: &Model,
     ids: &[u16],
     types: &[u16],
     live: &[bool],
-    counts: &mut EdgeCounts,
 ) -> Result<bool, AllocError>
     requires within { All (λ p. p < MAX_PARTITIONS) ids.now }
     requires few { length ids.now < 2 ^ 31 }
@@ -156,7 +179,6 @@ pub fn has_graph(
     if !same_partitions(model.partitions.as_slice(), &partitions) {
         return Ok(false);
     }
-    counts.count(ids);
-    let edges = edges_of(alloc, counts, live.len())?;
+    let edges = edges_among(alloc, ids)?;
     Ok(same_edges(model.edges.as_slice(), &edges))
 }
