@@ -3,7 +3,7 @@ use Rattle.std.specs.Prelude.{ℕ, ◌≡◌, ◌↔◌, ◌+◌, ◌*◌, ◌<�
 use Rattle.limits.specs.declared.TheConstants.{MAX_PARTITIONS}
 use Rattle.model_check.specs.declared.rows.IdRows.{IdRows}
 use Rattle.model_check.specs.Rows.{bit}
-use Rattle.model_check.specs.declared.sets.TheConstants.{MEMBERS, KEPT, TYPES}
+use Rattle.model_check.specs.declared.sets.TheConstants.{MEMBERS, KEPT, ROWS, TYPES}
 
 -- the number of an id, or that of one of the first rows kept
 abbrev pub IsSet : ℕ → ℕ → Type 0
@@ -18,9 +18,9 @@ abbrev pub IsEnteredFrom : (ℕ → Bool) → IdRows → ℕ → ℕ → Type 0
 IsEnteredFrom set rows typ q =
     (p : ℕ) × (set p ≡ true) × (bit rows p q ≡ true) × (bit rows (MEMBERS + typ) q ≡ true)
 
--- the number recorded for a set and a type, or 0 for none
+-- the number recorded for a set and a type, or 0 for none; the list has a row of sets for each of the first types
 abbrev pub known : List ℕ → ℕ → ℕ → ℕ
-known numbers set typ = slice_index numbers (set * TYPES + typ)
+known numbers set typ = slice_index numbers (typ * ROWS + set)
 
 -- the type leads from one set to the other
 pub record Leads (rows : IdRows) (kept set typ next : ℕ) : Type 0 where
@@ -31,4 +31,4 @@ pub record Leads (rows : IdRows) (kept set typ next : ℕ) : Type 0 where
 -- each recorded number is that of the set that the type leads to
 abbrev pub AreSuccessors : IdRows → List ℕ → ℕ → Type 0
 AreSuccessors rows numbers kept =
-    (set typ : ℕ) → typ < TYPES → 0 < known numbers set typ → Leads rows kept set typ (known numbers set typ)
+    (set typ : ℕ) → set < ROWS → typ < TYPES → 0 < known numbers set typ → Leads rows kept set typ (known numbers set typ)

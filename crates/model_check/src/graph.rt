@@ -13,7 +13,7 @@ use crate::sets::{IDS, mark_edges, mark_partitions};
 use crate::steps::{is_in_set, step};
 use crate::successors::Successors;
 use invariants::Partition;
-use limits::{INITIAL, MAX_PARTITIONS, TERMINAL};
+use limits::{FIRST_TYPE, INITIAL, MAX_PARTITIONS, TERMINAL};
 use std::alloc::{AllocError, Global};
 use std::marker::Model;
 
@@ -64,7 +64,7 @@ impl ModelGraph {
         let mut rows = IdRows::make(alloc)?;
         mark_partitions(&mut rows, model.partitions.as_slice());
         mark_edges(&mut rows, model.edges.as_slice());
-        let successors = Successors::make(alloc)?;
+        let successors = Successors::make(alloc, model.types.len() + FIRST_TYPE as usize)?;
         Ok(ModelGraph {
             types,
             rows,

@@ -55,7 +55,8 @@ fn number_next(rows: &mut IdRows, successors: &mut Successors, set: usize, typ: 
     next
 }
 
-/// The same as `step`, if the next set is not known.
+/// The same as `step`, if the next set is not known. It stays a call, so that the path of a known step is short.
+#[inline(never)]
 fn step_anew(rows: &mut IdRows, successors: &mut Successors, set: usize, typ: usize) -> usize
     requires set { IsSet (ROOM + 1) set }
     requires kept { set ≢ LOOSE → IsSet (successors.old).kept set }
@@ -85,6 +86,7 @@ fn step_anew(rows: &mut IdRows, successors: &mut Successors, set: usize, typ: us
 }
 
 /// The number of the next set: the ids of the type that edges enter from the set with number `set`.
+#[inline(always)]
 pub fn step(rows: &mut IdRows, successors: &mut Successors, set: usize, typ: usize) -> usize
     requires set { IsSet (ROOM + 1) set }
     requires kept { set ≢ LOOSE → IsSet (successors.old).kept set }

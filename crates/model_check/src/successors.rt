@@ -21,7 +21,7 @@ const FIRST_IDS: usize = 32;
 /// The next set for each set and type, if it is known.
 #[derive(Drop)]
 pub struct Successors {
-    /// For each number of a set and each type, the number of the next set; 0 if it is not known.
+    /// For each of the first types and each number of a set, the number of the next set; 0 if it is not known.
     numbers: Vec<u16>,
     /// The number of a kept set with this slot, in most cases the last one. It may be of a set that was forgotten.
     slots: Vec<u16>,
@@ -29,19 +29,20 @@ pub struct Successors {
     kept: usize,
     /// How many sets went unkept for lack of room since all were last forgotten.
     missed: u32,
-    ghost numbers_size: { length numbers.items ≡ ROWS * TYPES },
     ghost slots_size: { length slots.items ≡ SLOTS },
     ghost room: { kept ≤ ROOM },
 }
 
 impl Successors {
-    /// No step is known, and no set is kept.
-    pub fn make(alloc: Global) -> Result<Successors, AllocError>
+    /// No step is known, and no set is kept. There is room for the steps of so many first types; those of other types are never
+    /// known.
+    pub fn make(alloc: Global, types: usize) -> Result<Successors, AllocError>
+        requires { types ≤ TYPES }
         ensures numbers { IfOk result (λ made. (s t : ℕ) → known made.numbers.items s t ≡ 0) }
         ensures kept { IfOk result (λ made. made.kept ≡ 0) }
     {
         Ok(Successors {
-            numbers: vec![in alloc; 0; ROWS * TYPES]?,
+            numbers: vec![in alloc; 0; types * ROWS]?,
             slots: vec![in alloc; 0; SLOTS]?,
             kept: 0,
             missed: 0,
@@ -49,26 +50,31 @@ impl Successors {
     }
 
     /// The number of the next set; 0 if it is not known.
+    #[inline(always)]
     pub fn get(&self, set: usize, typ: usize) -> usize
         requires set { set < ROWS }
         requires typ { typ < TYPES }
         ensures { result ≡ known (self.now).numbers.items set typ }
     {
-        usize::from(self.numbers[set * TYPES + typ])
+        match self.numbers.get(typ * ROWS + set) {
+            Some(next) => usize::from(*next),
+            None => 0,
+        }
     }
 
-    /// Keeps the number of the next set, unless this set is `LOOSE`, whose row is overwritten later.
+    /// Keeps the number of the next set if there is room for it, unless this set is `LOOSE`, whose row is overwritten later.
     pub fn put(&mut self, set: usize, typ: usize, next: usize)
         requires set { set < ROWS }
         requires typ { typ < TYPES }
         requires next { next < ROWS }
         ensures kept { (self.new).kept ≡ (self.old).kept }
-        ensures numbers { (s t : ℕ) → t < TYPES
+        ensures numbers { (s t : ℕ) → s < ROWS
             → (known (self.new).numbers.items s t ≡ known (self.old).numbers.items s t)
             ⊎ ((s ≡ set) × (t ≡ typ) × (known (self.new).numbers.items s t ≡ next) × (set ≢ LOOSE)) }
     {
-        if set != LOOSE {
-            self.numbers[set * TYPES + typ] = next as u16;
+        let place = typ * ROWS + set;
+        if set != LOOSE && place < self.numbers.len() {
+            self.numbers[place] = next as u16;
         }
     }
 
