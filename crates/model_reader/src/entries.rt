@@ -25,6 +25,11 @@ impl Spelled for u32 {
     fn may_follow(&self, _before: &u32) -> bool {
         true
     }
+
+    #[inline(always)]
+    fn room(rest: &Rest<'_>) -> usize {
+        rest.commas_in_list() + 1
+    }
 }
 
 /// Whether the second pair comes after the first.

@@ -1,5 +1,5 @@
 //! Lists of entries in their shortest spelling.
-ghost use Rattle.std.specs.Prelude.{◌≡◌, ◌∷◌, ◌++◌, map, IfSome};
+ghost use Rattle.std.specs.Prelude.{◌≡◌, [], ◌∷◌, ◌++◌, map, IfSome};
 ghost use Rattle.serde_json.specs.Written.{compact_text};
 ghost use Rattle.model_file.specs.Tree.{array_of};
 
@@ -20,6 +20,12 @@ pub(crate) trait Spelled: Sized {
 
     /// Whether a model may list this entry next to the one before it.
     fn may_follow(&self, before: &Self) -> bool;
+
+    /// How many entries a list gets room for at once. The text after the bracket that opens the list comes next.
+    #[inline(always)]
+    fn room(_rest: &Rest<'_>) -> usize {
+        0
+    }
 }
 
 /// Whether a model may list the entry at the end of these.
@@ -31,6 +37,17 @@ fn fits<T: Spelled>(entries: &[T], entry: &T, most: usize) -> bool {
     match entries.last() {
         Some(before) => entry.may_follow(before),
         None => true,
+    }
+}
+
+/// An empty list with the room that `T::room` tells, but for no more than `most` entries.
+#[inline(always)]
+fn empty_list<T: Spelled + Drop>(alloc: Global, rest: &Rest<'_>, most: usize) -> Option<Vec<T>>
+    ensures { IfSome result (λ list. list.items ≡ []) }
+{
+    match Vec::with_capacity(alloc, T::room(rest).min(most)) {
+        Ok(list) => Some(list),
+        Err(_) => None,
     }
 }
 
@@ -46,7 +63,7 @@ fn take_entries<T: Spelled + Drop>(
 ) -> Option<Seq<T>>
     ensures { IfSome result (λ entries. 91 ∷ rest.old ≡ compact_text (array_of (map T.data_of entries)) ++ rest.new) }
 {
-    let mut entries = Vec::new(alloc);
+    let mut entries = empty_list::<T>(alloc, rest, most)?;
     if rest.takes(b']') {
         return Some(Seq::from_vec(entries));
     }

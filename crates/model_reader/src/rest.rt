@@ -1,5 +1,5 @@
 //! The bytes that are still to be read. Tokens in their shortest spelling are taken from the start.
-ghost use Rattle.std.specs.Prelude.{◌≡◌, ◌<◌, ◌+◌, ◌∷◌, ◌++◌, [], IfSome, OnSome, MatchOption, decimal};
+ghost use Rattle.std.specs.Prelude.{◌≡◌, ◌<◌, ◌+◌, ◌^◌, ◌∷◌, ◌++◌, [], IfSome, OnSome, MatchOption, decimal};
 ghost use Rattle.std.specs.Bool.{OnTrue, OnFalse};
 
 use memchr::memchr;
@@ -111,6 +111,19 @@ impl<'a> Rest<'a> {
             number = number * 10 + digit;
         }
         Some(number)
+    }
+
+    /// How many commas come before the next closing bracket; 0 if no bracket comes.
+    pub(crate) fn commas_in_list(&self) -> usize
+        ensures { result < 2 ^ 63 }
+    {
+        match memchr(b']', self.bytes) {
+            Some(end) => self.bytes[..end]
+                .iter()
+                .filter(|byte| **byte == b',')
+                .count(),
+            None => 0,
+        }
     }
 
     /// Takes a string, and returns the bytes between its quotation marks.
