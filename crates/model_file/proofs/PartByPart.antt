@@ -1,6 +1,7 @@
 -- The parts of a model, read one after the other.
 use Rattle.std.proofs.Common.{◌≡◌, ℕ, Bool, List, [], ◌∷◌, ◌&&◌, length, Option, Result, Ok, Err, refl, sym, ap, ap₂, ◌∙◌}
 use Rattle.std.specs.List.{list_all}
+use Rattle.std.specs.Prelude.{IfErr}
 use Rattle.invariants.specs.declared.Kinds.{Kinds}
 use Rattle.invariants.specs.declared.records.Partition.{Partition}
 use Rattle.invariants.specs.declared.records.Edge.{Edge}
@@ -14,10 +15,10 @@ use Rattle.model_file.specs.declared.refusal.Field.{Field}
 use Rattle.model_file.specs.declared.refusal.Field.TheVariants.{Edges, Blocks}
 use Rattle.model_file.specs.declared.refusal.FileError.{FileError}
 use Rattle.model_file.specs.Rules.{type_of, edge_holds, edges_hold, block_holds, blocks_hold}
-use Rattle.model_file.specs.Reading.{◌>>=◌, or_shape, tested}
+use Rattle.model_file.specs.Reading.{◌>>=◌, or_shape, tested, Fails}
 use Rattle.model_file.specs.declared.found.Found.{Found}
 use Rattle.model_file.specs.Found.{types_from, kinds_tested, partitions_from, edges_from, invariants_from, merges_from, splits_from, blocks_from, after_partitions, parts_from}
-use Rattle.model_file.proofs.Fails.{then-same}
+use Rattle.model_file.proofs.Fails.{then-same, fails-at}
 
 -- two look-ups give the same at each id
 abbrev Agree : (ℕ → Option ℕ) → (ℕ → Option ℕ) → Type 0
@@ -84,6 +85,11 @@ module _ (version : Version) (found : Found) (ts : List (List ℕ)) (types : typ
     pub from-others : (ps : List Partition) (type : ℕ → Option ℕ) → Agree type (type_of ps) → partitions_from (length ts) found ≡ Ok ps → parts_from version found ≡ after_partitions type ts kinds ps found
     from-others ps type agree partitions =
         from-partitions ∙ ap (λ r. r >>= λ xs. after_partitions (type_of xs) ts kinds xs found) partitions ∙ sym (others-same type (type_of ps) agree ts kinds ps found)
+
+-- where the partitions are refused, so are the parts, if the kinds were read before
+pub partitions-refused : (version : Version) (found : Found) (ts : List (List ℕ)) → types_from version found ≡ Ok ts → (e refusal : FileError) (answer : Result (Unit {0}) FileError) → answer ≡ Err refusal → refusal ≡ e → Fails e (partitions_from (length ts) found)
+    → (kinds : Kinds) → kinds_tested version found ≡ Ok kinds → IfErr answer (λ x. Fails x (parts_from version found))
+partitions-refused version found ts types e refusal answer failed same h kinds named = fails-at e refusal answer _ (partitions_from (length ts) found) _ failed same (from-partitions version found ts types kinds named) h
 
 -- ---- after the partitions
 

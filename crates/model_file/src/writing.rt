@@ -85,12 +85,8 @@ impl Written for Partition {
 
     ghost can_write = { λ _. Unit {0} };
 
-    fn write(&self, _alloc: Global, out: &mut Writer) -> Result<(), AllocError> {
-        out.begin_array()?;
-        write_number(self.id, out)?;
-        write_number(u32::from(self.typ), out)?;
-        write_number(self.count, out)?;
-        out.end_array()
+    fn write(&self, alloc: Global, out: &mut Writer) -> Result<(), AllocError> {
+        write_list(alloc, &[self.id, u32::from(self.typ), self.count], out)
     }
 }
 
@@ -101,12 +97,8 @@ impl Written for Edge {
 
     ghost can_write = { λ _. Unit {0} };
 
-    fn write(&self, _alloc: Global, out: &mut Writer) -> Result<(), AllocError> {
-        out.begin_array()?;
-        write_number(self.from, out)?;
-        write_number(self.to, out)?;
-        write_number(self.count, out)?;
-        out.end_array()
+    fn write(&self, alloc: Global, out: &mut Writer) -> Result<(), AllocError> {
+        write_list(alloc, &[self.from, self.to, self.count], out)
     }
 }
 
@@ -117,11 +109,8 @@ impl Written for Merge {
 
     ghost can_write = { λ _. Unit {0} };
 
-    fn write(&self, _alloc: Global, out: &mut Writer) -> Result<(), AllocError> {
-        out.begin_array()?;
-        write_number(self.p, out)?;
-        write_number(self.q, out)?;
-        out.end_array()
+    fn write(&self, alloc: Global, out: &mut Writer) -> Result<(), AllocError> {
+        write_list(alloc, &[self.p, self.q], out)
     }
 }
 

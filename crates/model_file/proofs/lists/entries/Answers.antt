@@ -1,8 +1,14 @@
-use Rattle.std.proofs.Common.{◌≡◌, ◌-◌, ◌<◌, length, None, ◌∙◌, arith}
+use Rattle.std.proofs.Common.{◌≡◌, ◌-◌, ◌<◌, length, Some, None, ap, ◌∙◌, arith}
 use Rattle.json.specs.Json.{after_end_array}
 use Rattle.model_file.specs.Lists.{gathered}
-use Rattle.model_file.proofs.Listing.{list-goes-on, list-ends, list-stopped}
+use Rattle.model_file.specs.Streams.{items_at}
+use Rattle.model_file.proofs.Listing.{list-begins, list-goes-on, list-ends, list-stopped}
 use Rattle.model_file.proofs.lists.entries.Goals as goal
+
+pub items-init : goal.items-init
+items-init g c =
+    let ts = c.args.reader.now in
+    (length ts, omega arith, list-begins g.B.Bound.over g.T.Entry.read_as (items_at (length ts) c.args.depth ts) _ (ap Some c.new.ensures.items), omega arith)
 
 pub returns-in-Err-clause-value : goal.returns-in-Err-clause-value
 returns-in-Err-clause-value g c =

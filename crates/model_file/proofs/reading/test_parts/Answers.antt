@@ -1,4 +1,4 @@
-use Rattle.std.proofs.Common.{◌≡◌, ◌≤◌, ◌<◌, ℕ, List, Option, length, Ok, refl, sym, ap, subst, ◌∙◌}
+use Rattle.std.proofs.Common.{◌≡◌, ◌≤◌, ◌<◌, ℕ, List, Option, length, Ok, refl, sym, ap, subst, ◌∙◌, rules}
 use Rattle.std.specs.Prelude.{IfErr}
 use Rattle.std.proofs.lemmas.Result.{err_from_is_err_and, on_ok_weaker}
 use Rattle.std.proofs.lemmas.List.Elements.{All-from_recursion}
@@ -9,12 +9,12 @@ use Rattle.model_file.specs.Rules.{types_hold, partitions_hold, type_of}
 use Rattle.model_file.specs.Table.{type_at}
 use Rattle.model_file.specs.Versions.{max_types}
 use Rattle.model_file.specs.Reading.{or_shape, Fails}
-use Rattle.model_file.specs.Found.{types_from, kinds_tested, partitions_from}
+use Rattle.model_file.specs.Found.{types_from, kinds_tested}
 use Rattle.model_file.proofs.Shapes.{rule-of}
 use Rattle.model_file.proofs.Bounds.{few-types, types-within, max_types-within, all-weaker, numbered, IsNumbered}
 use Rattle.model_file.proofs.Fails.{fails-at}
 use Rattle.model_file.proofs.FoundIs.{model-is}
-use Rattle.model_file.proofs.PartByPart.{from-kinds, from-partitions, from-others}
+use Rattle.model_file.proofs.PartByPart.{from-kinds, partitions-refused, from-others}
 use Rattle.model_file.proofs.reading.test_parts.Goals as goal
 
 pub returns-in_err-types-clause-err : goal.returns-in_err-types-clause-err
@@ -41,12 +41,8 @@ partitions_in-requires c =
 
 pub returns-in_err-partitions-clause-err : goal.returns-in_err-partitions-clause-err
 returns-in_err-partitions-clause-err c =
-    let v = c.args.version in
-    let f = c.args.found.now in
-    let ts = c.in_ok-types.types.now in
-    let kinds = c.in_ok-kinds.kinds in
     let p = err_from_is_err_and c.from_residual-in_err-partitions.result c.from_residual-in_err-partitions.ensures.1 in
-    fails-at _ _ c.from_residual-in_err-partitions.result _ (partitions_from (length ts) f) _ p.1 p.2 (from-partitions v f ts c.in_ok-types.ensures kinds c.in_ok-kinds.ensures) c.in_err-partitions.ensures
+    search (rules, partitions-refused c.args.version c.args.found.now c.in_ok-types.types.now c.in_ok-types.ensures _ _ c.from_residual-in_err-partitions.result p.1 p.2 c.in_err-partitions.ensures)
 
 pub types_by_id-requires : goal.types_by_id-requires
 types_by_id-requires c =

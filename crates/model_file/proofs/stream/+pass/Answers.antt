@@ -9,6 +9,9 @@ use Rattle.model_file.specs.Streams.{after, data_at, items_at, members_at, whole
 use Rattle.model_file.proofs.Streaming.{nothing-left, array-open, object-open, number-answers, number-refused, after-read, pass-item, by-parts}
 use Rattle.model_file.proofs.stream.+pass.Goals as goal
 
+pub pass_items-items-init : goal.pass_items-items-init
+pass_items-items-init t c = (λ m enough. (m, enough, refl), omega arith)
+
 pub pass_items-items-preserved : goal.pass_items-items-preserved
 pass_items-items-preserved t c =
     let p = value c.args.depth in

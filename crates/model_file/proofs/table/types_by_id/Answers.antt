@@ -1,4 +1,5 @@
 use Rattle.std.proofs.Common.{◌≡◌, ℕ, length, List, Option, ap, ◌∙◌, arith}
+use Rattle.std.proofs.lemmas.Grind.{common_steps}
 use Rattle.std.proofs.lemmas.List.{with_items_is}
 use Rattle.model_file.specs.Table.{type_at}
 use Rattle.model_file.proofs.Tables.{types-more}
@@ -15,3 +16,9 @@ partitions-preserved c =
           ∙ types-more c.args.partitions.now c.partitions.partition-index _ id (type_at c.deref_mut.result.now id) (type_at c.note.new.table id) c.partitions-test.true
           (ap (λ (xs : List (Option ℕ)). type_at xs id) c.deref_mut.ensures.value ∙ c.partitions.invariant.types id) (c.note.ensures id);
     }
+
+pub partitions-init : goal.partitions-init
+partitions-init c = grind (arith, common_steps)
+
+pub returns : goal.returns
+returns c = grind (arith, common_steps)

@@ -1,9 +1,13 @@
-use Rattle.std.proofs.Common.{◌≡◌, ap, ◌∙◌, ◌++◌, [], ◌∷◌}
+use Rattle.std.proofs.Common.{◌≡◌, ap, ◌∙◌, ◌++◌, [], ◌∷◌, arith}
+use Rattle.std.proofs.lemmas.Grind.{common_steps}
 use Rattle.std.proofs.lemmas.Result.{on_ok_weaker}
 use Rattle.std.proofs.lemmas.List.{take_all}
 use Rattle.json.specs.Token.{begin_array, end_array}
 use Rattle.model_file.proofs.Tokens.{tokens_by, array-whole}
 use Rattle.model_file.proofs.writing.write_list.Goals as goal
+
+pub entries-preserved : goal.entries-preserved
+entries-preserved g c = grind (arith, common_steps)
 
 pub returns : goal.returns
 returns g c =

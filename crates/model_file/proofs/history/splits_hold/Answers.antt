@@ -1,0 +1,6 @@
+use Rattle.std.proofs.Common.{arith}
+use Rattle.std.proofs.lemmas.Grind.{common_steps}
+use Rattle.model_file.proofs.history.splits_hold.Goals as goal
+
+pub splits-preserved : goal.splits-preserved
+splits-preserved c = grind (arith, common_steps)
