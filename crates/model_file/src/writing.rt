@@ -147,15 +147,33 @@ fn write_kinds(alloc: Global, kinds: Kinds, out: &mut Writer) -> Result<(), Allo
     }
 }
 
+/// Replaces each label by its digit.
+fn labels_to_digits(labels: &mut [u8])
+    requires { All (λ label. label ≤ 7) labels.old }
+    ensures { labels.new ≡ map digit_of labels.old }
+{
+    for k in 0..labels.len() {
+        labels[k] = b'0' + labels[k];
+    }
+}
+
+/// The digits of labels.
+fn digits_of(alloc: Global, labels: &[u8]) -> Result<Vec<u8>, AllocError>
+    requires { All (λ label. label ≤ 7) labels.now }
+    ensures { IfOk result (λ digits. digits.items ≡ map digit_of labels.now) }
+{
+    let mut digits = Vec::with_capacity(alloc, labels.len())?;
+    digits.extend_from_slice(labels)?;
+    labels_to_digits(digits.as_mut_slice());
+    Ok(digits)
+}
+
 /// Writes labels as a string with a digit for each.
 fn write_labels(alloc: Global, labels: &[u8], out: &mut Writer) -> Result<(), AllocError>
     requires { All (λ label. label ≤ 7) labels.now }
     ensures { Appends result out.old out.new (tokens_of (string (map digit_of labels.now))) }
 {
-    let mut digits = Vec::with_capacity(alloc, labels.len())?;
-    'labels: for label in labels {
-        digits.push(b'0' + *label)?;
-    }
+    let digits = digits_of(alloc, labels)?;
     let Ok(text) = str::from_utf8(&digits) else {
         unreachable!()
     };

@@ -1,6 +1,4 @@
-use Rattle.std.proofs.Common.{◌≡◌, ◌≤◌, ap, ◌∙◌, sym, subst, arith, map, IsUtf8}
-use Rattle.std.proofs.lemmas.Grind.{common_steps}
-use Rattle.std.proofs.lemmas.List.{take_all}
+use Rattle.std.proofs.Common.{◌≡◌, ◌≤◌, ap, ◌∙◌, sym, subst, map, IsUtf8}
 use Rattle.std.proofs.lemmas.List.Elements.{recursion_from_All}
 use Rattle.serde_json.specs.Data.{string}
 use Rattle.model_file.specs.Tree.{digit_of}
@@ -8,17 +6,12 @@ use Rattle.model_file.specs.Writing.{tokens_of, Appends}
 use Rattle.model_file.proofs.Trees.{digits-ascii}
 use Rattle.model_file.proofs.writing.write_labels.Goals as goal
 
-pub labels-preserved : goal.labels-preserved
-labels-preserved c = grind (arith, common_steps)
-
 pub unreachable-requires : goal.unreachable-requires
 unreachable-requires c =
-    let all = take_all c.labels.label-index c.args.labels.now c.labels-test.false in
-    let text : c.deref.result.now ≡ map digit_of c.args.labels.now = c.deref.ensures.value ∙ c.labels.invariant ∙ ap (map digit_of) all in
+    let text : c.deref.result.now ≡ map digit_of c.args.labels.now = c.deref.ensures.value ∙ c.in_ok-digits.ensures in
     c.in_default.ensures.cases.0 (subst IsUtf8 (sym text) (digits-ascii c.args.labels.now (recursion_from_All (λ label. label ≤ 7) c.args.labels.now c.requires)))
 
 pub returns : goal.returns
 returns c =
-    let all = take_all c.labels.label-index c.args.labels.now c.labels-test.false in
-    let text : c.in-Ok.text.now ≡ map digit_of c.args.labels.now = c.in-Ok.ensures.cases.0 ∙ c.deref.ensures.value ∙ c.labels.invariant ∙ ap (map digit_of) all in
+    let text : c.in-Ok.text.now ≡ map digit_of c.args.labels.now = c.in-Ok.ensures.cases.0 ∙ c.deref.ensures.value ∙ c.in_ok-digits.ensures in
     subst (λ t. Appends c.write_text.result c.args.out.now c.write_text.new.out (tokens_of (string t))) text c.write_text.ensures
