@@ -51,15 +51,11 @@ module _ (rules : List spec.Rule) (number : ℕ) (r plain : spec.Rule) (alike : 
       of false false h = cc
 
 -- a line that is spelled, where there is room for its rule
-pub spelled-few : (rules : List spec.Rule) (number : ℕ) (line : List ℕ) (form : spec.RuleForm) (pattern : List ℕ) → Some (form, pattern) ≡ spelled_by line → length rules < MAX_RULES
+spelled-few : (rules : List spec.Rule) (number : ℕ) (line : List ℕ) (form : spec.RuleForm) (pattern : List ℕ) → Some (form, pattern) ≡ spelled_by line → length rules < MAX_RULES
     → rule_at rules (number, line) ≡ rule_read rules number (rule_of form pattern)
 spelled-few rules number line form pattern spelled few =
     let below : nat_le MAX_RULES (length rules) ≡ false = lt-leb MAX_RULES (length rules) few in
     ap (rule_spelled rules number) (sym spelled) ∙ rw below refl
-
--- a line that spells no rule
-pub line-bad : (rules : List spec.Rule) (number : ℕ) (line : List ℕ) → None ≡ spelled_by line → rule_at rules (number, line) ≡ Err (refused.BadLine number)
-line-bad rules number line none = ap (rule_spelled rules number) (sym none)
 
 -- the errors of a line's text and groups
 abbrev IsPlain : ℕ → RuleError → Type 0
@@ -118,7 +114,7 @@ line-unbuilt old new rules number line form pattern fault.Memory spelled few syn
 -- what is built is the rule of the line, or is refused as the rule of the line is
 module _ (rules : List spec.Rule) (number : ℕ) (line : List ℕ) (form : spec.RuleForm) (pattern : List ℕ) (rule : Rule) (spelled : Some (form, pattern) ≡ spelled_by line) (few : length rules < MAX_RULES)
     (built : IsSomeAnd (rule_of form pattern) (Alike (rule_view rule))) where
-  pub line-rule : rule_read rules number (Some (rule_view rule)) ≡ Ok (rule_view rule) → IsRuleOf rules number line (rule_view rule)
+  line-rule : rule_read rules number (Some (rule_view rule)) ≡ Ok (rule_view rule) → IsRuleOf rules number line (rule_view rule)
   line-rule is = by-rule (rule_of form pattern) refl built
     where
       by-rule : (o : Option spec.Rule) → rule_of form pattern ≡ o → IsSomeAnd o (Alike (rule_view rule)) → IsRuleOf rules number line (rule_view rule)
@@ -129,7 +125,7 @@ module _ (rules : List spec.Rule) (number : ℕ) (line : List ℕ) (form : spec.
         alike = alike;
       }
 
-  pub line-tested : (e : RuleError) → rule_read rules number (Some (rule_view rule)) ≡ Err e → rule_at rules (number, line) ≡ Err e
+  line-tested : (e : RuleError) → rule_read rules number (Some (rule_view rule)) ≡ Err e → rule_at rules (number, line) ≡ Err e
   line-tested e is = spelled-few rules number line form pattern spelled few ∙ by-rule (rule_of form pattern) built
     where
       by-rule : (o : Option spec.Rule) → IsSomeAnd o (Alike (rule_view rule)) → rule_read rules number o ≡ Err e
