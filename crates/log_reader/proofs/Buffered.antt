@@ -202,6 +202,27 @@ finds-near s state n first inside limits = record {
   limits = limits;
 }
 
+-- the search ends where a line feed was found
+pub finds-feed : (first now : SeenLines) (before after : InputState) (searched n taken : ℕ) (cut : Cut) → IsSearching first now before after searched → taken ≡ now.taken
+    → (cut ≡ record { length = n; fed = true }) × IsWithinLimits taken (record { length = n; fed = true }) → n ≡ position_or_len is_feed now.buffered → n < length now.buffered
+    → FindsEnd first now before after cut
+finds-feed first now before after searched n taken cut way same ok at inside =
+    subst (λ (k : Cut). FindsEnd first now before after k) (sym ok.0) (record {
+      got = way.got;
+      read = way.read;
+      faults = way.faults;
+      leaves = way.leaves;
+      first = at;
+      inside = omega (arith, inside);
+      at_end = λ unfed. absurd (true≢false unfed);
+      limits = subst (λ (t : ℕ). IsWithinLimits t (record { length = n; fed = true })) (same ∙ ap (λ (s : SeenLines). s.taken) way.leaves) ok.1;
+    })
+
+-- a reader that searches has no line
+pub searches-without-line : (first now : SeenLines) (before after : InputState) (searched : ℕ) → first ≡ without_line first → IsSearching first now before after searched → now ≡ without_line now
+searches-without-line first now before after searched line way =
+    subst (λ (s : SeenLines). s ≡ without_line s) (sym way.leaves) (ap (λ s. with_more s way.got) line)
+
 -- where no line feed was found and bytes were read, the search goes on behind those that were searched
 pub searches-on : (first now next : SeenLines) (before mid after : InputState) (searched length_is : ℕ) (some : Bool) → IsSearching first now before mid searched
     → Stays mid after → after.mark ≡ mid.mark → after.opens ≡ mid.opens → after.followed ≡ mid.followed → ReadsMore now next mid after some
