@@ -5,6 +5,8 @@ use Rattle.line_rules.specs.Patterns.{PatternsState, Rose, NestsTooDeep}
 use Rattle.line_rules.specs.Rules.{RuleForm, Rule, Alike, AreAlike}
 use Rattle.line_rules.specs.Files.{spelled_by, is_skipped, rule_at, rules_from, rule_lines, IsBuilt}
 use Rattle.line_rules.specs.declared.line_rules.RuleError.{RuleError}
+use Rattle.line_rules.specs.declared.patterns.BuildFault.{BuildFault}
+use Rattle.line_rules.specs.declared.patterns.BuildFault.TheVariants.{Syntax, TooLarge, Memory}
 use Rattle.line_rules.specs.declared.line_rules.RuleError.TheVariants as refused
 
 -- the rule is that of a line with its number after these rules, or one that searches alike
@@ -33,6 +35,12 @@ IsLineRefused old new rules number line (refused.TooLarge at) =
 IsLineRefused old new rules number line refused.TooLong = ⊥
 IsLineRefused old new rules number line refused.NoEvent = ⊥
 IsLineRefused old new rules number line plain = rule_at rules (number, line) ≡ Err plain
+
+-- the refusal of a line with this number whose pattern is not built
+abbrev pub not_built : ℕ → BuildFault → RuleError
+not_built number Syntax = refused.Syntax number
+not_built number TooLarge = refused.TooLarge number
+not_built number Memory = refused.Memory
 
 -- a line with its number adds no rule if it is skipped, and its own rule if not
 abbrev pub AddsLine : ℕ → List ℕ → List Rule → List Rule → Type 0

@@ -1,16 +1,16 @@
 //! The rule of one line.
-ghost use Rattle.std.specs.Prelude.{◌≡◌, ◌⊎◌, ◌<◌, Err, IfOk, IfErr, IsTrue, IsSomeAnd, length, map};
+ghost use Rattle.std.specs.Prelude.{◌≡◌, ◌⊎◌, ◌<◌, Ok, Err, Some, IfOk, IfErr, OnOk, IsTrue, IsSomeAnd, length, map};
 ghost use Rattle.limits.specs.declared.TheConstants.{MAX_RULES};
 ghost use Rattle.line_rules.specs.Patterns.{IsNoPattern, NestsTooDeep, Stays, Rose, KeepsCount};
 ghost use Rattle.line_rules.specs.Rules.{rule_of, Alike};
-ghost use Rattle.line_rules.specs.Files.{first_time, mixes_time, KeepsRefusals};
-ghost use Rattle.line_rules.specs.Building.{IsRuleOf, IsLineRefused};
-ghost use Rattle.line_rules.specs.Views.{form_view, rule_view};
+ghost use Rattle.line_rules.specs.Files.{spelled_by, rule_at, rule_read, first_time, mixes_time, KeepsRefusals};
+ghost use Rattle.line_rules.specs.Building.{IsRuleOf, IsLineRefused, not_built};
+ghost use Rattle.line_rules.specs.Views.{HasShortName, form_view, word_view, rule_view};
 
 use crate::line_rules::RuleError;
 use crate::patterns::{BuildFault, Patterns};
 use crate::rule::{Rule, RuleForm};
-use crate::spelling::spelled;
+use crate::spelling::{Word, spelled};
 use limits::MAX_RULES;
 use std::alloc::Global;
 
@@ -61,6 +61,55 @@ fn mixes_time(rules: &[Rule], rule: &Rule) -> bool
     }
 }
 
+/// The form and the pattern that the line spells, if there is room for one more rule.
+fn spelled_rule<'l>(
+    rules: &[Rule],
+    number: u32,
+    line: &'l [u8],
+) -> Result<(Word<'l>, &'l str), RuleError>
+    ensures few { IfOk result (λ _. length rules.now < MAX_RULES) }
+    ensures parts { IfOk result (λ s. Some (word_view s.0, s.1.now) ≡ spelled_by line.now) }
+    ensures short { IfOk result (λ s. HasShortName s.0) }
+    ensures err { IfErr result
+        (λ e. rule_at (map rule_view rules.now) (number, line.now) ≡ Err e) }
+{
+    let Some(parts) = spelled(line) else {
+        return Err(RuleError::BadLine(number));
+    };
+    if rules.len() >= MAX_RULES {
+        return Err(RuleError::TooMany(number));
+    }
+    Ok(parts)
+}
+
+/// The refusal of a line with this number whose pattern is not built.
+fn not_built(number: u32, fault: BuildFault) -> RuleError
+    ensures { result ≡ not_built number fault }
+{
+    match fault {
+        BuildFault::Syntax => RuleError::Syntax(number),
+        BuildFault::TooLarge => RuleError::TooLarge(number),
+        BuildFault::Memory => RuleError::Memory,
+    }
+}
+
+/// Tests the rule of the line with this number, after these rules. The errors are `NoType` and
+/// `MixedTime`.
+fn test_groups(rules: &[Rule], number: u32, rule: &Rule) -> Result<(), RuleError>
+    ensures ok { OnOk result (rule_read (map rule_view rules.now) number (Some (rule_view rule.now))
+        ≡ Ok (rule_view rule.now)) }
+    ensures err { IfErr result (λ e. rule_read (map rule_view rules.now) number
+        (Some (rule_view rule.now)) ≡ Err e) }
+{
+    if rule.lacks_type() {
+        return Err(RuleError::NoType(number));
+    }
+    if mixes_time(rules, rule) {
+        return Err(RuleError::MixedTime(number));
+    }
+    Ok(())
+}
+
 /// The rule of the line with this number, after these rules.
 ///
 /// It is refused by the first of these that applies: `BadLine`, `TooMany`, the refusal of its
@@ -85,24 +134,14 @@ pub(crate) fn rule_of_line<P: Patterns>(
     ensures err { IfErr result (IsLineRefused (P.state patterns.old) (P.state patterns.new)
         (map rule_view rules.now) number line.now) }
 {
-    let Some((word, pattern)) = spelled(line) else {
-        return Err(RuleError::BadLine(number));
+    let (word, pattern) = match spelled_rule(rules, number, line) {
+        Ok(parts) => parts,
+        Err(error) => return Err(error),
     };
-    if rules.len() >= MAX_RULES {
-        return Err(RuleError::TooMany(number));
-    }
     let form = word.to_form(alloc)?;
     let rule = match build_rule(patterns, form, pattern) {
         Ok(rule) => rule,
-        Err(BuildFault::Syntax) => return Err(RuleError::Syntax(number)),
-        Err(BuildFault::TooLarge) => return Err(RuleError::TooLarge(number)),
-        Err(BuildFault::Memory) => return Err(RuleError::Memory),
+        Err(fault) => return Err(not_built(number, fault)),
     };
-    if rule.lacks_type() {
-        return Err(RuleError::NoType(number));
-    }
-    if mixes_time(rules, &rule) {
-        return Err(RuleError::MixedTime(number));
-    }
-    Ok(rule)
+    test_groups(rules, number, &rule).and(Ok(rule))
 }

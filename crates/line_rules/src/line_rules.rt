@@ -108,8 +108,10 @@ impl LineRules {
             → result ≡ decision_of (rules_in self.now) line.now }
         ensures parts { IfOk result (HasParts (rules_in self.now) line.now) }
     {
-        let mut matchers = self.matchers()?;
-        matchers.decide(line)
+        match self.matchers() {
+            Ok(mut matchers) => matchers.decide(line),
+            Err(_) => Err(DecideError::Memory),
+        }
     }
 
     /// Matchers that search lines for the rules. They can be used for many lines. The only error is

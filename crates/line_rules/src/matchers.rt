@@ -1,5 +1,5 @@
 //! Matchers that search lines for the rules.
-ghost use Rattle.std.specs.Prelude.{◌≡◌, ◌≤◌, ◌+◌, ◌++◌, ◌∷◌, [], List, Some, IfOk, IfSome, OnOk, vec_len, slice_get};
+ghost use Rattle.std.specs.Prelude.{◌≡◌, ◌≤◌, ◌+◌, ◌++◌, ◌∷◌, [], List, Some, Ok, IfOk, IfSome, OnOk, vec_len, slice_get};
 ghost use Rattle.limits.specs.declared.TheConstants.{MAX_RULES};
 ghost use Rattle.regex.specs.Strings.{regex_pattern, matcher_pattern};
 ghost use Rattle.line_rules.specs.Rules as spec;
@@ -10,6 +10,16 @@ use crate::rule::Rule;
 use crate::spans::spans_in;
 use regex::Matcher;
 use std::alloc::{AllocError, Global};
+
+/// Adds the value to the list, if it was made.
+fn push_made<T: Drop>(made: Result<T, AllocError>, list: &mut Vec<T>) -> Result<(), AllocError>
+    ensures len { OnOk result (vec_len list.new ≡ vec_len list.old + 1) }
+    ensures added { OnOk result ((value : T)
+        × (list.new.items ≡ list.old.items ++ value ∷ []) × (made ≡ Ok value)) }
+{
+    list.push(made?)?;
+    Ok(())
+}
 
 /// A rule and the matcher of its pattern.
 #[derive(Drop)]
@@ -27,8 +37,10 @@ impl<'r> RuleMatcher<'r> {
     pub(crate) fn make(alloc: Global, rule: &'r Rule) -> Result<RuleMatcher<'r>, AllocError>
         ensures { IfOk result (λ m. m.rule.now ≡ rule.now) }
     {
-        let matcher = rule.regex.matcher(alloc)?;
-        Ok(RuleMatcher { rule, matcher })
+        match rule.regex.matcher(alloc) {
+            Ok(matcher) => Ok(RuleMatcher { rule, matcher }),
+            Err(error) => Err(error),
+        }
     }
 
     /// Adds the rule with the matcher of its pattern.
@@ -42,9 +54,7 @@ impl<'r> RuleMatcher<'r> {
             × (matchers.new.items ≡ matchers.old.items ++ m ∷ [])
             × (m.rule.now ≡ rule.now)) }
     {
-        let matcher = RuleMatcher::make(alloc, rule)?;
-        matchers.push(matcher)?;
-        Ok(())
+        push_made(RuleMatcher::make(alloc, rule), matchers)
     }
 
     /// What the rule, which has this number, decides about the line, if it does.

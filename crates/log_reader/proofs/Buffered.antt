@@ -12,7 +12,8 @@ use Rattle.limits.specs.declared.TheConstants.{MAX_INPUT_BYTES, MAX_LINE_BYTES}
 use Rattle.outside.specs.Inputs.{InputState, Stays}
 use Rattle.lines.specs.Lines.{is_feed, line_of, pieces}
 use Rattle.log_reader.specs.LineReader.{SeenLines, with_more, without_line, feed_if, feed_bytes, first_piece_refusal, refusal_to_come, GivesLine, NextGives}
-use Rattle.log_reader.specs.Buffers.{part_of, line_in, IsClean, ReadsMore, FindsEnd, IsWithinLimits, PassesLimit}
+use Rattle.log_reader.specs.Buffers.{part_of, line_in, IsClean, IsLineWithin, IsSound, ReadsMore, FindsEnd, IsWithinLimits, PassesLimit}
+use Rattle.log_reader.specs.declared.line_reader.buffer.TheConstants.{BUFFER_BYTES}
 use Rattle.log_reader.specs.declared.cut.Cut.{Cut}
 use Rattle.log_reader.specs.declared.line_error.LineError.{LineError}
 use Rattle.log_reader.specs.declared.line_error.LineError.TheVariants.{ReadFault, TooLong, InputLimit}
@@ -75,6 +76,30 @@ clean-more buf part clean_from held to is before new i from below = ⊎_elim
     let place : held + (i - held) ≡ i = omega arith in
     omega (arith, new (i - held), ap (λ (xs : List ℕ). slice_index xs (i - held)) is, get_or-take (to - held) (drop held buf) (i - held) 0 at, get_or-drop held buf (i - held) 0, ap (λ n. slice_index buf n) place))
     (cases_lt i held)
+
+-- bytes that were moved to the front are as clean as they were, also after a read behind them
+pub moved-clean : (buf a b now : List ℕ) (from to clean_from clean : ℕ) → clean ≡ clean_from - from → take (to - from) a ≡ part_of buf from to → take (to - from) b ≡ take (to - from) a → now ≡ b → IsClean clean_from to buf
+    → IsClean clean (to - from) now
+moved-clean buf a b now from to clean_from clean is front stays same before i low below =
+    let at : slice_index now i ≡ slice_index b i = ap (λ (xs : List ℕ). slice_index xs i) same in
+    omega (arith, at, before (from + i) (omega arith) (omega arith), ap (λ (xs : List ℕ). slice_index xs i) (stays ∙ front), get_or-take (to - from) b i 0 below, get_or-take (to - from) (drop from buf) i 0 below, get_or-drop from buf i 0)
+
+no-line : (buf : List ℕ) (line : Option Extent) (size : ℕ) → line_in buf line ≡ None → IsLineWithin size line
+no-line buf None size none = tt
+no-line buf (Some part) size none = absurd (none-some _ (sym none))
+
+-- a buffer whose bytes stand at the front is sound
+pub sound-at-front : (buf now : List ℕ) (from to end : ℕ) (line : Option Extent) (number taken : ℕ) → IsSound buf from to line number taken → length now ≡ length buf → line_in buf line ≡ None
+    → end ≤ BUFFER_BYTES → taken + end ≤ MAX_INPUT_BYTES + 1 → IsSound now 0 end line number taken
+sound-at-front buf now from to end line number taken sound same none inside within = record {
+  size = same ∙ sound.size;
+  order = omega arith;
+  inside = inside;
+  placed = no-line buf line end none;
+  counted = sound.counted;
+  limit = sound.limit;
+  within = omega (arith, within);
+}
 
 -- a line at the front of some bytes
 pub line-at-front : (n : ℕ) (bytes : List ℕ) → take (length (line_of (take n bytes))) bytes ≡ line_of (take n bytes)
@@ -176,6 +201,27 @@ finds-near s state n first inside limits = record {
   at_end = λ unfed. absurd (true≢false unfed);
   limits = limits;
 }
+
+-- the search ends where a line feed was found
+pub finds-feed : (first now : SeenLines) (before after : InputState) (searched n taken : ℕ) (cut : Cut) → IsSearching first now before after searched → taken ≡ now.taken
+    → (cut ≡ record { length = n; fed = true }) × IsWithinLimits taken (record { length = n; fed = true }) → n ≡ position_or_len is_feed now.buffered → n < length now.buffered
+    → FindsEnd first now before after cut
+finds-feed first now before after searched n taken cut way same ok at inside =
+    subst (λ (k : Cut). FindsEnd first now before after k) (sym ok.0) (record {
+      got = way.got;
+      read = way.read;
+      faults = way.faults;
+      leaves = way.leaves;
+      first = at;
+      inside = omega (arith, inside);
+      at_end = λ unfed. absurd (true≢false unfed);
+      limits = subst (λ (t : ℕ). IsWithinLimits t (record { length = n; fed = true })) (same ∙ ap (λ (s : SeenLines). s.taken) way.leaves) ok.1;
+    })
+
+-- a reader that searches has no line
+pub searches-without-line : (first now : SeenLines) (before after : InputState) (searched : ℕ) → first ≡ without_line first → IsSearching first now before after searched → now ≡ without_line now
+searches-without-line first now before after searched line way =
+    subst (λ (s : SeenLines). s ≡ without_line s) (sym way.leaves) (ap (λ s. with_more s way.got) line)
 
 -- where no line feed was found and bytes were read, the search goes on behind those that were searched
 pub searches-on : (first now next : SeenLines) (before mid after : InputState) (searched length_is : ℕ) (some : Bool) → IsSearching first now before mid searched

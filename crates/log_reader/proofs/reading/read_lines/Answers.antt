@@ -1,4 +1,6 @@
-use Rattle.std.proofs.Common.{rules, ◌≡◌, ◌+◌, Bool, true, false, Result, Ok, Err, [], refl, sym, ap, ◌∙◌, subst, inl, inr}
+use Rattle.std.proofs.Common.{rules, arith, ◌≡◌, ◌+◌, ℕ, List, length, take, Option, Bool, true, false, Result, Ok, Err, [], refl, sym, ap, ◌∙◌, subst, inl, inr}
+use Rattle.std.specs.Prelude.{IfSome}
+use Rattle.std.specs.Str.{IsAscii}
 use Rattle.std.proofs.lemmas.Result.{err_from_is_err_and}
 use Rattle.log_reader.specs.LineReader.{SeenLines, NextGives, GivesLine, GivesNone, FailsToRead, RefusesPiece}
 use Rattle.log_reader.specs.Reading.{at_line}
@@ -120,3 +122,32 @@ pub returns-then-not-ends_with_feed-clause-left : goal.returns-then-not-ends_wit
 returns-then-not-ends_with_feed-clause-left g c =
     front-lost c.args.number (g.I.Inputs.state c.args.inputs.now) (g.I.Inputs.state c.lines.inputs) (g.I.Inputs.state c.next.new.inputs) c.args.lines.now c.lines.lines c.next.new.self (g.T.TakeLines.seen c.args.reader.now) (g.T.TakeLines.seen c.lines.reader) c.next.result
     c.lines.invariant c.next.ensures.within c.next.ensures.gives
+
+pub take_line-requires-clause-ascii : goal.take_line-requires-clause-ascii
+take_line-requires-clause-ascii g c = λ known. subst (λ (o : Option (List ℕ)). IfSome o (λ line. IsAscii line)) c.line.ensures (c.is_known_ascii.ensures known)
+
+pub take_line-requires-clause-begins : goal.take_line-requires-clause-begins
+take_line-requires-clause-begins g c =
+    subst (λ (o : Option (List ℕ)). IfSome o (λ line. take (length line) c.line_and_more.result.now ≡ line)) c.line.ensures c.line_and_more.ensures
+
+pub take_line-requires-clause-room : goal.take_line-requires-clause-room
+take_line-requires-clause-room g c = omega (arith, c.lines.invariant.few, c.lines.invariant.within, c.requires.few, c.requires.between.taken)
+
+pub next-requires : goal.next-requires
+next-requires g c = c.lines.invariant.refused
+
+pub line-requires : goal.line-requires
+line-requires g c =
+    let before = g.I.Inputs.state c.lines.inputs in
+    let after = g.I.Inputs.state c.next.new.inputs in
+    let is : ◌≡◌ {A = Result Bool LineError} c.next.result (Ok true) = cc (c.in-Ok-true.is, c.in-Ok-true.field-0-is) in
+    let given : GivesLine c.lines.lines c.next.new.self before after = subst (λ r. NextGives c.lines.lines before r c.next.new.self after) is c.next.ensures.gives in
+    rw given.line refl
+
+pub line_and_more-requires : goal.line_and_more-requires
+line_and_more-requires g c =
+    let before = g.I.Inputs.state c.lines.inputs in
+    let after = g.I.Inputs.state c.next.new.inputs in
+    let is : ◌≡◌ {A = Result Bool LineError} c.next.result (Ok true) = cc (c.in-Ok-true.is, c.in-Ok-true.field-0-is) in
+    let given : GivesLine c.lines.lines c.next.new.self before after = subst (λ r. NextGives c.lines.lines before r c.next.new.self after) is c.next.ensures.gives in
+    rw given.line refl

@@ -19,6 +19,10 @@ step rs ms i m line answer inside is views rest answered =
     ∙ (ap (λ ts. unwrap_or (decided_by i (rule_view m.rule.now) line) (decision_from (i + 1) (drop (i + 1) ts) line)) views
     ∙ ap (λ a. unwrap_or a (decision_from (i + 1) (drop (i + 1) rs) line)) (sym answered))))
 
+pub loop-place-init : goal.loop-place-init
+unfolding matched_rules
+loop-place-init c = search rules
+
 pub returns-in-Some-clause-value : goal.returns-in-Some-clause-value
 unfolding matched_rules
 returns-in-Some-clause-value c =

@@ -4,7 +4,7 @@ use Rattle.std.specs.List.{position_or_len}
 use Rattle.lines.specs.Lines.{is_feed}
 use Rattle.log_reader.specs.LineReader.{SeenLines}
 use Rattle.log_reader.specs.declared.cut.Cut.{Cut}
-use Rattle.log_reader.proofs.Buffered.{misses-end, searches-on}
+use Rattle.log_reader.proofs.Buffered.{misses-end, searches-on, finds-feed, searches-without-line}
 use Rattle.log_reader.proofs.line_reader.Lines.find_end.Goals as goal
 
 pub loop-length-preserved : goal.loop-length-preserved
@@ -37,3 +37,21 @@ returns-in_err-whole-clause-err g c =
 
 pub returns-in-Ok-false-clause-ok : goal.returns-in-Ok-false-clause-ok
 returns-in-Ok-false-clause-ok g c = search rules
+
+pub returns-in-Some-clause-ok : goal.returns-in-Some-clause-ok
+returns-in-Some-clause-ok g c =
+    let held = c.buffered-held.ensures.value in
+    let taken : c.self.inside.taken ≡ c.loop-length.self.taken = ap (λ (s : SeenLines). s.taken) c.self.view_is in
+    finds-feed c.args.self.now c.loop-length.self _ _ c.loop-length.searched c.in-Some.length c.self.inside.taken c.in_ok-within_limits.field-0 c.loop-length.invariant taken c.in_ok-within_limits.ensures.ok
+    (c.in-Some.ensures.some ∙ ap (position_or_len is_feed) held) (omega (arith, c.in-Some.ensures.found, ap length held))
+
+pub fill-requires-clause-line : goal.fill-requires-clause-line
+fill-requires-clause-line g c = searches-without-line c.args.self.now c.loop-length.self _ _ c.loop-length.searched c.requires.line c.loop-length.invariant
+
+pub fill-requires-clause-short : goal.fill-requires-clause-short
+fill-requires-clause-short g c = omega (arith, c.in_ok-whole.ensures.ok.1.short, ap length c.buffered-held.ensures.value)
+
+pub fill-requires-clause-within : goal.fill-requires-clause-within
+fill-requires-clause-within g c =
+    let taken : c.self.inside.taken ≡ c.loop-length.self.taken = ap (λ (s : SeenLines). s.taken) c.self.view_is in
+    omega (arith, taken, c.in_ok-whole.ensures.ok.1.within, ap length c.buffered-held.ensures.value)

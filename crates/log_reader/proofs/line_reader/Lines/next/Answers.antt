@@ -1,5 +1,5 @@
-use Rattle.std.proofs.Common.{true, arith, subst}
-use Rattle.log_reader.specs.LineReader.{without_line}
+use Rattle.std.proofs.Common.{true, ap, arith, subst}
+use Rattle.log_reader.specs.LineReader.{SeenLines, without_line}
 use Rattle.log_reader.specs.Buffers.{FindsEnd}
 use Rattle.log_reader.specs.declared.cut.Cut.{Cut}
 use Rattle.log_reader.proofs.Buffered.{finds-near, gives-line}
@@ -21,3 +21,27 @@ returns-in-Some-clause-gives g c =
     gives-line c.args.self.now mid c.take.new.self state state cut c.requires
     (finds-near mid state c.in-Some.length c.in-Some.ensures.first c.in-Some.ensures.inside c.in-Some.ensures.limits) c.take.ensures
     (omega arith)
+
+pub invariant_of-self : goal.invariant_of-self
+invariant_of-self g c =
+    let sound = c.self.invariant.0 in (
+      record { size = sound.size; order = sound.order; inside = sound.inside; placed = tt; counted = sound.counted; limit = sound.limit; within = sound.within },
+      c.self.invariant.1,
+    )
+
+pub invariant_of-self-in-Err : goal.invariant_of-self-in-Err
+invariant_of-self-in-Err g c = c.self-2.invariant
+
+pub take-requires-clause-inside : goal.take-requires-clause-inside
+take-requires-clause-inside g c = omega (arith, c.in-Some.ensures.inside)
+
+pub take-requires-clause-within : goal.take-requires-clause-within
+take-requires-clause-within g c = omega (arith, c.in-Some.ensures.limits.within)
+
+pub take-requires-2-clause-inside : goal.take-requires-2-clause-inside
+take-requires-2-clause-inside g c = c.in-Ok.ensures.ok.inside
+
+pub take-requires-2-clause-within : goal.take-requires-2-clause-within
+take-requires-2-clause-within g c =
+    let found = c.in-Ok.ensures.ok in
+    omega (arith, found.limits.within, ap (λ (s : SeenLines). s.taken) found.leaves)
