@@ -1,28 +1,38 @@
 //! `check`: reports whether the model in a file is valid for a log, for the kinds of invariants that it names.
-ghost use Rattle.std.specs.Prelude.{◌≡◌, IfOk, Ok};
+ghost use Rattle.std.specs.Prelude.{◌≡◌, ◌++◌, IfOk, Ok, OnOk, codes, decimal};
 ghost use Rattle.model_shape.specs.Shapes.{IsWellShaped};
 ghost use Rattle.synoptic_cli.specs.Commands.CheckModel.{Answers, answer_of, no_text};
 ghost use Rattle.synoptic_cli.specs.Halts.{Gives, IsVerdict};
 
 use crate::answer::{Answer, NoAnswer};
-use crate::commands::numbered::{numbered_line, push_number};
+use crate::commands::numbered::{line, numbered_line};
 use crate::material::Material;
 use crate::status::Status;
 use invariants::Seq;
 use model_check::{Part, Verdict, check};
 use models::{first_part_fails, valid_tells};
+use reports::push_number;
 use std::alloc::{AllocError, Global};
+
+/// Appends the line of a pair of partitions without a block to the text.
+fn push_pair(text: &mut Vec<u8>, p: u32, q: u32) -> Result<(), AllocError>
+    ensures { OnOk result (text.new.items ≡ text.old.items
+        ++ codes "no: block " ++ decimal p ++ codes " " ++ decimal q ++ codes "\n") }
+{
+    text.extend_from_slice(b"no: block ")?;
+    push_number(text, p)?;
+    text.push(32)?;
+    push_number(text, q)?;
+    text.push(10)?;
+    Ok(())
+}
 
 /// The line of a pair of partitions without a block.
 fn pair_line(alloc: Global, p: u32, q: u32) -> Result<Seq<u8>, AllocError>
     ensures { IfOk result (λ text. text ≡ no_text (Part.Block p q)) }
 {
     let mut text = Vec::new(alloc);
-    text.extend_from_slice(b"no: block ")?;
-    push_number(&mut text, p)?;
-    text.push(32)?;
-    push_number(&mut text, q)?;
-    text.push(10)?;
+    push_pair(&mut text, p, q)?;
     Ok(Seq::from_vec(text))
 }
 
@@ -31,7 +41,7 @@ fn no_line(alloc: Global, part: Part) -> Result<Seq<u8>, AllocError>
     ensures { IfOk result (λ text. text ≡ no_text part) }
 {
     match part {
-        Part::Types => Ok(Seq::from_vec(b"no: types\n".to_vec(alloc)?)),
+        Part::Types => line(alloc, "no: types\n"),
         Part::Listing(place) => numbered_line(alloc, "no: listing ", place),
         Part::Trace(place) => numbered_line(alloc, "no: trace ", place),
         Part::Label(place) => numbered_line(alloc, "no: label ", place),
@@ -47,7 +57,7 @@ fn answer_of(alloc: Global, verdict: Verdict) -> Result<Answer, AllocError>
     match verdict {
         Verdict::Yes => Ok(Answer {
             status: Status::Done,
-            text: Seq::from_vec(b"yes\n".to_vec(alloc)?),
+            text: line(alloc, "yes\n")?,
         }),
         Verdict::No(part) => Ok(Answer {
             status: Status::NoCheck(part),

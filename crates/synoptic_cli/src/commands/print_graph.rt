@@ -26,7 +26,10 @@ fn print(alloc: Global, material: &Material) -> Result<Answer, AllocError>
     let partitions = parts?;
     let edges = links?;
     let types = material.log.types();
-    let text = graph_report(alloc, types, partitions.as_slice(), edges.as_slice())?;
+    let report = graph_report(alloc, types, partitions.as_slice(), edges.as_slice());
+    drop(edges);
+    drop(partitions);
+    let text = report?;
     Ok(Answer {
         status: Status::Done,
         text,

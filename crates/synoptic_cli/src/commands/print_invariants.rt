@@ -20,7 +20,9 @@ fn print(alloc: Global, kinds: Kinds, material: &Material) -> Result<Answer, All
     candidates_tell();
     let types = material.log.types();
     let mined = mine_again(alloc, kinds, &material.log)?;
-    let text = invariant_report(alloc, types, mined.as_slice())?;
+    let report = invariant_report(alloc, types, mined.as_slice());
+    drop(mined);
+    let text = report?;
     Ok(Answer {
         status: Status::Done,
         text,

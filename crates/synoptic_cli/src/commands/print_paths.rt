@@ -25,7 +25,9 @@ fn print(alloc: Global, workbench: &Workbench) -> Result<Answer, AllocError>
     let traces = workbench.traces();
     log_is_typed(traces);
     let ids = workbench.parts(alloc)?;
-    let text = path_report(alloc, traces, ids.as_slice())?;
+    let report = path_report(alloc, traces, ids.as_slice());
+    drop(ids);
+    let text = report?;
     Ok(Answer {
         status: Status::Done,
         text,

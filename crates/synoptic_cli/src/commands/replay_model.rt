@@ -5,7 +5,7 @@ ghost use Rattle.synoptic_cli.specs.Commands.ReplayModel.{Answers, answer_of, no
 ghost use Rattle.synoptic_cli.specs.Halts.{Gives, IsVerdict};
 
 use crate::answer::{Answer, NoAnswer};
-use crate::commands::numbered::numbered_line;
+use crate::commands::numbered::{line, numbered_line};
 use crate::material::Material;
 use crate::status::Status;
 use invariants::Seq;
@@ -18,10 +18,10 @@ fn no_line(alloc: Global, part: ReplayPart) -> Result<Seq<u8>, AllocError>
     ensures { IfOk result (λ text. text ≡ no_text part) }
 {
     match part {
-        ReplayPart::Types => Ok(Seq::from_vec(b"no: types\n".to_vec(alloc)?)),
+        ReplayPart::Types => line(alloc, "no: types\n"),
         ReplayPart::Split(number) => numbered_line(alloc, "no: split ", number),
         ReplayPart::Merge(number) => numbered_line(alloc, "no: merge ", number),
-        ReplayPart::Graph => Ok(Seq::from_vec(b"no: graph\n".to_vec(alloc)?)),
+        ReplayPart::Graph => line(alloc, "no: graph\n"),
     }
 }
 
@@ -33,7 +33,7 @@ fn answer_of(alloc: Global, outcome: Replay) -> Result<Answer, AllocError>
     match outcome {
         Replay::Yes => Ok(Answer {
             status: Status::Done,
-            text: Seq::from_vec(b"yes\n".to_vec(alloc)?),
+            text: line(alloc, "yes\n")?,
         }),
         Replay::No(part) => Ok(Answer {
             status: Status::NoReplay(part),

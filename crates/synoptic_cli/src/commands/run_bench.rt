@@ -4,16 +4,16 @@ ghost use Rattle.std.specs.Prelude.{◌≡◌, ◌++◌, IfOk, OnOk};
 ghost use Rattle.std.specs.Option.{IsSomeAnd};
 ghost use Rattle.command_line.specs.Task.{IsSessions};
 ghost use Rattle.models.specs.Models.{typed_words};
-ghost use Rattle.synoptic_cli.specs.Commands.RunBench.{Answers, AnswersOf, IsChecked, SaysModel, TellsRun, count_line, log_lines, model_lines, summary};
+ghost use Rattle.synoptic_cli.specs.Commands.RunBench.{Answers, AnswersOf, IsChecked, SaysModel, TellsRun, log_lines, model_lines, summary};
 ghost use Rattle.synoptic_cli.specs.Halts.{Gives};
 
 use crate::answer::{Answer, NoAnswer};
 use crate::commands::infer_model::write;
 use crate::commands::inference::inferred;
+use crate::commands::numbered::push_count;
 use crate::status::Status;
 use infer_core::{Stage, Workbench};
 use invariants::{Kinds, Model, Seq};
-use itoa::Buffer;
 use made_logs::read_made_log;
 use model_check::{Verdict, check};
 use model_file::FileError;
@@ -27,17 +27,6 @@ use traces::TraceSet;
 struct Checked {
     model: Model,
     verdict: Verdict,
-}
-
-/// Appends the line with the number of something to the text.
-fn push_count(text: &mut Vec<u8>, what: &str, number: usize) -> Result<(), AllocError>
-    ensures { OnOk result (text.new.items ≡ text.old.items ++ count_line what.now number) }
-{
-    let mut digits = Buffer::new();
-    text.extend_from_slice(what.as_bytes())?;
-    text.extend_from_slice(digits.format(number).as_bytes())?;
-    text.push(10)?;
-    Ok(())
 }
 
 /// Appends the lines with the sizes of the log to the text.

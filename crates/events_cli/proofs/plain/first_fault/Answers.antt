@@ -5,10 +5,8 @@ use Rattle.events_cli.specs.declared.ending.PlainFault.TheVariants.{Time}
 use Rattle.events_cli.specs.Plain.{is_plain_type}
 use Rattle.events_cli.specs.Texts.{type_text}
 use Rattle.events_cli.proofs.Latest.{calm-fault, faults-hit, faults-more, late-fault, latest-put, latest_in}
+use Rattle.events_cli.proofs.Texts.{zero-event}
 use Rattle.events_cli.proofs.plain.first_fault.Goals as goal
-
-abbrev zero-event : Located
-zero-event = record { at = record { file = 0; line = 0 }; trace = 0; number = 0; time = 0 }
 
 pub returns-then-event-latest_of : goal.returns-then-event-latest_of
 returns-then-event-latest_of c =

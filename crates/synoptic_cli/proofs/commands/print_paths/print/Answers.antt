@@ -7,8 +7,8 @@ use Rattle.synoptic_cli.specs.Commands.Answered.{done}
 use Rattle.synoptic_cli.proofs.Walked.{final-count, paths-shown}
 use Rattle.synoptic_cli.proofs.commands.print_paths.print.Goals as goal
 
-pub path_report-requires : goal.path_report-requires
-path_report-requires c =
+pub path_report-report-requires : goal.path_report-report-requires
+path_report-report-requires c =
     ap length c.as_slice.ensures
     ∙ (final-count c.args.workbench.now.kinds c.args.workbench.now.log c.in_ok-ids.ids c.refinement_keeps.ensures c.coarsening_keeps.ensures
     (subst (λ (log : Log). IsTypedLog (typed_words c.args.workbench.now.kinds log)) c.traces-traces.ensures (c.log_is_typed.ensures.typed c.args.workbench.now.kinds)) c.in_ok-ids.ensures
