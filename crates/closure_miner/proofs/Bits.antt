@@ -3,7 +3,8 @@ use Rattle.std.proofs.Common.{◌≡◌, ℕ, ◌+◌, ◌-◌, ◌*◌, ◌/◌
 use Rattle.std.proofs.lemmas.Bool.{cases_eq, cases_lt, eq-eqb, ne_eqb, lt-ltb, le-ltb}
 use Rattle.std.proofs.lemmas.Nat.{shr-shr}
 use Rattle.std.proofs.lemmas.Nat.Bits.{bit_at-lt, bit_at_ones, bit_at_ones_above, bit_at_or, bit_at_and, bit_at_set_same, bit_at_set_other}
-use Rattle.std.specs.Int.{bit_at, w128}
+use mir.Val.{bits}
+use Rattle.std.specs.Int.{bit_at, Width}
 use Rattle.std.specs.Int.Bits.{bit_or}
 use lib.Bits.{bit_and}
 use Rattle.closure_miner.specs.Sets.{in_word}
@@ -33,22 +34,22 @@ pub has-both : (s t i : ℕ) → in_word (bit_and s t) i ≡ (in_word s i && in_
 has-both s t i = ap (λ x. eqb x 1) (bit_at_and s t i) ∙ and-digit (bit_at s i) (bit_at t i) (bit_at-lt s i) (bit_at-lt t i)
 
 -- a set with the type at a place
-pub has-with : (s p b : ℕ) → p < 128 → in_word (bit_or s (1 * 2 ^ p % 2 ^ 128)) b ≡ (eqb b p || in_word s b)
-has-with s p b within = elim (cases_eq b p) [
+pub has-with : (w : Width) (s p b : ℕ) → p < bits w → in_word (bit_or s (1 * 2 ^ p % 2 ^ bits w)) b ≡ (eqb b p || in_word s b)
+has-with w s p b within = elim (cases_eq b p) [
   | inl same ↦
-      ap (λ k. in_word (bit_or s (1 * 2 ^ p % 2 ^ 128)) k) same ∙ ap (λ k. eqb k 1) (bit_at_set_same w128 s p within)
+      ap (λ k. in_word (bit_or s (1 * 2 ^ p % 2 ^ bits w)) k) same ∙ ap (λ k. eqb k 1) (bit_at_set_same w s p within)
       ∙ sym (ap (λ t. t || in_word s b) (eq-eqb b p same))
   | inr other ↦
-      ap (λ k. eqb k 1) (bit_at_set_other w128 s p within b other) ∙ sym (ap (λ t. t || in_word s b) (ne_eqb b p other))
+      ap (λ k. eqb k 1) (bit_at_set_other w s p within b other) ∙ sym (ap (λ t. t || in_word s b) (ne_eqb b p other))
 ]
 
 -- the lowest bits of a set with all bits are those of the first types
-pub has-lowest : (types : ℕ) → types ≤ 128 → (b : ℕ) → in_word ((2 ^ 128 - 1) / 2 ^ (128 - types)) b ≡ nat_lt b types
-has-lowest types few b =
-    ap (λ d. eqb (d % 2) 1) (shr-shr (2 ^ 128 - 1) (128 - types) b)
+pub has-lowest : (n types : ℕ) → types ≤ n → (b : ℕ) → in_word ((2 ^ n - 1) / 2 ^ (n - types)) b ≡ nat_lt b types
+has-lowest n types few b =
+    ap (λ d. eqb (d % 2) 1) (shr-shr (2 ^ n - 1) (n - types) b)
     ∙ elim (cases_lt b types) [
-      | inl within ↦ ap (λ d. eqb d 1) (bit_at_ones 128 (128 - types + b) (omega arith)) ∙ sym (lt-ltb b types within)
-      | inr past ↦ ap (λ d. eqb d 1) (bit_at_ones_above 128 (128 - types + b) (omega arith)) ∙ sym (le-ltb b types past)
+      | inl within ↦ ap (λ d. eqb d 1) (bit_at_ones n (n - types + b) (omega arith)) ∙ sym (lt-ltb b types within)
+      | inr past ↦ ap (λ d. eqb d 1) (bit_at_ones_above n (n - types + b) (omega arith)) ∙ sym (le-ltb b types past)
     ]
 
 -- in two words, all bits of the low one and the lowest of the high one are those of the first types

@@ -3,9 +3,10 @@
 //!
 //! A candidate stands until a trace breaks it. Each trace is read once from its end, with the set of the types that
 //! occur later, and once from its start, with the set of those that occurred earlier. Each event strikes out the
-//! candidates of its type that the current set rules out. A set has one bit for each type, in one word for up to 128
-//! types and in two words for more, so each event takes a few steps. Every 128 events, the miner tests whether the
-//! remaining events of the trace can still strike out anything. If not, it stops reading the trace from that side.
+//! candidates of its type that the current set rules out. A set has one bit for each type, in half a word for up to 64
+//! types, in one word for up to 128, and in two words for more, so each event takes a few steps. Every 128 events, the
+//! miner tests whether the remaining events of the trace can still strike out anything. If not, it stops reading the
+//! trace from that side.
 //!
 //! If InterruptedBy is asked for, each trace is read once more from its end, with the place of the next event of each
 //! type. Each event whose type occurs again strikes out of the row of that type the types that do not occur before its
@@ -27,7 +28,7 @@ use invariants::{Invariant, Kinds, Seq};
 use standing::Standing;
 use std::alloc::{AllocError, Global};
 use traces::TraceSet;
-use type_sets::{MAX_SET_TYPES, TypeSet, WORD_TYPES, Wide};
+use type_sets::{HALF_TYPES, MAX_SET_TYPES, TypeSet, WORD_TYPES, Wide};
 
 /// The candidates that stand when all traces are read.
 fn standing_after<S: TypeSet>(
@@ -82,7 +83,9 @@ pub fn mine_again(
     ensures { IfOk result (λ list. list ≡ mined_for kinds (length (traces.now).types) (words_of traces.now)) }
 {
     let types = traces.types().len();
-    if types <= WORD_TYPES {
+    if types <= HALF_TYPES {
+        mine_by::<u64>(alloc, kinds, traces, types)
+    } else if types <= WORD_TYPES {
         mine_by::<u128>(alloc, kinds, traces, types)
     } else {
         mine_by::<Wide>(alloc, kinds, traces, types)

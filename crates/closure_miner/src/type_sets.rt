@@ -4,6 +4,9 @@ ghost use Rattle.limits.specs.declared.TheConstants.{FIRST_TYPE};
 
 use limits::FIRST_TYPE;
 
+/// How many types a set of half a word has room for.
+pub const HALF_TYPES: usize = 64;
+
 /// How many types a set of one word has room for.
 pub const WORD_TYPES: usize = 128;
 
@@ -60,6 +63,54 @@ pub trait TypeSet: Copy + Drop {
     /// Whether the sets have the same types.
     fn is(self, other: Self) -> bool
         ensures { (result ≡ true) ↔ (self ≡ other) };
+}
+
+/// Half a word, for up to 64 types.
+impl TypeSet for u64 {
+    ghost use Rattle.closure_miner.specs.declared.type_sets.TheConstants.{HALF_TYPES};
+    ghost use Rattle.closure_miner.specs.Sets.{in_word};
+
+    ghost room = { HALF_TYPES };
+
+    ghost has = { in_word };
+
+    #[inline]
+    fn none() -> u64 {
+        0
+    }
+
+    #[inline]
+    fn first(types: usize) -> u64 {
+        if types == 0 {
+            return 0;
+        }
+        u64::MAX >> (HALF_TYPES - types)
+    }
+
+    #[inline]
+    fn both(self, other: u64) -> u64 {
+        self & other
+    }
+
+    #[inline]
+    fn either(self, other: u64) -> u64 {
+        self | other
+    }
+
+    #[inline]
+    fn with(self, place: usize) -> u64 {
+        self | 1 << place
+    }
+
+    #[inline]
+    fn has_place(self, place: usize) -> bool {
+        (self >> place) & 1 == 1
+    }
+
+    #[inline]
+    fn is(self, other: u64) -> bool {
+        self == other
+    }
 }
 
 /// One word, for up to 128 types.

@@ -1,0 +1,5 @@
+use Rattle.closure_miner.proofs.Bits.{has-lowest}
+use Rattle.closure_miner.proofs.type_sets.U64TypeSet.first.Goals as goal
+
+pub returns : goal.returns
+returns c = has-lowest 64 c.args.types c.requires
