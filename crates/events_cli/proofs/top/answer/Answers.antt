@@ -73,3 +73,12 @@ returns-clause-count g c = c.in-Ok.ensures.count
 
 pub returns-clause-stays : goal.returns-clause-stays
 returns-clause-stays g c = record { inputs = c.read_answer.ensures.stays; patterns = c.read_answer.ensures.kept }
+
+pub returns-in-Err-clause-turn : goal.returns-in-Err-clause-turn
+returns-in-Err-clause-turn g c = c.read_answer.ensures.turn
+
+pub returns-in-Ok-write_whole-clause-turn : goal.returns-in-Ok-write_whole-clause-turn
+returns-in-Ok-write_whole-clause-turn g c = c.read_answer.ensures.turn
+
+pub returns-clause-turn : goal.returns-clause-turn
+returns-clause-turn g c = c.read_answer.ensures.turn
