@@ -5,8 +5,8 @@ use Rattle.partition_model.specs.Coarsening.{IsPair}
 use Rattle.clashes.specs.Marks.{AreMarksOf}
 use Rattle.labelling.specs.Labelled.{Labelling, AreLabelsOf}
 use Rattle.coarsener.specs.Deciding.{IsFirstBad}
-use Rattle.coarsener.specs.declared.blocking.Told.{Told}
-use Rattle.coarsener.specs.declared.blocking.Told.TheVariants.{Labels, Marks}
+use Rattle.coarsener.specs.declared.telling.Told.{Told}
+use Rattle.coarsener.specs.declared.telling.Told.TheVariants.{Labels, Marks}
 
 -- for each pair, the labels are those of the graph after its merge
 abbrev pub TellByLabels : Labelling → Graph → Type 0

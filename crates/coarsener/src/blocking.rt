@@ -1,28 +1,24 @@
 //! Why pairs stay apart.
-ghost use Rattle.std.specs.Prelude.{◌≡◌, ◌≤◌, ◌<◌, ◌+◌, ◌*◌, ◌^◌, ◌++◌, [], List, length, OnOk, OnErr, slice_get, Some, true};
-ghost use Rattle.limits.specs.declared.TheConstants.{MAX_INVARIANTS, MAX_PARTITIONS, MAX_PATH_NUMBERS};
+ghost use Rattle.std.specs.Prelude.{◌≡◌, ◌≤◌, ◌<◌, ◌+◌, ◌*◌, ◌^◌, ◌++◌, [], List, length, OnOk, OnErr};
+ghost use Rattle.limits.specs.declared.TheConstants.{MAX_PATH_NUMBERS};
 ghost use Rattle.invariants.specs.declared.records.Block.{Block};
-ghost use Rattle.invariants.specs.declared.Invariant.{Invariant};
-ghost use Rattle.partition_model.specs.Graphs.{Graph, Satisfies};
-ghost use Rattle.partition_model.specs.Assignments.{Assignment, G, IsTyped};
-ghost use Rattle.partition_model.specs.Coarsening.{AreBlocks, IsPair, NoMerge};
+ghost use Rattle.partition_model.specs.Assignments.{G};
+ghost use Rattle.partition_model.specs.Coarsening.{AreBlocks, NoMerge};
+ghost use Rattle.partition_model.specs.Refinement.{SatisfiesAll};
 ghost use Rattle.model_shape.specs.Numbers.{block_numbers};
 ghost use Rattle.cell_pool.specs.Numbers.{KeepsLists};
 ghost use Rattle.run_history.specs.Records.{blocks_of, HoldsPaths};
-ghost use Rattle.clashes.specs.Marks.{AreMarksOf};
-ghost use Rattle.labelling.specs.Labelled.{Labelling};
-ghost use Rattle.coarsener.specs.Deciding.{IsFirstBad, IsFirstLost};
 ghost use Rattle.coarsener.specs.Blocking.{pair_count, paths_of, EndsWithoutRoom};
 ghost use Rattle.coarsener.specs.Marking.{AreMarksNow};
 ghost use Rattle.coarsener.specs.Telling.{TellsLosses};
-ghost use Rattle.partition_model.specs.Refinement.{SatisfiesAll};
 
 use crate::pairs::{Pair, next_pair};
+use crate::telling::{Told, first_lost, is_known, tell_losses};
 use cell_pool::{RunLog, Spans};
 use invariants::{Invariant, Merge};
 use labelling::Planes;
 use limits::MAX_PATH_NUMBERS;
-use partition_graph::{PartGraph, View};
+use partition_graph::PartGraph;
 use path_finder::Finder;
 use std::sync::ledger::Ledger;
 use steps::Steps;
@@ -31,126 +27,60 @@ use steps::Steps;
 #[derive(Clone, Copy, Debug, PartialEq, Eq)]
 pub struct EvidenceLimit;
 
-/// The number of the first invariant that the merge of the pair loses; `None` if it loses none. `bad` is the number of
-/// the first invariant that the graph itself does not satisfy. Every merge loses that one.
-fn lost_by(planes: &mut Planes, bad: Option<usize>, pair: Pair) -> Option<usize>
-    requires order { pair.p < pair.q }
-    requires limit { pair.q < MAX_PARTITIONS }
-    ensures first { (h : Assignment) → IsTyped h → IsPair (G h) pair.p pair.q
-        → AreMarksOf (planes.old).clashes (G h) → IsFirstBad (G h) (planes.old).clashes.invs bad
-        → IsFirstLost h (planes.old).clashes.invs pair.p pair.q result }
-    ensures same { planes.new ≡ planes.old }
-{
-    match (bad, planes.first_clash(pair.p, pair.q)) {
-        (Some(bad), Some(clash)) => Some(bad.min(clash)),
-        (Some(bad), None) => Some(bad),
-        (None, clash) => clash,
-    }
-}
-
-/// Whether the graph is known to satisfy the invariant with this number. `bad` is the number of the first invariant
-/// that it does not satisfy.
-fn is_satisfied(bad: Option<usize>, k: usize) -> bool
-    ensures { (g : Graph) (invs : List Invariant) (inv : Invariant) → IsFirstBad g invs bad
-        → slice_get invs k ≡ Some inv → result ≡ true → Satisfies g inv }
-{
-    let Some(bad) = bad else {
-        return true;
-    };
-    k < bad
-}
-
-/// What shows which invariants merges lose.
+/// A graph where coarsening ended, and the invariants that it went by.
 #[derive(Clone, Copy)]
-pub(crate) enum Told {
-    /// The labels of the graph after the merge of its only pair.
-    Labels,
-    /// The marks. The number is that of the first invariant that the graph itself does not satisfy.
-    Marks(Option<usize>),
+pub struct Coarsened<'a> {
+    /// The graph.
+    pub graph: &'a PartGraph,
+    /// The invariants. A block names one by its place in this list.
+    pub invs: &'a [Invariant],
 }
 
-/// Finds what shows which invariants the merges of a graph lose. It counts at most one step for each pair.
-fn tell_losses<L: Ledger>(graph: &PartGraph, planes: &mut Planes, steps: &mut Steps<L>) -> Told
-    ensures tells { TellsLosses result planes.new (G (graph.now).traces) }
-    ensures list { (planes.new).invs ≡ (planes.old).invs }
-    ensures limit { 0 < pair_count graph.now → length (planes.new).invs ≤ MAX_INVARIANTS }
-    ensures more { steps.old ≤ steps.new }
-    ensures few { steps.new ≤ steps.old + pair_count graph.now }
-{
-    let Some(first) = next_pair(graph, Pair::start()) else {
-        return Told::Labels;
-    };
-    if next_pair(graph, first).is_none() {
-        planes.label_all(&View::Merged(graph, first.p, first.q), steps);
-        return Told::Labels;
-    }
-    planes.label_all(&View::Plain(graph), steps);
-    let bad = planes.first_bad();
-    planes.find_clashes(graph, steps);
-    Told::Marks(bad)
-}
-
-/// The number of the first invariant that the merge of the pair loses.
-fn first_lost(planes: &mut Planes, told: Told, pair: Pair) -> Option<usize>
-    requires order { pair.p < pair.q }
-    requires limit { pair.q < MAX_PARTITIONS }
-    ensures first { (h : Assignment) → IsTyped h → IsPair (G h) pair.p pair.q
-        → TellsLosses told planes.old (G h)
-        → IsFirstLost h (planes.old).invs pair.p pair.q result }
-    ensures same { planes.new ≡ planes.old }
-{
-    match told {
-        Told::Labels => planes.first_bad(),
-        Told::Marks(bad) => lost_by(planes, bad, pair),
-    }
-}
-
-/// Whether the graph is known to satisfy the invariant with this number.
-fn is_known(told: Told, k: usize) -> bool
-    ensures { (planes : Labelling) (g : Graph) (inv : Invariant) → TellsLosses told planes g
-        → slice_get planes.invs k ≡ Some inv → result ≡ true → Satisfies g inv }
-{
-    match told {
-        Told::Labels => false,
-        Told::Marks(bad) => is_satisfied(bad, k),
-    }
+/// What tells why the pairs of a graph stay apart.
+#[derive(Clone, Copy)]
+struct Apart<'a> {
+    /// The graph where coarsening ended.
+    graph: &'a PartGraph,
+    /// The invariants.
+    invs: &'a [Invariant],
+    /// What shows which of them merges lose.
+    told: Told,
 }
 
 /// Writes the blocks as `blocks` does, by what is already known of the losses.
 ///
-/// - `graph`, `finder`, `invs`, `spans` and `run_log`: as for `blocks`. If the graph has a pair, there must be fewer
-///   than 2^32 invariants.
-/// - `planes` and `told`: what shows which invariants merges lose. If the graph has a pair, `told` must be true of
-///   `planes` and the graph.
+/// - `apart`: the graph and the invariants are as for `blocks`. If the graph has a pair, there must be fewer than 2^32
+///   invariants, and what shows the losses must be true of `planes` and the graph.
 /// - `steps`: counts at most one step for each pair.
+/// - `finder`, `planes`, `spans` and `run_log`: as for `blocks`.
 fn blocks_told<L: Ledger>(
-    graph: &PartGraph,
+    apart: Apart<'_>,
     finder: &mut Finder,
     planes: &mut Planes,
-    told: Told,
-    invs: &[Invariant],
     spans: &mut Spans,
     run_log: &mut RunLog,
     steps: &mut Steps<L>,
 ) -> Result<(), EvidenceLimit>
-    requires told { 0 < pair_count graph.now → TellsLosses told planes.old (G (graph.now).traces) }
-    requires few { 0 < pair_count graph.now → length invs.now < 2 ^ 32 }
-    requires ended { NoMerge invs.now (graph.now).traces }
-    requires listed { (planes.old).invs ≡ invs.now }
+    requires told { 0 < pair_count apart.graph.now
+        → TellsLosses apart.told planes.old (G (apart.graph.now).traces) }
+    requires few { 0 < pair_count apart.graph.now → length apart.invs.now < 2 ^ 32 }
+    requires ended { NoMerge apart.invs.now (apart.graph.now).traces }
+    requires listed { (planes.old).invs ≡ apart.invs.now }
     requires numbers { (spans.old).room ≡ MAX_PATH_NUMBERS }
     requires begun { (run_log.old).blocks ≡ [] }
-    requires room { pair_count graph.now ≤ (run_log.old).block_room }
+    requires room { pair_count apart.graph.now ≤ (run_log.old).block_room }
 
     // All blocks, if there is room for their paths.
-    ensures ok { OnOk result
-        (AreBlocks invs.now (G (graph.now).traces) (blocks_of run_log.new spans.new)) }
+    ensures ok { OnOk result (AreBlocks apart.entry.invs.now (G (apart.entry.graph.now).traces)
+        (blocks_of run_log.new spans.new)) }
     ensures within { OnOk result (length (spans.new).numbers ≤ MAX_PATH_NUMBERS) }
 
     // When the limit is exceeded, and what stands then.
-    ensures limit { OnErr result ((bs : List Block) → AreBlocks invs.now (G (graph.now).traces) bs
+    ensures limit { OnErr result ((bs : List Block)
+        → AreBlocks apart.entry.invs.now (G (apart.entry.graph.now).traces) bs
         → MAX_PATH_NUMBERS < length (spans.old).numbers + block_numbers bs) }
-    ensures err { OnErr result (EndsWithoutRoom invs.now graph.now (blocks_of run_log.new spans.new)
-        (length (spans.new).numbers)) }
+    ensures err { OnErr result (EndsWithoutRoom apart.entry.invs.now apart.entry.graph.now
+        (blocks_of run_log.new spans.new) (length (spans.new).numbers)) }
 
     // What the spans and the run's log hold in each case.
     ensures paths { spans.new ≡ record spans.old {
@@ -163,23 +93,23 @@ fn blocks_told<L: Ledger>(
 
     // How many steps are counted.
     ensures more { steps.old ≤ steps.new }
-    ensures few { steps.new ≤ steps.old + pair_count graph.now }
+    ensures few { steps.new ≤ steps.old + pair_count apart.entry.graph.now }
 {
     prove!(spans.used() <= MAX_PATH_NUMBERS);
     let mut at = Pair::start();
-    if next_pair(graph, at).is_none() {
+    if next_pair(apart.graph, at).is_none() {
         return Ok(());
     }
-    while let Some(pair) = next_pair(graph, at) {
-        let Some(k) = first_lost(planes, told, pair) else {
+    while let Some(pair) = next_pair(apart.graph, at) {
+        let Some(k) = first_lost(planes, apart.told, pair) else {
             unreachable!()
         };
-        let known = is_known(told, k);
+        let known = is_known(apart.told, k);
         let merge = Merge {
             p: pair.p,
             q: pair.q,
         };
-        let Some(path) = finder.least_loss(graph, merge, invs[k], known, steps) else {
+        let Some(path) = finder.least_loss(apart.graph, merge, apart.invs[k], known, steps) else {
             unreachable!()
         };
         let Some(path) = spans.push(path) else {
@@ -250,48 +180,49 @@ pub fn blocks<L: Ledger>(
     ensures few { steps.new ≤ steps.old + 2 * pair_count graph.now }
 {
     let told = tell_losses(graph, planes, steps);
-    blocks_told(graph, finder, planes, told, invs, spans, run_log, steps)
+    let apart = Apart { graph, invs, told };
+    blocks_told(apart, finder, planes, spans, run_log, steps)
 }
 
 /// Writes the blocks as `blocks` does, for a graph that satisfies all invariants and whose marks are found already. So
 /// it neither labels the graph nor finds marks.
 ///
-/// - `graph`: the graph where coarsening ended. It must satisfy `invs`, and each of its merges must lose one of them.
-/// - `planes`: must be made for `invs`. If the graph has a pair, its marks must be those of the graph, as `coarsen`
-///   leaves them.
-/// - `invs`: the invariants, fewer than 2^32.
+/// - `end`: the graph where coarsening ended, and the invariants, fewer than 2^32. The graph must satisfy them,
+///   and each of its merges must lose one of them.
+/// - `planes`: must be made for these invariants. If the graph has a pair, its marks must be those of the graph, as
+///   `coarsen` leaves them.
 /// - `steps`: counts at most one step for each pair.
 /// - `finder`, `spans` and `run_log`: as for `blocks`.
 ///
 /// The result, and what stands after `EvidenceLimit`, are as for `blocks`.
 pub fn blocks_marked<L: Ledger>(
-    graph: &PartGraph,
+    end: Coarsened<'_>,
     finder: &mut Finder,
     planes: &mut Planes,
-    invs: &[Invariant],
     spans: &mut Spans,
     run_log: &mut RunLog,
     steps: &mut Steps<L>,
 ) -> Result<(), EvidenceLimit>
-    requires satisfied { SatisfiesAll (G (graph.now).traces) invs.now }
-    requires marks { 0 < pair_count graph.now → AreMarksNow planes.old graph.now }
-    requires few { length invs.now < 2 ^ 32 }
-    requires ended { NoMerge invs.now (graph.now).traces }
-    requires listed { (planes.old).invs ≡ invs.now }
+    requires satisfied { SatisfiesAll (G (end.graph.now).traces) end.invs.now }
+    requires marks { 0 < pair_count end.graph.now → AreMarksNow planes.old end.graph.now }
+    requires few { length end.invs.now < 2 ^ 32 }
+    requires ended { NoMerge end.invs.now (end.graph.now).traces }
+    requires listed { (planes.old).invs ≡ end.invs.now }
     requires numbers { (spans.old).room ≡ MAX_PATH_NUMBERS }
     requires begun { (run_log.old).blocks ≡ [] }
-    requires room { pair_count graph.now ≤ (run_log.old).block_room }
+    requires room { pair_count end.graph.now ≤ (run_log.old).block_room }
 
     // All blocks, if there is room for their paths.
-    ensures ok { OnOk result
-        (AreBlocks invs.now (G (graph.now).traces) (blocks_of run_log.new spans.new)) }
+    ensures ok { OnOk result (AreBlocks end.entry.invs.now (G (end.entry.graph.now).traces)
+        (blocks_of run_log.new spans.new)) }
     ensures within { OnOk result (length (spans.new).numbers ≤ MAX_PATH_NUMBERS) }
 
     // When the limit is exceeded, and what stands then.
-    ensures limit { OnErr result ((bs : List Block) → AreBlocks invs.now (G (graph.now).traces) bs
+    ensures limit { OnErr result ((bs : List Block)
+        → AreBlocks end.entry.invs.now (G (end.entry.graph.now).traces) bs
         → MAX_PATH_NUMBERS < length (spans.old).numbers + block_numbers bs) }
-    ensures err { OnErr result (EndsWithoutRoom invs.now graph.now (blocks_of run_log.new spans.new)
-        (length (spans.new).numbers)) }
+    ensures err { OnErr result (EndsWithoutRoom end.entry.invs.now end.entry.graph.now
+        (blocks_of run_log.new spans.new) (length (spans.new).numbers)) }
 
     // What the spans and the run's log hold in each case.
     ensures paths { spans.new ≡ record spans.old {
@@ -304,16 +235,12 @@ pub fn blocks_marked<L: Ledger>(
 
     // How many steps are counted.
     ensures more { steps.old ≤ steps.new }
-    ensures few { steps.new ≤ steps.old + pair_count graph.now }
+    ensures few { steps.new ≤ steps.old + pair_count end.entry.graph.now }
 {
-    blocks_told(
-        graph,
-        finder,
-        planes,
-        Told::Marks(None),
-        invs,
-        spans,
-        run_log,
-        steps,
-    )
+    let apart = Apart {
+        graph: end.graph,
+        invs: end.invs,
+        told: Told::Marks(None),
+    };
+    blocks_told(apart, finder, planes, spans, run_log, steps)
 }

@@ -9,6 +9,7 @@
 mod blocking;
 mod merging;
 mod pairs;
+mod telling;
 
-pub use blocking::{EvidenceLimit, blocks, blocks_marked};
+pub use blocking::{Coarsened, EvidenceLimit, blocks, blocks_marked};
 pub use merging::coarsen;

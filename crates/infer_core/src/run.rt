@@ -11,12 +11,12 @@ ghost use Rattle.infer_core.specs.Ends.{BeginsWith, IsReady, RunGives};
 
 use crate::tools::Tools;
 use crate::workbench::InferLimit;
-use coarsener::{blocks_marked, coarsen};
+use coarsener::{Coarsened, blocks_marked, coarsen};
 use invariants::Invariant;
 use labelling::Planes;
 use limits::MAX_PARTITIONS;
 use partition_graph::{PartGraph, View};
-use splitter::{PartitionLimit, refine_skipping};
+use splitter::{Basis, PartitionLimit, refine_skipping};
 use std::sync::ledger::Ledger;
 use steps::Steps;
 
@@ -70,12 +70,15 @@ fn refine_broken<L: Ledger>(
         (steps.new - (steps.old + min 1 (length invs.now)))) }
 {
     tell_known(graph, &mut tools.planes, flags, steps);
+    let basis = Basis {
+        invs,
+        known: flags,
+        stitcher: &tools.stitcher,
+    };
     refine_skipping(
         graph,
         &mut tools.finder,
-        &mut tools.stitcher,
-        invs,
-        flags,
+        basis,
         &mut tools.spans,
         &mut tools.run_log,
         steps,
@@ -122,10 +125,9 @@ pub fn run<L: Ledger>(
     prove!(graph.ids_used() <= MAX_PARTITIONS);
     coarsen(graph, &mut tools.planes, &mut tools.run_log, steps);
     let Ok(()) = blocks_marked(
-        graph,
+        Coarsened { graph, invs },
         &mut tools.finder,
         &mut tools.planes,
-        invs,
         &mut tools.spans,
         &mut tools.run_log,
         steps,

@@ -11,5 +11,5 @@ mod refining;
 mod stitcher;
 
 pub use law::{mined_hold, start_is_opened};
-pub use refining::{PartitionLimit, refine, refine_skipping};
+pub use refining::{Basis, PartitionLimit, refine, refine_skipping};
 pub use stitcher::Stitcher;

@@ -20,14 +20,25 @@ use steps::Steps;
 #[derive(Clone, Copy, Debug, PartialEq, Eq)]
 pub struct PartitionLimit;
 
+/// What a refinement goes by. It stays as it is.
+#[derive(Clone, Copy)]
+pub struct Basis<'a> {
+    /// The invariants that the graph is to satisfy.
+    pub invs: &'a [Invariant],
+    /// The flag at a place says whether the graph is known to satisfy the invariant at this place before the first
+    /// split. A flag that is not there counts as false.
+    pub known: &'a [bool],
+    /// Finds the places of the splits.
+    pub stitcher: &'a Stitcher,
+}
+
 /// The place of the stitch of a violation. It is never the last place of the path.
-fn place_before_end(graph: &PartGraph, stitcher: &mut Stitcher, path: &[u32]) -> usize
+fn place_before_end(graph: &PartGraph, stitcher: &Stitcher, path: &[u32]) -> usize
     requires divides { Divides (graph.now).traces path.now (graph.now).used }
     requires starts { slice_get path.now 0 ≡ Some INITIAL }
-    requires made { stitcher.old ≡ length (events (graph.now).traces) }
+    requires made { stitcher.now ≡ length (events (graph.now).traces) }
     ensures value { result ≡ stitch (graph.now).traces path.now }
     ensures before { result + 1 < length path.now }
-    ensures same { stitcher.new ≡ stitcher.old }
 {
     stitcher.place_before_end(graph, path)
 }
@@ -35,7 +46,7 @@ fn place_before_end(graph: &PartGraph, stitcher: &mut Stitcher, path: &[u32]) ->
 /// Divides a partition by a path, the violation of the invariant with number k, and writes the split.
 fn divide(
     graph: &mut PartGraph,
-    stitcher: &mut Stitcher,
+    stitcher: &Stitcher,
     path: &[u32],
     k: u32,
     spans: &mut Spans,
@@ -43,7 +54,7 @@ fn divide(
 ) -> Result<(), PartitionLimit>
     requires divides { Divides (graph.old).traces path.now (graph.old).used }
     requires starts { slice_get path.now 0 ≡ Some INITIAL }
-    requires made { stitcher.old ≡ length (events (graph.old).traces) }
+    requires made { stitcher.now ≡ length (events (graph.old).traces) }
     requires short { length path.now < 2 ^ 32 }
     requires splits { (graph.old).used < MAX_PARTITIONS
         → length (run_log.old).splits < (run_log.old).split_room }
@@ -60,7 +71,6 @@ fn divide(
     ensures graph { OnErr result (graph.new ≡ graph.old) }
     ensures run_log { OnErr result (run_log.new ≡ run_log.old) }
     ensures spans { OnErr result (spans.new ≡ spans.old) }
-    ensures same { stitcher.new ≡ stitcher.old }
 {
     let place = place_before_end(graph, stitcher, path);
     if graph.split(path[place], path[place + 1]).is_none() {
@@ -132,65 +142,68 @@ pub fn refine<L: Ledger>(
     ensures stands { OnErr result (IsStopped invs.now graph.old graph.new
         (splits_of run_log.new spans.new) (steps.new - steps.old)) }
 {
-    refine_skipping(graph, finder, stitcher, invs, &[], spans, run_log, steps)
+    let basis = Basis {
+        invs,
+        known: &[],
+        stitcher,
+    };
+    refine_skipping(graph, finder, basis, spans, run_log, steps)
 }
 
 /// Refines as `refine` does, but without a search for the invariants that the graph is known to satisfy before the
 /// first split. Splits keep what is satisfied, so no path is searched for these.
 ///
-/// - `known`: the flag at place k may be true only if the graph satisfies the invariant at place k of `invs` before the
-///   call. A flag that is false says nothing. `known` may be shorter than `invs`: a flag that is not there counts as
-///   false.
+/// - `basis`: the invariants and the stitcher are as for `refine`. The flag at place k may be true only if the graph
+///   satisfies the invariant at place k before the call. A flag that is false says nothing. There may be fewer flags
+///   than invariants.
 /// - `steps`: counts one step for each invariant whose flag is not true, and one for each split.
-/// - `graph`, `finder`, `stitcher`, `invs`, `spans` and `run_log`: as for `refine`.
+/// - `graph`, `finder`, `spans` and `run_log`: as for `refine`.
 ///
 /// The result, and what stands after `PartitionLimit`, are as for `refine`.
 pub fn refine_skipping<L: Ledger>(
     graph: &mut PartGraph,
     finder: &mut Finder,
-    stitcher: &mut Stitcher,
-    invs: &[Invariant],
-    known: &[bool],
+    basis: Basis<'_>,
     spans: &mut Spans,
     run_log: &mut RunLog,
     steps: &mut Steps<L>,
 ) -> Result<(), PartitionLimit>
-    requires few { length invs.now < 2 ^ 32 }
+    requires few { length basis.invs.now < 2 ^ 32 }
     requires opened { IsOpened graph.old }
-    requires hold { HoldAll (inner_words (graph.old).traces) invs.now }
-    requires known { AreKnown known.now invs.now (G (graph.old).traces) }
-    requires made { stitcher.old ≡ length (events (graph.old).traces) }
+    requires hold { HoldAll (inner_words (graph.old).traces) basis.invs.now }
+    requires known { AreKnown basis.known.now basis.invs.now (G (graph.old).traces) }
+    requires made { basis.stitcher.now ≡ length (events (graph.old).traces) }
     requires empty { AreEmpty run_log.old spans.old }
     requires room { HaveRoom run_log.old spans.old }
 
     // What is written, whether or not the run ends.
     ensures writes { WritesSplits run_log.old run_log.new spans.old spans.new }
-    ensures same { stitcher.new ≡ stitcher.old }
 
     // The whole run.
     ensures ok { OnOk result
-        (EndsRefined invs.now graph.old (splits_of run_log.new spans.new) graph.new) }
-    ensures counted { OnOk result (steps.new ≡ steps.old + asked_count known.now (length invs.now)
+        (EndsRefined basis.entry.invs.now graph.old (splits_of run_log.new spans.new) graph.new) }
+    ensures counted { OnOk result (steps.new
+        ≡ steps.old + asked_count basis.entry.known.now (length basis.entry.invs.now)
         + length (splits_of run_log.new spans.new)) }
     ensures fewer { OnOk result (AreFewer (splits_of run_log.new spans.new) (event_count graph.old)) }
 
     // When the limit is returned, and what stands then.
-    ensures full { OnErr result (IsFull invs.now graph.new) }
-    ensures excludes { OnErr result (WantsMoreIds invs.now graph.old) }
+    ensures full { OnErr result (IsFull basis.entry.invs.now graph.new) }
+    ensures excludes { OnErr result (WantsMoreIds basis.entry.invs.now graph.old) }
     ensures rests { HaveFewRests graph.old → IsOk result }
-    ensures stands { OnErr result (IsStopped invs.now graph.old graph.new
+    ensures stands { OnErr result (IsStopped basis.entry.invs.now graph.old graph.new
         (splits_of run_log.new spans.new) (steps.new - steps.old)) }
 {
     prove!(graph.ids_used() <= MAX_PARTITIONS);
     let mut k = 0;
-    while k < invs.len() {
-        if is_known(known, k) {
+    while k < basis.invs.len() {
+        if is_known(basis.known, k) {
             k += 1;
             continue;
         }
-        match finder.least_violation(&View::Plain(graph), invs[k], steps) {
+        match finder.least_violation(&View::Plain(graph), basis.invs[k], steps) {
             None => k += 1,
-            Some(path) => divide(graph, stitcher, path, k as u32, spans, run_log)?,
+            Some(path) => divide(graph, basis.stitcher, path, k as u32, spans, run_log)?,
         }
     }
     Ok(())

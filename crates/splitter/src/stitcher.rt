@@ -143,12 +143,11 @@ impl Stitcher {
 
     /// The same for a path that no trace follows to its last id. The search ends at the first trace that follows the
     /// path to the id before the last.
-    pub(crate) fn place_before_end(&mut self, graph: &PartGraph, path: &[u32]) -> usize
+    pub(crate) fn place_before_end(&self, graph: &PartGraph, path: &[u32]) -> usize
         requires starts { slice_get path.now 0 ≡ Some INITIAL }
         requires some { 0 < length (graph.now).traces }
         requires before { stitch (graph.now).traces path.now + 1 < length path.now }
-        ensures value { result ≡ stitch (graph.now).traces path.now }
-        ensures same { self.new ≡ self.old }
+        ensures { result ≡ stitch (graph.now).traces path.now }
     {
         longest_front(graph, path, path.len() - 1) - 1
     }

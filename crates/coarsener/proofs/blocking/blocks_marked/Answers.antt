@@ -8,6 +8,6 @@ pub blocks_told-requires-clause-told : goal.blocks_told-requires-clause-told
 blocks_told-requires-clause-told g c some =
     record {
       marks = (c.requires.marks some).marks;
-      bad = subst (λ (invs : List Invariant). SatisfiesAll (G c.args.graph.now.traces) invs) (sym c.requires.listed) c.requires.satisfied;
+      bad = subst (λ (invs : List Invariant). SatisfiesAll (G c.args.end.graph.now.traces) invs) (sym c.requires.listed) c.requires.satisfied;
       listed = (c.requires.marks some).listed;
     }

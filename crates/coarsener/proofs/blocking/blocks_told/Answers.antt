@@ -20,9 +20,9 @@ use Rattle.coarsener.proofs.blocking.blocks_told.Goals as goal
 
 pub loop-pair-init : goal.loop-pair-init
 loop-pair-init g c =
-    let some : 0 < pair_count c.args.graph.now =
-    pairs-some c.args.graph.now c.next_pair.result c.next_pair.ensures.ids c.if-is_none.ensures
-    (subst₂ (λ (p q : ℕ). MatchOption c.next_pair.result (HasNoPairBehind (G c.args.graph.now.traces) p q) (λ (x : Pair). IsNextPair (G c.args.graph.now.traces) p q x.p x.q))
+    let some : 0 < pair_count c.args.apart.graph.now =
+    pairs-some c.args.apart.graph.now c.next_pair.result c.next_pair.ensures.ids c.if-is_none.ensures
+    (subst₂ (λ (p q : ℕ). MatchOption c.next_pair.result (HasNoPairBehind (G c.args.apart.graph.now.traces) p q) (λ (x : Pair). IsNextPair (G c.args.apart.graph.now.traces) p q x.p x.q))
     c.start-at.ensures.p c.start-at.ensures.q c.next_pair.ensures.next) in
     record {
       low = omega (arith, c.start-at.ensures.p);
@@ -35,72 +35,72 @@ loop-pair-init g c =
       some = some;
       counted = omega (arith, ap length c.requires.begun);
       within = omega (arith, c.used.ensures.value, c.if-prove.false);
-      run = subst₂ (λ (p q : ℕ). IsBlocking c.args.invs.now c.args.graph.now c.args.run_log.now c.args.run_log.now c.args.spans.now c.args.spans.now p q)
+      run = subst₂ (λ (p q : ℕ). IsBlocking c.args.apart.invs.now c.args.apart.graph.now c.args.run_log.now c.args.run_log.now c.args.spans.now c.args.spans.now p q)
           (sym c.start-at.ensures.p) (sym c.start-at.ensures.q)
-          (blocking-start c.args.invs.now c.args.graph.now c.args.run_log.now c.args.spans.now c.next_pair.ensures.ids c.requires.begun);
+          (blocking-start c.args.apart.invs.now c.args.apart.graph.now c.args.run_log.now c.args.spans.now c.next_pair.ensures.ids c.requires.begun);
     }
 
 pub unreachable-requires : goal.unreachable-requires
 unreachable-requires g c =
-    let all : SatisfiesAll (Merged (G c.args.graph.now.traces) c.in-Some.pair.p c.in-Some.pair.q) c.loop-pair.planes.invs =
-    c.in_default-first_lost.ensures.first c.args.graph.now.traces c.in-Some.ensures.ids.typed c.in-Some.ensures.next.pair c.loop-pair.invariant.told in
-    none-lost c.args.invs.now c.args.graph.now.traces c.in-Some.pair.p c.in-Some.pair.q c.in-Some.ensures.ids.typed c.in-Some.ensures.next.pair c.requires.ended
-    (subst (λ (invs : List Invariant). SatisfiesAll (Merged (G c.args.graph.now.traces) c.in-Some.pair.p c.in-Some.pair.q) invs) c.loop-pair.invariant.listed all)
+    let all : SatisfiesAll (Merged (G c.args.apart.graph.now.traces) c.in-Some.pair.p c.in-Some.pair.q) c.loop-pair.planes.invs =
+    c.in_default-first_lost.ensures.first c.args.apart.graph.now.traces c.in-Some.ensures.ids.typed c.in-Some.ensures.next.pair c.loop-pair.invariant.told in
+    none-lost c.args.apart.invs.now c.args.apart.graph.now.traces c.in-Some.pair.p c.in-Some.pair.q c.in-Some.ensures.ids.typed c.in-Some.ensures.next.pair c.requires.ended
+    (subst (λ (invs : List Invariant). SatisfiesAll (Merged (G c.args.apart.graph.now.traces) c.in-Some.pair.p c.in-Some.pair.q) invs) c.loop-pair.invariant.listed all)
 
-pub bounds-invs-k : goal.bounds-invs-k
-bounds-invs-k g c =
-    let first : IsFirstBroken (Merged (G c.args.graph.now.traces) c.in-Some.pair.p c.in-Some.pair.q) c.args.invs.now c.in-Some-first_lost.k =
-    subst (λ (invs : List Invariant). IsFirstBroken (Merged (G c.args.graph.now.traces) c.in-Some.pair.p c.in-Some.pair.q) invs c.in-Some-first_lost.k) c.loop-pair.invariant.listed
-    (c.in-Some-first_lost.ensures.first c.args.graph.now.traces c.in-Some.ensures.ids.typed c.in-Some.ensures.next.pair c.loop-pair.invariant.told) in
-    broken-within (Merged (G c.args.graph.now.traces) c.in-Some.pair.p c.in-Some.pair.q) c.args.invs.now c.in-Some-first_lost.k first
+pub bounds-apart-k : goal.bounds-apart-k
+bounds-apart-k g c =
+    let first : IsFirstBroken (Merged (G c.args.apart.graph.now.traces) c.in-Some.pair.p c.in-Some.pair.q) c.args.apart.invs.now c.in-Some-first_lost.k =
+    subst (λ (invs : List Invariant). IsFirstBroken (Merged (G c.args.apart.graph.now.traces) c.in-Some.pair.p c.in-Some.pair.q) invs c.in-Some-first_lost.k) c.loop-pair.invariant.listed
+    (c.in-Some-first_lost.ensures.first c.args.apart.graph.now.traces c.in-Some.ensures.ids.typed c.in-Some.ensures.next.pair c.loop-pair.invariant.told) in
+    broken-within (Merged (G c.args.apart.graph.now.traces) c.in-Some.pair.p c.in-Some.pair.q) c.args.apart.invs.now c.in-Some-first_lost.k first
 
-pub offset_bounds-invs-k : goal.offset_bounds-invs-k
-offset_bounds-invs-k g c =
-    let within : c.in-Some-first_lost.k < length c.args.invs.now = bounds-invs-k g c in
+pub offset_bounds-apart-k : goal.offset_bounds-apart-k
+offset_bounds-apart-k g c =
+    let within : c.in-Some-first_lost.k < length c.args.apart.invs.now = bounds-apart-k g c in
     omega (arith, c.loop-pair.invariant.few)
 
 pub unreachable-requires-in_default-least_loss :
     goal.unreachable-requires-in_default-least_loss
 unreachable-requires-in_default-least_loss g c =
-    let first : IsFirstBroken (Merged (G c.args.graph.now.traces) c.in-Some.pair.p c.in-Some.pair.q) c.args.invs.now c.in-Some-first_lost.k =
-    subst (λ (invs : List Invariant). IsFirstBroken (Merged (G c.args.graph.now.traces) c.in-Some.pair.p c.in-Some.pair.q) invs c.in-Some-first_lost.k) c.loop-pair.invariant.listed
-    (c.in-Some-first_lost.ensures.first c.args.graph.now.traces c.in-Some.ensures.ids.typed c.in-Some.ensures.next.pair c.loop-pair.invariant.told) in
-    is-broken (Merged (G c.args.graph.now.traces) c.in-Some.pair.p c.in-Some.pair.q) c.args.invs.now c.in-Some-first_lost.k first c.in_default-least_loss.ensures.found
+    let first : IsFirstBroken (Merged (G c.args.apart.graph.now.traces) c.in-Some.pair.p c.in-Some.pair.q) c.args.apart.invs.now c.in-Some-first_lost.k =
+    subst (λ (invs : List Invariant). IsFirstBroken (Merged (G c.args.apart.graph.now.traces) c.in-Some.pair.p c.in-Some.pair.q) invs c.in-Some-first_lost.k) c.loop-pair.invariant.listed
+    (c.in-Some-first_lost.ensures.first c.args.apart.graph.now.traces c.in-Some.ensures.ids.typed c.in-Some.ensures.next.pair c.loop-pair.invariant.told) in
+    is-broken (Merged (G c.args.apart.graph.now.traces) c.in-Some.pair.p c.in-Some.pair.q) c.args.apart.invs.now c.in-Some-first_lost.k first c.in_default-least_loss.ensures.found
 
 pub returns-in_default-push-clause-err : goal.returns-in_default-push-clause-err
 returns-in_default-push-clause-err g c =
-    let first : IsFirstBroken (Merged (G c.args.graph.now.traces) c.in-Some.pair.p c.in-Some.pair.q) c.args.invs.now c.in-Some-first_lost.k =
-    subst (λ (invs : List Invariant). IsFirstBroken (Merged (G c.args.graph.now.traces) c.in-Some.pair.p c.in-Some.pair.q) invs c.in-Some-first_lost.k) c.loop-pair.invariant.listed
-    (c.in-Some-first_lost.ensures.first c.args.graph.now.traces c.in-Some.ensures.ids.typed c.in-Some.ensures.next.pair c.loop-pair.invariant.told) in
+    let first : IsFirstBroken (Merged (G c.args.apart.graph.now.traces) c.in-Some.pair.p c.in-Some.pair.q) c.args.apart.invs.now c.in-Some-first_lost.k =
+    subst (λ (invs : List Invariant). IsFirstBroken (Merged (G c.args.apart.graph.now.traces) c.in-Some.pair.p c.in-Some.pair.q) invs c.in-Some-first_lost.k) c.loop-pair.invariant.listed
+    (c.in-Some-first_lost.ensures.first c.args.apart.graph.now.traces c.in-Some.ensures.ids.typed c.in-Some.ensures.next.pair c.loop-pair.invariant.told) in
     let room : c.loop-pair.spans.room ≡ c.args.spans.now.room = ap (λ (x : Numbers). x.room) c.loop-pair.invariant.run.paths in
-    subst (λ (x : Numbers). EndsWithoutRoom c.args.invs.now c.args.graph.now (blocks_of c.loop-pair.run_log x) (length x.numbers)) (sym c.in_default-push.ensures.push.1)
-    (blocking-full c.args.invs.now c.args.graph.now c.args.run_log.now c.loop-pair.run_log c.args.spans.now c.loop-pair.spans c.loop-pair.at.p c.loop-pair.at.q
+    subst (λ (x : Numbers). EndsWithoutRoom c.args.apart.invs.now c.args.apart.graph.now (blocks_of c.loop-pair.run_log x) (length x.numbers)) (sym c.in_default-push.ensures.push.1)
+    (blocking-full c.args.apart.invs.now c.args.apart.graph.now c.args.run_log.now c.loop-pair.run_log c.args.spans.now c.loop-pair.spans c.loop-pair.at.p c.loop-pair.at.q
     c.in-Some.pair.p c.in-Some.pair.q c.in-Some-first_lost.k c.in-Some-least_loss.path.now c.loop-pair.invariant.run c.in-Some.ensures.next first
     c.in-Some-least_loss.ensures.found (omega (arith, c.in_default-push.ensures.push.0, room, c.requires.numbers)))
 
 pub returns-in_default-push-clause-limit : goal.returns-in_default-push-clause-limit
 returns-in_default-push-clause-limit g c =
-    let run : IsBlocking c.args.invs.now c.args.graph.now c.args.run_log.now c.loop-pair.run_log c.args.spans.now c.push.new.self c.loop-pair.at.p c.loop-pair.at.q =
-    subst (λ (x : Numbers). IsBlocking c.args.invs.now c.args.graph.now c.args.run_log.now c.loop-pair.run_log c.args.spans.now x c.loop-pair.at.p c.loop-pair.at.q)
+    let run : IsBlocking c.args.apart.invs.now c.args.apart.graph.now c.args.run_log.now c.loop-pair.run_log c.args.spans.now c.push.new.self c.loop-pair.at.p c.loop-pair.at.q =
+    subst (λ (x : Numbers). IsBlocking c.args.apart.invs.now c.args.apart.graph.now c.args.run_log.now c.loop-pair.run_log c.args.spans.now x c.loop-pair.at.p c.loop-pair.at.q)
     (sym c.in_default-push.ensures.push.1) c.loop-pair.invariant.run in
-    blocking-limit c.args.invs.now c.args.graph.now c.loop-pair.run_log c.args.spans.now c.push.new.self c.in-Some.ensures.ids (returns-in_default-push-clause-err g c) run.paths
+    blocking-limit c.args.apart.invs.now c.args.apart.graph.now c.loop-pair.run_log c.args.spans.now c.push.new.self c.in-Some.ensures.ids (returns-in_default-push-clause-err g c) run.paths
 
 pub overflow_cast-k : goal.overflow_cast-k
 overflow_cast-k g c =
-    let first : IsFirstBroken (Merged (G c.args.graph.now.traces) c.in-Some.pair.p c.in-Some.pair.q) c.args.invs.now c.in-Some-first_lost.k =
-    subst (λ (invs : List Invariant). IsFirstBroken (Merged (G c.args.graph.now.traces) c.in-Some.pair.p c.in-Some.pair.q) invs c.in-Some-first_lost.k) c.loop-pair.invariant.listed
-    (c.in-Some-first_lost.ensures.first c.args.graph.now.traces c.in-Some.ensures.ids.typed c.in-Some.ensures.next.pair c.loop-pair.invariant.told) in
-    let within : c.in-Some-first_lost.k < length c.args.invs.now = broken-within (Merged (G c.args.graph.now.traces) c.in-Some.pair.p c.in-Some.pair.q) c.args.invs.now c.in-Some-first_lost.k first in
+    let first : IsFirstBroken (Merged (G c.args.apart.graph.now.traces) c.in-Some.pair.p c.in-Some.pair.q) c.args.apart.invs.now c.in-Some-first_lost.k =
+    subst (λ (invs : List Invariant). IsFirstBroken (Merged (G c.args.apart.graph.now.traces) c.in-Some.pair.p c.in-Some.pair.q) invs c.in-Some-first_lost.k) c.loop-pair.invariant.listed
+    (c.in-Some-first_lost.ensures.first c.args.apart.graph.now.traces c.in-Some.ensures.ids.typed c.in-Some.ensures.next.pair c.loop-pair.invariant.told) in
+    let within : c.in-Some-first_lost.k < length c.args.apart.invs.now = broken-within (Merged (G c.args.apart.graph.now.traces) c.in-Some.pair.p c.in-Some.pair.q) c.args.apart.invs.now c.in-Some-first_lost.k first in
     omega (arith, c.loop-pair.invariant.few)
 
 pub loop-pair-preserved : goal.loop-pair-preserved
 loop-pair-preserved g c =
-    let first : IsFirstBroken (Merged (G c.args.graph.now.traces) c.in-Some.pair.p c.in-Some.pair.q) c.args.invs.now c.in-Some-first_lost.k =
-    subst (λ (invs : List Invariant). IsFirstBroken (Merged (G c.args.graph.now.traces) c.in-Some.pair.p c.in-Some.pair.q) invs c.in-Some-first_lost.k) c.loop-pair.invariant.listed
-    (c.in-Some-first_lost.ensures.first c.args.graph.now.traces c.in-Some.ensures.ids.typed c.in-Some.ensures.next.pair c.loop-pair.invariant.told) in
-    let run : IsBlocking c.args.invs.now c.args.graph.now c.args.run_log.now (with_block c.in-Some.pair.p c.in-Some.pair.q c.in-Some-first_lost.k c.in-Some-push.path c.loop-pair.run_log)
+    let first : IsFirstBroken (Merged (G c.args.apart.graph.now.traces) c.in-Some.pair.p c.in-Some.pair.q) c.args.apart.invs.now c.in-Some-first_lost.k =
+    subst (λ (invs : List Invariant). IsFirstBroken (Merged (G c.args.apart.graph.now.traces) c.in-Some.pair.p c.in-Some.pair.q) invs c.in-Some-first_lost.k) c.loop-pair.invariant.listed
+    (c.in-Some-first_lost.ensures.first c.args.apart.graph.now.traces c.in-Some.ensures.ids.typed c.in-Some.ensures.next.pair c.loop-pair.invariant.told) in
+    let run : IsBlocking c.args.apart.invs.now c.args.apart.graph.now c.args.run_log.now (with_block c.in-Some.pair.p c.in-Some.pair.q c.in-Some-first_lost.k c.in-Some-push.path c.loop-pair.run_log)
     c.args.spans.now c.push.new.self c.in-Some.pair.p c.in-Some.pair.q =
-    blocking-turn c.args.invs.now c.args.graph.now c.args.run_log.now c.loop-pair.run_log c.args.spans.now c.loop-pair.spans c.push.new.self c.loop-pair.at.p c.loop-pair.at.q
+    blocking-turn c.args.apart.invs.now c.args.apart.graph.now c.args.run_log.now c.loop-pair.run_log c.args.spans.now c.loop-pair.spans c.push.new.self c.loop-pair.at.p c.loop-pair.at.q
     c.in-Some.pair.p c.in-Some.pair.q c.in-Some-first_lost.k c.in-Some-least_loss.path.now c.in-Some-push.path c.loop-pair.invariant.run c.in-Some.ensures.next first
     c.in-Some-least_loss.ensures.found c.in-Some-push.ensures.push c.in-Some-push.ensures.stays in
     let blocks : length c.add_block.new.self.blocks ≡ length c.loop-pair.run_log.blocks + 1 =
@@ -112,35 +112,35 @@ loop-pair-preserved g c =
       limit = c.in-Some.ensures.limit;
       list = ap (λ (planes : Labelling). planes.invs) c.first_lost.ensures.same ∙ c.loop-pair.invariant.list;
       listed = ap (λ (planes : Labelling). planes.invs) c.first_lost.ensures.same ∙ c.loop-pair.invariant.listed;
-      told = subst (λ (planes : Labelling). TellsLosses c.args.told planes (G c.args.graph.now.traces)) (sym c.first_lost.ensures.same) c.loop-pair.invariant.told;
+      told = subst (λ (planes : Labelling). TellsLosses c.args.apart.told planes (G c.args.apart.graph.now.traces)) (sym c.first_lost.ensures.same) c.loop-pair.invariant.told;
       few = c.loop-pair.invariant.few;
       some = c.loop-pair.invariant.some;
       counted = omega (arith, c.in-Some-least_loss.ensures.counted, c.loop-pair.invariant.counted);
       within = omega (arith, c.in-Some-push.ensures.push.fits, c.requires.numbers);
-      run = subst (λ (x : RunLists). IsBlocking c.args.invs.now c.args.graph.now c.args.run_log.now x c.args.spans.now c.push.new.self c.in-Some.pair.p c.in-Some.pair.q)
+      run = subst (λ (x : RunLists). IsBlocking c.args.apart.invs.now c.args.apart.graph.now c.args.run_log.now x c.args.spans.now c.push.new.self c.in-Some.pair.p c.in-Some.pair.q)
           (sym c.add_block.ensures) run;
     }
 
 pub returns-clause-ok : goal.returns-clause-ok
 returns-clause-ok g c =
-    blocking-end c.args.invs.now c.args.graph.now c.args.run_log.now c.loop-pair.run_log c.args.spans.now c.loop-pair.spans c.loop-pair.at.p c.loop-pair.at.q
+    blocking-end c.args.apart.invs.now c.args.apart.graph.now c.args.run_log.now c.loop-pair.run_log c.args.spans.now c.loop-pair.spans c.loop-pair.at.p c.loop-pair.at.q
     c.in_default.ensures.ids c.loop-pair.invariant.run c.in_default.ensures.next
 
 pub returns-clause-few : goal.returns-clause-few
 returns-clause-few g c =
-    let few : length c.loop-pair.run_log.blocks ≤ pair_count c.args.graph.now =
-    blocks-few c.args.invs.now c.args.graph.now c.args.run_log.now c.loop-pair.run_log c.args.spans.now c.loop-pair.spans c.loop-pair.at.p c.loop-pair.at.q c.loop-pair.invariant.run in
+    let few : length c.loop-pair.run_log.blocks ≤ pair_count c.args.apart.graph.now =
+    blocks-few c.args.apart.invs.now c.args.apart.graph.now c.args.run_log.now c.loop-pair.run_log c.args.spans.now c.loop-pair.spans c.loop-pair.at.p c.loop-pair.at.q c.loop-pair.invariant.run in
     omega (arith, c.loop-pair.invariant.counted)
 
 pub least_loss-requires-clause-known : goal.least_loss-requires-clause-known
 least_loss-requires-clause-known g c t =
-    let lost : IsFirstBroken (Merged (G c.args.graph.now.traces) c.in-Some.pair.p c.in-Some.pair.q) c.args.invs.now c.in-Some-first_lost.k =
-    subst (λ (invs : List Invariant). IsFirstBroken (Merged (G c.args.graph.now.traces) c.in-Some.pair.p c.in-Some.pair.q) invs c.in-Some-first_lost.k) c.loop-pair.invariant.listed
-    (c.in-Some-first_lost.ensures.first c.args.graph.now.traces c.in-Some.ensures.ids.typed c.in-Some.ensures.next.pair c.loop-pair.invariant.told) in
-    let within : c.in-Some-first_lost.k < length c.args.invs.now = broken-within (Merged (G c.args.graph.now.traces) c.in-Some.pair.p c.in-Some.pair.q) c.args.invs.now c.in-Some-first_lost.k lost in
-    let inv : Invariant = get_or c.args.invs.now c.in-Some-first_lost.k none in
-    c.is_known-known.ensures c.loop-pair.planes (G c.args.graph.now.traces) inv c.loop-pair.invariant.told
-    (subst (λ (invs : List Invariant). slice_get invs c.in-Some-first_lost.k ≡ Some inv) (sym c.loop-pair.invariant.listed) (slice_get-get_or c.args.invs.now c.in-Some-first_lost.k none within)) t
+    let lost : IsFirstBroken (Merged (G c.args.apart.graph.now.traces) c.in-Some.pair.p c.in-Some.pair.q) c.args.apart.invs.now c.in-Some-first_lost.k =
+    subst (λ (invs : List Invariant). IsFirstBroken (Merged (G c.args.apart.graph.now.traces) c.in-Some.pair.p c.in-Some.pair.q) invs c.in-Some-first_lost.k) c.loop-pair.invariant.listed
+    (c.in-Some-first_lost.ensures.first c.args.apart.graph.now.traces c.in-Some.ensures.ids.typed c.in-Some.ensures.next.pair c.loop-pair.invariant.told) in
+    let within : c.in-Some-first_lost.k < length c.args.apart.invs.now = broken-within (Merged (G c.args.apart.graph.now.traces) c.in-Some.pair.p c.in-Some.pair.q) c.args.apart.invs.now c.in-Some-first_lost.k lost in
+    let inv : Invariant = get_or c.args.apart.invs.now c.in-Some-first_lost.k none in
+    c.is_known-known.ensures c.loop-pair.planes (G c.args.apart.graph.now.traces) inv c.loop-pair.invariant.told
+    (subst (λ (invs : List Invariant). slice_get invs c.in-Some-first_lost.k ≡ Some inv) (sym c.loop-pair.invariant.listed) (slice_get-get_or c.args.apart.invs.now c.in-Some-first_lost.k none within)) t
 
 pub least_loss-requires-clause-pair : goal.least_loss-requires-clause-pair
 least_loss-requires-clause-pair g c = c.in-Some.ensures.next.pair
@@ -149,7 +149,7 @@ pub add_block-requires : goal.add_block-requires
 add_block-requires g c =
     omega (
       arith,
-      blocks-fewer c.args.invs.now c.args.graph.now c.args.run_log.now c.loop-pair.run_log c.args.spans.now c.loop-pair.spans c.loop-pair.at.p c.loop-pair.at.q c.in-Some.pair.p c.in-Some.pair.q
+      blocks-fewer c.args.apart.invs.now c.args.apart.graph.now c.args.run_log.now c.loop-pair.run_log c.args.spans.now c.loop-pair.spans c.loop-pair.at.p c.loop-pair.at.q c.in-Some.pair.p c.in-Some.pair.q
           c.loop-pair.invariant.run c.in-Some.ensures.next,
       c.requires.room,
       ap (λ (x : RunLists). x.block_room) c.loop-pair.invariant.run.others,
@@ -161,34 +161,34 @@ loop-pair-smaller g c =
 
 pub returns-then-is_none-clause-ok : goal.returns-then-is_none-clause-ok
 returns-then-is_none-clause-ok g c =
-    blocking-none c.args.invs.now c.args.graph.now c.args.run_log.now c.args.spans.now c.next_pair.result c.next_pair.ensures.ids c.requires.begun c.if-is_none.ensures
-    (subst₂ (λ (p q : ℕ). MatchOption c.next_pair.result (HasNoPairBehind (G c.args.graph.now.traces) p q) (λ (x : Pair). IsNextPair (G c.args.graph.now.traces) p q x.p x.q))
+    blocking-none c.args.apart.invs.now c.args.apart.graph.now c.args.run_log.now c.args.spans.now c.next_pair.result c.next_pair.ensures.ids c.requires.begun c.if-is_none.ensures
+    (subst₂ (λ (p q : ℕ). MatchOption c.next_pair.result (HasNoPairBehind (G c.args.apart.graph.now.traces) p q) (λ (x : Pair). IsNextPair (G c.args.apart.graph.now.traces) p q x.p x.q))
     c.start-at.ensures.p c.start-at.ensures.q c.next_pair.ensures.next)
 
 pub returns-then-is_none-clause-paths : goal.returns-then-is_none-clause-paths
 returns-then-is_none-clause-paths g c =
-    (blocking-start c.args.invs.now c.args.graph.now c.args.run_log.now c.args.spans.now c.next_pair.ensures.ids c.requires.begun).paths
+    (blocking-start c.args.apart.invs.now c.args.apart.graph.now c.args.run_log.now c.args.spans.now c.next_pair.ensures.ids c.requires.begun).paths
 
 pub returns-in_default-push-clause-paths : goal.returns-in_default-push-clause-paths
 returns-in_default-push-clause-paths g c =
-    let run : IsBlocking c.args.invs.now c.args.graph.now c.args.run_log.now c.loop-pair.run_log c.args.spans.now c.push.new.self c.loop-pair.at.p c.loop-pair.at.q =
-    subst (λ (x : Numbers). IsBlocking c.args.invs.now c.args.graph.now c.args.run_log.now c.loop-pair.run_log c.args.spans.now x c.loop-pair.at.p c.loop-pair.at.q)
+    let run : IsBlocking c.args.apart.invs.now c.args.apart.graph.now c.args.run_log.now c.loop-pair.run_log c.args.spans.now c.push.new.self c.loop-pair.at.p c.loop-pair.at.q =
+    subst (λ (x : Numbers). IsBlocking c.args.apart.invs.now c.args.apart.graph.now c.args.run_log.now c.loop-pair.run_log c.args.spans.now x c.loop-pair.at.p c.loop-pair.at.q)
     (sym c.in_default-push.ensures.push.1) c.loop-pair.invariant.run in
     run.paths
 
 pub returns-in_default-push-clause-stays : goal.returns-in_default-push-clause-stays
 returns-in_default-push-clause-stays g c =
-    let run : IsBlocking c.args.invs.now c.args.graph.now c.args.run_log.now c.loop-pair.run_log c.args.spans.now c.push.new.self c.loop-pair.at.p c.loop-pair.at.q =
-    subst (λ (x : Numbers). IsBlocking c.args.invs.now c.args.graph.now c.args.run_log.now c.loop-pair.run_log c.args.spans.now x c.loop-pair.at.p c.loop-pair.at.q)
+    let run : IsBlocking c.args.apart.invs.now c.args.apart.graph.now c.args.run_log.now c.loop-pair.run_log c.args.spans.now c.push.new.self c.loop-pair.at.p c.loop-pair.at.q =
+    subst (λ (x : Numbers). IsBlocking c.args.apart.invs.now c.args.apart.graph.now c.args.run_log.now c.loop-pair.run_log c.args.spans.now x c.loop-pair.at.p c.loop-pair.at.q)
     (sym c.in_default-push.ensures.push.1) c.loop-pair.invariant.run in
     run.stays
 
 pub returns-in_default-push-clause-holds : goal.returns-in_default-push-clause-holds
 returns-in_default-push-clause-holds g c =
-    let run : IsBlocking c.args.invs.now c.args.graph.now c.args.run_log.now c.loop-pair.run_log c.args.spans.now c.push.new.self c.loop-pair.at.p c.loop-pair.at.q =
-    subst (λ (x : Numbers). IsBlocking c.args.invs.now c.args.graph.now c.args.run_log.now c.loop-pair.run_log c.args.spans.now x c.loop-pair.at.p c.loop-pair.at.q)
+    let run : IsBlocking c.args.apart.invs.now c.args.apart.graph.now c.args.run_log.now c.loop-pair.run_log c.args.spans.now c.push.new.self c.loop-pair.at.p c.loop-pair.at.q =
+    subst (λ (x : Numbers). IsBlocking c.args.apart.invs.now c.args.apart.graph.now c.args.run_log.now c.loop-pair.run_log c.args.spans.now x c.loop-pair.at.p c.loop-pair.at.q)
     (sym c.in_default-push.ensures.push.1) c.loop-pair.invariant.run in
-    blocking-holds c.args.invs.now c.args.graph.now c.args.run_log.now c.loop-pair.run_log c.args.spans.now c.push.new.self c.loop-pair.at.p c.loop-pair.at.q run
+    blocking-holds c.args.apart.invs.now c.args.apart.graph.now c.args.run_log.now c.loop-pair.run_log c.args.spans.now c.push.new.self c.loop-pair.at.p c.loop-pair.at.q run
 
 pub returns-in_default-push-clause-others : goal.returns-in_default-push-clause-others
 returns-in_default-push-clause-others g c = c.loop-pair.invariant.run.others
@@ -204,7 +204,7 @@ returns-clause-others g c = c.loop-pair.invariant.run.others
 
 pub returns-clause-holds : goal.returns-clause-holds
 returns-clause-holds g c =
-    blocking-holds c.args.invs.now c.args.graph.now c.args.run_log.now c.loop-pair.run_log c.args.spans.now c.loop-pair.spans c.loop-pair.at.p c.loop-pair.at.q c.loop-pair.invariant.run
+    blocking-holds c.args.apart.invs.now c.args.apart.graph.now c.args.run_log.now c.loop-pair.run_log c.args.spans.now c.loop-pair.spans c.loop-pair.at.p c.loop-pair.at.q c.loop-pair.invariant.run
 
 pub next_pair-requires-in-loop-pair-clause-low : goal.next_pair-requires-in-loop-pair-clause-low
 next_pair-requires-in-loop-pair-clause-low g c = c.loop-pair.invariant.low
@@ -223,7 +223,7 @@ first_lost-requires-clause-limit g c = c.in-Some.ensures.limit
 
 pub returns-then-is_none-clause-stays : goal.returns-then-is_none-clause-stays
 returns-then-is_none-clause-stays g c =
-    (blocking-start c.args.invs.now c.args.graph.now c.args.run_log.now c.args.spans.now c.next_pair.ensures.ids c.requires.begun).stays
+    (blocking-start c.args.apart.invs.now c.args.apart.graph.now c.args.run_log.now c.args.spans.now c.next_pair.ensures.ids c.requires.begun).stays
 
 pub returns-then-is_none-clause-holds : goal.returns-then-is_none-clause-holds
 returns-then-is_none-clause-holds g c = λ holds. holds
@@ -239,7 +239,7 @@ returns-in_default-push-clause-list g c = ap (λ (planes : Labelling). planes.in
 
 pub returns-in_default-push-clause-few : goal.returns-in_default-push-clause-few
 returns-in_default-push-clause-few g c =
-    let fewer = blocks-fewer c.args.invs.now c.args.graph.now c.args.run_log.now c.loop-pair.run_log c.args.spans.now c.loop-pair.spans c.loop-pair.at.p c.loop-pair.at.q c.in-Some.pair.p c.in-Some.pair.q
+    let fewer = blocks-fewer c.args.apart.invs.now c.args.apart.graph.now c.args.run_log.now c.loop-pair.run_log c.args.spans.now c.loop-pair.spans c.loop-pair.at.p c.loop-pair.at.q c.in-Some.pair.p c.in-Some.pair.q
     c.loop-pair.invariant.run c.in-Some.ensures.next in
     omega (arith, c.in-Some-least_loss.ensures.counted, c.loop-pair.invariant.counted, fewer)
 

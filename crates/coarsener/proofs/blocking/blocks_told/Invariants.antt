@@ -13,13 +13,13 @@ invariant-loop-pair g l =
       order : l.at.p ≤ l.at.q;
       limit : l.at.q < MAX_PARTITIONS;
       list : l.planes.invs ≡ l.fn.planes.invs;
-      listed : l.planes.invs ≡ l.invs;
-      told : TellsLosses l.told l.planes (G l.graph.traces);
-      few : length l.invs < 2 ^ 32;
-      some : 0 < pair_count l.graph;
+      listed : l.planes.invs ≡ l.apart.invs.now;
+      told : TellsLosses l.apart.told l.planes (G l.apart.graph.now.traces);
+      few : length l.apart.invs.now < 2 ^ 32;
+      some : 0 < pair_count l.apart.graph.now;
       counted : l.steps ≡ l.fn.steps + length l.run_log.blocks;
       within : length l.spans.numbers ≤ MAX_PATH_NUMBERS;
-      run : IsBlocking l.invs l.graph l.fn.run_log l.run_log l.fn.spans l.spans l.at.p l.at.q;
+      run : IsBlocking l.apart.invs.now l.apart.graph.now l.fn.run_log l.run_log l.fn.spans l.spans l.at.p l.at.q;
     }
 
 abbrev pub decreases-loop-pair : goal.decreases-loop-pair

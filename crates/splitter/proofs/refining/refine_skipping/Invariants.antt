@@ -10,12 +10,11 @@ use Rattle.splitter.proofs.refining.refine_skipping.Given as goal
 abbrev pub invariant-loop-k : goal.invariant-loop-k
 invariant-loop-k g l =
     record {
-      refining : IsRefining l.invs l.fn.graph l.graph l.k (splits_of l.run_log l.spans);
+      refining : IsRefining l.basis.invs.now l.fn.graph l.graph l.k (splits_of l.run_log l.spans);
       writes : WritesSplits l.fn.run_log l.run_log l.fn.spans l.spans;
-      known : AreKnown l.known l.invs (G l.graph.traces);
-      counted : l.steps ≡ l.fn.steps + asked_count l.known l.k + length (splits_of l.run_log l.spans);
-      same : l.stitcher ≡ l.fn.stitcher;
+      known : AreKnown l.basis.known.now l.basis.invs.now (G l.graph.traces);
+      counted : l.steps ≡ l.fn.steps + asked_count l.basis.known.now l.k + length (splits_of l.run_log l.spans);
     }
 
 abbrev pub decreases-loop-k : goal.decreases-loop-k
-decreases-loop-k g l = (length l.invs - l.k) + (MAX_PARTITIONS - l.graph.used)
+decreases-loop-k g l = (length l.basis.invs.now - l.k) + (MAX_PARTITIONS - l.graph.used)

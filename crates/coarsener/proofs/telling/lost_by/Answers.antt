@@ -4,7 +4,7 @@ use Rattle.partition_model.specs.Assignments.{G}
 use Rattle.partition_model.specs.Refinement.{SatisfiesAll, IsFirstBroken}
 use Rattle.coarsener.specs.Deciding.{IsFirstBad}
 use Rattle.coarsener.proofs.Deciding.{IsTold, lost-some-some, lost-some-none, lost-none}
-use Rattle.coarsener.proofs.blocking.lost_by.Goals as goal
+use Rattle.coarsener.proofs.telling.lost_by.Goals as goal
 
 pub returns-in-Some-Some-clause-first : goal.returns-in-Some-Some-clause-first
 returns-in-Some-Some-clause-first c h t i m f =

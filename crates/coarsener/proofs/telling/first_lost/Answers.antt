@@ -2,10 +2,10 @@ use Rattle.std.proofs.Common.{List, sym, subst}
 use Rattle.invariants.specs.declared.Invariant.{Invariant}
 use Rattle.partition_model.specs.Graphs.{Merged}
 use Rattle.partition_model.specs.Assignments.{G}
-use Rattle.coarsener.specs.declared.blocking.Told.{Told}
+use Rattle.coarsener.specs.declared.telling.Told.{Told}
 use Rattle.coarsener.specs.Deciding.{IsFirstBad, IsFirstLost}
 use Rattle.coarsener.specs.Telling.{TellsLosses, TellByLabels, TellByMarks}
-use Rattle.coarsener.proofs.blocking.first_lost.Goals as goal
+use Rattle.coarsener.proofs.telling.first_lost.Goals as goal
 
 pub returns-in-Labels-clause-first : goal.returns-in-Labels-clause-first
 returns-in-Labels-clause-first c h t i f =

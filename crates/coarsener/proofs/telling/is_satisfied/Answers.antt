@@ -4,7 +4,7 @@ use Rattle.partition_model.specs.Refinement.{SatisfiesAll, IsFirstBroken}
 use Rattle.coarsener.specs.Deciding.{IsFirstBad}
 use Rattle.partition_model.proofs.Satisfied.{all_at}
 use Rattle.coarsener.proofs.Deciding.{satisfied-before}
-use Rattle.coarsener.proofs.blocking.is_satisfied.Goals as goal
+use Rattle.coarsener.proofs.telling.is_satisfied.Goals as goal
 
 pub returns-in_default : goal.returns-in_default
 returns-in_default c g invs inv f e t =

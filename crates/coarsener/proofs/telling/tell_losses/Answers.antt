@@ -2,7 +2,7 @@ use Rattle.std.proofs.Common.{ℕ, subst₂, arith}
 use Rattle.partition_model.specs.Assignments.{G}
 use Rattle.coarsener.specs.Pairs.{HasNoPairBehind, IsNextPair}
 use Rattle.coarsener.proofs.BlockingTurns.{no-pair, some-pair, only-pair, two-pairs}
-use Rattle.coarsener.proofs.blocking.tell_losses.Goals as goal
+use Rattle.coarsener.proofs.telling.tell_losses.Goals as goal
 
 pub returns-in_default-clause-limit : goal.returns-in_default-clause-limit
 returns-in_default-clause-limit g c some =

@@ -1,7 +1,7 @@
 use Rattle.std.proofs.Common.{subst}
-use Rattle.coarsener.specs.declared.blocking.Told.{Told}
+use Rattle.coarsener.specs.declared.telling.Told.{Told}
 use Rattle.coarsener.specs.Telling.{TellsLosses, TellByMarks}
-use Rattle.coarsener.proofs.blocking.is_known.Goals as goal
+use Rattle.coarsener.proofs.telling.is_known.Goals as goal
 
 pub returns-in-Marks : goal.returns-in-Marks
 returns-in-Marks c planes g inv f e t =
