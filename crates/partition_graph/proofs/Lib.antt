@@ -25,3 +25,4 @@ pub mod Begun
 pub mod Looking
 pub mod SetCounts
 pub mod CountSteps
+pub mod Filling

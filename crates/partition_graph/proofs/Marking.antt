@@ -14,7 +14,7 @@ blank_place n i =
       | inr l ↦ get_or_past (replicate n false) i false (let s : length (replicate n false) ≡ n = length-replicate n false in omega (arith, s, l))
     ]
 
-blank_rows : (rows : List (List Bool)) (n m r i : ℕ) → rows ≡ replicate n (replicate m false) → r < n → is_set (row_at rows r) i ≡ false
+pub blank_rows : (rows : List (List Bool)) (n m r i : ℕ) → rows ≡ replicate n (replicate m false) → r < n → is_set (row_at rows r) i ≡ false
 blank_rows rows n m r i e l =
     ap (λ (t : List (List Bool)). is_set (row_at t r) i) e ∙ ap (λ (row : List Bool). is_set row i) (get_or-replicate n r (replicate m false) _ l) ∙ blank_place m i
 

@@ -16,3 +16,4 @@ pub mod Members
 pub mod Spread
 pub mod Shared
 pub mod Slots
+pub mod Filled

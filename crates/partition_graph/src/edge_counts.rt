@@ -7,7 +7,7 @@ ghost use Rattle.partition_graph.specs.Joins.{joined_counts, with_sources, with_
 ghost use Rattle.partition_graph.specs.Marks.{count_in, is_counted, HasIdRows, IsWithBit, NoneCounted};
 ghost use Rattle.partition_graph.specs.Nexts.{IsNextAnswer};
 
-use bit_rows::Rows;
+use crate::id_rows::IdRows;
 use limits::MAX_PARTITIONS;
 use std::alloc::{AllocError, Global};
 use std::marker::Model;
@@ -22,9 +22,9 @@ const IDS: usize = MAX_PARTITIONS as usize;
 pub struct EdgeCounts {
     counts: Vec<u32>,
     /// The ids from which an edge leads to the id of the row.
-    sources: Rows,
+    sources: IdRows,
     /// The ids to which an edge leads from the id of the row.
-    targets: Rows,
+    targets: IdRows,
 }
 
 impl Model for EdgeCounts {
@@ -45,8 +45,8 @@ impl EdgeCounts {
         ensures { IfOk result (λ made. NoneCounted made) }
     {
         let counts = Vec::with_capacity(alloc, IDS * IDS)?;
-        let sources = Rows::make(alloc, IDS, IDS)?;
-        let targets = Rows::make(alloc, IDS, IDS)?;
+        let sources = IdRows::make(alloc)?;
+        let targets = IdRows::make(alloc)?;
         Ok(EdgeCounts {
             counts,
             sources,
@@ -166,8 +166,8 @@ impl EdgeCounts {
         let place = to * IDS + from;
         reach(&mut self.counts, place);
         self.counts[place] = count;
-        turn(&mut self.sources, to, from, count > 0);
-        turn(&mut self.targets, from, to, count > 0);
+        self.sources.put(to, from, count > 0);
+        self.targets.put(from, to, count > 0);
     }
 
     /// The least id at or above `from` from which an edge to q is counted; `None` if there is none.
@@ -225,7 +225,7 @@ pub fn no_counts(alloc: Global, room: usize) -> Result<Vec<u32>, AllocError>
 }
 
 /// Marks an edge whose count was `count` so far.
-fn mark(sources: &mut Rows, targets: &mut Rows, count: u32, from: usize, to: usize)
+fn mark(sources: &mut IdRows, targets: &mut IdRows, count: u32, from: usize, to: usize)
     requires from { from < MAX_PARTITIONS }
     requires to { to < MAX_PARTITIONS }
     requires source_rows { HasIdRows sources.old }
@@ -238,12 +238,12 @@ fn mark(sources: &mut Rows, targets: &mut Rows, count: u32, from: usize, to: usi
     if count > 0 {
         return;
     }
-    turn(sources, to, from, true);
-    turn(targets, from, to, true);
+    sources.put(to, from, true);
+    targets.put(from, to, true);
 }
 
 /// Removes the marks of an edge if nothing is left of its count.
-fn unmark(sources: &mut Rows, targets: &mut Rows, left: u32, from: usize, to: usize)
+fn unmark(sources: &mut IdRows, targets: &mut IdRows, left: u32, from: usize, to: usize)
     requires from { from < MAX_PARTITIONS }
     requires to { to < MAX_PARTITIONS }
     requires source_rows { HasIdRows sources.old }
@@ -256,16 +256,6 @@ fn unmark(sources: &mut Rows, targets: &mut Rows, left: u32, from: usize, to: us
     if left > 0 {
         return;
     }
-    turn(sources, to, from, false);
-    turn(targets, from, to, false);
-}
-
-/// Turns place i of row r on or off.
-fn turn(rows: &mut Rows, r: usize, i: usize, bit: bool)
-    requires row { r < MAX_PARTITIONS }
-    requires place { i < MAX_PARTITIONS }
-    requires rows { HasIdRows rows.old }
-    ensures { IsWithBit r i bit rows.old rows.new }
-{
-    rows.put(r, i, bit);
+    sources.put(to, from, false);
+    targets.put(from, to, false);
 }

@@ -5,6 +5,7 @@ mod cells;
 mod edge_counts;
 mod events;
 mod graph;
+mod id_rows;
 mod law;
 mod links;
 mod merged;

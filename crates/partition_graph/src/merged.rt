@@ -30,6 +30,10 @@ pub fn next_merged_source(graph: &PartGraph, p: u32, q: u32, v: u32, from: u32) 
     if v == q {
         return None;
     }
+    if v != p && !graph.has_edge(q, v) {
+        // No edge to v changes.
+        return graph.next_source(v, from);
+    }
     let own = next_own_source(graph, q, v, from);
     let gained = next_gained_source(graph, p, q, v, from);
     let kept = next_kept_source(graph, p, q, v, from);
@@ -86,6 +90,10 @@ pub fn next_merged_target(graph: &PartGraph, p: u32, q: u32, u: u32, from: u32) 
 {
     if u == q {
         return None;
+    }
+    if u != p && !graph.has_edge(u, q) {
+        // No edge from u changes.
+        return graph.next_target(u, from);
     }
     let own = next_own_target(graph, q, u, from);
     let gained = next_gained_target(graph, p, q, u, from);

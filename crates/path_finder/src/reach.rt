@@ -8,6 +8,7 @@ ghost use Rattle.path_finder.specs.declared.reach.Way.TheVariants.{Ahead, Behind
 ghost use Rattle.path_finder.specs.Reaching.{edge_by, meeting, HasNoneOn, IsCounted, IsNextOn, IsReaching, MeetsMore};
 
 use crate::sight::Sight;
+use bit_rows::Rows;
 use limits::MAX_PARTITIONS;
 use partition_graph::View;
 use std::alloc::{AllocError, Global};
@@ -28,21 +29,23 @@ pub(crate) enum Way {
 /// The ids that were met on walks from some ids.
 #[derive(Drop)]
 pub(crate) struct Reach {
-    flags: Vec<bool>,
+    /// One row, with a bit for each id.
+    met: Rows,
     list: Vec<u32>,
 }
 
 impl Model for Reach {
     ghost use Rattle.std.specs.Prelude.{◌≤◌, vec_capacity};
+    ghost use Rattle.bit_rows.specs.Tables.{row_at, HasShape};
     ghost use Rattle.path_finder.specs.Nearness.{Met};
     ghost use Rattle.limits.specs.declared.TheConstants.{MAX_PARTITIONS};
 
     ghost Value = { Met };
 
-    ghost view = { λ r. record { flags = r.flags.items; list = r.list.items } };
+    ghost view = { λ r. record { flags = row_at r.met 0; list = r.list.items } };
 
     ghost invariant = { λ r.
-        (MAX_PARTITIONS ≤ vec_capacity r.flags) × (MAX_PARTITIONS ≤ vec_capacity r.list) };
+        HasShape r.met 1 MAX_PARTITIONS × (MAX_PARTITIONS ≤ vec_capacity r.list) };
 }
 
 /// The least neighbour of the id in this direction, at or above `from`; `None` if there is none.
@@ -61,32 +64,26 @@ fn next_on(sight: &Sight<'_>, way: Way, id: u32, from: u32) -> Option<u32>
 impl Reach {
     /// Room for all ids. `AllocError` is returned if there is not enough memory.
     pub fn make(alloc: Global) -> Result<Reach, AllocError> {
-        let flags = Vec::with_capacity(alloc, IDS)?;
+        let met = Rows::make(alloc, 1, IDS)?;
         let list = Vec::with_capacity(alloc, IDS)?;
-        Ok(Reach { flags, list })
+        Ok(Reach { met, list })
     }
 
     /// Whether the id was met.
     pub fn has(&self, id: u32) -> bool
         ensures { result ≡ is_met self.now id }
     {
-        match self.flags.get(id as usize) {
-            Some(flag) => *flag,
-            None => false,
-        }
+        let id = id as usize;
+        id < IDS && self.met.get(0, id)
     }
 
-    /// Forgets all ids, and makes room for this many.
-    fn clear(&mut self, ids: usize)
-        requires { ids ≤ MAX_PARTITIONS }
-        ensures flags { (self.new).flags ≡ replicate ids false }
+    /// Forgets all ids.
+    fn clear(&mut self)
+        ensures flags { (self.new).flags ≡ replicate MAX_PARTITIONS false }
         ensures list { (self.new).list ≡ [] }
     {
         self.list.clear();
-        self.flags.clear();
-        if self.flags.resize(ids, false).is_err() {
-            unreachable!()
-        }
+        self.met.clear(0);
     }
 
     /// Meets the id, if it was not met.
@@ -98,7 +95,7 @@ impl Reach {
         if self.has(id) {
             return;
         }
-        self.flags[id as usize] = true;
+        self.met.put(0, id as usize, true);
         self.list.push_reserved(id);
     }
 
@@ -150,7 +147,7 @@ impl Reach {
         ensures first { (p : ℕ) → is_of_type (seen view.now) (parts_seen view.now).used typ p ≡ true
             → is_met self.new p ≡ true }
     {
-        self.clear(IDS);
+        self.clear();
         for id in 0..view.ids_used() {
             self.meet_of_type(view, typ, id);
         }
@@ -161,7 +158,7 @@ impl Reach {
         requires { start < MAX_PARTITIONS }
         ensures { IsReachedFrom (is_met self.new) (λ p. p == start) (edge_by way (seen sight.now.view)) }
     {
-        self.clear(IDS);
+        self.clear();
         self.meet(start);
         self.follow_all(sight, way);
     }
