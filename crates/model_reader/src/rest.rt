@@ -1,14 +1,24 @@
 //! The bytes that are still to be read. Tokens in their shortest spelling are taken from the start.
-ghost use Rattle.std.specs.Prelude.{◌≡◌, ◌<◌, ◌+◌, ◌^◌, ◌∷◌, ◌++◌, [], IfSome, OnSome, MatchOption, decimal};
+ghost use Rattle.std.specs.Prelude.{◌≡◌, ◌<◌, ◌≤◌, ◌+◌, ◌^◌, ◌∷◌, ◌++◌, [], IfSome, OnSome, MatchOption, decimal, length};
 ghost use Rattle.std.specs.Bool.{OnTrue, OnFalse};
 
 use memchr::memchr;
 use std::marker::Model;
 
-/// The bytes that are still to be read.
+/// How often a byte occurs. There is no branch and no wide counter, so that many bytes are compared at once.
+fn count_of(byte: u8, bytes: &[u8]) -> u32 {
+    let mut count: u32 = 0;
+    for other in bytes {
+        count = count.wrapping_add(u32::from(*other == byte));
+    }
+    count
+}
+
+/// The bytes that are still to be read, and how long the last labels were. Contracts see the bytes.
 #[derive(Drop)]
 pub(crate) struct Rest<'a> {
     bytes: &'a [u8],
+    labels: usize,
 }
 
 impl<'a> Model for Rest<'a> {
@@ -24,7 +34,7 @@ impl<'a> Rest<'a> {
     pub(crate) fn new(bytes: &'a [u8]) -> Rest<'a>
         ensures { result ≡ bytes.now }
     {
-        Rest { bytes }
+        Rest { bytes, labels: 0 }
     }
 
     /// Whether all bytes were taken.
@@ -118,12 +128,21 @@ impl<'a> Rest<'a> {
         ensures { result < 2 ^ 63 }
     {
         match memchr(b']', self.bytes) {
-            Some(end) => self.bytes[..end]
-                .iter()
-                .filter(|byte| **byte == b',')
-                .count(),
+            Some(end) => count_of(b',', &self.bytes[..end]) as usize,
             None => 0,
         }
+    }
+
+    /// Takes the bytes before a place, and the quotation mark that must stand there.
+    #[inline(always)]
+    fn up_to_quote(&mut self, end: usize) -> Option<&'a [u8]>
+        requires { end ≤ length self.old }
+        ensures { IfSome result (λ inside. self.old ≡ inside.now ++ 34 ∷ self.new) }
+    {
+        let (inside, others) = self.bytes.split_at(end);
+        self.bytes = others;
+        self.byte(b'"')?;
+        Some(inside)
     }
 
     /// Takes a string, and returns the bytes between its quotation marks.
@@ -133,9 +152,29 @@ impl<'a> Rest<'a> {
     {
         self.byte(b'"')?;
         let end = memchr(b'"', self.bytes)?;
-        let (inside, others) = self.bytes.split_at(end);
-        self.bytes = others;
+        self.up_to_quote(end)
+    }
+
+    /// Where labels end: where the last ones did, if a quotation mark stands there, or else at the first quotation mark.
+    #[inline(always)]
+    fn end_of_labels(&self) -> Option<usize>
+        ensures { IfSome result (λ end. end ≤ length self.now) }
+    {
+        if let Some(b'"') = self.bytes.get(self.labels) {
+            return Some(self.labels);
+        }
+        memchr(b'"', self.bytes)
+    }
+
+    /// Takes a string of labels, and returns the bytes between its quotation marks. All labels of a model are of one length, so
+    /// their end is seldom searched.
+    #[inline(always)]
+    pub(crate) fn string_of_labels(&mut self) -> Option<&'a [u8]>
+        ensures { IfSome result (λ inside. self.old ≡ 34 ∷ (inside.now ++ 34 ∷ self.new)) }
+    {
         self.byte(b'"')?;
-        Some(inside)
+        let end = self.end_of_labels()?;
+        self.labels = end;
+        self.up_to_quote(end)
     }
 }

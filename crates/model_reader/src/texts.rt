@@ -110,7 +110,7 @@ fn labels_of(alloc: Global, digits: &[u8]) -> Option<Seq<u8>>
 pub(crate) fn take_labels(alloc: Global, rest: &mut Rest<'_>) -> Option<Seq<u8>>
     ensures { IfSome result (λ labels. rest.old ≡ compact_text (string (map digit_of labels)) ++ rest.new) }
 {
-    let digits = rest.string()?;
+    let digits = rest.string_of_labels()?;
     labels_of(alloc, digits)
 }
 
