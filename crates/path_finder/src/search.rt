@@ -31,7 +31,7 @@ fn leading(question: &Question<'_, '_>, pair: Pair) -> [bool; STATES]
     ]
 }
 
-/// Enters the pair, if it is open and its state leads to that of the pair whose turn it is.
+/// Enters the pair, if it is open and its state leads to that of the pair whose turn it is. `leads` says whether it does.
 fn enter_pair(question: &Question<'_, '_>, table: &mut Table, turn: Turn, leads: bool, pair: Pair)
     requires turn { IsTurn (asked question.now) turn table.old }
     requires pair { IsPairOf (asked question.now) pair }
@@ -51,7 +51,8 @@ fn enter_pair(question: &Question<'_, '_>, table: &mut Table, turn: Turn, leads:
     table.enter(pair, turn.distance);
 }
 
-/// Enters the open pairs of the id that lead to the pair whose turn it is.
+/// Enters the open pairs of the id that lead to the pair whose turn it is. `leads` says of each state whether it leads to that
+/// of this pair.
 fn enter_source(
     question: &Question<'_, '_>,
     table: &mut Table,
