@@ -2,7 +2,7 @@
 //!
 //! In memory the labels of all invariants at one partition lie together, and in the model those of one invariant at all
 //! partitions. So they are read for many invariants at once, one partition after another.
-ghost use Rattle.std.specs.Prelude.{◌≡◌, ◌<◌, ◌+◌, ◌*◌, ℕ, IfOk, Some, length, map, slice_get, slice_index};
+ghost use Rattle.std.specs.Prelude.{◌≡◌, ◌<◌, ◌+◌, ◌*◌, ◌/◌, ◌%◌, ◌^◌, ℕ, IfOk, Some, length, map, slice_get, slice_index};
 ghost use Rattle.std.specs.Int.{bit_at};
 ghost use Rattle.std.specs.List.{AllByRecursion};
 ghost use Rattle.limits.specs.declared.TheConstants.{MAX_PARTITIONS};
@@ -11,7 +11,7 @@ ghost use Rattle.partition_model.specs.Assignments.{Assignment, G};
 ghost use Rattle.partition_model.specs.Listings.{ArePartitions};
 ghost use Rattle.models.specs.Models.{AreReached};
 ghost use Rattle.labelling.specs.Labelled.{digit, AreLabelsOf, SaysSwapped};
-ghost use Rattle.infer_core.specs.declared.labels.TheConstants.{TOGETHER};
+ghost use Rattle.infer_core.specs.declared.labels.TheConstants.{AT_ONCE, TOGETHER};
 ghost use Rattle.infer_core.specs.Windows.{IsWindowOf};
 
 use invariants::{Invariant, Listed, Partition, Seq};
@@ -34,15 +34,29 @@ pub struct Window {
     digits: Vec<[u8; TOGETHER]>,
 }
 
-/// The set of those states whose word has bit k, as a label.
-fn digit_of(zeroth: u64, first: u64, second: u64, k: u32) -> u8
-    requires { k < 64 }
-    ensures { result ≡ bit_at zeroth k + 2 * bit_at first k + 4 * bit_at second k }
+/// How many labels are made at once: each of them takes a byte of a number.
+const AT_ONCE: usize = 4;
+
+/// Four bits, each in a byte of its own.
+fn spread(bits: u32) -> u32
+    requires { bits < 2 ^ AT_ONCE }
+    ensures { result ≡ bit_at bits 0 + 2 ^ 8 * bit_at bits 1 + 2 ^ 16 * bit_at bits 2
+        + 2 ^ 24 * bit_at bits 3 }
 {
-    let low = (zeroth >> k) & 1;
-    let middle = (first >> k) & 1;
-    let high = (second >> k) & 1;
-    (low + 2 * middle + 4 * high) as u8
+    (bits * 0x20_4081) & 0x0101_0101
+}
+
+/// The sets of those states whose words have the bits k, k + 1, k + 2 and k + 3, as labels. That of bit k is in the lowest
+/// byte.
+fn labels_from(zeroth: u64, first: u64, second: u64, k: u32) -> u32
+    requires { k < 64 }
+    ensures { (j : ℕ) → j < AT_ONCE → result / 2 ^ (8 * j) % 2 ^ 8
+        ≡ bit_at zeroth (k + j) + 2 * bit_at first (k + j) + 4 * bit_at second (k + j) }
+{
+    let low = spread(((zeroth >> k) % 16) as u32);
+    let middle = spread(((first >> k) % 16) as u32);
+    let high = spread(((second >> k) % 16) as u32);
+    low + 2 * middle + 4 * high
 }
 
 /// The labels at p of the invariants from number `TOGETHER * place` on.
@@ -55,8 +69,13 @@ fn digits_at(planes: &Planes, place: usize, swapped: u64, p: u32) -> [u8; TOGETH
 {
     let [zeroth, first, second] = planes.words(place, p, swapped);
     let mut digits = [0; TOGETHER];
-    for k in 0..TOGETHER {
-        digits[k] = digit_of(zeroth, first, second, k as u32);
+    for group in 0..TOGETHER / AT_ONCE {
+        let k = group * AT_ONCE;
+        let labels = labels_from(zeroth, first, second, k as u32);
+        digits[k] = (labels % 256) as u8;
+        digits[k + 1] = ((labels >> 8) % 256) as u8;
+        digits[k + 2] = ((labels >> 16) % 256) as u8;
+        digits[k + 3] = ((labels >> 24) % 256) as u8;
     }
     digits
 }

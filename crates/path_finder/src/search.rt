@@ -1,7 +1,7 @@
 //! The search backwards: the distances of pairs, starting from TERMINAL in the bad state.
-ghost use Rattle.std.specs.Prelude.{◌≡◌, ◌<◌, ◌+◌, true};
+ghost use Rattle.std.specs.Prelude.{◌≡◌, ◌==◌, ℕ, ◌<◌, ◌+◌, true, false, slice_index_or};
 ghost use Rattle.path_finder.specs.Asking.{asked};
-ghost use Rattle.path_finder.specs.Walks.{IsPairOf, Leads};
+ghost use Rattle.path_finder.specs.Walks.{state_at, IsPairOf, Leads};
 ghost use Rattle.path_finder.specs.Tables.{at, Grows, HasEnds, IsBegun, IsMeasured, IsSearched};
 ghost use Rattle.path_finder.specs.Turns.{IsTurn};
 
@@ -19,29 +19,52 @@ struct Turn {
     distance: u16,
 }
 
-/// Enters the pair, if it is open and its state leads to that of the pair whose turn it is.
-fn enter_pair(question: &Question<'_, '_>, table: &mut Table, turn: Turn, pair: Pair)
+/// For each state, whether it leads to that of the pair.
+fn leading(question: &Question<'_, '_>, pair: Pair) -> [bool; STATES]
+    ensures { (s : ℕ) → s < 3
+        → slice_index_or result s false ≡ (state_at (asked question.now) s pair.id == pair.state) }
+{
+    [
+        question.state_at(0, pair.id) == pair.state,
+        question.state_at(1, pair.id) == pair.state,
+        question.state_at(2, pair.id) == pair.state,
+    ]
+}
+
+/// Enters the pair, if it is open and its state leads to that of the pair whose turn it is. `leads` says whether it does.
+fn enter_pair(question: &Question<'_, '_>, table: &mut Table, turn: Turn, leads: bool, pair: Pair)
     requires turn { IsTurn (asked question.now) turn table.old }
     requires pair { IsPairOf (asked question.now) pair }
     requires edge { (asked question.now).graph.edge pair.id turn.pair.id ≡ true }
+    requires leads { leads
+        ≡ (state_at (asked question.now) pair.state turn.pair.id == turn.pair.state) }
     ensures turn { IsTurn (asked question.now) turn table.new }
     ensures grows { Grows table.old table.new }
     ensures entered { Leads (asked question.now) pair turn.pair → at table.new pair < OPEN }
 {
-    if table.distance(pair) != OPEN {
+    if !leads {
         return;
     }
-    if question.state_at(pair.state, turn.pair.id) != turn.pair.state {
+    if table.distance(pair) != OPEN {
         return;
     }
     table.enter(pair, turn.distance);
 }
 
-/// Enters the open pairs of the id that lead to the pair whose turn it is.
-fn enter_source(question: &Question<'_, '_>, table: &mut Table, turn: Turn, id: u32)
+/// Enters the open pairs of the id that lead to the pair whose turn it is. `leads` says of each state whether it leads to that
+/// of this pair.
+fn enter_source(
+    question: &Question<'_, '_>,
+    table: &mut Table,
+    turn: Turn,
+    leads: &[bool; STATES],
+    id: u32,
+)
     requires turn { IsTurn (asked question.now) turn table.old }
     requires id { id < (asked question.now).ids }
     requires edge { (asked question.now).graph.edge id turn.pair.id ≡ true }
+    requires leads { (s : ℕ) → s < 3 → slice_index_or leads.now s false
+        ≡ (state_at (asked question.now) s turn.pair.id == turn.pair.state) }
 
     // The turn is still that of the pair, and what leads to it is entered.
     ensures turn { IsTurn (asked question.now) turn table.new }
@@ -50,7 +73,13 @@ fn enter_source(question: &Question<'_, '_>, table: &mut Table, turn: Turn, id: 
         → at table.new p < OPEN }
 {
     for state in 0..3 {
-        enter_pair(question, table, turn, Pair { id, state });
+        enter_pair(
+            question,
+            table,
+            turn,
+            leads[state as usize],
+            Pair { id, state },
+        );
     }
 }
 
@@ -60,9 +89,10 @@ fn expand(question: &Question<'_, '_>, table: &mut Table, turn: Turn)
     ensures searched { IsSearched (asked question.now) (turn.next + 1) table.new }
     ensures grows { Grows table.old table.new }
 {
+    let leads = leading(question, turn.pair);
     let mut from = 0;
     while let Some(id) = question.next_source(turn.pair.id, from) {
-        enter_source(question, table, turn, id);
+        enter_source(question, table, turn, &leads, id);
         from = id + 1;
     }
 }

@@ -1,6 +1,8 @@
 use Rattle.std.proofs.Common.{◌<◌, sym, ◌∙◌, refl, subst, arith, rules}
+use Rattle.std.proofs.lemmas.Bool.{eq-eqb, eqb-true, true≢false}
 use Rattle.path_finder.specs.declared.table.TheConstants.{OPEN}
 use Rattle.path_finder.specs.Asking.{asked}
+use Rattle.path_finder.specs.Walks.{state_at}
 use Rattle.path_finder.specs.Tables.{Entries, at, Grows}
 use Rattle.path_finder.specs.Turns.{IsTurn}
 use Rattle.path_finder.proofs.Entering.{place_within, turn_keeps, grows_pair, entered_now}
@@ -11,7 +13,7 @@ pub returns-clause-turn : goal.returns-clause-turn
 returns-clause-turn c =
     subst (λ (e : Entries). IsTurn (asked c.args.question.now) c.args.turn e) (sym c.enter.ensures)
     (turn_keeps (asked c.args.question.now) c.args.turn c.args.table.now c.args.pair c.args.question.now.few c.requires.turn c.requires.pair (sym c.distance.ensures ∙ c.if-distance.false)
-    (record { edge = c.requires.edge; step = sym c.state_at.ensures.value ∙ c.if-state_at-turn.false }))
+    (record { edge = c.requires.edge; step = eqb-true (state_at (asked c.args.question.now) c.args.pair.state c.args.turn.pair.id) c.args.turn.pair.state (sym c.requires.leads ∙ c.if-not-leads.false) }))
 
 pub returns-clause-grows : goal.returns-clause-grows
 returns-clause-grows c =
@@ -31,20 +33,18 @@ returns-then-distance-clause-turn c = c.requires.turn
 pub returns-then-distance-clause-grows : goal.returns-then-distance-clause-grows
 returns-then-distance-clause-grows c = record { known = λ r k. refl; listed = λ i r q. q }
 
-pub returns-then-state_at-turn-clause-turn : goal.returns-then-state_at-turn-clause-turn
-returns-then-state_at-turn-clause-turn c = c.requires.turn
+pub returns-then-not-leads-clause-turn : goal.returns-then-not-leads-clause-turn
+returns-then-not-leads-clause-turn c = c.requires.turn
 
-pub returns-then-state_at-turn-clause-grows : goal.returns-then-state_at-turn-clause-grows
-returns-then-state_at-turn-clause-grows c = record { known = λ r k. refl; listed = λ i r q. q }
+pub returns-then-not-leads-clause-grows : goal.returns-then-not-leads-clause-grows
+returns-then-not-leads-clause-grows c = record { known = λ r k. refl; listed = λ i r q. q }
 
-pub returns-then-state_at-turn-clause-entered : goal.returns-then-state_at-turn-clause-entered
-returns-then-state_at-turn-clause-entered c = λ leads. absurd (c.if-state_at-turn.true (c.state_at.ensures.value ∙ leads.step))
+pub returns-then-not-leads-clause-entered : goal.returns-then-not-leads-clause-entered
+returns-then-not-leads-clause-entered c l =
+    absurd (true≢false (sym (eq-eqb (state_at (asked c.args.question.now) c.args.pair.state c.args.turn.pair.id) c.args.turn.pair.state l.step) ∙ sym c.requires.leads ∙ c.if-not-leads.true))
 
 pub distance-requires : goal.distance-requires
 distance-requires c = omega (arith, place_within (asked c.args.question.now) c.args.pair c.requires.pair, c.requires.turn.searched.size)
-
-pub state_at-requires : goal.state_at-requires
-state_at-requires c = c.requires.pair.state
 
 pub enter-requires-clause-within : goal.enter-requires-clause-within
 enter-requires-clause-within c = omega (arith, place_within (asked c.args.question.now) c.args.pair c.requires.pair, c.requires.turn.searched.size)
