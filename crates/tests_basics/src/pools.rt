@@ -1,7 +1,8 @@
 //! Stores that allocate their memory once, the log of a run, and a counter. The calls are fixed, so that what each requires of
 //! the store before it can be seen in the code.
-ghost use Rattle.std.specs.Prelude.{◌≡◌, ◌+◌, ◌<◌, length};
+ghost use Rattle.std.specs.Prelude.{◌≡◌, ◌+◌, ◌<◌, [], IfOk, Ok, length};
 ghost use Rattle.cell_pool.specs.Tables.{HasCells};
+ghost use Rattle.run_history.specs.Records.{HoldsPaths};
 
 use cell_pool::{Cells, RunLog, Span, Spans};
 use invariants::{Block, Merge, Split};
@@ -110,25 +111,73 @@ fn put_merges(told: &mut String, list: &[Merge]) -> Result<(), AllocError> {
     Ok(())
 }
 
-/// `history`: two paths. The second belongs to a split and a block.
-pub fn history(alloc: Global) -> Result<String, AllocError> {
-    let mut told = String::new(alloc);
-    let mut spans = Spans::make(alloc, 9)?;
-    let mut run_log = RunLog::make(alloc, 2, 2, 1)?;
+/// Both, or out of memory if either ran out. The other one is dropped here.
+fn both<A: Drop, B: Drop>(
+    first: Result<A, AllocError>,
+    second: Result<B, AllocError>,
+) -> Result<(A, B), AllocError>
+    ensures first { IfOk result (λ pair. first ≡ Ok pair.0) }
+    ensures second { IfOk result (λ pair. second ≡ Ok pair.1) }
+{
+    match (first, second) {
+        (Ok(first), Ok(second)) => Ok((first, second)),
+        _ => Err(AllocError),
+    }
+}
+
+/// Appends what the log of a run has to the text: splits, merges and blocks.
+fn put_log(
+    alloc: Global,
+    told: &mut String,
+    run_log: &RunLog,
+    spans: &Spans,
+) -> Result<(), AllocError>
+    requires { HoldsPaths run_log.now spans.now }
+{
+    put_splits(told, splits(alloc, run_log, spans)?.as_slice())?;
+    put_merges(told, merges(alloc, run_log)?.as_slice())?;
+    put_blocks(told, blocks(alloc, run_log, spans)?.as_slice())
+}
+
+/// Adds to an empty log, and appends what it has then to the text. Of two paths the second belongs to a split and a block.
+fn put_history(
+    alloc: Global,
+    told: &mut String,
+    run_log: &mut RunLog,
+    spans: &mut Spans,
+) -> Result<(), AllocError>
+    requires spans { spans.old ≡ record { numbers = []; room = 9 } }
+    requires run_log { run_log.old ≡ record {
+      splits = [];
+      merges = [];
+      blocks = [];
+      split_room = 2;
+      merge_room = 2;
+      block_room = 1;
+    } }
+{
     let Some(first) = spans.push(&[0, 2, 3, 1]) else {
-        return Ok(told);
+        return Ok(());
     };
     let Some(second) = spans.push(&[0, 4, 1]) else {
-        return Ok(told);
+        return Ok(());
     };
     run_log.add_split(5, 2, first);
     run_log.add_merge(4, 6);
     run_log.add_split(7, 1, second);
     run_log.add_merge(2, 3);
     run_log.add_block(2, 4, 9, second);
-    put_splits(&mut told, splits(alloc, &run_log, &spans)?.as_slice())?;
-    put_merges(&mut told, merges(alloc, &run_log)?.as_slice())?;
-    put_blocks(&mut told, blocks(alloc, &run_log, &spans)?.as_slice())?;
+    put_log(alloc, told, run_log, spans)
+}
+
+/// `history`
+pub fn history(alloc: Global) -> Result<String, AllocError> {
+    let (mut spans, mut run_log) = both(Spans::make(alloc, 9), RunLog::make(alloc, 2, 2, 1))?;
+    let mut told = String::new(alloc);
+    let end = put_history(alloc, &mut told, &mut run_log, &mut spans);
+    drop(spans);
+    drop(run_log);
+    end?;
     Ok(told)
 }
 
