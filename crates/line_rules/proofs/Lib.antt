@@ -8,3 +8,4 @@ pub mod Lines
 pub mod Alike
 pub mod Read
 pub mod Scans
+pub mod Lacking

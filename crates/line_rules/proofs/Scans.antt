@@ -3,7 +3,6 @@ use Rattle.std.proofs.Common.{◌≡◌, ◌<◌, ◌+◌, ℕ, true, false, Lis
 use Rattle.std.specs.List.{list_any}
 use Rattle.std.proofs.lemmas.List.{drop_more}
 use Rattle.line_rules.specs.Files.{is_event, has_time, first_time}
-use Rattle.line_rules.specs.Rules as spec
 use Rattle.line_rules.specs.Views.{rule_view}
 use Rattle.line_rules.specs.declared.rule.Rule.{Rule}
 

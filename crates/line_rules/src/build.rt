@@ -8,6 +8,7 @@ ghost use Rattle.line_rules.specs.Building.{IsRuleOf, IsLineRefused, not_built};
 ghost use Rattle.line_rules.specs.Views.{HasShortName, form_view, word_view, rule_view};
 
 use crate::line_rules::RuleError;
+use crate::needle::needle_of;
 use crate::patterns::{BuildFault, Patterns};
 use crate::rule::{Rule, RuleForm};
 use crate::spelling::{Word, spelled};
@@ -15,7 +16,12 @@ use limits::MAX_RULES;
 use std::alloc::Global;
 
 /// Builds a rule from the text of its pattern.
-fn build_rule<P: Patterns>(patterns: &mut P, form: RuleForm, text: &str) -> Result<Rule, BuildFault>
+fn build_rule<P: Patterns>(
+    alloc: Global,
+    patterns: &mut P,
+    form: RuleForm,
+    text: &str,
+) -> Result<Rule, BuildFault>
     // The rule that the grammar reads, or one with the same form and names that searches the same.
     ensures rule { IfOk result
         (λ r. IsSomeAnd (rule_of (form_view form) text.now) (Alike (rule_view r))) }
@@ -32,7 +38,10 @@ fn build_rule<P: Patterns>(patterns: &mut P, form: RuleForm, text: &str) -> Resu
         × IsTrue ((P.state patterns.old).may_refuse text.now) }
 {
     let regex = patterns.build(text)?;
-    Ok(Rule::new(form, regex))
+    let Ok(needle) = needle_of(alloc, text) else {
+        return Err(BuildFault::Memory);
+    };
+    Ok(Rule::new(form, regex, needle))
 }
 
 /// Whether the first event rule has a group TIME. None if there is no event rule.
@@ -139,7 +148,7 @@ pub(crate) fn rule_of_line<P: Patterns>(
         Err(error) => return Err(error),
     };
     let form = word.to_form(alloc)?;
-    let rule = match build_rule(patterns, form, pattern) {
+    let rule = match build_rule(alloc, patterns, form, pattern) {
         Ok(rule) => rule,
         Err(fault) => return Err(not_built(number, fault)),
     };

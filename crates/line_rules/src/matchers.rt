@@ -1,13 +1,16 @@
 //! Matchers that search lines for the rules.
-ghost use Rattle.std.specs.Prelude.{◌≡◌, ◌≤◌, ◌+◌, ◌++◌, ◌∷◌, [], List, Some, Ok, IfOk, IfSome, OnOk, vec_len, slice_get};
+ghost use Rattle.std.specs.Prelude.{◌≡◌, ◌≤◌, ◌+◌, ◌++◌, ◌∷◌, [], List, Some, None, Ok, false, IfOk, IfSome, OnOk, vec_len, slice_get};
 ghost use Rattle.limits.specs.declared.TheConstants.{MAX_RULES};
+ghost use Rattle.regex.specs.Patterns.{find_str};
 ghost use Rattle.regex.specs.Strings.{regex_pattern, matcher_pattern};
 ghost use Rattle.line_rules.specs.Rules as spec;
 ghost use Rattle.line_rules.specs.Rules.{decision_of, decided_by, HasParts};
 
 use crate::decision::{DecideError, Decision};
+use crate::needle::stands_in;
 use crate::rule::Rule;
 use crate::spans::spans_in;
+use memchr::memmem::Finder;
 use regex::Matcher;
 use std::alloc::{AllocError, Global};
 
@@ -25,7 +28,10 @@ fn push_made<T: Drop>(made: Result<T, AllocError>, list: &mut Vec<T>) -> Result<
 #[derive(Drop)]
 pub struct RuleMatcher<'r> {
     pub(crate) rule: &'r Rule,
+    /// Finds the bytes without which a line has no match.
+    pub(crate) finder: Finder<'r>,
     pub(crate) matcher: Matcher<'r>,
+    ghost sought: { finder ≡ rule.now.needle.items },
     ghost same: { ∥ matcher_pattern matcher ≡ regex_pattern rule.now.regex ∥₁ },
 }
 
@@ -38,7 +44,11 @@ impl<'r> RuleMatcher<'r> {
         ensures { IfOk result (λ m. m.rule.now ≡ rule.now) }
     {
         match rule.regex.matcher(alloc) {
-            Ok(matcher) => Ok(RuleMatcher { rule, matcher }),
+            Ok(matcher) => Ok(RuleMatcher {
+                rule,
+                finder: Finder::new(&rule.needle),
+                matcher,
+            }),
             Err(error) => Err(error),
         }
     }
@@ -57,6 +67,13 @@ impl<'r> RuleMatcher<'r> {
         push_made(RuleMatcher::make(alloc, rule), matchers)
     }
 
+    /// Whether the line may have a match of the pattern: it contains the bytes that each match contains.
+    fn may_match(&self, line: &str) -> bool
+        ensures { result ≡ false → find_str (regex_pattern self.now.rule.now.regex) line.now 0 ≡ None }
+    {
+        stands_in(&self.finder, line.as_bytes())
+    }
+
     /// What the rule, which has this number, decides about the line, if it does.
     pub(crate) fn decide(
         &mut self,
@@ -69,6 +86,9 @@ impl<'r> RuleMatcher<'r> {
             → IfSome result (λ answer. IfOk answer (HasParts rules line.now)) }
         ensures same { self.new.rule ≡ self.old.rule }
     {
+        if !self.may_match(line) {
+            return None;
+        }
         let spans = spans_in(self.rule, &mut self.matcher, line)?;
         self.rule.decided_at(number, line, spans)
     }

@@ -1,7 +1,8 @@
 //! One rule.
 ghost use Rattle.std.specs.Prelude.{◌≡◌, ◌<◌, ◌≤◌, codes, IfSome, length, option_map, string_bytes};
 ghost use Rattle.limits.specs.declared.TheConstants.{MAX_TYPE_BYTES};
-ghost use Rattle.regex.specs.Strings.{regex_names};
+ghost use Rattle.regex.specs.Strings.{regex_names, regex_pattern};
+ghost use Rattle.line_rules.specs.Needles.{IsNeedleFor};
 ghost use Rattle.line_rules.specs.Rules.{group_named, name_of};
 ghost use Rattle.line_rules.specs.Rules as spec;
 
@@ -36,11 +37,14 @@ pub enum RuleForm {
 pub struct Rule {
     pub(crate) form: RuleForm,
     pub(crate) regex: Regex,
+    /// Bytes without which a line has no match.
+    pub(crate) needle: Vec<u8>,
     pub(crate) type_group: Option<usize>,
     pub(crate) trace_group: Option<usize>,
     pub(crate) time_group: Option<usize>,
     ghost type_is: { type_group ≡ group_named (regex_names regex) (codes "TYPE") },
     ghost trace_is: { trace_group ≡ group_named (regex_names regex) (codes "TRACE") },
+    ghost in_each: { IsNeedleFor (regex_pattern regex) needle.items },
     ghost time_is: { time_group ≡ group_named (regex_names regex) (codes "TIME") },
 }
 
@@ -55,8 +59,9 @@ impl Rule {
     ghost use Rattle.line_rules.specs.Views.{form_view, rule_view};
     ghost use Rattle.line_rules.specs.Files.{lacks_type, has_time};
 
-    /// A rule of this form for the pattern.
-    pub(crate) fn new(form: RuleForm, regex: Regex) -> Rule
+    /// A rule of this form for the pattern. Without the bytes of `needle` a line has no match.
+    pub(crate) fn new(form: RuleForm, regex: Regex, needle: Vec<u8>) -> Rule
+        requires { IsNeedleFor (regex_pattern regex) needle.items }
         ensures form { result.form ≡ form }
         ensures regex { result.regex ≡ regex }
     {
@@ -66,6 +71,7 @@ impl Rule {
         Rule {
             form,
             regex,
+            needle,
             type_group,
             trace_group,
             time_group,
