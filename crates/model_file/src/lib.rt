@@ -13,6 +13,7 @@ mod entries;
 mod found;
 mod history;
 mod keys;
+mod label_digits;
 mod labels;
 mod law;
 mod lists;

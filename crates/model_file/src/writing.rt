@@ -7,6 +7,7 @@ ghost use Rattle.model_shape.specs.Shapes.{IsWellShaped};
 ghost use Rattle.model_file.specs.Reading.{reads};
 ghost use Rattle.model_file.specs.Writing.{tokens_of, first_members, last_members, Appends};
 
+use crate::label_digits::digits_of;
 use invariants::{Block, Edge, Kind, Kinds, Listed, Merge, Model, Partition, Seq, Split, Text};
 use json::Writer;
 use std::alloc::{AllocError, Global};
@@ -145,27 +146,6 @@ fn write_kinds(alloc: Global, kinds: Kinds, out: &mut Writer) -> Result<(), Allo
         Kinds::Three => write_list(alloc, &[Kind::AF, Kind::NF, Kind::AP], out),
         Kinds::Four => write_list(alloc, &[Kind::AF, Kind::NF, Kind::AP, Kind::IB], out),
     }
-}
-
-/// Replaces each label by its digit.
-fn labels_to_digits(labels: &mut [u8])
-    requires { All (λ label. label ≤ 7) labels.old }
-    ensures { labels.new ≡ map digit_of labels.old }
-{
-    for k in 0..labels.len() {
-        labels[k] = b'0' + labels[k];
-    }
-}
-
-/// The digits of labels.
-fn digits_of(alloc: Global, labels: &[u8]) -> Result<Vec<u8>, AllocError>
-    requires { All (λ label. label ≤ 7) labels.now }
-    ensures { IfOk result (λ digits. digits.items ≡ map digit_of labels.now) }
-{
-    let mut digits = Vec::with_capacity(alloc, labels.len())?;
-    digits.extend_from_slice(labels)?;
-    labels_to_digits(digits.as_mut_slice());
-    Ok(digits)
 }
 
 /// Writes labels as a string with a digit for each.
