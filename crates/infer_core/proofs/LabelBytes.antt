@@ -6,28 +6,28 @@ use Rattle.std.specs.Prelude.{bit_and}
 use Rattle.std.specs.Int.{bit_at}
 
 -- four bits, each in a byte of its own
-abbrev pub spread_of : ℕ → ℕ
-spread_of n = bit_at n 0 + 256 * bit_at n 1 + 65536 * bit_at n 2 + 16777216 * bit_at n 3
+abbrev pub bytes_with : ℕ → ℕ
+bytes_with n = bit_at n 0 + 256 * bit_at n 1 + 65536 * bit_at n 2 + 16777216 * bit_at n 3
 
 -- the product has each of four bits seven places above the one before it, and the mask keeps one bit of each byte
-pub spread-is : (n : ℕ) → n < 16 → bit_and (n * 2113665) 16843009 ≡ spread_of n
-spread-is zero l = refl
-spread-is (suc zero) l = refl
-spread-is (suc (suc zero)) l = refl
-spread-is (suc (suc (suc zero))) l = refl
-spread-is (suc (suc (suc (suc zero)))) l = refl
-spread-is (suc (suc (suc (suc (suc zero))))) l = refl
-spread-is (suc (suc (suc (suc (suc (suc zero)))))) l = refl
-spread-is (suc (suc (suc (suc (suc (suc (suc zero))))))) l = refl
-spread-is (suc (suc (suc (suc (suc (suc (suc (suc zero)))))))) l = refl
-spread-is (suc (suc (suc (suc (suc (suc (suc (suc (suc zero))))))))) l = refl
-spread-is (suc (suc (suc (suc (suc (suc (suc (suc (suc (suc zero)))))))))) l = refl
-spread-is (suc (suc (suc (suc (suc (suc (suc (suc (suc (suc (suc zero))))))))))) l = refl
-spread-is (suc (suc (suc (suc (suc (suc (suc (suc (suc (suc (suc (suc zero)))))))))))) l = refl
-spread-is (suc (suc (suc (suc (suc (suc (suc (suc (suc (suc (suc (suc (suc zero))))))))))))) l = refl
-spread-is (suc (suc (suc (suc (suc (suc (suc (suc (suc (suc (suc (suc (suc (suc zero)))))))))))))) l = refl
-spread-is (suc (suc (suc (suc (suc (suc (suc (suc (suc (suc (suc (suc (suc (suc (suc zero))))))))))))))) l = refl
-spread-is (suc (suc (suc (suc (suc (suc (suc (suc (suc (suc (suc (suc (suc (suc (suc (suc n)))))))))))))))) l = absurd (omega (arith, l))
+pub bytes-are : (n : ℕ) → n < 16 → bit_and (n * 2113665) 16843009 ≡ bytes_with n
+bytes-are zero l = refl
+bytes-are (suc zero) l = refl
+bytes-are (suc (suc zero)) l = refl
+bytes-are (suc (suc (suc zero))) l = refl
+bytes-are (suc (suc (suc (suc zero)))) l = refl
+bytes-are (suc (suc (suc (suc (suc zero))))) l = refl
+bytes-are (suc (suc (suc (suc (suc (suc zero)))))) l = refl
+bytes-are (suc (suc (suc (suc (suc (suc (suc zero))))))) l = refl
+bytes-are (suc (suc (suc (suc (suc (suc (suc (suc zero)))))))) l = refl
+bytes-are (suc (suc (suc (suc (suc (suc (suc (suc (suc zero))))))))) l = refl
+bytes-are (suc (suc (suc (suc (suc (suc (suc (suc (suc (suc zero)))))))))) l = refl
+bytes-are (suc (suc (suc (suc (suc (suc (suc (suc (suc (suc (suc zero))))))))))) l = refl
+bytes-are (suc (suc (suc (suc (suc (suc (suc (suc (suc (suc (suc (suc zero)))))))))))) l = refl
+bytes-are (suc (suc (suc (suc (suc (suc (suc (suc (suc (suc (suc (suc (suc zero))))))))))))) l = refl
+bytes-are (suc (suc (suc (suc (suc (suc (suc (suc (suc (suc (suc (suc (suc (suc zero)))))))))))))) l = refl
+bytes-are (suc (suc (suc (suc (suc (suc (suc (suc (suc (suc (suc (suc (suc (suc (suc zero))))))))))))))) l = refl
+bytes-are (suc (suc (suc (suc (suc (suc (suc (suc (suc (suc (suc (suc (suc (suc (suc (suc n)))))))))))))))) l = absurd (omega (arith, l))
 
 -- the four bits of a word from a place on
 pub bit-from : (x k j : ℕ) → j < 4 → bit_at (x / 2 ^ k % 16) j ≡ bit_at x (k + j)
@@ -45,9 +45,9 @@ byte-of : (a b c d n : ℕ) → a < 8 → b < 8 → c < 8 → d < 8 → n ≡ a 
     → (n % 256 ≡ a) × (n / 256 % 256 ≡ b) × (n / 65536 % 256 ≡ c) × (n / 16777216 % 256 ≡ d)
 byte-of a b c d n la lb lc ld is = (omega (arith, is, la), omega (arith, is, la, lb), omega (arith, is, la, lb, lc), omega (arith, is, la, lb, lc, ld))
 
--- three numbers of four spread bits together are four labels
+-- three numbers of four bits in bytes together are four labels
 pub label-byte : (x y z n j : ℕ) → j < 4
-    → n ≡ spread_of x + 2 * spread_of y + 4 * spread_of z → n / 2 ^ (8 * j) % 256 ≡ bit_at x j + 2 * bit_at y j + 4 * bit_at z j
+    → n ≡ bytes_with x + 2 * bytes_with y + 4 * bytes_with z → n / 2 ^ (8 * j) % 256 ≡ bit_at x j + 2 * bit_at y j + 4 * bit_at z j
 label-byte x y z n j l is = pick j l
   where
     small : (i : ℕ) → bit_at x i + 2 * bit_at y i + 4 * bit_at z i < 8
@@ -67,7 +67,7 @@ label-byte x y z n j l is = pick j l
     pick (suc (suc (suc (suc j)))) l = absurd (omega (arith, l))
 
 -- the same of four bits of each of three words, from a place on
-pub labels-are : (zeroth first second k low middle high n : ℕ) → low ≡ spread_of (zeroth / 2 ^ k % 16) → middle ≡ spread_of (first / 2 ^ k % 16) → high ≡ spread_of (second / 2 ^ k % 16) → n ≡ low + 2 * middle + 4 * high
+pub labels-are : (zeroth first second k low middle high n : ℕ) → low ≡ bytes_with (zeroth / 2 ^ k % 16) → middle ≡ bytes_with (first / 2 ^ k % 16) → high ≡ bytes_with (second / 2 ^ k % 16) → n ≡ low + 2 * middle + 4 * high
     → (j : ℕ) → j < 4 → n / 2 ^ (8 * j) % 256 ≡ bit_at zeroth (k + j) + 2 * bit_at first (k + j) + 4 * bit_at second (k + j)
 labels-are zeroth first second k low middle high n a b c sum j l =
     label-byte (zeroth / 2 ^ k % 16) (first / 2 ^ k % 16) (second / 2 ^ k % 16) n j l (omega (arith, a, b, c, sum))

@@ -38,7 +38,7 @@ pub struct Window {
 const AT_ONCE: usize = 4;
 
 /// Four bits, each in a byte of its own.
-fn spread(bits: u32) -> u32
+fn bytes_of(bits: u32) -> u32
     requires { bits < 2 ^ AT_ONCE }
     ensures { result ≡ bit_at bits 0 + 2 ^ 8 * bit_at bits 1 + 2 ^ 16 * bit_at bits 2
         + 2 ^ 24 * bit_at bits 3 }
@@ -53,9 +53,9 @@ fn labels_from(zeroth: u64, first: u64, second: u64, k: u32) -> u32
     ensures { (j : ℕ) → j < AT_ONCE → result / 2 ^ (8 * j) % 2 ^ 8
         ≡ bit_at zeroth (k + j) + 2 * bit_at first (k + j) + 4 * bit_at second (k + j) }
 {
-    let low = spread(((zeroth >> k) % 16) as u32);
-    let middle = spread(((first >> k) % 16) as u32);
-    let high = spread(((second >> k) % 16) as u32);
+    let low = bytes_of(((zeroth >> k) % 16) as u32);
+    let middle = bytes_of(((first >> k) % 16) as u32);
+    let high = bytes_of(((second >> k) % 16) as u32);
     low + 2 * middle + 4 * high
 }
 
