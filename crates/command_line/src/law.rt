@@ -1,7 +1,7 @@
 //! Laws about the table.
 ghost use Rattle.command_line.specs.Lines.{InterruptedIsOfThreeCommands, RefusesLines, TakesLines};
 
-/// Which command lines are accepted, what these ask for, and that all others ask for nothing.
+/// Which command lines are accepted, and what these ask for; and which lines ask for nothing.
 pub fn lines_tell()
     ensures taken { TakesLines }
     ensures refused { RefusesLines }

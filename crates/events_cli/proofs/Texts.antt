@@ -1,16 +1,12 @@
 -- The text of lines, one after another.
-use Rattle.std.proofs.Common.{◌≡◌, ℕ, ◌+◌, ◌<◌, ◌≤◌, List, [], ◌∷◌, ◌++◌, length, get_or, take, map, refl, sym, ap, ◌∙◌, append-nil, flat_map}
+use Rattle.std.proofs.Common.{◌≡◌, ℕ, ◌+◌, ◌<◌, List, [], ◌∷◌, ◌++◌, length, get_or, take, map, refl, sym, ap, ◌∙◌, append-nil, flat_map}
 use Rattle.std.proofs.lemmas.Grind.{flat_map-append}
-use Rattle.std.proofs.lemmas.List.{take_all, take_more}
+use Rattle.std.proofs.lemmas.List.{take_more}
 use Rattle.events.specs.declared.located.Located.{Located}
 
 -- an event for places without one
 abbrev pub zero-event : Located
 zero-event = record { at = record { file = 0; line = 0 }; trace = 0; number = 0; time = 0 }
-
--- at the end of the list the text has a line for each item
-pub lines-all : {X : Type 0} (line : X → List ℕ) (items xs : List X) (i : ℕ) (text : List ℕ) → items ≡ xs → length items ≤ i → text ≡ flat_map line (take i items) → text ≡ flat_map line xs
-lines-all line items xs i text same all before = before ∙ ap (flat_map line) (take_all i items all ∙ same)
 
 -- with one item more, the text has its line too
 pub lines-more : {X : Type 0} (line : X → List ℕ) (xs : List X) (d : X) (i : ℕ) (old new : List ℕ) → i < length xs → old ≡ flat_map line (take i xs) → new ≡ old ++ line (get_or xs i d)

@@ -199,7 +199,7 @@ fn run_given<I: Inputs, P: Patterns, O: Sink, E: ErrorStream>(
 ///   - `Refused` with another status: `synoptic graph` with the other arguments ends so, for the cause that its `run` states.
 ///     `out` is untouched. The status is `Expressions`, `Log`, `Limit`, `ReadFault` or `Memory`.
 /// - `memory`: with `Refused(Memory)` the count of faults of the inputs is as before. So running out of memory hides no fault.
-/// - `count`: no pattern was refused for its size, unless that is the answer.
+/// - `count`: the count of refused patterns is as before, unless a pattern that is too large is the answer.
 /// - `stays`: the files of the inputs, the names that they may fail and the patterns that may be refused stay as they were.
 /// - `turn`: the inputs are as before; or those that were opened are the first of the task, in its order, and no others, and
 ///   each but the last was read to its end. Which ones they were is stated only if files are known and stand in this order.

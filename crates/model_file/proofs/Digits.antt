@@ -1,8 +1,8 @@
 -- The labels of digits, tested all at once and then put in place.
-use Rattle.std.proofs.Common.{◌≡◌, ℕ, ◌+◌, ◌-◌, ◌<◌, ◌≤◌, List, [], ◌∷◌, Some, None, map, length, set, get_or, refl, sym, ◌∙◌, ap, inl, inr, arith}
-use Rattle.std.proofs.lemmas.Bool.{cases_eq, le-leb}
+use Rattle.std.proofs.Common.{◌≡◌, ℕ, ◌-◌, ◌<◌, ◌≤◌, List, [], ◌∷◌, Some, None, map, length, get_or, refl, sym, ◌∙◌, inl, inr, arith}
+use Rattle.std.proofs.lemmas.Bool.{le-leb}
 use Rattle.std.proofs.lemmas.Bool.Decides.{leb_tells}
-use Rattle.std.proofs.lemmas.List.{get_or-set_same, get_or-set_other, get_or_default, length-set, same_lists}
+use Rattle.std.proofs.lemmas.List.{get_or_default, same_lists}
 use Rattle.std.proofs.lemmas.List.Elements.{recursion_from_All, All-from_recursion}
 use Rattle.std.specs.List.{All, AllByRecursion}
 use Rattle.model_file.specs.Labels.{IsLabelDigit}
@@ -45,18 +45,6 @@ pub record IsPartly (old now made : List ℕ) (k : ℕ) : Type 0 where
 
 pub partly-first : (old made : List ℕ) → IsPartly old old made 0
 partly-first old made = record { size = refl; before = λ j l. absurd (omega arith); after = λ j l. refl }
-
-pub partly-more : (old now made : List ℕ) (k v : ℕ) → k < length old → v ≡ get_or made k 0 → IsPartly old now made k → IsPartly old (set now k v) made (k + 1)
-partly-more old now made k v l e p =
-    let size : length now ≡ length old = p.size in
-    record {
-      size = length-set now k v ∙ p.size;
-      before = λ j m. elim (cases_eq j k) [
-        | inl q ↦ ap (λ n. get_or (set now k v) n 0) q ∙ get_or-set_same now k v 0 (omega arith) ∙ e ∙ sym (ap (λ n. get_or made n 0) q)
-        | inr n ↦ get_or-set_other now k j v 0 n ∙ p.before j (omega arith)
-      ];
-      after = λ j m. get_or-set_other now k j v 0 (λ q. absurd (omega arith)) ∙ p.after j (omega arith);
-    }
 
 pub partly-all : (old now made : List ℕ) (k : ℕ) → length made ≡ length old → length old ≤ k → IsPartly old now made k → now ≡ made
 partly-all old now made k e l p =

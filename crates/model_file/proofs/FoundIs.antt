@@ -1,5 +1,5 @@
 -- The parts of what was found are those of the JSON value.
-use Rattle.std.proofs.Common.{◌≡◌, ◌≤◌, ℕ, length, Bool, true, false, not, List, [], Option, Some, None, unwrap_or, Result, Ok, Err, refl, sym, ap, ap₂, ◌∙◌}
+use Rattle.std.proofs.Common.{◌≡◌, ◌≤◌, ℕ, length, Bool, true, false, not, List, [], Option, Some, None, unwrap_or, Ok, Err, refl, sym, ap, ap₂, ◌∙◌}
 use Rattle.std.specs.Option.{option_and_then}
 use Rattle.serde_json.specs.Data.{Data, object, Members}
 use Rattle.serde_json.specs.Find.{get_member, as_str, as_object, as_number, as_u64}
@@ -14,7 +14,6 @@ use Rattle.invariants.specs.declared.records.Split.{Split}
 use Rattle.invariants.specs.declared.records.Block.{Block}
 use Rattle.model_file.specs.declared.version.Version.{Version}
 use Rattle.model_file.specs.declared.version.Version.TheVariants.{One, Two}
-use Rattle.model_file.specs.declared.refusal.FileError.{FileError}
 use Rattle.model_file.specs.declared.refusal.FileError.TheVariants.{Shape}
 use Rattle.model_file.specs.declared.refusal.Field.{Field}
 use Rattle.model_file.specs.declared.refusal.Field.TheVariants.{Root, Extra, Types, Kinds as KindsField, Partitions, Edges, Invariants, Merges, Splits, Blocks}
@@ -28,7 +27,7 @@ use Rattle.model_file.proofs.Shapes.{tested-ok, ok-is}
 use Rattle.model_file.specs.declared.found.Found.{Found}
 use Rattle.model_file.specs.Streams.{whole_in}
 use Rattle.model_file.specs.Reading.{◌>>=◌, or_shape, tested, if_of, has_no_extra, root_in, version_in, keys_in, head_in, part_in, types_in, kinds_in, partitions_in, edges_in, invariants_in, merges_in, splits_in, blocks_in, parts_in, model_in, value_of, reads_as}
-use Rattle.model_file.specs.Found.{found_in, HasMembers, head_from, types_from, kinds_tested, partitions_from, edges_from, invariants_from, merges_from, splits_from, blocks_from, after_partitions, parts_from, kinds_from, model_from, with_others}
+use Rattle.model_file.specs.Found.{found_in, HasMembers, head_from, types_from, kinds_tested, partitions_from, edges_from, invariants_from, merges_from, splits_from, blocks_from, parts_from, kinds_from, model_from, with_others}
 
 in-turn : (o : Option Data) → option_and_then as_u64 (option_and_then as_number o) ≡ option_and_then whole_in o
 in-turn None = refl

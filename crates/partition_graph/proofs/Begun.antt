@@ -1,11 +1,9 @@
 -- What is copied, gathered and shared where a loop over traces begins, and where it ends.
-use Rattle.std.proofs.Common.{◌≡◌, ℕ, ◌≤◌, List, [], length, take, arith, ap, ◌∙◌, refl, ◌+◌}
+use Rattle.std.proofs.Common.{◌≡◌, ℕ, ◌≤◌, List, [], length, take, arith, ap, ◌∙◌}
 use Rattle.std.proofs.lemmas.List.{take_all}
-use Rattle.limits.specs.declared.TheConstants.{FIRST_TYPE}
-use Rattle.traces.specs.Words.{Log}
 use Rattle.partition_graph.specs.declared.cells.Cell.{Cell}
 use Rattle.partition_graph.specs.Cells.{IsGathered}
-use Rattle.partition_graph.specs.Shared.{joined_traces, AreShared, Begin}
+use Rattle.partition_graph.specs.Shared.{joined_traces, Begin}
 use Rattle.partition_graph.proofs.Copied.{IsCopying}
 
 -- nothing is copied yet
@@ -38,18 +36,3 @@ nothing_gathered bound words cells firsts none no_firsts =
       some = tt;
       numbered = tt;
     }
-
--- no word is noted yet
-pub nothing_shared : (log : Log) (cells : List Cell) (firsts numbers : List ℕ) → cells ≡ [] → firsts ≡ [] → numbers ≡ [] → AreShared log 0 [] cells firsts numbers
-nothing_shared log cells firsts numbers no_cells no_firsts no_numbers = rw (no_cells, no_firsts, no_numbers) none
-  where
-    none : AreShared log 0 [] [] [] []
-    none =
-        record {
-          gathered = nothing_gathered (length log.types + FIRST_TYPE) [] [] [] refl refl;
-          spreads = refl;
-          within = λ k d l. absurd (omega (arith, l));
-          whole = λ k l. absurd (omega (arith, l));
-          few = omega arith;
-          small = omega arith;
-        }

@@ -38,12 +38,12 @@ abbrev pub put_cell : Cell → List (List Cell) → List (List Cell)
 put_cell c [] = (c ∷ []) ∷ []
 put_cell c (t ∷ ts) = (c ∷ t) ∷ ts
 
--- the cells of each trace, cut behind each cell that is the last of its trace
+-- the cells of each trace, cut after each cell that is the last of its trace
 abbrev pub trace_cells : List Cell → List (List Cell)
 trace_cells [] = []
 trace_cells (c ∷ cs) = if c.last then (c ∷ []) ∷ trace_cells cs else put_cell c (trace_cells cs)
 
--- one behind another
+-- one after another
 abbrev pub joined_traces : List (List Cell) → List Cell
 joined_traces traces = flat_map (λ trace. trace) traces
 

@@ -123,7 +123,7 @@ fn note_all(
     Ok(())
 }
 
-/// The cells of the traces with these numbers, one trace behind another, and where each of them begins.
+/// The cells of the traces with these numbers, one trace after another, and where each of them begins.
 pub fn copy_traces(
     alloc: Global,
     cells: &[Cell],
@@ -171,7 +171,7 @@ fn part(cells: &[Cell], from: usize, to: usize) -> &[Cell]
     &cells[from..to]
 }
 
-/// Puts the cells of a trace behind the others.
+/// Appends the cells of a trace.
 fn push_cells(cells: &mut Vec<Cell>, numbers: &[u16]) -> Result<(), AllocError>
     ensures { OnOk result (cells.new.items ≡ cells.old.items ++ cells_of numbers.now) }
 {

@@ -328,11 +328,3 @@ pub done-lists : {E : Type 0} (r : Result ℕ E) (lists view after : List (List 
     → OnOk r (after ≡ with_new bytes_eq view ids)
 done-lists (Ok place) lists view after ids same done = done.1 ∙ ap (λ (xs : List (List ℕ)). with_new bytes_eq xs ids) same
 done-lists (Err e) lists view after ids same done = tt
-
--- without a list
-pub none-placed : (slots : List ℕ) (shift : ℕ) → AreListsPlaced slots shift [] []
-none-placed slots shift = record {
-  placed = λ p q at. absurd (none-some q at);
-  known = λ q p is. absurd (none-some p is);
-  apart = tt;
-}

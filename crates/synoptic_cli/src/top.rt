@@ -161,7 +161,7 @@ fn run_task<I: Inputs, P: Patterns, O: Sink, E: ErrorStream>(
 ///   is the one that the arguments and the files have. There is only one (`runs_end_alike`), and `outcomes_are_known` gives it
 ///   by command if no input is refused. The exceptions are `Memory`, and a pattern that nests too deep, at the named line.
 /// - `memory`: with `Memory` the count of faults of the inputs is as before. So running out of memory hides no fault.
-/// - `count`: no pattern was refused for its size, unless that is the answer.
+/// - `count`: the count of refused patterns is as before, unless a pattern that is too large is the answer.
 /// - `stays`: the files of the inputs, the names that they may fail and the patterns that may be refused stay as they were.
 /// - `turn`: the inputs are as before; or those that were opened are the first of the task, in the order above, and no others,
 ///   and each but the last was read to its end. `cause` states how many. Which ones they were is stated only if files are known

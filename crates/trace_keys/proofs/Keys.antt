@@ -35,11 +35,6 @@ same_key-swap k l differ = false_from_ne_true (same_key l k) (λ same. true≢fa
 pub same_key-Decides : (k l : Key) → Decides (same_key k l) (k ≡ l)
 same_key-Decides k l = (same_key-≡ k l, λ same. subst (λ m. same_key k m ≡ true) same (same_key-refl k))
 
--- the last key stands at the end
-pub last-stands : (keys : List Key) (k : Key) → slice_get (keys ++ k ∷ []) (length keys) ≡ Some k
-last-stands [] k = refl
-last-stands (l ∷ keys) k = last-stands keys k
-
 -- what stands at a place behind a new last key: one that stood there, or that key
 pub stands-before : (keys : List Key) (k : Key) (i : ℕ) (q : Key) → slice_get (keys ++ k ∷ []) i ≡ Some q → (slice_get keys i ≡ Some q) ⊎ ((i ≡ length keys) × (q ≡ k))
 stands-before [] k zero q at = inr (refl, sym (same_Some k q at))

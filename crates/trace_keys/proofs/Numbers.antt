@@ -1,5 +1,5 @@
 -- Bytes as numbers.
-use Rattle.std.proofs.Common.{◌≡◌, ℕ, zero, suc, ◌+◌, ◌*◌, ◌%◌, ◌^◌, ◌<◌, ◌≤◌, List, [], ◌∷◌, length, take, drop, get_or, length-drop, refl, arith}
+use Rattle.std.proofs.Common.{◌≡◌, ℕ, zero, suc, ◌+◌, ◌*◌, ◌%◌, ◌^◌, ◌<◌, ◌≤◌, List, [], ◌∷◌, length, take, drop, get_or, length-drop, arith}
 use Rattle.std.proofs.lemmas.List.{get_or-drop}
 use Rattle.std.specs.Int.{w64, from_le_bytes}
 use Rattle.trace_keys.specs.Fingerprints.{number_of}
@@ -7,12 +7,6 @@ use Rattle.trace_keys.specs.Fingerprints.{number_of}
 -- each is a byte
 abbrev pub AreBytes : List ℕ → Type 0
 AreBytes xs = (i : ℕ) → get_or xs i 0 < 256
-
--- the bytes from a place on
-pub number-from : (xs : List ℕ) (i : ℕ) → i < length xs → number_of (drop i xs) ≡ get_or xs i 0 + number_of (drop (suc i) xs) * 256
-number-from [] i inside = absurd (omega (arith, inside))
-number-from (x ∷ xs) zero inside = refl
-number-from (x ∷ xs) (suc i) inside = number-from xs i (omega (arith, inside))
 
 -- up to six bytes
 pub six-below : (xs : List ℕ) → AreBytes xs → length xs ≤ 6 → number_of xs < 281474976710656

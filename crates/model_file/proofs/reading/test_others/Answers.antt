@@ -1,4 +1,4 @@
-use Rattle.std.proofs.Common.{◌≡◌, length, Ok, refl, sym, ap, ◌∙◌}
+use Rattle.std.proofs.Common.{length, Ok, refl, sym, ap, ◌∙◌}
 use Rattle.std.proofs.lemmas.Result.{err_from_is_err_and}
 use Rattle.model_file.specs.Table.{type_at}
 use Rattle.model_file.specs.Reading.{◌>>=◌}

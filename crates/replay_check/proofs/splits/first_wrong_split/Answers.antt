@@ -21,9 +21,6 @@ read c = c.index-splits-k.is ∙ ap (λ (xs : List Split). get_or xs c.loop-k.k 
 within : (c : After-index-splits-k) → c.loop-k.k < length c.args.model.now.splits
 within c = omega (arith, c.loop-k-test.true, ap length c.as_slice-splits.ensures)
 
-few : (c : After-index-splits-k) → length c.args.model.now.splits + 2 ≤ MAX_PARTITIONS
-few c = c.requires.shaped.splits.few
-
 left : (c : After-index-splits-k) → drop c.loop-k.k c.args.model.now.splits ≡ c.index-splits-k.result ∷ drop (c.loop-k.k + 1) c.args.model.now.splits
 left c = drop_more c.args.model.now.splits c.loop-k.k c.index-splits-k.result (within c) ∙ ap (λ (s : Split). s ∷ drop (c.loop-k.k + 1) c.args.model.now.splits) (sym (read c))
 
