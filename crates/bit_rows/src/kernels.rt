@@ -60,6 +60,7 @@ pub(crate) fn reach(words: &mut Vec<u64>, width: usize, r: usize)
 }
 
 /// Appends words of 0 until there are this many. It stands apart, so that what `reach` inlines stays small.
+#[cold]
 #[inline(never)]
 fn extend(words: &mut Vec<u64>, count: usize)
     requires capacity { count ≤ vec_capacity words.old }
