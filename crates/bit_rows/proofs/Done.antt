@@ -1,8 +1,8 @@
 -- What each operation leaves, from what its loop leaves.
 use Rattle.std.proofs.Common.{◌≡◌, ◌≢◌, ℕ, ◌+◌, ◌*◌, ◌/◌, ◌%◌, ◌^◌, ◌<◌, ◌≤◌, Bool, true, false, not, ◌&&◌, ◌||◌, cond, eqb, List, [], length, get_or, set, replicate, w64, refl, sym, ap, ap₂, ◌∙◌, subst, arith, inl, inr}
-use Rattle.std.proofs.lemmas.List.{length-set, get_or-set_same, get_or-set_other, same_lists, get_or-replicate, length-replicate, get_or_past}
+use Rattle.std.proofs.lemmas.List.{length-set, get_or-set_same, get_or-set_other, set-get_or, same_lists, get_or-replicate, length-replicate, get_or_default, get_or_past}
 use Rattle.std.proofs.lemmas.List.FromFn.{get_or-map-range_with_len}
-use Rattle.std.proofs.lemmas.Nat.{div_below, div-mul-add, mod-mul-add, div-add-mod', mod_below}
+use Rattle.std.proofs.lemmas.Nat.{div_below, row_fits, div-mul-add, mod-mul-add, div-add-mod', mod_below}
 use Rattle.std.proofs.lemmas.Nat.Bits.{bit_at-zero, bit_at-trailing_zeros}
 use Rattle.std.proofs.lemmas.Bool.{cases_eq, cases_lt, true≢false, eq-eqb}
 use Rattle.std.proofs.lemmas.Simd.{length-zip2, get_or-zip2}
@@ -13,7 +13,7 @@ use lib.Lanes.{zip2}
 use Rattle.bit_rows.specs.Tables.{row_at, is_set, HasShape, IsBlank, IsFirstSet, either, both, without, bit_of, row_of, table_of, IsLaidOut}
 use Rattle.bit_rows.specs.Written.{word, AllFit, IsWritten, TellsChange}
 use Rattle.bit_rows.proofs.Bitwise.{same_words, or_bit, and_bit, not_bit}
-use Rattle.bit_rows.proofs.Tabled.{length-table_of, length-row_of, row_at-table_of, is_set-table_of, same_table, row_in, place_in, this_row, other_row, written_layout, written_table}
+use Rattle.bit_rows.proofs.Tabled.{length-table_of, length-row_of, row_at-table_of, is_set-table_of, same_table, this_row, other_row, written_layout, written_table}
 
 module _ (op : Bool → Bool → Bool) (off : op false false ≡ false) where
   -- a bit of two rows joined place by place, also past their ends
@@ -43,14 +43,9 @@ source view ws w rows bits r i seen laid hr hi =
       | inr past ↦ laid.blank r i within past hi ∙ sym (get_or_past (row_at view r) i false (omega (arith, row_long view ws w rows bits r seen hr)))
     ]
 
--- the words of a row stand within the words
-pub row_room : (view : List (List Bool)) (ws : List ℕ) (w rows bits r : ℕ) → view ≡ table_of ws w rows bits → IsLaidOut ws w rows bits → r < length view → r * w + w ≤ length ws
-row_room view ws w rows bits r seen laid h = row_in ws w rows bits r laid (row_below view ws w rows bits r seen h)
-
--- the word of a bit stands within the words
-pub place_room : (view : List (List Bool)) (ws : List ℕ) (w rows bits r i : ℕ) → view ≡ table_of ws w rows bits → IsLaidOut ws w rows bits → r < length view → i < length (row_at view r) → r * w + i / 64 < length ws
-place_room view ws w rows bits r i seen laid h hi =
-    place_in ws w rows bits r i laid (row_below view ws w rows bits r seen h) (omega (arith, row_long view ws w rows bits r seen h))
+-- the words of a row stand within the words of all rows
+pub row_room : (view : List (List Bool)) (ws : List ℕ) (w rows bits r : ℕ) → view ≡ table_of ws w rows bits → r < length view → r * w + w ≤ rows * w
+row_room view ws w rows bits r seen h = row_fits r w rows w (row_below view ws w rows bits r seen h) (omega arith)
 
 -- the place of a bit lies within the words of its row
 pub place_wide : (view : List (List Bool)) (ws : List ℕ) (w rows bits r i : ℕ) → view ≡ table_of ws w rows bits → IsLaidOut ws w rows bits → r < length view → i < length (row_at view r) → i < w * 64
@@ -278,15 +273,15 @@ digit_on false = refl
 
 -- a bit that is written has its new value, and the others of its row stay
 pub put_done : (view : List (List Bool)) (ws final : List ℕ) (w rows bits to i v : ℕ) (on : Bool) → view ≡ table_of ws w rows bits → IsLaidOut ws w rows bits
-    → final ≡ set ws (to * w + i / 64) v → to < length view → i < length (row_at view to) → bit_at v (i % 64) ≡ cond on 1 0
+    → to * w + w ≤ length ws → final ≡ set ws (to * w + i / 64) v → to < length view → i < length (row_at view to) → bit_at v (i % 64) ≡ cond on 1 0
     → ((j : ℕ) → j < 64 → j ≢ i % 64 → bit_at v j ≡ bit_at (get_or ws (to * w + i / 64) 0) j)
     → IsDone view w rows bits to (set (row_at view to) i on) final
-put_done view ws final w rows bits to i v on seen laid kept within inside there others =
+put_done view ws final w rows bits to i v on seen laid held kept within inside there others =
     let place : ℕ = to * w + i / 64 in
     let new : List ℕ = set ws place v in
     let wide : i < w * 64 = place_wide view ws w rows bits to i seen laid within inside in
     let small : i / 64 < w = div_below i 64 w (omega arith) wide in
-    let room : place < length ws = place_room view ws w rows bits to i seen laid within inside in
+    let room : place < length ws = omega (arith, small, held) in
     let row : List Bool = row_at view to in
     let written : IsWritten ws new (to * w) w (word new (to * w)) = record {
       size = length-set ws place v;
@@ -315,6 +310,21 @@ put_done view ws final w rows bits to i v on seen laid kept within inside there 
           ]
     ])
 
+-- a row behind the end of the words has no bit set
+pub none_held : (view : List (List Bool)) (ws : List ℕ) (w rows bits r : ℕ) → view ≡ table_of ws w rows bits → IsLaidOut ws w rows bits → r < length view → length ws < r * w + w → IsBlank (row_at view r)
+none_held view ws w rows bits r seen laid within past =
+    let out : length ws ≤ r * w = elim (laid.whole r) [ inl before ↦ absurd (omega (arith, before, past)) | inr behind ↦ behind ] in
+    no_set view ws ws w rows bits r w seen laid refl within (λ j below. get_or_past ws (r * w + j) 0 (omega (arith, out))) refl
+
+-- a row with no bit set stays where it is cleared
+pub cleared_same : (view : List (List Bool)) (r : ℕ) → IsBlank (row_at view r) → view ≡ set view r (replicate (length (row_at view r)) false)
+cleared_same view r blank =
+    let row : List Bool = row_at view r in
+    let same : replicate (length row) false ≡ row = same_lists (replicate (length row) false) row (length-replicate (length row) false) (λ i d below.
+    let inside : i < length row = omega (arith, length-replicate (length row) false) in
+    get_or-replicate (length row) i false d inside ∙ sym (get_or_default row i d false inside ∙ blank i)) in
+    sym (ap (λ x. set view r x) same ∙ set-get_or view r [])
+
 -- words that are all 0 make rows with no bit set
 pub made_table : (ws : List ℕ) (w rows bits : ℕ) → ((k : ℕ) → get_or ws k 0 ≡ 0) → table_of ws w rows bits ≡ replicate rows (replicate bits false)
 made_table ws w rows bits zeros =
@@ -328,9 +338,11 @@ made_table ws w rows bits zeros =
     ∙ sym (get_or-replicate bits i false e at_i))
     ∙ sym (get_or-replicate rows r (replicate bits false) d at_r))
 
--- each word of words that are all 0 is 0, also past the last
-pub replicate_zeros : (zero_word n k : ℕ) → zero_word ≡ 0 → get_or (replicate n zero_word) k 0 ≡ 0
-replicate_zeros zero_word n k is = elim (cases_lt k n) [
-  | inl below ↦ get_or-replicate n k zero_word 0 below ∙ is
-  | inr past ↦ get_or_past (replicate n zero_word) k 0 (omega (arith, length-replicate n zero_word))
-]
+-- no words are laid out as rows with no bit set
+pub made_laid : (w rows bits : ℕ) → bits ≤ w * 64 → bits < 2 ^ 64 → IsLaidOut [] w rows bits
+made_laid w rows bits room limit = record {
+  whole = λ r. inr (omega arith);
+  room = room;
+  limit = limit;
+  blank = λ r i hr from below. ap (λ x. eqb x 1) (bit_at-zero (i % 64));
+}

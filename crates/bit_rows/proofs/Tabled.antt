@@ -1,12 +1,12 @@
 -- From words to the rows that lie in them.
-use Rattle.std.proofs.Common.{◌≡◌, ◌≢◌, ℕ, ◌+◌, ◌*◌, ◌/◌, ◌%◌, ◌<◌, ◌≤◌, Bool, false, eqb, List, [], length, get_or, set, sym, ap, ◌∙◌, arith, inl, inr}
+use Rattle.std.proofs.Common.{◌≡◌, ◌≢◌, ℕ, ◌+◌, ◌*◌, ◌/◌, ◌%◌, ◌<◌, ◌≤◌, Bool, false, eqb, List, [], length, get_or, set, sym, ap, ◌∙◌, subst, arith, ◌⊎◌, inl, inr}
 use Rattle.std.proofs.lemmas.List.{length-set, get_or-set_same, get_or-set_other, same_lists, get_or_default}
 use Rattle.std.proofs.lemmas.List.FromFn.{length-map-range_with_len, get_or-map-range_with_len}
-use Rattle.std.proofs.lemmas.Nat.{div_below, mul-add-lt, row_fits}
-use Rattle.std.proofs.lemmas.Bool.{cases_eq, cases_order}
+use Rattle.std.proofs.lemmas.Nat.{div_below, mul-le, row_fits}
+use Rattle.std.proofs.lemmas.Bool.{cases_eq, cases_lt, cases_order}
 use Rattle.std.specs.Int.{bit_at}
 use Rattle.bit_rows.specs.Tables.{row_at, is_set, bit_of, row_of, table_of, IsLaidOut}
-use Rattle.bit_rows.specs.Written.{IsApart, IsWritten}
+use Rattle.bit_rows.specs.Written.{IsApart, IsReached, IsWritten}
 
 -- there are as many rows as asked for
 pub length-table_of : (ws : List ℕ) (w rows bits : ℕ) → length (table_of ws w rows bits) ≡ rows
@@ -63,16 +63,6 @@ same_table old new w rows bits h =
     ∙ same_row new w bits r (row_of old w bits r) (length-row_of old w bits r) (λ i hi. h r i at_r hi ∙ sym (is_set-row_of old w bits r i hi))
     ∙ sym (get_or-map-range_with_len (row_of old w bits) 0 rows r r d at_r (omega arith)))
 
--- the word of a bit stands within the words
-pub place_in : (ws : List ℕ) (w rows bits r i : ℕ) → IsLaidOut ws w rows bits → r < rows → i < bits → r * w + i / 64 < length ws
-place_in ws w rows bits r i h hr hi =
-    let small : i / 64 < w = div_below i 64 w (omega arith) (omega (arith, h.room)) in
-    omega (arith, mul-add-lt r w (i / 64) rows hr small, h.size)
-
--- the words of a row stand within the words
-pub row_in : (ws : List ℕ) (w rows bits r : ℕ) → IsLaidOut ws w rows bits → r < rows → r * w + w ≤ length ws
-row_in ws w rows bits r h hr = omega (arith, row_fits r w rows w hr (omega arith), h.size)
-
 -- two rows do not overlap
 pub rows_apart : (a b w : ℕ) → a ≢ b → IsApart (a * w) (b * w) w
 rows_apart a b w ne = elim (cases_order a b) [
@@ -102,7 +92,7 @@ other_row old new w to r i given h ne room =
 pub written_layout : (old new : List ℕ) (w rows bits to : ℕ) (given : ℕ → ℕ) → IsLaidOut old w rows bits → IsWritten old new (to * w) w given
     → ((i : ℕ) → bits ≤ i → i < w * 64 → eqb (bit_at (given (i / 64)) (i % 64)) 1 ≡ false) → IsLaidOut new w rows bits
 written_layout old new w rows bits to given laid h blank = record {
-  size = h.size ∙ laid.size;
+  whole = λ r. subst (λ n. (r * w + w ≤ n) ⊎ (n ≤ r * w)) (sym h.size) (laid.whole r);
   room = laid.room;
   limit = laid.limit;
   blank = λ r i hr from below. elim (cases_eq r to) [
@@ -119,3 +109,32 @@ written_table old new w rows bits to given row laid within h long here =
     table_set old new w rows bits to row within long
     (λ r i hr ne hi. other_row old new w to r i given h ne (omega (arith, laid.room)))
     (λ i hi. this_row old new w to i given h (omega (arith, laid.room)) ∙ here i hi)
+
+-- the words hold the table, and all words of the rows up to r
+pub record HoldsTo (view : List (List Bool)) (ws : List ℕ) (w rows bits r : ℕ) : Type 0 where
+  pub seen : view ≡ table_of ws w rows bits
+  pub laid : IsLaidOut ws w rows bits
+  pub held : (q : ℕ) → q ≤ r → q * w + w ≤ length ws
+
+-- words that reach to the end of row r hold the same table as before
+pub holds_to : (view : List (List Bool)) (old new : List ℕ) (w rows bits r : ℕ) → view ≡ table_of old w rows bits → IsLaidOut old w rows bits → IsReached old new (r * w + w) → HoldsTo view new w rows bits r
+holds_to view old new w rows bits r seen laid h =
+    let size = h.size in
+    let same : (q i : ℕ) → bit_of new w q i ≡ bit_of old w q i = λ q i. ap (λ x. eqb (bit_at x (i % 64)) 1) (h.same (q * w + i / 64)) in
+    let held : (q : ℕ) → q ≤ r → q * w + w ≤ length new = λ q low. omega (arith, mul-le q w r w low (omega arith), size) in
+    record {
+      seen = seen ∙ sym (same_table old new w rows bits (λ q i hq hi. same q i));
+      laid = record {
+        whole = λ q. elim (cases_lt r q) [
+          | inl behind ↦ elim (laid.whole q) [
+            | inl before ↦ inl (omega (arith, before, size))
+            | inr past ↦ inr (omega (arith, row_fits r w q w behind (omega arith), past, size))
+          ]
+          | inr low ↦ inl (held q low)
+        ];
+        room = laid.room;
+        limit = laid.limit;
+        blank = λ q i hq from below. same q i ∙ laid.blank q i hq from below;
+      };
+      held = held;
+    }

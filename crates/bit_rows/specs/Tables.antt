@@ -1,5 +1,5 @@
 -- Rows of truth values, and how they lie in words of 64 bits.
-use Rattle.std.specs.Prelude.{ℕ, ◌≡◌, ◌+◌, ◌*◌, ◌/◌, ◌%◌, ◌^◌, ◌<◌, ◌≤◌, ◌==◌, Bool, true, false, not, ◌&&◌, ◌||◌, List, [], length, map, slice_index, slice_index_or}
+use Rattle.std.specs.Prelude.{ℕ, ◌≡◌, ◌+◌, ◌*◌, ◌/◌, ◌%◌, ◌^◌, ◌<◌, ◌≤◌, ◌==◌, Bool, true, false, not, ◌&&◌, ◌||◌, ◌⊎◌, List, [], length, map, slice_index, slice_index_or}
 use Rattle.std.specs.Int.{bit_at}
 use Rattle.std.specs.List.{range_with_len}
 use Rattle.std.specs.Simd.Lanes.{zip2}
@@ -62,9 +62,9 @@ row_of words width bits r = map (bit_of words width r) (range_with_len 0 bits)
 abbrev pub table_of : List ℕ → ℕ → ℕ → ℕ → List (List Bool)
 table_of words width rows bits = map (row_of words width bits) (range_with_len 0 rows)
 
--- each row has room for its bits, and no bit after them is set
+-- each row has room for its bits, no bit after them is set, and the words end before a row or behind it
 pub record IsLaidOut (words : List ℕ) (width rows bits : ℕ) : Type 0 where
-  pub size : length words ≡ rows * width
+  pub whole : (r : ℕ) → (r * width + width ≤ length words) ⊎ (length words ≤ r * width)
   pub room : bits ≤ width * 64
   pub limit : bits < 2 ^ 64
   pub blank : (r i : ℕ) → r < rows → bits ≤ i → i < width * 64 → bit_of words width r i ≡ false

@@ -1,5 +1,5 @@
 -- What the loops over words leave.
-use Rattle.std.specs.Prelude.{ℕ, ◌^◌, ◌≡◌, ◌≢◌, ◌+◌, ◌<◌, ◌≤◌, Bool, true, false, List, length, slice_index, ◌⊎◌}
+use Rattle.std.specs.Prelude.{ℕ, max, ◌^◌, ◌≡◌, ◌≢◌, ◌+◌, ◌<◌, ◌≤◌, Bool, true, false, List, length, slice_index, ◌⊎◌}
 
 -- the word at k places after this one
 abbrev pub word : List ℕ → ℕ → ℕ → ℕ
@@ -12,6 +12,11 @@ AllFit words = (k : ℕ) → slice_index words k < 2 ^ 64
 -- two runs of n words do not overlap
 abbrev pub IsApart : ℕ → ℕ → ℕ → Type 0
 IsApart a b n = (a + n ≤ b) ⊎ (b + n ≤ a)
+
+-- there are at least n words, and any that were appended are 0
+pub record IsReached (old new : List ℕ) (n : ℕ) : Type 0 where
+  pub size : length new ≡ max (length old) n
+  pub same : (k : ℕ) → slice_index new k ≡ slice_index old k
 
 -- n words from a place on are the given ones, and the others are unchanged
 pub record IsWritten (old new : List ℕ) (at n : ℕ) (given : ℕ → ℕ) : Type 0 where

@@ -1,8 +1,8 @@
 //! Loops over the words of rows.
-ghost use Rattle.std.specs.Prelude.{◌≡◌, ◌≢◌, ◌==◌, ℕ, ◌+◌, ◌*◌, ◌^◌, ◌<◌, ◌≤◌, length, bit_and, if◌then◌else◌};
+ghost use Rattle.std.specs.Prelude.{◌≡◌, ◌≢◌, ◌==◌, ℕ, ◌+◌, ◌*◌, ◌^◌, ◌<◌, ◌≤◌, length, slice_index, vec_capacity, bit_and, if◌then◌else◌};
 ghost use Rattle.std.specs.Int.{bit_at, bit_not, w64};
 ghost use Rattle.std.specs.Int.Bits.{bit_or};
-ghost use Rattle.bit_rows.specs.Written.{word, AllFit, IsApart, IsWritten, TellsChange};
+ghost use Rattle.bit_rows.specs.Written.{word, AllFit, IsApart, IsReached, IsWritten, TellsChange};
 
 use std::simd::prelude::*;
 
@@ -38,6 +38,39 @@ pub(crate) fn from_place(word: u64, place: u32) -> u64
     ensures behind { (i : ℕ) → place ≤ i → bit_at result i ≡ bit_at word i }
 {
     word >> place << place
+}
+
+/// The word at a place; 0 after the last one.
+pub(crate) fn word_at(words: &[u64], place: usize) -> u64
+    ensures { result ≡ slice_index words.now place }
+{
+    if place < words.len() { words[place] } else { 0 }
+}
+
+/// Appends words of 0 until row `r` is there, if each row has `width` words. The list has the capacity for it.
+pub(crate) fn reach(words: &mut Vec<u64>, width: usize, r: usize)
+    requires { r * width + width ≤ vec_capacity words.old }
+    ensures reached { IsReached words.old.items words.new.items (r * width + width) }
+    ensures capacity { vec_capacity words.old ≤ vec_capacity words.new }
+{
+    let end = r * width + width;
+    if end > words.len() {
+        extend(words, end);
+    }
+}
+
+/// Appends words of 0 until there are this many. It stands apart, so that what `reach` inlines stays small.
+#[cold]
+#[inline(never)]
+fn extend(words: &mut Vec<u64>, count: usize)
+    requires capacity { count ≤ vec_capacity words.old }
+    requires more { length words.old.items ≤ count }
+    ensures reached { IsReached words.old.items words.new.items count }
+    ensures capacity { vec_capacity words.old ≤ vec_capacity words.new }
+{
+    if words.resize(count, 0).is_err() {
+        unreachable!()
+    }
 }
 
 /// How many blocks of words, from the first, are 0.

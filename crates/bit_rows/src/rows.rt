@@ -6,7 +6,7 @@ ghost use Rattle.bit_rows.specs.Tables.{row_at, is_set, HasShape, KeepsShape, Is
 
 use crate::kernels::{
     and_not_words, and_words, clear_words, copy_words, first_word, from_place, has_bit,
-    or_and_not_words, or_and_words, or_words, with_bit,
+    or_and_not_words, or_and_words, or_words, reach, with_bit, word_at,
 };
 use std::alloc::{AllocError, Global};
 use std::marker::Model;
@@ -16,8 +16,12 @@ const WORD_BITS: usize = 64;
 
 /// Rows of bits, each with the same number of bits. Contracts see them as a list of rows, and a row as the list of its
 /// truth values. Rows and places count from 0.
+///
+/// The memory of all rows is taken when they are made, and written only as far as the last row that has been written so
+/// far: the words of the rows behind it count as 0.
 #[derive(Drop)]
 pub struct Rows {
+    /// The words of the first rows. The capacity is that of all rows.
     words: Vec<u64>,
     width: usize,
     rows: usize,
@@ -25,14 +29,15 @@ pub struct Rows {
 }
 
 impl Model for Rows {
-    ghost use Rattle.std.specs.Prelude.{List, Bool};
+    ghost use Rattle.std.specs.Prelude.{List, Bool, ◌*◌, ◌≤◌, vec_capacity};
     ghost use Rattle.bit_rows.specs.Tables.{table_of, IsLaidOut};
 
     ghost Value = { List (List Bool) };
 
     ghost view = { λ s. table_of s.words.items s.width s.rows s.bits };
 
-    ghost invariant = { λ s. IsLaidOut s.words.items s.width s.rows s.bits };
+    ghost invariant = { λ s.
+        IsLaidOut s.words.items s.width s.rows s.bits × (s.rows * s.width ≤ vec_capacity s.words) };
 }
 
 impl Rows {
@@ -44,7 +49,7 @@ impl Rows {
         ensures shape { IfOk result (λ made. HasShape made rows bits) }
     {
         let width = bits.div_ceil(WORD_BITS);
-        let words = Vec::from_elem(alloc, 0, rows * width)?;
+        let words = Vec::with_capacity(alloc, rows * width)?;
         Ok(Rows {
             words,
             width,
@@ -59,8 +64,9 @@ impl Rows {
         requires place { i < length (row_at self.now r) }
         ensures { result ≡ is_set (row_at self.now r) i }
     {
+        let place = r * self.width + i / WORD_BITS;
         has_bit(
-            self.words[r * self.width + i / WORD_BITS],
+            word_at(self.words.as_slice(), place),
             (i % WORD_BITS) as u32,
         )
     }
@@ -73,7 +79,7 @@ impl Rows {
         ensures { (i : ℕ) → i < 64
             → (bit_at result i == 1) ≡ is_set (row_at self.now r) (place * 64 + i) }
     {
-        self.words[r * self.width + place]
+        word_at(self.words.as_slice(), r * self.width + place)
     }
 
     /// Turns bit `i` of row `r` on or off. All other bits stay.
@@ -83,6 +89,7 @@ impl Rows {
         ensures rows { self.new ≡ slice_set self.old r (slice_set (row_at self.old r) i on) }
         ensures shape { KeepsShape self.old self.new }
     {
+        reach(&mut self.words, self.width, r);
         let place = r * self.width + i / WORD_BITS;
         self.words[place] = with_bit(self.words[place], (i % WORD_BITS) as u32, on);
     }
@@ -94,7 +101,11 @@ impl Rows {
             (replicate (length (row_at self.old r)) false) }
         ensures shape { KeepsShape self.old self.new }
     {
-        clear_words(self.words.as_mut_slice(), r * self.width, self.width);
+        let start = r * self.width;
+        if start + self.width > self.words.len() {
+            return;
+        }
+        clear_words(self.words.as_mut_slice(), start, self.width);
     }
 
     /// Whether the bits of row `r` are all off.
@@ -102,7 +113,12 @@ impl Rows {
         requires { r < length self.now }
         ensures { IsTrue result ↔ IsBlank (row_at self.now r) }
     {
-        first_word(self.words.as_slice(), r * self.width, self.width) == self.width
+        let words = self.words.as_slice();
+        let start = r * self.width;
+        if start + self.width > words.len() {
+            return true;
+        }
+        first_word(words, start, self.width) == self.width
     }
 
     /// The place of the first bit of row `r` that is on; `None` if all are off.
@@ -112,11 +128,15 @@ impl Rows {
             (IsFirstSet (row_at self.now r)) }
     {
         let words = self.words.as_slice();
-        let k = first_word(words, r * self.width, self.width);
+        let start = r * self.width;
+        if start + self.width > words.len() {
+            return None;
+        }
+        let k = first_word(words, start, self.width);
         if k == self.width {
             return None;
         }
-        Some(k * WORD_BITS + words[r * self.width + k].trailing_zeros() as usize)
+        Some(k * WORD_BITS + words[start + k].trailing_zeros() as usize)
     }
 
     /// The place of the first bit of row `r` that is on, at place `from` or after it; `None` if these are all off.
@@ -131,6 +151,9 @@ impl Rows {
         }
         let words = self.words.as_slice();
         let start = r * self.width;
+        if start + self.width > words.len() {
+            return None;
+        }
         let here = from / WORD_BITS;
         let rest = from_place(words[start + here], (from % WORD_BITS) as u32);
         if rest != 0 {
@@ -152,6 +175,7 @@ impl Rows {
         ensures rows { self.new ≡ slice_set self.old to (row_at self.old from) }
         ensures shape { KeepsShape self.old self.new }
     {
+        reach(&mut self.words, self.width, to.max(from));
         copy_words(
             self.words.as_mut_slice(),
             to * self.width,
@@ -174,6 +198,7 @@ impl Rows {
         ensures stays { OnFalse result (self.new ≡ self.old) }
         ensures changes { OnTrue result (self.new ≢ self.old) }
     {
+        reach(&mut self.words, self.width, to.max(from));
         or_words(
             self.words.as_mut_slice(),
             to * self.width,
@@ -191,6 +216,7 @@ impl Rows {
             (both (row_at self.old to) (row_at self.old from)) }
         ensures shape { KeepsShape self.old self.new }
     {
+        reach(&mut self.words, self.width, to.max(from));
         and_words(
             self.words.as_mut_slice(),
             to * self.width,
@@ -208,6 +234,7 @@ impl Rows {
             (without (row_at self.old to) (row_at self.old from)) }
         ensures shape { KeepsShape self.old self.new }
     {
+        reach(&mut self.words, self.width, to.max(from));
         and_not_words(
             self.words.as_mut_slice(),
             to * self.width,
@@ -232,6 +259,7 @@ impl Rows {
         ensures stays { OnFalse result (self.new ≡ self.old) }
         ensures changes { OnTrue result (self.new ≢ self.old) }
     {
+        reach(&mut self.words, self.width, to.max(a).max(mask));
         or_and_words(
             self.words.as_mut_slice(),
             to * self.width,
@@ -257,6 +285,7 @@ impl Rows {
         ensures stays { OnFalse result (self.new ≡ self.old) }
         ensures changes { OnTrue result (self.new ≢ self.old) }
     {
+        reach(&mut self.words, self.width, to.max(a).max(mask));
         or_and_not_words(
             self.words.as_mut_slice(),
             to * self.width,

@@ -1,15 +1,11 @@
--- How the rows are laid out in one table: those of the ids, and masks for what types do.
-use Rattle.std.specs.Prelude.{ℕ, ◌≡◌, ◌≢◌, ◌+◌, ◌*◌, ◌<◌, ◌≤◌, Bool, true, false, List, length, take, drop, slice_get, Some}
+-- How the rows are laid out in one table: masks for what types do, and the rows of the ids.
+use Rattle.std.specs.Prelude.{ℕ, ◌≡◌, ◌≢◌, ◌+◌, ◌*◌, ◌<◌, ◌≤◌, Bool, true, false, List, [], ◌∷◌, length, drop, slice_get, Some}
 use Rattle.limits.specs.declared.TheConstants.{LAST_TYPE, MAX_INVARIANTS, MAX_PARTITIONS}
 use Rattle.invariants.specs.declared.Invariant.{Invariant}
 use Rattle.bit_rows.specs.Tables.{HasShape}
 use Rattle.clashes.specs.declared.places.TheConstants.{START, BAD, FIRST_MASK, MASKS}
 use Rattle.clashes.specs.Rules.{enters, stays, falls, starts, is_bad_itself, AreNamedBelow}
 use Rattle.clashes.specs.Marks.{Marks, on}
-
--- the row of an id for its marks of a bad end ahead
-abbrev pub back_row : ℕ → ℕ
-back_row p = MAX_PARTITIONS + p
 
 -- the mask of a type: the invariants that it brings into the critical state
 abbrev pub enters_row : ℕ → ℕ
@@ -23,21 +19,45 @@ stays_row x = FIRST_MASK + x * MASKS + 1
 abbrev pub falls_row : ℕ → ℕ
 falls_row x = FIRST_MASK + x * MASKS + 2
 
--- how many rows there are; the last masks are for all types from this one on
+-- the first row of ids, behind the masks; the last masks are for all types from this one on
+abbrev pub ids_from : ℕ → ℕ
+ids_from others = FIRST_MASK + (others + 1) * MASKS
+
+-- the row of an id for its marks of a critical state that is reached
+abbrev pub fore_row : ℕ → ℕ → ℕ
+fore_row others p = ids_from others + p * 2
+
+-- the row of an id for its marks of a bad end ahead
+abbrev pub back_row : ℕ → ℕ → ℕ
+back_row others p = ids_from others + p * 2 + 1
+
+-- how many rows there are
 abbrev pub row_count : ℕ → ℕ
-row_count others = FIRST_MASK + (others + 1) * MASKS
+row_count others = ids_from others + 2 * MAX_PARTITIONS
+
+-- every other row, from the first on
+abbrev pub evens : List (List Bool) → List (List Bool)
+evens [] = []
+evens (x ∷ []) = x ∷ []
+evens (x ∷ y ∷ rows) = x ∷ evens rows
+
+-- every other row, from the second on
+abbrev pub odds : List (List Bool) → List (List Bool)
+odds [] = []
+odds (x ∷ []) = []
+odds (x ∷ y ∷ rows) = y ∷ odds rows
 
 -- the rows for critical states that are reached
-abbrev pub fores_in : List (List Bool) → List (List Bool)
-fores_in rows = take MAX_PARTITIONS rows
+abbrev pub fores_in : ℕ → List (List Bool) → List (List Bool)
+fores_in others rows = evens (drop (ids_from others) rows)
 
 -- the rows for bad ends ahead
-abbrev pub backs_in : List (List Bool) → List (List Bool)
-backs_in rows = take MAX_PARTITIONS (drop MAX_PARTITIONS rows)
+abbrev pub backs_in : ℕ → List (List Bool) → List (List Bool)
+backs_in others rows = odds (drop (ids_from others) rows)
 
 -- the marks that the table contains, as callers see them
-abbrev pub marks_in : List Invariant → List (List Bool) → Marks
-marks_in invs rows = record { invs = invs; fores = fores_in rows; backs = backs_in rows }
+abbrev pub marks_in : List Invariant → ℕ → List (List Bool) → Marks
+marks_in invs others rows = record { invs = invs; fores = fores_in others rows; backs = backs_in others rows }
 
 -- the table has this layout, and each row has a bit k
 abbrev pub HasPlace : List (List Bool) → ℕ → ℕ → Type 0

@@ -28,7 +28,7 @@ impl Model for MarkRows {
 
     ghost Value = { Marks };
 
-    ghost view = { λ s. marks_in s.invs.items s.rows };
+    ghost view = { λ s. marks_in s.invs.items s.others s.rows };
 
     ghost invariant = { λ s. IsLaid s.invs.items s.others s.rows };
 }
@@ -72,8 +72,8 @@ impl MarkRows {
         requires { p < MAX_PARTITIONS }
         ensures { IsUnmarked self.old self.new p }
     {
-        self.rows.clear(fore_row(p));
-        self.rows.clear(back_row(p));
+        self.rows.clear(fore_row(self.others, p));
+        self.rows.clear(back_row(self.others, p));
     }
 
     /// Moves the marks of q to p.
@@ -94,16 +94,18 @@ impl MarkRows {
         requires apart { p ≢ q }
         ensures { IsTakenUp self.old self.new p q }
     {
-        self.rows.or_into(fore_row(p), fore_row(q));
-        self.rows.or_into(back_row(p), back_row(q));
+        self.rows
+            .or_into(fore_row(self.others, p), fore_row(self.others, q));
+        self.rows
+            .or_into(back_row(self.others, p), back_row(self.others, q));
     }
 
     /// Gives the two ends the marks from which all others come.
     pub fn begin(&mut self)
         ensures { IsBegun self.old self.new }
     {
-        self.rows.or_into(fore_row(INITIAL), START);
-        self.rows.or_into(back_row(TERMINAL), BAD);
+        self.rows.or_into(fore_row(self.others, INITIAL), START);
+        self.rows.or_into(back_row(self.others, TERMINAL), BAD);
     }
 
     /// Gives the ends of an edge the marks that the edge itself brings. `typ` is the type of `to`.
@@ -113,8 +115,8 @@ impl MarkRows {
         ensures { IsEntered self.old self.new from to typ }
     {
         let x = typ.min(self.others);
-        self.rows.or_into(fore_row(to), enters_row(x));
-        self.rows.or_into(back_row(from), falls_row(x));
+        self.rows.or_into(fore_row(self.others, to), enters_row(x));
+        self.rows.or_into(back_row(self.others, from), falls_row(x));
     }
 
     /// Propagates marks along an edge, and returns whether that changed any. `typ` is the type of `to`.
@@ -128,12 +130,16 @@ impl MarkRows {
             return false;
         }
         let x = typ.min(self.others);
-        let met = self
-            .rows
-            .or_and_into(fore_row(to), fore_row(from), stays_row(x));
-        let ahead = self
-            .rows
-            .or_and_into(back_row(from), back_row(to), stays_row(x));
+        let met = self.rows.or_and_into(
+            fore_row(self.others, to),
+            fore_row(self.others, from),
+            stays_row(x),
+        );
+        let ahead = self.rows.or_and_into(
+            back_row(self.others, from),
+            back_row(self.others, to),
+            stays_row(x),
+        );
         met | ahead
     }
 
@@ -146,8 +152,8 @@ impl MarkRows {
             (NoClash self.old p q) (IsFirstClash self.old p q) }
     {
         self.rows.clear(SCRATCH);
-        self.rows.or_and_into(SCRATCH, fore_row(p), back_row(q));
-        self.rows.or_and_into(SCRATCH, fore_row(q), back_row(p));
+        self.rows.or_and_into(SCRATCH, fore_row(self.others, p), back_row(self.others, q));
+        self.rows.or_and_into(SCRATCH, fore_row(self.others, q), back_row(self.others, p));
         self.rows.first_set(SCRATCH)
     }
 }

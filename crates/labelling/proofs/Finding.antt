@@ -10,23 +10,23 @@ use Rattle.partition_model.specs.Graphs.{Graph}
 use Rattle.partition_model.specs.Labels.{Reached}
 use Rattle.partition_model.proofs.Labelling.{walk_more, run_more}
 use Rattle.bit_rows.specs.Tables.{row_at, is_set, KeepsShape}
-use Rattle.labelling.specs.declared.layout.TheConstants.{STATES, LAST_PHASE, LABEL_ROWS, BROKEN_ROW, ALL_ROW}
+use Rattle.labelling.specs.declared.layout.TheConstants.{STATES, LAST_PHASE, BROKEN_ROW, ALL_ROW}
 use Rattle.labelling.specs.PhaseRows.{found_in}
 use Rattle.labelling.specs.Carried.{passes, IsPassed}
 use Rattle.labelling.specs.Found.{Found, Grows, StartsAt, FollowsAlong, HasStart, IsCarried, IsNothing, IsSameBut, AreNoted}
-use Rattle.labelling.specs.Layout.{is_on, label_row, bad_row, first_row, move_place, move_row, AreMarked, IsBlankFrom}
+use Rattle.labelling.specs.Layout.{is_on, labels_from, label_row, bad_row, first_row, move_place, move_row, row_count, AreMarked, IsBlankFrom}
 use Rattle.labelling.specs.Phases.{phase_of, first_phase, turn, ReachedIn}
 use Rattle.labelling.proofs.Marking.{marked_same}
 use Rattle.labelling.proofs.Passing.{IsBadBelow}
 use Rattle.labelling.proofs.Turning.{phase_phase, turn_acts, turn_near, move_made, place_low, last_stays}
 
 -- different ids or phases have different rows
-pub same_label : (p s q t : ℕ) → s < STATES → t < STATES → label_row p s ≡ label_row q t → (p ≡ q) × (s ≡ t)
-same_label p s q t low next e = (omega (arith, low, next, e), omega (arith, low, next, e))
+pub same_label : (bound p s q t : ℕ) → s < STATES → t < STATES → label_row bound p s ≡ label_row bound q t → (p ≡ q) × (s ≡ t)
+same_label bound p s q t low next e = (omega (arith, low, next, e), omega (arith, low, next, e))
 
 -- the marks stay where only labels and notes change
 pub kept_marked : (bound : ℕ) (invs : List Invariant) (old new : List (List Bool)) → KeepsShape old new
-    → ((r : ℕ) → LABEL_ROWS ≤ r → r ≢ BROKEN_ROW → row_at new r ≡ row_at old r) → AreMarked bound invs old → AreMarked bound invs new
+    → ((r : ℕ) → r < labels_from bound → r ≢ BROKEN_ROW → row_at new r ≡ row_at old r) → AreMarked bound invs old → AreMarked bound invs new
 kept_marked bound invs old new shape same h = record {
   limit = h.limit;
   named = h.named;
@@ -35,42 +35,45 @@ kept_marked bound invs old new shape same h = record {
 }
 
 -- the marks stay where a row of labels gets what another row passes
-pub passed_marked : (bound : ℕ) (invs : List Invariant) (old new : List (List Bool)) (from to mask : ℕ) (back changed : Bool) → to < LABEL_ROWS
+pub passed_marked : (bound : ℕ) (invs : List Invariant) (old new : List (List Bool)) (from to mask : ℕ) (back changed : Bool) → labels_from bound ≤ to
     → IsPassed old new from to mask back changed → AreMarked bound invs old → AreMarked bound invs new
 passed_marked bound invs old new from to mask back changed low h =
     kept_marked bound invs old new h.shape (λ r above other. h.others r (λ e. absurd (omega (arith, above, e, low))))
 
 -- the rows behind those in use stay blank where one in use gets what another row passes
-pub passed_blank : (used last : ℕ) (old new : List (List Bool)) (from to mask : ℕ) (back changed : Bool) → used ≤ last → to < last → last ≤ LABEL_ROWS
-    → IsPassed old new from to mask back changed → IsBlankFrom used old → IsBlankFrom last new
-passed_blank used last old new from to mask back changed more within limit h before = record {
+pub passed_blank : (bound used last : ℕ) (old new : List (List Bool)) (from to mask : ℕ) (back changed : Bool) → used ≤ last → to < last → last ≤ row_count bound
+    → IsPassed old new from to mask back changed → IsBlankFrom bound used old → IsBlankFrom bound last new
+passed_blank bound used last old new from to mask back changed more within limit h before = record {
+  from = omega (arith, before.from, more);
   limit = limit;
   blank = λ r k above low. ap (λ (x : List Bool). is_set x k) (h.others r (λ e. absurd (omega (arith, e, above, within)))) ∙ before.blank r k (omega (arith, more, above)) low;
 }
 
 -- the rows behind those in use stay blank where the rows of phases stay
-pub kept_blank : (used : ℕ) (old new : List (List Bool)) → ((r : ℕ) → r < LABEL_ROWS → row_at new r ≡ row_at old r) → IsBlankFrom used old → IsBlankFrom used new
-kept_blank used old new same before = record {
+pub kept_blank : (bound used : ℕ) (old new : List (List Bool)) → ((r : ℕ) → labels_from bound ≤ r → row_at new r ≡ row_at old r) → IsBlankFrom bound used old → IsBlankFrom bound used new
+kept_blank bound used old new same before = record {
+  from = before.from;
   limit = before.limit;
-  blank = λ r k above low. ap (λ (x : List Bool). is_set x k) (same r low) ∙ before.blank r k above low;
+  blank = λ r k above low. ap (λ (x : List Bool). is_set x k) (same r (omega (arith, above, before.from))) ∙ before.blank r k above low;
 }
 
 -- once the rows in use are cleared, all rows of phases are blank
-pub cleared_all : (used : ℕ) (old new : List (List Bool)) → ((r k : ℕ) → r < used → is_on new r k ≡ false) → ((r : ℕ) → used ≤ r → row_at new r ≡ row_at old r)
-    → IsBlankFrom used old → IsBlankFrom 0 new
-cleared_all used old new cleared same before = record {
+pub cleared_all : (bound used : ℕ) (old new : List (List Bool)) → ((r k : ℕ) → labels_from bound ≤ r → r < used → is_on new r k ≡ false) → ((r : ℕ) → used ≤ r → row_at new r ≡ row_at old r)
+    → IsBlankFrom bound used old → IsBlankFrom bound (labels_from bound) new
+cleared_all bound used old new cleared same before = record {
+  from = omega arith;
   limit = omega arith;
   blank = λ r k above low. elim (cases_lt r used) [
-    | inl less ↦ cleared r k less
-    | inr more ↦ ap (λ (x : List Bool). is_set x k) (same r (omega (arith, more))) ∙ before.blank r k (omega (arith, more)) low
+    | inl less ↦ cleared r k above less
+    | inr more ↦ ap (λ (x : List Bool). is_set x k) (same r more) ∙ before.blank r k more low
   ];
 }
 
 -- where all rows of phases are blank, nothing is found
-pub blank_nothing : (invs : List Invariant) (table : List (List Bool)) → IsBlankFrom 0 table → IsNothing (found_in invs table)
-blank_nothing invs table h = record { has = λ k p s in_p low. h.blank (label_row p s) k (omega arith) (omega (arith, in_p, low)) }
+pub blank_nothing : (bound : ℕ) (invs : List Invariant) (table : List (List Bool)) → IsBlankFrom bound (labels_from bound) table → IsNothing (found_in bound invs table)
+blank_nothing bound invs table h = record { has = λ k p s in_p low. h.blank (label_row bound p s) k (omega arith) (omega (arith, in_p, low)) }
 
-module _ (invs : List Invariant) (old new : List (List Bool)) (from to mask : ℕ) (back changed : Bool) (h : IsPassed old new from to mask back changed) where
+module _ (bound : ℕ) (invs : List Invariant) (old new : List (List Bool)) (from to mask : ℕ) (back changed : Bool) (h : IsPassed old new from to mask back changed) where
   -- what is on stays on
   stays_on : (r k : ℕ) → is_on old r k ≡ true → is_on new r k ≡ true
   stays_on r k on = elim (cases_eq r to) [
@@ -81,20 +84,20 @@ module _ (invs : List Invariant) (old new : List (List Bool)) (from to mask : �
   ]
 
   -- what is found grows where a row gets what another row passes
-  pub passed_grows : Grows (found_in invs old) (found_in invs new) changed
+  pub passed_grows : Grows (found_in bound invs old) (found_in bound invs new) changed
   passed_grows = record {
     same = refl;
-    keeps = λ k p s on. stays_on (label_row p s) k on;
+    keeps = λ k p s on. stays_on (label_row bound p s) k on;
     fewer = h.fewer;
-    still = λ off. ap (λ (t : List (List Bool)). found_in invs t) (h.still off);
+    still = λ off. ap (λ (t : List (List Bool)). found_in bound invs t) (h.still off);
     falls = h.falls;
   }
 
 -- where a row of an id gets what another row passes, only that id has more
-pub passed_but : (invs : List Invariant) (old new : List (List Bool)) (from q t mask : ℕ) (back changed : Bool) → t < STATES
-    → IsPassed old new from (label_row q t) mask back changed → IsSameBut q (found_in invs old) (found_in invs new)
-passed_but invs old new from q t mask back changed next h k p s ne low on =
-    ap (λ (x : List Bool). is_set x k) (sym (h.others (label_row p s) (λ e. ne (same_label p s q t low next e).0))) ∙ on
+pub passed_but : (bound : ℕ) (invs : List Invariant) (old new : List (List Bool)) (from q t mask : ℕ) (back changed : Bool) → t < STATES
+    → IsPassed old new from (label_row bound q t) mask back changed → IsSameBut q (found_in bound invs old) (found_in bound invs new)
+passed_but bound invs old new from q t mask back changed next h k p s ne low on =
+    ap (λ (x : List Bool). is_set x k) (sym (h.others (label_row bound p s) (λ e. ne (same_label bound p s q t low next e).0))) ∙ on
 
 -- the step of a state that is reached is reached along an edge
 pub reached_more : (inv : Invariant) (g : Graph) (p s q : ℕ) → Reached inv g p s → g.edge p q ≡ true → Reached inv g q (step inv s (g.typ q))
@@ -135,18 +138,18 @@ last_lets bound invs table typ h = record {
   all = λ k inv at is. (h.marked k inv at).all;
 }
 
-module _ (invs : List Invariant) (old new : List (List Bool)) (p q typ s t mask : ℕ) (back changed : Bool) (through : LetsThrough invs old mask back typ s t)
-    (in_p : p < MAX_PARTITIONS) (in_q : q < MAX_PARTITIONS) (low : s < STATES) (next : t < STATES) (h : IsPassed old new (label_row p s) (label_row q t) mask back changed) where
+module _ (bound : ℕ) (invs : List Invariant) (old new : List (List Bool)) (p q typ s t mask : ℕ) (back changed : Bool) (through : LetsThrough invs old mask back typ s t)
+    (in_p : p < MAX_PARTITIONS) (in_q : q < MAX_PARTITIONS) (low : s < STATES) (next : t < STATES) (h : IsPassed old new (label_row bound p s) (label_row bound q t) mask back changed) where
   -- what a move finds at the end of an edge is reached
-  pub carried_follows : FollowsAlong p q typ (found_in invs old) (found_in invs new)
-  carried_follows g edge is_typ before k inv r z at in_r in_z on = elim (cases_eq (label_row r z) (label_row q t)) [
-    | inr ne ↦ before k inv r z at in_r in_z (ap (λ (y : List Bool). is_set y k) (sym (h.others (label_row r z) ne)) ∙ on)
+  pub carried_follows : FollowsAlong p q typ (found_in bound invs old) (found_in bound invs new)
+  carried_follows g edge is_typ before k inv r z at in_r in_z on = elim (cases_eq (label_row bound r z) (label_row bound q t)) [
+    | inr ne ↦ before k inv r z at in_r in_z (ap (λ (y : List Bool). is_set y k) (sym (h.others (label_row bound r z) ne)) ∙ on)
     | inl same ↦
-        let e = same_label r z q t in_z next same in
-        elim (or_cases (is_on old (label_row q t) k) (passes old (label_row p s) mask back k) (sym (h.here k) ∙ ap (λ (y : ℕ). is_on new y k) (sym same) ∙ on)) [
+        let e = same_label bound r z q t in_z next same in
+        elim (or_cases (is_on old (label_row bound q t) k) (passes old (label_row bound p s) mask back k) (sym (h.here k) ∙ ap (λ (y : ℕ). is_on new y k) (sym same) ∙ on)) [
           | inl was ↦ before k inv r z at in_r in_z (ap (λ (y : ℕ). is_on old y k) same ∙ was)
           | inr now ↦
-              let b = and_parts (is_on old (label_row p s) k) (lets old mask back k) now in
+              let b = and_parts (is_on old (label_row bound p s) k) (lets old mask back k) now in
               let was : ReachedIn inv g p s = before k inv p s at in_p low b.0 in
               let made : turn inv s typ ≡ t = through.only k inv g p at was b.1 in
               let more : ReachedIn inv g q (turn inv s (g.typ q)) = reached_turn inv g p s q was edge in
@@ -155,21 +158,21 @@ module _ (invs : List Invariant) (old new : List (List Bool)) (p q typ s t mask 
   ]
 
   -- a move finds at the end of an edge the turns of what was found at its beginning
-  pub carried_over : IsCarried p s typ q t (found_in invs old) (found_in invs new)
+  pub carried_over : IsCarried p s typ q t (found_in bound invs old) (found_in bound invs new)
   carried_over k inv at on made =
       h.here k
-      ∙ or_right (is_on old (label_row q t) k) (passes old (label_row p s) mask back k)
-      (and_from (is_on old (label_row p s) k) (lets old mask back k) on (through.all k inv at made))
+      ∙ or_right (is_on old (label_row bound q t) k) (passes old (label_row bound p s) mask back k)
+      (and_from (is_on old (label_row bound p s) k) (lets old mask back k) on (through.all k inv at made))
 
 module _ (bound : ℕ) (invs : List Invariant) (old new : List (List Bool)) (t : ℕ) (changed : Bool)
-    (marked : AreMarked bound invs old) (next : t < STATES) (h : IsPassed old new (first_row t) (label_row INITIAL t) ALL_ROW false changed) where
+    (marked : AreMarked bound invs old) (next : t < STATES) (h : IsPassed old new (first_row t) (label_row bound INITIAL t) ALL_ROW false changed) where
   -- what INITIAL begins with is reached there
-  pub started_at : StartsAt (found_in invs old) (found_in invs new)
-  started_at g is_typ before k inv r z at in_r in_z on = elim (cases_eq (label_row r z) (label_row INITIAL t)) [
-    | inr ne ↦ before k inv r z at in_r in_z (ap (λ (y : List Bool). is_set y k) (sym (h.others (label_row r z) ne)) ∙ on)
+  pub started_at : StartsAt (found_in bound invs old) (found_in bound invs new)
+  started_at g is_typ before k inv r z at in_r in_z on = elim (cases_eq (label_row bound r z) (label_row bound INITIAL t)) [
+    | inr ne ↦ before k inv r z at in_r in_z (ap (λ (y : List Bool). is_set y k) (sym (h.others (label_row bound r z) ne)) ∙ on)
     | inl same ↦
-        let e = same_label r z INITIAL t in_z next same in
-        elim (or_cases (is_on old (label_row INITIAL t) k) (passes old (first_row t) ALL_ROW false k) (sym (h.here k) ∙ ap (λ (y : ℕ). is_on new y k) (sym same) ∙ on)) [
+        let e = same_label bound r z INITIAL t in_z next same in
+        elim (or_cases (is_on old (label_row bound INITIAL t) k) (passes old (first_row t) ALL_ROW false k) (sym (h.here k) ∙ ap (λ (y : ℕ). is_on new y k) (sym same) ∙ on)) [
           | inl was ↦ before k inv r z at in_r in_z (ap (λ (y : ℕ). is_on old y k) same ∙ was)
           | inr now ↦
               let b = and_parts (is_on old (first_row t) k) (is_on old ALL_ROW k) now in
@@ -182,10 +185,10 @@ module _ (bound : ℕ) (invs : List Invariant) (old new : List (List Bool)) (t :
   ]
 
   -- the phase that INITIAL begins with is found there
-  pub started : HasStart t (found_in invs new)
+  pub started : HasStart t (found_in bound invs new)
   started k inv at made =
       h.here k
-      ∙ or_right (is_on old (label_row INITIAL t) k) (passes old (first_row t) ALL_ROW false k)
+      ∙ or_right (is_on old (label_row bound INITIAL t) k) (passes old (first_row t) ALL_ROW false k)
       (and_from (is_on old (first_row t) k) (is_on old ALL_ROW k) ((marked.marked k inv at).first t next ∙ eq-eqb (first_phase inv) t made) (marked.marked k inv at).all)
 
 -- a move that no monitor makes is carried by itself
@@ -214,16 +217,16 @@ bad_low IB = omega arith
 
 -- those are noted for which the bad state is found at TERMINAL
 pub noted : (bound : ℕ) (invs : List Invariant) (old new : List (List Bool)) → AreMarked bound invs old
-    → ((k : ℕ) → (is_on new BROKEN_ROW k ≡ true) ↔ IsBadBelow old k STATES)
-    → ((r : ℕ) → r ≢ BROKEN_ROW → row_at new r ≡ row_at old r) → AreNoted (found_in invs new)
+    → ((k : ℕ) → (is_on new BROKEN_ROW k ≡ true) ↔ IsBadBelow bound old k STATES)
+    → ((r : ℕ) → r ≢ BROKEN_ROW → row_at new r ≡ row_at old r) → AreNoted (found_in bound invs new)
 noted bound invs old new marked broken others k inv at =
-    let row : ℕ = label_row TERMINAL (bad_of inv.kind) in
+    let row : ℕ = label_row bound TERMINAL (bad_of inv.kind) in
     let low : bad_of inv.kind < STATES = bad_low inv.kind in
     let stays : is_on new row k ≡ is_on old row k = ap (λ (x : List Bool). is_set x k) (others row (λ e. absurd (omega (arith, e, low)))) in
     let bad : (s : ℕ) → s < STATES → is_on old (bad_row s) k ≡ (s == bad_of inv.kind) = (marked.marked k inv at).bad in
     same_truth (is_on new BROKEN_ROW k) (is_on new row k)
     (λ on.
-    let w : IsBadBelow old k STATES = (broken k).0 on in
+    let w : IsBadBelow bound old k STATES = (broken k).0 on in
     let e : w.0 ≡ bad_of inv.kind = eqb-true w.0 (bad_of inv.kind) (sym (bad w.0 w.1) ∙ w.3) in
-    stays ∙ ap (λ (s : ℕ). is_on old (label_row TERMINAL s) k) (sym e) ∙ w.2)
+    stays ∙ ap (λ (s : ℕ). is_on old (label_row bound TERMINAL s) k) (sym e) ∙ w.2)
     (λ on. (broken k).1 (bad_of inv.kind, low, sym stays ∙ on, bad (bad_of inv.kind) low ∙ eq-eqb (bad_of inv.kind) (bad_of inv.kind) refl))

@@ -7,8 +7,8 @@ use Rattle.invariants.specs.declared.Kind.TheVariants.{AF, NF, AP, IB}
 use Rattle.invariants.specs.declared.Invariant.{Invariant}
 use Rattle.invariants.specs.Monitors.{step, step_of, is_bad}
 use Rattle.bit_rows.specs.Tables.{row_at, is_set, HasShape}
-use Rattle.labelling.specs.declared.layout.TheConstants.{STATES, LABEL_ROWS, BROKEN_ROW, ALL_ROW, MOVE_ROWS, MOVES}
-use Rattle.labelling.specs.Layout.{is_on, bad_row, first_row, moves_row, is_move, IsApart, IsMarked}
+use Rattle.labelling.specs.declared.layout.TheConstants.{STATES, BROKEN_ROW, ALL_ROW, MOVE_ROWS, MOVES}
+use Rattle.labelling.specs.Layout.{is_on, bad_row, first_row, moves_row, labels_from, is_move, IsApart, IsMarked}
 use Rattle.labelling.specs.Phases.{phase_of, first_phase, turn}
 use Rattle.labelling.proofs.Turning.{phase_phase}
 
@@ -66,13 +66,13 @@ apart_moves x y m k ne low = elim (cases_lt y x) [
 ]
 
 -- marks stay where the values of the invariant stay
-pub marked_same : (bound : ℕ) (old new : List (List Bool)) (k : ℕ) (inv : Invariant) → ((r : ℕ) → LABEL_ROWS ≤ r → r ≢ BROKEN_ROW → is_on new r k ≡ is_on old r k)
+pub marked_same : (bound : ℕ) (old new : List (List Bool)) (k : ℕ) (inv : Invariant) → ((r : ℕ) → r < labels_from bound → r ≢ BROKEN_ROW → is_on new r k ≡ is_on old r k)
     → IsMarked bound old k inv → IsMarked bound new k inv
 marked_same bound old new k inv same h = record {
   all = same ALL_ROW (omega arith) (λ e. absurd (omega (arith, e))) ∙ h.all;
-  bad = λ s low. same (bad_row s) (omega arith) (λ e. absurd (omega (arith, e))) ∙ h.bad s low;
-  first = λ s low. same (first_row s) (omega arith) (λ e. absurd (omega (arith, e))) ∙ h.first s low;
-  moves = λ x m le low. same (moves_row x + m) (omega arith) (λ e. absurd (omega (arith, e))) ∙ h.moves x m le low;
+  bad = λ s low. same (bad_row s) (omega (arith, low)) (λ e. absurd (omega (arith, e, low))) ∙ h.bad s low;
+  first = λ s low. same (first_row s) (omega (arith, low)) (λ e. absurd (omega (arith, e))) ∙ h.first s low;
+  moves = λ x m le low. same (moves_row x + m) (omega (arith, le, low)) (λ e. absurd (omega (arith, e))) ∙ h.moves x m le low;
 }
 
 -- an invariant is marked once its bad phases, its first phase and the moves at both its types are

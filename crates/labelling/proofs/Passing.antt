@@ -121,12 +121,12 @@ cleared_here old new r k within is =
 pub cleared_other : (old new : List (List Bool)) (row r : ℕ) → new ≡ set old row (replicate (length (row_at old row)) false) → r ≢ row → row_at new r ≡ row_at old r
 cleared_other old new row r is ne = ap (λ (t : List (List Bool)). row_at t r) is ∙ get_or-set_other old row r (replicate (length (row_at old row)) false) [] ne
 
--- with one more row cleared, the first rows are blank
-pub cleared_blank : (old new : List (List Bool)) (row : ℕ) → row < length old → new ≡ set old row (replicate (length (row_at old row)) false)
-    → ((r k : ℕ) → r < row → is_on old r k ≡ false) → (r k : ℕ) → r < row + 1 → is_on new r k ≡ false
-cleared_blank old new row within is before r k below = elim (cases_eq r row) [
+-- with one more row cleared, the rows from the first on are blank
+pub cleared_blank : (old new : List (List Bool)) (first row : ℕ) → row < length old → new ≡ set old row (replicate (length (row_at old row)) false)
+    → ((r k : ℕ) → first ≤ r → r < row → is_on old r k ≡ false) → (r k : ℕ) → first ≤ r → r < row + 1 → is_on new r k ≡ false
+cleared_blank old new first row within is before r k from below = elim (cases_eq r row) [
   | inl same ↦ ap (λ (x : ℕ). is_on new x k) same ∙ cleared_here old new row k within is
-  | inr ne ↦ ap (λ (x : List Bool). is_set x k) (cleared_other old new row r is ne) ∙ before r k (omega (arith, ne))
+  | inr ne ↦ ap (λ (x : List Bool). is_set x k) (cleared_other old new row r is ne) ∙ before r k from (omega (arith, below, ne))
 ]
 
 -- a table has the shape that its own numbers of rows and places give
@@ -134,34 +134,34 @@ pub own_shape : (table : List (List Bool)) (n m r : ℕ) → HasShape table n m 
 own_shape table n m r h below = subst₂ (λ (x y : ℕ). HasShape table x y) (sym h.count) (sym (h.long r below)) h
 
 -- some state below a bound is found at TERMINAL, and bad
-abbrev pub IsBadBelow : List (List Bool) → ℕ → ℕ → Type 0
-IsBadBelow table k bound =
-    (s : ℕ) × (s < bound) × (is_on table (label_row TERMINAL s) k ≡ true) × (is_on table (bad_row s) k ≡ true)
+abbrev pub IsBadBelow : ℕ → List (List Bool) → ℕ → ℕ → Type 0
+IsBadBelow bound table k low =
+    (s : ℕ) × (s < low) × (is_on table (label_row bound TERMINAL s) k ≡ true) × (is_on table (bad_row s) k ≡ true)
 
 -- before any state is looked at, nothing is noted
-pub bad_none : (old new : List (List Bool)) (k : ℕ) → is_on new BROKEN_ROW k ≡ false → (is_on new BROKEN_ROW k ≡ true) ↔ IsBadBelow old k 0
-bad_none old new k off = (λ on. absurd (false≢true (sym off ∙ on)), λ h. absurd (omega (arith, h.1)))
+pub bad_none : (bound : ℕ) (old new : List (List Bool)) (k : ℕ) → is_on new BROKEN_ROW k ≡ false → (is_on new BROKEN_ROW k ≡ true) ↔ IsBadBelow bound old k 0
+bad_none bound old new k off = (λ on. absurd (false≢true (sym off ∙ on)), λ h. absurd (omega (arith, h.1)))
 
 -- with one more state looked at, those are noted for which one so far is found at TERMINAL, and bad
-pub bad_more : (first old new : List (List Bool)) (s k : ℕ) (changed : Bool) → s < STATES
-    → ((r : ℕ) → r ≢ BROKEN_ROW → row_at old r ≡ row_at first r) → IsPassed old new (label_row TERMINAL s) BROKEN_ROW (bad_row s) false changed
-    → ((is_on old BROKEN_ROW k ≡ true) ↔ IsBadBelow first k s) → (is_on new BROKEN_ROW k ≡ true) ↔ IsBadBelow first k (s + 1)
-bad_more first old new s k changed low others h before =
-    let label : is_on old (label_row TERMINAL s) k ≡ is_on first (label_row TERMINAL s) k = ap (λ (x : List Bool). is_set x k) (others (label_row TERMINAL s) (λ e. absurd (omega (arith, e)))) in
-    let bad : is_on old (bad_row s) k ≡ is_on first (bad_row s) k = ap (λ (x : List Bool). is_set x k) (others (bad_row s) (λ e. absurd (omega (arith, e)))) in (
-      λ on. elim (or_cases (is_on old BROKEN_ROW k) (is_on old (label_row TERMINAL s) k && is_on old (bad_row s) k) (sym (h.here k) ∙ on)) [
+pub bad_more : (bound : ℕ) (first old new : List (List Bool)) (s k : ℕ) (changed : Bool) → s < STATES
+    → ((r : ℕ) → r ≢ BROKEN_ROW → row_at old r ≡ row_at first r) → IsPassed old new (label_row bound TERMINAL s) BROKEN_ROW (bad_row s) false changed
+    → ((is_on old BROKEN_ROW k ≡ true) ↔ IsBadBelow bound first k s) → (is_on new BROKEN_ROW k ≡ true) ↔ IsBadBelow bound first k (s + 1)
+bad_more bound first old new s k changed low others h before =
+    let label : is_on old (label_row bound TERMINAL s) k ≡ is_on first (label_row bound TERMINAL s) k = ap (λ (x : List Bool). is_set x k) (others (label_row bound TERMINAL s) (λ e. absurd (omega (arith, e)))) in
+    let bad : is_on old (bad_row s) k ≡ is_on first (bad_row s) k = ap (λ (x : List Bool). is_set x k) (others (bad_row s) (λ e. absurd (omega (arith, e, low)))) in (
+      λ on. elim (or_cases (is_on old BROKEN_ROW k) (is_on old (label_row bound TERMINAL s) k && is_on old (bad_row s) k) (sym (h.here k) ∙ on)) [
         | inl was ↦ let w = before.0 was in (w.0, (let l : w.0 < s = w.1 in omega arith), w.2, w.3)
         | inr now ↦
-            let b = and_parts (is_on old (label_row TERMINAL s) k) (is_on old (bad_row s) k) now in
+            let b = and_parts (is_on old (label_row bound TERMINAL s) k) (is_on old (bad_row s) k) now in
             (s, omega arith, sym label ∙ b.0, sym bad ∙ b.1)
       ],
       λ w. h.here k ∙ elim (cases_eq w.0 s) [
         | inl same ↦
-            or_right (is_on old BROKEN_ROW k) (is_on old (label_row TERMINAL s) k && is_on old (bad_row s) k)
-            (and_from (is_on old (label_row TERMINAL s) k) (is_on old (bad_row s) k)
-            (label ∙ ap (λ (x : ℕ). is_on first (label_row TERMINAL x) k) (sym same) ∙ w.2) (bad ∙ ap (λ (x : ℕ). is_on first (bad_row x) k) (sym same) ∙ w.3))
+            or_right (is_on old BROKEN_ROW k) (is_on old (label_row bound TERMINAL s) k && is_on old (bad_row s) k)
+            (and_from (is_on old (label_row bound TERMINAL s) k) (is_on old (bad_row s) k)
+            (label ∙ ap (λ (x : ℕ). is_on first (label_row bound TERMINAL x) k) (sym same) ∙ w.2) (bad ∙ ap (λ (x : ℕ). is_on first (bad_row x) k) (sym same) ∙ w.3))
         | inr ne ↦
-            or_left (is_on old BROKEN_ROW k) (is_on old (label_row TERMINAL s) k && is_on old (bad_row s) k)
+            or_left (is_on old BROKEN_ROW k) (is_on old (label_row bound TERMINAL s) k && is_on old (bad_row s) k)
             (before.1 (w.0, (let l : w.0 < s + 1 = w.1 in omega (arith, l, ne)), w.2, w.3))
       ],
     )

@@ -2,7 +2,7 @@
 use Rattle.std.proofs.Common.{◌≡◌, ◌↔◌, ℕ, zero, suc, ◌<◌, ◌≤◌, Bool, true, false, not, List, [], ◌∷◌, length, get_or, slice_get, Some, refl, sym, ap, ap₂, ◌∙◌, subst, subst₂, arith, inl, inr}
 use Rattle.std.proofs.lemmas.Bool.{false≢true, true≢false, cases_Bool, eqb-true, eq-eqb}
 use Rattle.std.proofs.lemmas.Option.{slice_get-get_or, slice_get_within}
-use Rattle.std.proofs.lemmas.List.{get_or-take}
+use Rattle.std.proofs.lemmas.List.{get_or-drop}
 use Rattle.std.specs.List.{AllByRecursion}
 use Rattle.limits.specs.declared.TheConstants.{MAX_PARTITIONS, TERMINAL}
 use Rattle.invariants.specs.declared.Kind.TheVariants.{AF}
@@ -16,14 +16,14 @@ use Rattle.partition_model.proofs.Runs.{broken-first}
 use Rattle.clashes.specs.Marks.{Marks}
 use Rattle.models.specs.Models.{has_state}
 use Rattle.bit_rows.specs.Tables.{is_set}
-use Rattle.labelling.specs.declared.layout.TheConstants.{STATES, LABEL_ROWS, BROKEN_ROW}
+use Rattle.labelling.specs.declared.layout.TheConstants.{STATES, BROKEN_ROW}
 use Rattle.labelling.specs.PhaseRows.{found_in}
 use Rattle.labelling.specs.Found.{IsExact, AreNoted}
 use Rattle.labelling.specs.Labelled.{Labelling, AreLabelsOf, digit, is_found, number_of, labelling_in, SaysSatisfied}
-use Rattle.labelling.specs.Layout.{is_on, label_row}
+use Rattle.labelling.specs.Layout.{is_on, labels_from, label_place, label_row}
 use Rattle.labelling.specs.Phases.{phase_of, phase_at}
 use Rattle.labelling.proofs.Finding.{reached_more, bad_low}
-use Rattle.labelling.proofs.Turning.{phase_phase, phase_low, phase_bad, phase_at_low, phase_known}
+use Rattle.labelling.proofs.Turning.{phase_phase, phase_low, phase_bad, phase_known}
 
 -- the number of a set of states is at most 7
 pub number_small : (a b c : Bool) → number_of a b c ≤ 7
@@ -74,52 +74,52 @@ states_found labels k p (suc (suc zero)) low = state_two (is_found labels k p 0)
 states_found labels k p (suc (suc (suc s))) low = absurd (omega (arith, low))
 
 -- what labels say to be found is what the row of its phase says
-pub found_same : (invs : List Invariant) (table : List (List Bool)) (marks : Marks) (k p s : ℕ) → p < MAX_PARTITIONS → s < STATES
-    → is_found (labelling_in invs table marks) k p s ≡ is_on table (label_row p (phase_at invs k s)) k
-found_same invs table marks k p s in_p low =
-    ap (λ (x : List Bool). is_set x k) (get_or-take LABEL_ROWS table (label_row p (phase_at invs k s)) [] (omega (arith, in_p, phase_at_low invs k s low)))
+pub found_same : (bound : ℕ) (invs : List Invariant) (table : List (List Bool)) (marks : Marks) (k p s : ℕ) → p < MAX_PARTITIONS → s < STATES
+    → is_found (labelling_in bound invs table marks) k p s ≡ is_on table (label_row bound p (phase_at invs k s)) k
+found_same bound invs table marks k p s in_p low =
+    ap (λ (x : List Bool). is_set x k) (get_or-drop (labels_from bound) table (label_place p (phase_at invs k s)) [])
 
 -- the number of the states whose rows are on
-abbrev pub digit_in : List Invariant → List (List Bool) → ℕ → ℕ → ℕ
-digit_in invs rows k p =
-    number_of (is_on rows (label_row p (phase_at invs k 0)) k) (is_on rows (label_row p (phase_at invs k 1)) k) (is_on rows (label_row p (phase_at invs k 2)) k)
+abbrev pub digit_in : ℕ → List Invariant → List (List Bool) → ℕ → ℕ → ℕ
+digit_in bound invs rows k p =
+    number_of (is_on rows (label_row bound p (phase_at invs k 0)) k) (is_on rows (label_row bound p (phase_at invs k 1)) k) (is_on rows (label_row bound p (phase_at invs k 2)) k)
 
 -- the number of the states whose rows are on is the label
-pub digit_same : (invs : List Invariant) (table : List (List Bool)) (marks : Marks) (k p : ℕ) → p < MAX_PARTITIONS
-    → digit_in invs table k p ≡ digit (labelling_in invs table marks) k p
-digit_same invs table marks k p in_p =
-    let zeroth = found_same invs table marks k p 0 in_p (omega arith) in
-    let first = found_same invs table marks k p 1 in_p (omega arith) in
-    let second = found_same invs table marks k p 2 in_p (omega arith) in
-    sym (ap₂ (λ (x y : Bool). number_of x y (is_found (labelling_in invs table marks) k p 2)) zeroth first
-    ∙ ap (λ (x : Bool). number_of (is_on table (label_row p (phase_at invs k 0)) k) (is_on table (label_row p (phase_at invs k 1)) k) x) second)
+pub digit_same : (bound : ℕ) (invs : List Invariant) (table : List (List Bool)) (marks : Marks) (k p : ℕ) → p < MAX_PARTITIONS
+    → digit_in bound invs table k p ≡ digit (labelling_in bound invs table marks) k p
+digit_same bound invs table marks k p in_p =
+    let zeroth = found_same bound invs table marks k p 0 in_p (omega arith) in
+    let first = found_same bound invs table marks k p 1 in_p (omega arith) in
+    let second = found_same bound invs table marks k p 2 in_p (omega arith) in
+    sym (ap₂ (λ (x y : Bool). number_of x y (is_found (labelling_in bound invs table marks) k p 2)) zeroth first
+    ∙ ap (λ (x : Bool). number_of (is_on table (label_row bound p (phase_at invs k 0)) k) (is_on table (label_row bound p (phase_at invs k 1)) k) x) second)
 
 -- where what is found is what is reached, labels say the states that are reached
-pub exact_labels : (g : Graph) (invs : List Invariant) (table : List (List Bool)) (marks : Marks) → IsExact g (found_in invs table) → AreLabelsOf (labelling_in invs table marks) g
-exact_labels g invs table marks h = record {
+pub exact_labels : (bound : ℕ) (g : Graph) (invs : List Invariant) (table : List (List Bool)) (marks : Marks) → IsExact g (found_in bound invs table) → AreLabelsOf (labelling_in bound invs table marks) g
+exact_labels bound g invs table marks h = record {
   states = λ k inv p s at in_p low.
-      let e : has_state (digit (labelling_in invs table marks) k p) s ≡ is_on table (label_row p (phase_of inv.kind s)) k =
-      states_found (labelling_in invs table marks) k p s low ∙ found_same invs table marks k p s in_p low ∙ ap (λ (x : ℕ). is_on table (label_row p x) k) (phase_known invs k s inv at) in
+      let e : has_state (digit (labelling_in bound invs table marks) k p) s ≡ is_on table (label_row bound p (phase_of inv.kind s)) k =
+      states_found (labelling_in bound invs table marks) k p s low ∙ found_same bound invs table marks k p s in_p low ∙ ap (λ (x : ℕ). is_on table (label_row bound p x) k) (phase_known invs k s inv at) in
       let w = h k inv p (phase_of inv.kind s) at in_p (phase_low inv.kind s low) in
       let state : phase_of inv.kind (phase_of inv.kind s) ≡ s = phase_phase inv.kind s in (
         λ on. subst (λ (x : ℕ). Reached inv g p x) state (w.0 (sym e ∙ on)),
         λ r. e ∙ w.1 (subst (λ (x : ℕ). Reached inv g p x) (sym state) r),
       );
-  small = λ k p. number_small (is_found (labelling_in invs table marks) k p 0) (is_found (labelling_in invs table marks) k p 1) (is_found (labelling_in invs table marks) k p 2);
+  small = λ k p. number_small (is_found (labelling_in bound invs table marks) k p 0) (is_found (labelling_in bound invs table marks) k p 1) (is_found (labelling_in bound invs table marks) k p 2);
 }
 
 all_at : (P : Invariant → Type 0) (invs : List Invariant) → ((k : ℕ) (inv : Invariant) → slice_get invs k ≡ Some inv → P inv) → AllByRecursion P invs
 all_at P [] h = tt
 all_at P (x ∷ xs) h = (h 0 x refl, all_at P xs (λ k inv at. h (suc k) inv at))
 
-module _ (g : Graph) (invs : List Invariant) (table : List (List Bool)) (marks : Marks) (labels : AreLabelsOf (labelling_in invs table marks) g) (noted : AreNoted (found_in invs table)) where
+module _ (bound : ℕ) (g : Graph) (invs : List Invariant) (table : List (List Bool)) (marks : Marks) (labels : AreLabelsOf (labelling_in bound invs table marks) g) (noted : AreNoted (found_in bound invs table)) where
   broken_tells : (k : ℕ) (inv : Invariant) → slice_get invs k ≡ Some inv → (is_on table BROKEN_ROW k ≡ true) ↔ Reached inv g TERMINAL (bad_of inv.kind)
   broken_tells k inv at =
       let low : bad_of inv.kind < STATES = bad_low inv.kind in
-      let e : is_on table BROKEN_ROW k ≡ has_state (digit (labelling_in invs table marks) k TERMINAL) (bad_of inv.kind) =
+      let e : is_on table BROKEN_ROW k ≡ has_state (digit (labelling_in bound invs table marks) k TERMINAL) (bad_of inv.kind) =
       noted k inv at
-      ∙ sym (states_found (labelling_in invs table marks) k TERMINAL (bad_of inv.kind) low ∙ found_same invs table marks k TERMINAL (bad_of inv.kind) (omega arith) low
-      ∙ ap (λ (x : ℕ). is_on table (label_row TERMINAL x) k) (phase_known invs k (bad_of inv.kind) inv at ∙ phase_bad inv.kind)) in
+      ∙ sym (states_found (labelling_in bound invs table marks) k TERMINAL (bad_of inv.kind) low ∙ found_same bound invs table marks k TERMINAL (bad_of inv.kind) (omega arith) low
+      ∙ ap (λ (x : ℕ). is_on table (label_row bound TERMINAL x) k) (phase_known invs k (bad_of inv.kind) inv at ∙ phase_bad inv.kind)) in
       let w = labels.states k inv TERMINAL (bad_of inv.kind) at (omega arith) low in
       (λ on. w.0 (sym e ∙ on), λ r. e ∙ w.1 r)
 
@@ -158,11 +158,16 @@ module _ (g : Graph) (invs : List Invariant) (table : List (List Bool)) (marks :
     | inr off ↦ (λ yes. satisfied k inv at off, λ sat. told k (slice_get_within invs k inv at) ∙ ap not off)
   ]
 
+-- the label of an invariant that rows of labels say
+abbrev pub digit_at : List Invariant → List (List Bool) → ℕ → ℕ → ℕ
+digit_at invs rows k p =
+    number_of (is_on rows (label_place p (phase_at invs k 0)) k) (is_on rows (label_place p (phase_at invs k 1)) k) (is_on rows (label_place p (phase_at invs k 2)) k)
+
 -- labels stay where only marks change
 pub labels_kept : (g : Graph) (old new : Labelling) → new.invs ≡ old.invs → new.rows ≡ old.rows → AreLabelsOf old g → AreLabelsOf new g
 labels_kept g old new invs rows h = record {
   states = λ k inv p s at in_p low.
-      subst₂ (λ (is : List Invariant) (x : List (List Bool)). (has_state (digit_in is x k p) s ≡ true) ↔ Reached inv g p s) (sym invs) (sym rows)
+      subst₂ (λ (is : List Invariant) (x : List (List Bool)). (has_state (digit_at is x k p) s ≡ true) ↔ Reached inv g p s) (sym invs) (sym rows)
       (h.states k inv p s (subst (λ (x : List Invariant). slice_get x k ≡ Some inv) invs at) in_p low);
   small = λ k p. number_small (is_found new k p 0) (is_found new k p 1) (is_found new k p 2);
 }

@@ -59,12 +59,12 @@ second_taken IB on = refl
 abbrev pub HoldsRow : List (List Bool) → ℕ → ℕ → ℕ → Type 0
 HoldsRow rows r place word = (i : ℕ) → i < 64 → eqb (bit_at word i) 1 ≡ is_on rows r (place * 64 + i)
 
-module _ (invs : List Invariant) (rows : List (List Bool)) (place p mask zeroth first second : ℕ) (fits : mask < 2 ^ 64) (swapped : SaysSwapped invs place mask)
-    (has_zeroth : HoldsRow rows (label_row p 0) place zeroth) (has_first : HoldsRow rows (label_row p 1) place first) (has_second : HoldsRow rows (label_row p 2) place second) where
+module _ (bound : ℕ) (invs : List Invariant) (rows : List (List Bool)) (place p mask zeroth first second : ℕ) (fits : mask < 2 ^ 64) (swapped : SaysSwapped invs place mask)
+    (has_zeroth : HoldsRow rows (label_row bound p 0) place zeroth) (has_first : HoldsRow rows (label_row bound p 1) place first) (has_second : HoldsRow rows (label_row bound p 2) place second) where
   -- two words from which the mask takes give the bits that it takes
-  both_taken : (one other s t k : ℕ) → HoldsRow rows (label_row p s) place one → HoldsRow rows (label_row p t) place other → k < 64 → place * 64 + k < length invs
+  both_taken : (one other s t k : ℕ) → HoldsRow rows (label_row bound p s) place one → HoldsRow rows (label_row bound p t) place other → k < 64 → place * 64 + k < length invs
       → eqb (bit_at (bit_or (bit_and one (bit_not w64 mask)) (bit_and other mask)) k) 1
-      ≡ cond (eqb (phase_at invs (place * 64 + k) 0) 1) (is_on rows (label_row p t) (place * 64 + k)) (is_on rows (label_row p s) (place * 64 + k))
+      ≡ cond (eqb (phase_at invs (place * 64 + k) 0) 1) (is_on rows (label_row bound p t) (place * 64 + k)) (is_on rows (label_row bound p s) (place * 64 + k))
   both_taken one other s t k has_one has_other below inside =
       taken one other mask k fits below
       ∙ ap (λ (x : Bool). cond x (eqb (bit_at other k) 1) (eqb (bit_at one k) 1)) (swapped k below inside)
@@ -73,14 +73,14 @@ module _ (invs : List Invariant) (rows : List (List Bool)) (place p mask zeroth 
   -- the words of the states say what is found of each state
   pub states_told : (k s : ℕ) → k < 64 → place * 64 + k < length invs → s < STATES
       → eqb (bit_at (get_or (bit_or (bit_and zeroth (bit_not w64 mask)) (bit_and first mask) ∷ bit_or (bit_and first (bit_not w64 mask)) (bit_and zeroth mask) ∷ second ∷ []) s 0) k) 1
-      ≡ is_on rows (label_row p (phase_at invs (place * 64 + k) s)) (place * 64 + k)
+      ≡ is_on rows (label_row bound p (phase_at invs (place * 64 + k) s)) (place * 64 + k)
   states_told k zero below inside low =
       both_taken zeroth first 0 1 k has_zeroth has_first below inside
-      ∙ zeroth_taken (get_or invs (place * 64 + k) (invariant AF 0 0)).kind (λ (s : ℕ). is_on rows (label_row p s) (place * 64 + k))
+      ∙ zeroth_taken (get_or invs (place * 64 + k) (invariant AF 0 0)).kind (λ (s : ℕ). is_on rows (label_row bound p s) (place * 64 + k))
   states_told k (suc zero) below inside low =
       both_taken first zeroth 1 0 k has_first has_zeroth below inside
-      ∙ first_taken (get_or invs (place * 64 + k) (invariant AF 0 0)).kind (λ (s : ℕ). is_on rows (label_row p s) (place * 64 + k))
+      ∙ first_taken (get_or invs (place * 64 + k) (invariant AF 0 0)).kind (λ (s : ℕ). is_on rows (label_row bound p s) (place * 64 + k))
   states_told k (suc (suc zero)) below inside low =
       has_second k below
-      ∙ second_taken (get_or invs (place * 64 + k) (invariant AF 0 0)).kind (λ (s : ℕ). is_on rows (label_row p s) (place * 64 + k))
+      ∙ second_taken (get_or invs (place * 64 + k) (invariant AF 0 0)).kind (λ (s : ℕ). is_on rows (label_row bound p s) (place * 64 + k))
   states_told k (suc (suc (suc s))) below inside low = absurd (omega (arith, low))

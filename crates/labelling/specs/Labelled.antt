@@ -1,5 +1,5 @@
 -- The labels of invariants: for each id, the set of states that a monitor reaches there, as a number.
-use Rattle.std.specs.Prelude.{◌≡◌, ◌↔◌, ℕ, ◌+◌, ◌*◌, ◌<◌, ◌≤◌, ◌==◌, Bool, true, false, if◌then◌else◌, List, length, take, slice_get, slice_index, slice_index_or, Some}
+use Rattle.std.specs.Prelude.{◌≡◌, ◌↔◌, ℕ, ◌+◌, ◌*◌, ◌<◌, ◌≤◌, ◌==◌, Bool, true, false, if◌then◌else◌, List, length, drop, slice_get, slice_index, slice_index_or, Some}
 use Rattle.std.specs.Int.{bit_at}
 use Rattle.limits.specs.declared.TheConstants.{MAX_PARTITIONS}
 use Rattle.invariants.specs.declared.Invariant.{Invariant}
@@ -7,8 +7,7 @@ use Rattle.partition_model.specs.Graphs.{Graph, Satisfies}
 use Rattle.partition_model.specs.Labels.{Reached}
 use Rattle.clashes.specs.Marks.{Marks}
 use Rattle.models.specs.Models.{has_state}
-use Rattle.labelling.specs.declared.layout.TheConstants.{LABEL_ROWS}
-use Rattle.labelling.specs.Layout.{is_on, label_row}
+use Rattle.labelling.specs.Layout.{is_on, labels_from, label_place}
 use Rattle.labelling.specs.Phases.{phase_at}
 
 -- the invariants; for each id and phase, in order, a row with a bit for each invariant; and the marks for the losses of
@@ -20,7 +19,7 @@ pub record Labelling : Type 0 where
 
 -- whether the state s of invariant k is found at p
 abbrev pub is_found : Labelling → ℕ → ℕ → ℕ → Bool
-is_found labels k p s = is_on labels.rows (label_row p (phase_at labels.invs k s)) k
+is_found labels k p s = is_on labels.rows (label_place p (phase_at labels.invs k s)) k
 
 -- a set of states as a number: 1 for the state 0, plus 2 for the state 1, plus 4 for the state 2
 abbrev pub number_of : Bool → Bool → Bool → ℕ
@@ -50,8 +49,8 @@ pub record AreLabelsOf (labels : Labelling) (g : Graph) : Type 0 where
   pub small : (k p : ℕ) → digit labels k p ≤ 7
 
 -- the label rows of a table, with marks
-abbrev pub labelling_in : List Invariant → List (List Bool) → Marks → Labelling
-labelling_in invs table marks = record { invs = invs; rows = take LABEL_ROWS table; clashes = marks }
+abbrev pub labelling_in : ℕ → List Invariant → List (List Bool) → Marks → Labelling
+labelling_in bound invs table marks = record { invs = invs; rows = drop (labels_from bound) table; clashes = marks }
 
 -- only the marks may differ, and they have the same invariants
 pub record KeepsLabels (old new : Labelling) : Type 0 where

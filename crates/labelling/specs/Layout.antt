@@ -7,13 +7,9 @@ use Rattle.bit_rows.specs.Tables.{row_at, is_set, HasShape}
 use Rattle.labelling.specs.declared.layout.TheConstants.{STATES, LABEL_ROWS, BROKEN_ROW, FIRST_ROWS, ALL_ROW, MOVE_ROWS, MOVES}
 use Rattle.labelling.specs.Phases.{first_phase, turn}
 
--- the row of a phase at an id
-abbrev pub label_row : ℕ → ℕ → ℕ
-label_row p s = p * STATES + s
-
 -- the row for a bad phase
 abbrev pub bad_row : ℕ → ℕ
-bad_row s = LABEL_ROWS + s
+bad_row s = s
 
 -- the row for a phase in which monitors are at INITIAL
 abbrev pub first_row : ℕ → ℕ
@@ -30,6 +26,22 @@ move_place s t = if s == 0 then 0 else t + 1
 -- the row of the move from s to t at the type x
 abbrev pub move_row : ℕ → ℕ → ℕ → ℕ
 move_row x s t = moves_row x + move_place s t
+
+-- the first row of labels; the rows before it do not depend on the graph
+abbrev pub labels_from : ℕ → ℕ
+labels_from bound = MOVE_ROWS + (bound + 1) * MOVES
+
+-- how many rows there are
+abbrev pub row_count : ℕ → ℕ
+row_count bound = labels_from bound + LABEL_ROWS
+
+-- the place of a phase at an id among the rows of labels
+abbrev pub label_place : ℕ → ℕ → ℕ
+label_place p s = p * STATES + s
+
+-- the row of a phase at an id
+abbrev pub label_row : ℕ → ℕ → ℕ → ℕ
+label_row bound p s = labels_from bound + label_place p s
 
 -- the bit of invariant k in row r
 abbrev pub is_on : List (List Bool) → ℕ → ℕ → Bool
@@ -55,8 +67,8 @@ pub record IsMarked (bound : ℕ) (table : List (List Bool)) (k : ℕ) (inv : In
   pub moves : (x m : ℕ) → x ≤ bound → m < MOVES → is_on table (moves_row x + m) k ≡ is_move inv x m
 
 -- the row is that of a label, or the row of broken invariants
-abbrev pub IsFree : ℕ → Type 0
-IsFree r = (r < LABEL_ROWS) ⊎ (r ≡ BROKEN_ROW)
+abbrev pub IsFree : ℕ → ℕ → Type 0
+IsFree bound r = (labels_from bound ≤ r) ⊎ (r ≡ BROKEN_ROW)
 
 -- the bit is that of an invariant other than k, or in a row that is no move at x
 abbrev pub IsApart : ℕ → ℕ → ℕ → ℕ → Type 0
@@ -66,10 +78,11 @@ IsApart x k r j = (j ≢ k) ⊎ ((r < moves_row x) ⊎ (moves_row (x + 1) ≤ r)
 pub record AreMarked (bound : ℕ) (invs : List Invariant) (table : List (List Bool)) : Type 0 where
   pub limit : bound ≤ LAST_TYPE + 1
   pub named : AreNamedBelow bound invs
-  pub shape : HasShape table (MOVE_ROWS + (bound + 1) * MOVES) (length invs)
+  pub shape : HasShape table (row_count bound) (length invs)
   pub marked : (k : ℕ) (inv : Invariant) → slice_get invs k ≡ Some inv → IsMarked bound table k inv
 
--- all bits are off in the label rows from this one on
-pub record IsBlankFrom (used : ℕ) (table : List (List Bool)) : Type 0 where
-  pub limit : used ≤ LABEL_ROWS
-  pub blank : (r k : ℕ) → used ≤ r → r < LABEL_ROWS → is_on table r k ≡ false
+-- all bits are off in the rows from this one on, which is a row of labels or the end of all rows
+pub record IsBlankFrom (bound used : ℕ) (table : List (List Bool)) : Type 0 where
+  pub from : labels_from bound ≤ used
+  pub limit : used ≤ row_count bound
+  pub blank : (r k : ℕ) → used ≤ r → r < row_count bound → is_on table r k ≡ false

@@ -1,9 +1,9 @@
 //! What is done with whole rows.
-ghost use Rattle.std.specs.Prelude.{◌≡◌, ◌≢◌, ◌≤◌, ◌<◌, ◌↔◌, ℕ, true, false, length};
-ghost use Rattle.limits.specs.declared.TheConstants.{TERMINAL};
+ghost use Rattle.std.specs.Prelude.{◌≡◌, ◌≢◌, ◌≤◌, ◌<◌, ◌+◌, ◌↔◌, ℕ, true, false, length};
+ghost use Rattle.limits.specs.declared.TheConstants.{LAST_TYPE, TERMINAL};
 ghost use Rattle.bit_rows.specs.Tables.{row_at, HasShape, KeepsShape};
 ghost use Rattle.labelling.specs.Carried.{IsPassed};
-ghost use Rattle.labelling.specs.Layout.{is_on, label_row, bad_row};
+ghost use Rattle.labelling.specs.Layout.{is_on, label_row, bad_row, row_count};
 
 use crate::layout::{BROKEN_ROW, bad_row, label_row};
 use bit_rows::Rows;
@@ -28,27 +28,30 @@ pub(crate) fn pass(rows: &mut Rows, from: usize, to: usize, mask: usize, back: b
     rows.or_and_into(to, from, mask)
 }
 
-/// Turns all bits off in the rows below this number.
-pub(crate) fn clear_below(rows: &mut Rows, bound: usize)
-    requires { bound ≤ length rows.old }
+/// Turns all bits off in the rows from `first` on and below `end`.
+pub(crate) fn clear_between(rows: &mut Rows, first: usize, end: usize)
+    requires order { first ≤ end }
+    requires within { end ≤ length rows.old }
     ensures shape { KeepsShape rows.old rows.new }
-    ensures blank { (r k : ℕ) → r < bound → is_on rows.new r k ≡ false }
-    ensures others { (r : ℕ) → bound ≤ r → row_at rows.new r ≡ row_at rows.old r }
+    ensures blank { (r k : ℕ) → first ≤ r → r < end → is_on rows.new r k ≡ false }
+    ensures before { (r : ℕ) → r < first → row_at rows.new r ≡ row_at rows.old r }
+    ensures behind { (r : ℕ) → end ≤ r → row_at rows.new r ≡ row_at rows.old r }
 {
-    for row in 0..bound {
+    for row in first..end {
         rows.clear(row);
     }
 }
 
 /// Notes for which invariants a bad phase is found at TERMINAL.
-pub(crate) fn note_broken(rows: &mut Rows)
+pub(crate) fn note_broken(rows: &mut Rows, bound: usize)
+    requires limit { bound ≤ LAST_TYPE + 1 }
     requires shape { HasShape rows.old (length rows.old) (length (row_at rows.old BROKEN_ROW)) }
-    requires room { BROKEN_ROW < length rows.old }
+    requires room { row_count bound ≤ length rows.old }
 
     // The row of what is broken is written from scratch, and all others stay.
     ensures shape { KeepsShape rows.old rows.new }
     ensures broken { (k : ℕ) → (is_on rows.new BROKEN_ROW k ≡ true)
-        ↔ ((s : ℕ) × (s < 3) × (is_on rows.old (label_row TERMINAL s) k ≡ true)
+        ↔ ((s : ℕ) × (s < 3) × (is_on rows.old (label_row bound TERMINAL s) k ≡ true)
         × (is_on rows.old (bad_row s) k ≡ true)) }
     ensures others { (r : ℕ) → r ≢ BROKEN_ROW → row_at rows.new r ≡ row_at rows.old r }
 {
@@ -56,7 +59,7 @@ pub(crate) fn note_broken(rows: &mut Rows)
     for state in 0..3 {
         pass(
             rows,
-            label_row(TERMINAL, state),
+            label_row(bound, TERMINAL, state),
             BROKEN_ROW,
             bad_row(state),
             false,

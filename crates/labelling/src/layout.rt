@@ -1,7 +1,8 @@
-//! Which row of the table says what.
+//! Which row of the table says what. The rows that are the same for each graph come first. Those of the labels follow in the
+//! order of the ids: the rows of ids that never come into use are last, and `Rows` writes no memory for them.
 ghost use Rattle.std.specs.Prelude.{◌≡◌, ◌≤◌, ◌<◌, ◌+◌, ◌*◌};
 ghost use Rattle.limits.specs.declared.TheConstants.{LAST_TYPE, MAX_PARTITIONS};
-ghost use Rattle.labelling.specs.Layout.{label_row, bad_row, first_row, moves_row, move_row};
+ghost use Rattle.labelling.specs.Layout.{labels_from, label_row, bad_row, first_row, moves_row, move_row, row_count};
 
 use limits::MAX_PARTITIONS;
 
@@ -14,11 +15,12 @@ pub(crate) const WORD_BITS: usize = 64;
 /// The last phase.
 pub(crate) const LAST_PHASE: u8 = 2;
 
-/// How many rows say which phases are found: one for each id and phase. They are the first rows.
+/// How many rows say which phases are found: one for each id and phase. They are the last rows.
 pub(crate) const LABEL_ROWS: usize = MAX_PARTITIONS as usize * STATES;
 
-/// The row of the invariants for which a bad phase is found at TERMINAL. The rows of the bad phases are before it.
-pub(crate) const BROKEN_ROW: usize = LABEL_ROWS + STATES;
+/// The row of the invariants for which a bad phase is found at TERMINAL. The rows of the bad phases are before it, and are
+/// the first rows.
+pub(crate) const BROKEN_ROW: usize = STATES;
 
 /// The first of the rows that say in which phase monitors are at INITIAL.
 pub(crate) const FIRST_ROWS: usize = BROKEN_ROW + 1;
@@ -33,23 +35,40 @@ pub(crate) const MOVE_ROWS: usize = ALL_ROW + 1;
 /// Nothing leaves phase 2.
 pub(crate) const MOVES: usize = 4;
 
+/// The first of the rows that say which phases are found, if `bound` is the last type that has rows of its own.
+pub(crate) fn labels_from(bound: usize) -> usize
+    requires { bound ≤ LAST_TYPE + 1 }
+    ensures { result ≡ labels_from bound }
+{
+    MOVE_ROWS + (bound + 1) * MOVES
+}
+
+/// How many rows there are.
+pub(crate) fn row_count(bound: usize) -> usize
+    requires { bound ≤ LAST_TYPE + 1 }
+    ensures { result ≡ row_count bound }
+{
+    labels_from(bound) + LABEL_ROWS
+}
+
 /// The row of the invariants for which the phase is found at p.
-pub(crate) fn label_row(p: u32, phase: u8) -> usize
+pub(crate) fn label_row(bound: usize, p: u32, phase: u8) -> usize
+    requires bound { bound ≤ LAST_TYPE + 1 }
     requires id { p < MAX_PARTITIONS }
     requires phase { phase < STATES }
-    ensures value { result ≡ label_row p phase }
-    ensures within { result < LABEL_ROWS }
+    ensures value { result ≡ label_row bound p phase }
+    ensures within { (labels_from bound ≤ result) × (result < row_count bound) }
 {
-    p as usize * STATES + phase as usize
+    labels_from(bound) + p as usize * STATES + phase as usize
 }
 
 /// The row of the invariants whose bad phase this is.
 pub(crate) fn bad_row(phase: u8) -> usize
     requires { phase < STATES }
     ensures value { result ≡ bad_row phase }
-    ensures within { (LABEL_ROWS ≤ result) × (result < BROKEN_ROW) }
+    ensures within { result < BROKEN_ROW }
 {
-    LABEL_ROWS + phase as usize
+    phase as usize
 }
 
 /// The row of the invariants whose monitors are in this phase at INITIAL.

@@ -4,7 +4,7 @@ ghost use Rattle.bit_rows.specs.Tables.{HasShape, KeepsShape};
 ghost use Rattle.invariants.specs.declared.Invariant.{Invariant};
 ghost use Rattle.labelling.specs.declared.layout.TheConstants.{MOVES, MOVE_ROWS};
 ghost use Rattle.limits.specs.declared.TheConstants.{LAST_TYPE};
-ghost use Rattle.labelling.specs.Layout.{is_on, is_move, moves_row, AreMarked, AreNamedBelow, IsApart, IsFree, IsMarked};
+ghost use Rattle.labelling.specs.Layout.{is_on, is_move, moves_row, AreMarked, AreNamedBelow, row_count, IsApart, IsFree, IsMarked};
 
 use crate::layout::{ALL_ROW, bad_row, first_row, moves_row};
 use crate::phases::{first_phase, turn};
@@ -29,10 +29,10 @@ pub(crate) fn bound_of(invs: &[Invariant]) -> usize
 pub(crate) fn mark_all(rows: &mut Rows, invs: &[Invariant], bound: usize)
     requires limit { bound ≤ LAST_TYPE + 1 }
     requires named { AreNamedBelow bound invs.now }
-    requires shape { HasShape rows.old (MOVE_ROWS + (bound + 1) * MOVES) (length invs.now) }
+    requires shape { HasShape rows.old (row_count bound) (length invs.now) }
     requires blank { (r k : ℕ) → is_on rows.old r k ≡ false }
     ensures marked { AreMarked bound invs.now rows.new }
-    ensures free { (r k : ℕ) → IsFree r → is_on rows.new r k ≡ false }
+    ensures free { (r k : ℕ) → IsFree bound r → is_on rows.new r k ≡ false }
 {
     for (k, inv) in invs.iter().enumerate() {
         mark(rows, bound, invs.len(), k, *inv);
@@ -43,14 +43,14 @@ pub(crate) fn mark_all(rows: &mut Rows, invs: &[Invariant], bound: usize)
 fn mark(rows: &mut Rows, bound: usize, count: usize, k: usize, inv: Invariant)
     requires limit { bound ≤ LAST_TYPE + 1 }
     requires named { (inv.a < bound) × (inv.b < bound) }
-    requires shape { HasShape rows.old (MOVE_ROWS + (bound + 1) * MOVES) count }
+    requires shape { HasShape rows.old (row_count bound) count }
     requires number { k < count }
     requires blank { (r : ℕ) → is_on rows.old r k ≡ false }
 
     // What the rows say: about this invariant what types do to it, and about the others what they said before.
     ensures shape { KeepsShape rows.old rows.new }
     ensures marked { IsMarked bound rows.new k inv }
-    ensures free { (r : ℕ) → IsFree r → is_on rows.new r k ≡ false }
+    ensures free { (r : ℕ) → IsFree bound r → is_on rows.new r k ≡ false }
     ensures others { (r j : ℕ) → j ≢ k → is_on rows.new r j ≡ is_on rows.old r j }
 {
     rows.put(ALL_ROW, k, true);

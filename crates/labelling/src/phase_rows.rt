@@ -7,10 +7,10 @@ ghost use Rattle.labelling.specs.declared.layout.TheConstants.{LAST_PHASE, STATE
 ghost use Rattle.labelling.specs.Layout.{AreMarked, IsBlankFrom};
 ghost use Rattle.labelling.specs.Labelled.{SaysSwapped};
 
-use crate::carrying::{clear_below, note_broken, pass};
+use crate::carrying::{clear_between, note_broken, pass};
 use crate::layout::{
-    ALL_ROW, BROKEN_ROW, LAST_PHASE, MOVE_ROWS, MOVES, STATES, WORD_BITS, first_row, label_row,
-    move_row,
+    ALL_ROW, BROKEN_ROW, LAST_PHASE, STATES, WORD_BITS, first_row, label_row, labels_from,
+    move_row, row_count,
 };
 use crate::marks::{bound_of, mark_all};
 use crate::phases::phase_of;
@@ -26,10 +26,10 @@ pub(crate) struct PhaseRows {
     invs: Vec<Invariant>,
     /// Types from this number on leave each phase of each invariant as it is.
     bound: usize,
-    /// From this number on, nothing is on in the rows that say which phases are found.
+    /// From this row on, nothing is on.
     used: usize,
     ghost marked: { AreMarked bound invs.items rows },
-    ghost blank: { IsBlankFrom used rows },
+    ghost blank: { IsBlankFrom bound used rows },
 }
 
 impl PhaseRows {
@@ -48,15 +48,14 @@ impl PhaseRows {
         ensures unbroken { IfOk result (λ phase_rows. (k : ℕ) → (found phase_rows).broken k ≡ false) }
     {
         let bound = bound_of(invs);
-        let count = MOVE_ROWS + (bound + 1) * MOVES;
-        let mut rows = Rows::make(alloc, count, invs.len())?;
+        let mut rows = Rows::make(alloc, row_count(bound), invs.len())?;
         let list = Vec::from_slice(alloc, invs)?;
         mark_all(&mut rows, &list, bound);
         Ok(PhaseRows {
             rows,
             invs: list,
             bound,
-            used: 0,
+            used: labels_from(bound),
         })
     }
 
@@ -68,7 +67,7 @@ impl PhaseRows {
         ensures { result ≡ (found self.now).has k p (phase_at (found self.now).invs k state) }
     {
         let phase = phase_of(self.invs[k].kind, state);
-        self.rows.get(label_row(p, phase), k)
+        self.rows.get(label_row(self.bound, p, phase), k)
     }
 
     /// A word with a bit for each of the 64 invariants from number `64 * place` on, the first as the lowest. The bit is
@@ -101,9 +100,9 @@ impl PhaseRows {
             ≡ (found self.now).has (place * 64 + k) p
             (phase_at (found self.now).invs (place * 64 + k) s) }
     {
-        let zeroth = self.rows.word(label_row(p, 0), place);
-        let first = self.rows.word(label_row(p, 1), place);
-        let second = self.rows.word(label_row(p, 2), place);
+        let zeroth = self.rows.word(label_row(self.bound, p, 0), place);
+        let first = self.rows.word(label_row(self.bound, p, 1), place);
+        let second = self.rows.word(label_row(self.bound, p, 2), place);
         [
             (zeroth & !swapped) | (first & swapped),
             (first & !swapped) | (zeroth & swapped),
@@ -116,8 +115,9 @@ impl PhaseRows {
         ensures same { (found self.new).invs ≡ (found self.old).invs }
         ensures nothing { IsNothing (found self.new) }
     {
-        clear_below(&mut self.rows, self.used);
-        self.used = 0;
+        let first = labels_from(self.bound);
+        clear_between(&mut self.rows, first, self.used);
+        self.used = first;
     }
 
     /// Finds the phase at INITIAL for those invariants that are in it there.
@@ -132,7 +132,7 @@ impl PhaseRows {
         ensures start { HasStart phase (found self.new) }
         ensures others { IsSameBut INITIAL (found self.old) (found self.new) }
     {
-        let to = label_row(INITIAL, phase);
+        let to = label_row(self.bound, INITIAL, phase);
         self.used = self.used.max(to + 1);
         pass(&mut self.rows, first_row(phase), to, ALL_ROW, false);
     }
@@ -155,9 +155,15 @@ impl PhaseRows {
             return false;
         }
         let mask = move_row(self.row_type(typ), phase, next);
-        let to = label_row(q, next);
+        let to = label_row(self.bound, q, next);
         self.used = self.used.max(to + 1);
-        pass(&mut self.rows, label_row(p, phase), to, mask, phase == next)
+        pass(
+            &mut self.rows,
+            label_row(self.bound, p, phase),
+            to,
+            mask,
+            phase == next,
+        )
     }
 
     /// Finds the last phase at q for those invariants that have it at p: nothing leaves it. Returns whether anything
@@ -171,9 +177,15 @@ impl PhaseRows {
             → IsCarried p LAST_PHASE typ q LAST_PHASE (found self.old) (found self.new) }
         ensures others { IsSameBut q (found self.old) (found self.new) }
     {
-        let to = label_row(q, LAST_PHASE);
+        let to = label_row(self.bound, q, LAST_PHASE);
         self.used = self.used.max(to + 1);
-        pass(&mut self.rows, label_row(p, LAST_PHASE), to, ALL_ROW, false)
+        pass(
+            &mut self.rows,
+            label_row(self.bound, p, LAST_PHASE),
+            to,
+            ALL_ROW,
+            false,
+        )
     }
 
     /// The type whose rows say what this one does.
@@ -193,7 +205,7 @@ impl PhaseRows {
             → (found self.new).has k p s ≡ (found self.old).has k p s }
         ensures noted { AreNoted (found self.new) }
     {
-        note_broken(&mut self.rows);
+        note_broken(&mut self.rows, self.bound);
     }
 
     /// The number of the first invariant that was noted; `None` if none was.

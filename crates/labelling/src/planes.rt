@@ -40,7 +40,7 @@ impl Model for Planes {
 
     ghost Value = { Labelling };
 
-    ghost view = { λ p. labelling_in p.phase_rows.invs.items p.phase_rows.rows p.clashes };
+    ghost view = { λ p. labelling_in p.phase_rows.bound p.phase_rows.invs.items p.phase_rows.rows p.clashes };
 
     ghost invariant = { λ p. AreNoted (found p.phase_rows) × (p.clashes.invs ≡ p.phase_rows.invs.items)
         × (length p.phase_rows.invs.items ≤ MAX_INVARIANTS) };

@@ -10,6 +10,6 @@ invariant-loop-state l =
     record {
       count : length l.rows ≡ length l.fn.rows;
       shape : KeepsShape l.fn.rows l.rows;
-      broken : (k : ℕ) → (is_on l.rows BROKEN_ROW k ≡ true) ↔ IsBadBelow l.fn.rows k l.state;
+      broken : (k : ℕ) → (is_on l.rows BROKEN_ROW k ≡ true) ↔ IsBadBelow l.bound l.fn.rows k l.state;
       others : (r : ℕ) → r ≢ BROKEN_ROW → row_at l.rows r ≡ row_at l.fn.rows r;
     }

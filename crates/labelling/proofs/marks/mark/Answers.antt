@@ -1,16 +1,16 @@
-use Rattle.std.proofs.Common.{◌≡◌, ◌≢◌, ◌+◌, ◌*◌, ℕ, true, false, sym, ap, ◌∙◌, arith, inl, inr}
+use Rattle.std.proofs.Common.{◌≡◌, ◌≢◌, ℕ, true, false, sym, ap, ◌∙◌, arith, inl, inr}
 use Rattle.std.proofs.lemmas.Bool.{cases_eq, eq-eqb, ne_eqb}
 use Rattle.invariants.specs.Monitors.{is_bad}
 use Rattle.bit_rows.specs.Tables.{HasShape}
-use Rattle.labelling.specs.declared.layout.TheConstants.{MOVES, MOVE_ROWS, ALL_ROW}
-use Rattle.labelling.specs.Layout.{is_on, bad_row, first_row}
+use Rattle.labelling.specs.declared.layout.TheConstants.{ALL_ROW}
+use Rattle.labelling.specs.Layout.{is_on, bad_row, first_row, row_count}
 use Rattle.labelling.specs.Phases.{first_phase}
 use Rattle.labelling.proofs.Marking.{put_here, put_row, put_other, marked_more}
 use Rattle.labelling.proofs.marks.mark.Goals as goal
 
 pub loop-phase-init : goal.loop-phase-init
 loop-phase-init c =
-    let n : ℕ = MOVE_ROWS + (c.args.bound + 1) * MOVES in
+    let n : ℕ = row_count c.args.bound in
     let old = c.args.rows.now in
     let mid = c.put.new.self in
     let new = c.put-2.new.self in
@@ -43,7 +43,7 @@ loop-phase-init c =
 
 pub loop-phase-preserved : goal.loop-phase-preserved
 loop-phase-preserved c =
-    let n : ℕ = MOVE_ROWS + (c.args.bound + 1) * MOVES in
+    let n : ℕ = row_count c.args.bound in
     let old = c.loop-phase.rows in
     let new = c.put-in-loop-phase.new.self in
     let k = c.args.k in
@@ -69,10 +69,10 @@ loop-phase-preserved c =
     }
 
 pub mark_moves-requires-clause-shape : goal.mark_moves-requires-clause-shape
-mark_moves-requires-clause-shape c = (MOVE_ROWS + (c.args.bound + 1) * MOVES, omega (arith, c.requires.named), c.loop-phase.invariant.shape _ _ c.requires.shape)
+mark_moves-requires-clause-shape c = (row_count c.args.bound, omega (arith, c.requires.named), c.loop-phase.invariant.shape _ _ c.requires.shape)
 
 pub mark_moves-requires-2-clause-shape : goal.mark_moves-requires-2-clause-shape
-mark_moves-requires-2-clause-shape c = (MOVE_ROWS + (c.args.bound + 1) * MOVES, omega (arith, c.requires.named), c.mark_moves.ensures.shape _ _ (c.loop-phase.invariant.shape _ _ c.requires.shape))
+mark_moves-requires-2-clause-shape c = (row_count c.args.bound, omega (arith, c.requires.named), c.mark_moves.ensures.shape _ _ (c.loop-phase.invariant.shape _ _ c.requires.shape))
 
 pub returns : goal.returns
 returns c =
@@ -83,13 +83,13 @@ returns c =
       shape = λ x y s. b.shape x y (a.shape x y (i.shape x y s));
       marked = marked_more c.args.bound c.loop-phase.rows c.mark_moves.new.rows c.mark_moves-2.new.rows c.args.k c.args.inv i.all (λ s low. i.bad s (omega arith)) i.first i.moves a.moves a.others b.moves b.others;
       free = λ r f.
-          (elim f [ inl low ↦ b.others r c.args.k (inr (inl (omega (arith, low)))) ∙ a.others r c.args.k (inr (inl (omega (arith, low)))) | inr at ↦ b.others r c.args.k (inr (inl (omega (arith, at)))) ∙ a.others r c.args.k (inr (inl (omega (arith, at)))) ])
+          (elim f [ inl low ↦ b.others r c.args.k (inr (inr (omega (arith, low, c.requires.named)))) ∙ a.others r c.args.k (inr (inr (omega (arith, low, c.requires.named)))) | inr at ↦ b.others r c.args.k (inr (inl (omega (arith, at)))) ∙ a.others r c.args.k (inr (inl (omega (arith, at)))) ])
           ∙ i.free r f;
       others = λ r j ne. b.others r j (inl ne) ∙ a.others r j (inl ne) ∙ i.others r j ne;
     }
 
 pub put-requires-in-loop-phase-clause-place : goal.put-requires-in-loop-phase-clause-place
 put-requires-in-loop-phase-clause-place c =
-    let n : ℕ = MOVE_ROWS + (c.args.bound + 1) * MOVES in
+    let n : ℕ = row_count c.args.bound in
     let h : HasShape c.loop-phase.rows n c.args.count = c.loop-phase.invariant.shape n c.args.count c.requires.shape in
     omega (arith, h.long c.bad_row.result (omega (arith, c.bad_row.ensures.within)))

@@ -14,6 +14,6 @@ invariant-loop-phase l =
       bad : (s : ℕ) → s < l.phase → is_on l.rows (bad_row s) l.k ≡ is_bad l.inv s;
       first : (s : ℕ) → s < STATES → is_on l.rows (first_row s) l.k ≡ (first_phase l.inv == s);
       moves : (r : ℕ) → MOVE_ROWS ≤ r → is_on l.rows r l.k ≡ false;
-      free : (r : ℕ) → IsFree r → is_on l.rows r l.k ≡ false;
+      free : (r : ℕ) → IsFree l.bound r → is_on l.rows r l.k ≡ false;
       others : (r j : ℕ) → j ≢ l.k → is_on l.rows r j ≡ is_on l.fn.rows r j;
     }

@@ -1,14 +1,10 @@
-use Rattle.std.proofs.Common.{◌*◌, refl, ap, ◌∙◌, get_or}
-use Rattle.bit_rows.proofs.Done.{made_shape, made_table, replicate_zeros}
+use Rattle.std.proofs.Common.{ap, get_or}
+use Rattle.bit_rows.proofs.Done.{made_shape, made_table}
 use Rattle.bit_rows.proofs.rows.Rows.make.Goals as goal
 
 pub returns-clause-rows : goal.returns-clause-rows
-returns-clause-rows c =
-    made_table c.in_ok-words.words.items c.div_ceil-width.result c.args.rows c.args.bits
-    (λ k. ap (λ l. get_or l k 0) (c.in_ok-words.ensures.items_if_clones_equal (λ y e. e)) ∙ replicate_zeros 0 (c.args.rows * c.div_ceil-width.result) k refl)
+returns-clause-rows c = made_table c.in_ok-words.words.items c.div_ceil-width.result c.args.rows c.args.bits (λ k. ap (λ l. get_or l k 0) c.in_ok-words.ensures.items)
 
 pub returns-clause-shape : goal.returns-clause-shape
 returns-clause-shape c =
-    made_shape c.args.rows c.args.bits _ (
-    made_table c.in_ok-words.words.items c.div_ceil-width.result c.args.rows c.args.bits
-    (λ k. ap (λ l. get_or l k 0) (c.in_ok-words.ensures.items_if_clones_equal (λ y e. e)) ∙ replicate_zeros 0 (c.args.rows * c.div_ceil-width.result) k refl))
+    made_shape c.args.rows c.args.bits _ (made_table c.in_ok-words.words.items c.div_ceil-width.result c.args.rows c.args.bits (λ k. ap (λ l. get_or l k 0) c.in_ok-words.ensures.items))

@@ -6,14 +6,14 @@ use Rattle.labelling.proofs.Finding.{passed_at, passed_blank, passed_marked, pas
 use Rattle.labelling.proofs.phase_rows.PhaseRows.carry.Goals as goal
 use Rattle.labelling.proofs.phase_rows.PhaseRows.carry.Goals.{After-pass}
 
-at-rows : (c : After-pass) → IsPassed c.args.self.now.rows c.pass.new.rows (label_row c.args.p c.args.phase) (label_row c.args.q c.args.next) (move_row c.row_type.result c.args.phase c.args.next) (c.args.phase == c.args.next) c.pass.result
+at-rows : (c : After-pass) → IsPassed c.args.self.now.rows c.pass.new.rows (label_row c.args.self.now.bound c.args.p c.args.phase) (label_row c.args.self.now.bound c.args.q c.args.next) (move_row c.row_type.result c.args.phase c.args.next) (c.args.phase == c.args.next) c.pass.result
 at-rows c = passed_at c.args.self.now.rows c.pass.new.rows _ _ _ _ _ _ (c.args.phase == c.args.next) c.pass.result c.label_row.ensures.value c.label_row-to.ensures.value c.move_row-mask.ensures.value c.pass.ensures
 
 pub invariant_of-self : goal.invariant_of-self
 invariant_of-self c = record {
   marked = passed_marked c.args.self.now.bound c.args.self.now.invs.items c.args.self.now.rows c.pass.new.rows c.label_row.result c.label_row-to.result c.move_row-mask.result (c.args.phase == c.args.next) c.pass.result
       (omega (arith, c.label_row-to.ensures.within)) c.pass.ensures c.args.self.now.marked;
-  blank = passed_blank c.args.self.now.used _ c.args.self.now.rows c.pass.new.rows c.label_row.result c.label_row-to.result c.move_row-mask.result (c.args.phase == c.args.next) c.pass.result
+  blank = passed_blank c.args.self.now.bound c.args.self.now.used _ c.args.self.now.rows c.pass.new.rows c.label_row.result c.label_row-to.result c.move_row-mask.result (c.args.phase == c.args.next) c.pass.result
       (omega arith) (omega arith) (omega (arith, c.args.self.now.blank.limit, c.label_row-to.ensures.within)) c.pass.ensures c.args.self.now.blank;
 }
 
@@ -24,10 +24,10 @@ returns c =
     let lets : LetsThrough b.invs.items b.rows (move_row c.row_type.result c.args.phase c.args.next) (c.args.phase == c.args.next) c.args.typ c.args.phase c.args.next =
     move_lets b.bound b.invs.items b.rows c.row_type.result c.args.typ c.args.phase c.args.next b.marked c.row_type.ensures.within (λ k inv z at. c.row_type.ensures.acts k inv z at) (omega arith) (omega arith) in
     record {
-      grows = passed_grows b.invs.items b.rows c.pass.new.rows _ _ _ (c.args.phase == c.args.next) c.pass.result h;
-      sound = carried_follows b.invs.items b.rows c.pass.new.rows c.args.p c.args.q c.args.typ c.args.phase c.args.next _ _ c.pass.result lets c.requires.from c.requires.to (omega (arith, c.requires.phase)) c.requires.next h;
-      carried = carried_over b.invs.items b.rows c.pass.new.rows c.args.p c.args.q c.args.typ c.args.phase c.args.next _ _ c.pass.result lets c.requires.from c.requires.to (omega (arith, c.requires.phase)) c.requires.next h;
-      others = passed_but b.invs.items b.rows c.pass.new.rows _ c.args.q c.args.next _ (c.args.phase == c.args.next) c.pass.result c.requires.next h;
+      grows = passed_grows b.bound b.invs.items b.rows c.pass.new.rows _ _ _ (c.args.phase == c.args.next) c.pass.result h;
+      sound = carried_follows b.bound b.invs.items b.rows c.pass.new.rows c.args.p c.args.q c.args.typ c.args.phase c.args.next _ _ c.pass.result lets c.requires.from c.requires.to (omega (arith, c.requires.phase)) c.requires.next h;
+      carried = carried_over b.bound b.invs.items b.rows c.pass.new.rows c.args.p c.args.q c.args.typ c.args.phase c.args.next _ _ c.pass.result lets c.requires.from c.requires.to (omega (arith, c.requires.phase)) c.requires.next h;
+      others = passed_but b.bound b.invs.items b.rows c.pass.new.rows _ c.args.q c.args.next _ (c.args.phase == c.args.next) c.pass.result c.requires.next h;
     }
 
 pub returns-then-next-phase-clause-carried : goal.returns-then-next-phase-clause-carried

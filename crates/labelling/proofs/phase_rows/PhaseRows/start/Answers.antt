@@ -7,14 +7,14 @@ use Rattle.labelling.proofs.Finding.{passed_at, passed_blank, passed_marked, pas
 use Rattle.labelling.proofs.phase_rows.PhaseRows.start.Goals as goal
 use Rattle.labelling.proofs.phase_rows.PhaseRows.start.Goals.{After-pass}
 
-at-rows : (c : After-pass) → IsPassed c.args.self.now.rows c.pass.new.rows (first_row c.args.phase) (label_row INITIAL c.args.phase) ALL_ROW false c.pass.result
+at-rows : (c : After-pass) → IsPassed c.args.self.now.rows c.pass.new.rows (first_row c.args.phase) (label_row c.args.self.now.bound INITIAL c.args.phase) ALL_ROW false c.pass.result
 at-rows c = passed_at c.args.self.now.rows c.pass.new.rows _ _ _ _ ALL_ROW ALL_ROW false c.pass.result c.first_row.ensures.value c.label_row-to.ensures.value refl c.pass.ensures
 
 pub invariant_of-self : goal.invariant_of-self
 invariant_of-self c = record {
   marked = passed_marked c.args.self.now.bound c.args.self.now.invs.items c.args.self.now.rows c.pass.new.rows c.first_row.result c.label_row-to.result ALL_ROW false c.pass.result
       (omega (arith, c.label_row-to.ensures.within)) c.pass.ensures c.args.self.now.marked;
-  blank = passed_blank c.args.self.now.used _ c.args.self.now.rows c.pass.new.rows c.first_row.result c.label_row-to.result ALL_ROW false c.pass.result
+  blank = passed_blank c.args.self.now.bound c.args.self.now.used _ c.args.self.now.rows c.pass.new.rows c.first_row.result c.label_row-to.result ALL_ROW false c.pass.result
       (omega arith) (omega arith) (omega (arith, c.args.self.now.blank.limit, c.label_row-to.ensures.within)) c.pass.ensures c.args.self.now.blank;
 }
 
@@ -22,11 +22,11 @@ pub returns : goal.returns
 returns c =
     let h = at-rows (goal.at.returns c).After-pass in
     let b = c.args.self.now in
-    let grows = passed_grows b.invs.items b.rows c.pass.new.rows _ _ _ false c.pass.result h in
+    let grows = passed_grows b.bound b.invs.items b.rows c.pass.new.rows _ _ _ false c.pass.result h in
     record {
       same = refl;
       keeps = grows.keeps;
       sound = started_at b.bound b.invs.items b.rows c.pass.new.rows c.args.phase c.pass.result b.marked c.requires h;
       start = started b.bound b.invs.items b.rows c.pass.new.rows c.args.phase c.pass.result b.marked c.requires h;
-      others = passed_but b.invs.items b.rows c.pass.new.rows _ INITIAL c.args.phase _ false c.pass.result c.requires h;
+      others = passed_but b.bound b.invs.items b.rows c.pass.new.rows _ INITIAL c.args.phase _ false c.pass.result c.requires h;
     }

@@ -14,5 +14,5 @@ returns c = λ g labels.
     let at : AreLabelsOf _ g = subst (λ (x : Labelling). AreLabelsOf x g) (sym c.self.view_is) labels in
     subst (λ (x : Labelling). MatchOption c.first_noted.result (SatisfiesAll g x.invs) (λ k. IsFirstBroken g x.invs k)) c.self.view_is
     (by_cases c.first_noted.result _ (SatisfiesAll g phase_rows.invs.items) _ (λ k. IsFirstBroken g phase_rows.invs.items k)
-    (λ off. none_broken g phase_rows.invs.items phase_rows.rows c.self.inside.clashes at c.self.invariant.0 off)
-    (λ k h. first_broken g phase_rows.invs.items phase_rows.rows c.self.inside.clashes at c.self.invariant.0 k h.0 h.1 h.2) c.first_noted.ensures)
+    (λ off. none_broken phase_rows.bound g phase_rows.invs.items phase_rows.rows c.self.inside.clashes at c.self.invariant.0 off)
+    (λ k h. first_broken phase_rows.bound g phase_rows.invs.items phase_rows.rows c.self.inside.clashes at c.self.invariant.0 k h.0 h.1 h.2) c.first_noted.ensures)

@@ -14,7 +14,7 @@ invariant_of-self g c = (
 
 pub returns : goal.returns
 returns g c = record {
-  labels = exact_labels (seen c.args.view.now) c.label.new.phase_rows.invs.items c.label.new.phase_rows.rows c.self.inside.clashes c.label.ensures.exact;
+  labels = exact_labels c.label.new.phase_rows.bound (seen c.args.view.now) c.label.new.phase_rows.invs.items c.label.new.phase_rows.rows c.self.inside.clashes c.label.ensures.exact;
   same = c.label.ensures.same ∙ ap (λ (x : Labelling). x.invs) c.self.view_is;
   clashes = ap (λ (x : Labelling). x.clashes) c.self.view_is;
   few = omega (arith, c.self.invariant.2, ap (λ (invs : List Invariant). length invs) c.label.ensures.same);
