@@ -169,6 +169,7 @@ impl Tables {
     }
 
     /// Notes the type of the cell's id, and adds the cell to the size of its id.
+    #[inline]
     fn count_cell(&mut self, cell: Cell)
         requires id { cell.id < MAX_PARTITIONS }
         requires few { size_at self.old cell.id + 1 < 2 ^ 32 }
@@ -183,6 +184,7 @@ impl Tables {
     }
 
     /// Takes a cell out of the size of its id. If no cell of the id is left, its type is 0 again.
+    #[inline]
     fn uncount_cell(&mut self, cell: Cell)
         requires id { cell.id < MAX_PARTITIONS }
         requires some { 0 < size_at self.old cell.id }
@@ -200,6 +202,7 @@ impl Tables {
     }
 
     /// Adds the edge to a cell and, if its trace ends there, the edge from it to TERMINAL.
+    #[inline]
     fn count_edges_at(&mut self, before: u32, cell: Cell)
         requires before { before < MAX_PARTITIONS }
         requires id { cell.id < MAX_PARTITIONS }
