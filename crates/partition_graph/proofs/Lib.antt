@@ -8,6 +8,7 @@ pub mod Gathered
 pub mod Moving
 pub mod Marking
 pub mod NextOnes
+pub mod NeighbourWords
 pub mod Linked
 pub mod Around
 pub mod Retyping

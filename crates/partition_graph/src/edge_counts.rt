@@ -4,8 +4,9 @@ ghost use Rattle.limits.specs.declared.TheConstants.{MAX_PARTITIONS};
 ghost use Rattle.bit_rows.specs.Tables.{row_at, is_set};
 ghost use Rattle.partition_graph.specs.Counts.{is_edge};
 ghost use Rattle.partition_graph.specs.Joins.{joined_counts, with_sources, with_targets};
-ghost use Rattle.partition_graph.specs.Marks.{count_in, is_counted, HasIdRows, IsWithBit, NoneCounted};
-ghost use Rattle.partition_graph.specs.Nexts.{IsNextAnswer};
+ghost use Rattle.partition_graph.specs.Marks.{count_in, HasIdRows, IsWithBit, NoneCounted};
+
+mod neighbours;
 
 use crate::id_rows::IdRows;
 use limits::MAX_PARTITIONS;
@@ -169,28 +170,6 @@ impl EdgeCounts {
         reach(&mut self.counts, place);
         self.counts[place] = count;
         put_marks(&mut self.sources, &mut self.targets, from, to, count > 0);
-    }
-
-    /// The least id at or above `from` from which an edge to q is counted; `None` if there is none.
-    pub fn next_source(&self, q: u32, from: u32) -> Option<u32>
-        ensures { IsNextAnswer (λ p. is_counted self.now p q) from result }
-    {
-        if q >= MAX_PARTITIONS {
-            return None;
-        }
-        let p = self.sources.next_set(q as usize, from as usize)?;
-        Some(p as u32)
-    }
-
-    /// The least id at or above `from` to which an edge from p is counted; `None` if there is none.
-    pub fn next_target(&self, p: u32, from: u32) -> Option<u32>
-        ensures { IsNextAnswer (λ q. is_counted self.now p q) from result }
-    {
-        if p >= MAX_PARTITIONS {
-            return None;
-        }
-        let q = self.targets.next_set(p as usize, from as usize)?;
-        Some(q as u32)
     }
 }
 

@@ -5,10 +5,13 @@ ghost use Rattle.partition_graph.specs.Cells.{IsClosed};
 ghost use Rattle.partition_graph.specs.Counts.{HasId, edges_at};
 ghost use Rattle.partition_graph.specs.Joins.{joined_counts};
 ghost use Rattle.partition_graph.specs.Marks.{is_counted};
+ghost use Rattle.partition_graph.specs.NeighbourWords.{IsWordOf};
 ghost use Rattle.partition_graph.specs.Nexts.{IsNextAnswer};
+ghost use Rattle.partition_graph.specs.declared.id_rows.TheConstants.{ID_WORDS};
 
 use crate::cells::{Cell, id_before, id_behind};
 use crate::edge_counts::{EdgeCounts, no_counts};
+use crate::id_rows::ID_WORDS;
 use limits::{INITIAL, MAX_PARTITIONS, TERMINAL};
 use std::alloc::{AllocError, Global};
 
@@ -137,6 +140,24 @@ impl Tables {
         ensures { IsNextAnswer (λ q. is_counted (self.now).counts p q) from result }
     {
         self.counts.next_target(p, from)
+    }
+
+    /// The ids from `64 * place` on from which an edge to q is counted, as a word whose lowest bit is the first of them.
+    #[inline]
+    pub fn source_word(&self, q: u32, place: usize) -> u64
+        requires { place < ID_WORDS }
+        ensures { IsWordOf (λ p. is_counted (self.now).counts p q) place result }
+    {
+        self.counts.source_word(q, place)
+    }
+
+    /// The ids from `64 * place` on to which an edge from p is counted, as a word whose lowest bit is the first of them.
+    #[inline]
+    pub fn target_word(&self, p: u32, place: usize) -> u64
+        requires { place < ID_WORDS }
+        ensures { IsWordOf (λ q. is_counted (self.now).counts p q) place result }
+    {
+        self.counts.target_word(p, place)
     }
 
     /// Tables in which nothing is counted.
