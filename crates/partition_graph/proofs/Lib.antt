@@ -9,6 +9,7 @@ pub mod Moving
 pub mod Marking
 pub mod NextOnes
 pub mod NeighbourWords
+pub mod Places
 pub mod Linked
 pub mod Around
 pub mod Retyping

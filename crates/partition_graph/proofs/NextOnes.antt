@@ -71,7 +71,7 @@ next_lesser has other from (Some i) (Some j) x y =
     ]
 
 -- what is counted is an edge
-counted_is : (cells : List Cell) (firsts : List ℕ) (tables : Tables) (used : ℕ) → IsKept cells firsts tables used → (p q : ℕ) → is_counted tables.counts p q ≡ (G (traces_of cells)).edge p q
+pub counted_is : (cells : List Cell) (firsts : List ℕ) (tables : Tables) (used : ℕ) → IsKept cells firsts tables used → (p q : ℕ) → is_counted tables.counts p q ≡ (G (traces_of cells)).edge p q
 counted_is cells firsts tables used k p q =
     let limit : used ≤ MAX_PARTITIONS = k.limit in
     elim (cases_lt p MAX_PARTITIONS) [

@@ -4,7 +4,7 @@ ghost use Rattle.limits.specs.declared.TheConstants.{MAX_PARTITIONS};
 ghost use Rattle.bit_rows.specs.Tables.{row_at, is_set, IsNextSet};
 ghost use Rattle.partition_graph.specs.Marks.{HasIdRows, IsWithBit};
 ghost use Rattle.partition_graph.specs.Filled.{IsTurned};
-ghost use Rattle.partition_graph.specs.NeighbourWords.{IsWordOf};
+ghost use Rattle.partition_graph.specs.NeighbourWords.{ArePlaces, IsWordOf};
 ghost use Rattle.partition_graph.specs.declared.id_rows.TheConstants.{ID_WORDS};
 
 use bit_rows::Rows;
@@ -72,6 +72,15 @@ impl IdRows {
         ensures { IsWordOf (is_set (row_at self.now r)) place result }
     {
         self.rows.word(r, place)
+    }
+
+    /// A word with a bit for each word of row `r`, the first as the lowest. Where it is off, that word has no bit that is on.
+    #[inline]
+    pub fn places(&self, r: usize) -> u64
+        requires { r < MAX_PARTITIONS }
+        ensures { ArePlaces (is_set (row_at self.now r)) result }
+    {
+        self.filled.word(r, 0)
     }
 
     /// The place of the first bit of row `r` that is on, at place `from` or after it; `None` if these are all off.

@@ -4,7 +4,7 @@ ghost use Rattle.partition_model.specs.Graphs.{merged_edge};
 ghost use Rattle.partition_model.specs.Assignments.{G};
 ghost use Rattle.partition_model.specs.Coarsening.{IsPair};
 ghost use Rattle.partition_graph.specs.MergedNeighbours.{gained_source, gained_target, kept_source, kept_target, own_source, own_target};
-ghost use Rattle.partition_graph.specs.NeighbourWords.{IsWordOf};
+ghost use Rattle.partition_graph.specs.NeighbourWords.{ArePlaces, IsWordOf};
 ghost use Rattle.partition_graph.specs.declared.id_rows.TheConstants.{ID_WORDS};
 
 use crate::graph::PartGraph;
@@ -139,4 +139,54 @@ fn without_id(word: u64, id: u32, place: usize) -> u64
         → IsWordOf (λ u. not (u == id) && has u) place result }
 {
     word & !only_id(id, place)
+}
+
+/// The places of `merged_source_word` at which there may be ids, as the bits of a word: the lowest is place 0.
+#[inline]
+pub fn merged_source_places(graph: &PartGraph, p: u32, q: u32, v: u32) -> u64
+    ensures { ArePlaces (λ u. merged_edge (G (graph.now).traces) p q u v) result }
+{
+    let own = graph.source_places(v);
+    let gained = gained_source_places(graph, p, q, v);
+    own | (gained | place_of(p))
+}
+
+/// If v is p, the places of the ids that have an edge to q. None if v is not p.
+#[inline]
+fn gained_source_places(graph: &PartGraph, p: u32, q: u32, v: u32) -> u64
+    ensures { ArePlaces (gained_source (G (graph.now).traces) p q v) result }
+{
+    if v != p {
+        return 0;
+    }
+    graph.source_places(q)
+}
+
+/// The places of `merged_target_word` at which there may be ids, as the bits of a word: the lowest is place 0.
+#[inline]
+pub fn merged_target_places(graph: &PartGraph, p: u32, q: u32, u: u32) -> u64
+    ensures { ArePlaces (λ v. merged_edge (G (graph.now).traces) p q u v) result }
+{
+    let own = graph.target_places(u);
+    let gained = gained_target_places(graph, p, q, u);
+    own | (gained | place_of(p))
+}
+
+/// If u is p, the places of the ids to which q has an edge. None if u is not p.
+#[inline]
+fn gained_target_places(graph: &PartGraph, p: u32, q: u32, u: u32) -> u64
+    ensures { ArePlaces (gained_target (G (graph.now).traces) p q u) result }
+{
+    if u != p {
+        return 0;
+    }
+    graph.target_places(q)
+}
+
+/// The word in which only the bit of the id's place is on; 0 if that is not among the first 64 places.
+#[inline]
+fn place_of(id: u32) -> u64
+    ensures { ArePlaces (λ u. u == id) result }
+{
+    only_id(id / WORD_BITS as u32, 0)
 }

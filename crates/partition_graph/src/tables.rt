@@ -5,7 +5,7 @@ ghost use Rattle.partition_graph.specs.Cells.{IsClosed};
 ghost use Rattle.partition_graph.specs.Counts.{HasId, edges_at};
 ghost use Rattle.partition_graph.specs.Joins.{joined_counts};
 ghost use Rattle.partition_graph.specs.Marks.{is_counted};
-ghost use Rattle.partition_graph.specs.NeighbourWords.{IsWordOf};
+ghost use Rattle.partition_graph.specs.NeighbourWords.{ArePlaces, IsWordOf};
 ghost use Rattle.partition_graph.specs.Nexts.{IsNextAnswer};
 ghost use Rattle.partition_graph.specs.declared.id_rows.TheConstants.{ID_WORDS};
 
@@ -158,6 +158,22 @@ impl Tables {
         ensures { IsWordOf (λ q. is_counted (self.now).counts p q) place result }
     {
         self.counts.target_word(p, place)
+    }
+
+    /// The places of `source_word` at which there may be ids, as the bits of a word: the lowest is place 0.
+    #[inline]
+    pub fn source_places(&self, q: u32) -> u64
+        ensures { ArePlaces (λ p. is_counted (self.now).counts p q) result }
+    {
+        self.counts.source_places(q)
+    }
+
+    /// The places of `target_word` at which there may be ids, as the bits of a word: the lowest is place 0.
+    #[inline]
+    pub fn target_places(&self, p: u32) -> u64
+        ensures { ArePlaces (λ q. is_counted (self.now).counts p q) result }
+    {
+        self.counts.target_places(p)
     }
 
     /// Tables in which nothing is counted.

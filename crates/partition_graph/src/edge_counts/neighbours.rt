@@ -1,7 +1,7 @@
 //! The ids between which edges are counted, one by one and as words of bits.
 ghost use Rattle.std.specs.Prelude.{◌<◌};
 ghost use Rattle.partition_graph.specs.Marks.{is_counted};
-ghost use Rattle.partition_graph.specs.NeighbourWords.{IsWordOf};
+ghost use Rattle.partition_graph.specs.NeighbourWords.{ArePlaces, IsWordOf};
 ghost use Rattle.partition_graph.specs.Nexts.{IsNextAnswer};
 ghost use Rattle.partition_graph.specs.declared.id_rows.TheConstants.{ID_WORDS};
 
@@ -54,5 +54,27 @@ impl EdgeCounts {
             return 0;
         }
         self.targets.word(p as usize, place)
+    }
+
+    /// The places of `source_word` at which there may be ids, as the bits of a word: the lowest is place 0.
+    #[inline]
+    pub fn source_places(&self, q: u32) -> u64
+        ensures { ArePlaces (λ p. is_counted self.now p q) result }
+    {
+        if q >= MAX_PARTITIONS {
+            return 0;
+        }
+        self.sources.places(q as usize)
+    }
+
+    /// The places of `target_word` at which there may be ids, as the bits of a word: the lowest is place 0.
+    #[inline]
+    pub fn target_places(&self, p: u32) -> u64
+        ensures { ArePlaces (λ q. is_counted self.now p q) result }
+    {
+        if p >= MAX_PARTITIONS {
+            return 0;
+        }
+        self.targets.places(p as usize)
     }
 }

@@ -7,7 +7,7 @@ use crate::id_rows::ID_WORDS;
 
 impl PartGraph {
     ghost use Rattle.partition_model.specs.Assignments.{G};
-    ghost use Rattle.partition_graph.specs.NeighbourWords.{IsWordOf};
+    ghost use Rattle.partition_graph.specs.NeighbourWords.{ArePlaces, IsWordOf};
     ghost use Rattle.partition_graph.specs.Nexts.{IsNextAnswer};
     ghost use Rattle.partition_graph.specs.Parts.{IsUsed};
     ghost use Rattle.std.specs.Bool.{OnTrue};
@@ -55,5 +55,21 @@ impl PartGraph {
         ensures { IsWordOf (λ q. (G (self.now).traces).edge p q) place result }
     {
         self.tables.target_word(p, place)
+    }
+
+    /// The places of `source_word` at which there may be ids, as the bits of a word: the lowest is place 0.
+    #[inline]
+    pub(crate) fn source_places(&self, q: u32) -> u64
+        ensures { ArePlaces (λ p. (G (self.now).traces).edge p q) result }
+    {
+        self.tables.source_places(q)
+    }
+
+    /// The places of `target_word` at which there may be ids, as the bits of a word: the lowest is place 0.
+    #[inline]
+    pub(crate) fn target_places(&self, p: u32) -> u64
+        ensures { ArePlaces (λ q. (G (self.now).traces).edge p q) result }
+    {
+        self.tables.target_places(p)
     }
 }
