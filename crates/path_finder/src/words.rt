@@ -1,0 +1,23 @@
+//! Words of bits, each for 64 numbers.
+ghost use Rattle.std.specs.Prelude.{◌≡◌, ℕ, ◌+◌, ◌*◌, ◌/◌, ◌^◌, ◌<◌, ◌≤◌, Bool, false, MatchOption};
+ghost use Rattle.partition_graph.specs.NeighbourWords.{IsWordOf};
+ghost use Rattle.partition_graph.specs.Nexts.{IsNext};
+
+use partition_graph::WORD_BITS;
+
+/// The least number at or above `from` whose bit is on, in the word that has the bit of `from`. `None` if no bit is on from
+/// there to the end of the word.
+#[inline]
+pub(crate) fn next_in_word(word: u64, from: usize) -> Option<usize>
+    requires { from < 2 ^ 32 }
+    ensures { MatchOption result
+        ((has : ℕ → Bool) → IsWordOf has (from / 64) word
+        → (n : ℕ) → from ≤ n → n < from / 64 * 64 + 64 → has n ≡ false)
+        (λ n. (has : ℕ → Bool) → IsWordOf has (from / 64) word → IsNext has from n) }
+{
+    let rest = word >> (from % WORD_BITS);
+    if rest == 0 {
+        return None;
+    }
+    Some(from + rest.trailing_zeros() as usize)
+}
