@@ -22,3 +22,8 @@ next-from has from at n low none next =
       there = next.there;
       first = none-before has from at n none next.first;
     }
+
+-- none before a place, where none is in the word before it and none after that word
+pub none-between : (has : ℕ → Bool) (from at end next : ℕ) → ((k : ℕ) → from ≤ k → k < at → has k ≡ false) → ((k : ℕ) → at ≤ k → k < end → has k ≡ false) → ((k : ℕ) → end ≤ k → k < next → has k ≡ false)
+    → (k : ℕ) → from ≤ k → k < next → has k ≡ false
+none-between has from at end next first word rest = none-before has from end next (none-before has from at end first word) rest

@@ -28,7 +28,7 @@ pub(crate) struct Question<'v, 'a> {
 
 impl<'v, 'a> Question<'v, 'a> {
     ghost use Rattle.invariants.specs.Monitors.{is_bad};
-    ghost use Rattle.partition_graph.specs.NeighbourWords.{IsWordOf};
+    ghost use Rattle.partition_graph.specs.NeighbourWords.{ArePlaces, IsWordOf};
     ghost use Rattle.partition_graph.specs.Neighbours.{HasNoTarget, IsNextTarget};
     ghost use Rattle.path_finder.specs.Asking.{asked};
     ghost use Rattle.path_finder.specs.Walks.{state_at};
@@ -65,6 +65,17 @@ impl<'v, 'a> Question<'v, 'a> {
             return 0;
         }
         self.sight.view.source_word(q, place) & self.around.word(place)
+    }
+
+    /// The places of `source_word` at which there may be ids, as the bits of a word: the lowest is place 0.
+    #[inline]
+    pub fn source_places(&self, q: u32) -> u64
+        ensures { ArePlaces (λ p. (asked self.now).graph.edge p q) result }
+    {
+        if !self.around.has(q) {
+            return 0;
+        }
+        self.sight.view.source_places(q)
     }
 
     /// The least id at or above `from` to which p has an edge; `None` if there is none.

@@ -6,12 +6,12 @@ ghost use Rattle.path_finder.specs.Nearness.{is_met, is_of_type, IsClosed, IsRea
 ghost use Rattle.path_finder.specs.Keeping.{is_around};
 ghost use Rattle.path_finder.specs.declared.reach.Way.TheVariants.{Ahead, Behind};
 ghost use Rattle.path_finder.specs.Reaching.{edge_by, is_unmet, meeting, IsCounted, IsReaching, MeetsMore};
-ghost use Rattle.partition_graph.specs.NeighbourWords.{IsWordOf};
+ghost use Rattle.partition_graph.specs.NeighbourWords.{ArePlaces, IsWordOf};
 ghost use Rattle.partition_graph.specs.Nexts.{IsNextAnswer};
 ghost use Rattle.partition_graph.specs.declared.id_rows.TheConstants.{ID_WORDS};
 
 use crate::sight::Sight;
-use crate::words::next_in_word;
+use crate::words::{next_at, next_in_word};
 use bit_rows::Rows;
 use limits::MAX_PARTITIONS;
 use partition_graph::{ID_WORDS, View, WORD_BITS};
@@ -64,6 +64,17 @@ fn neighbours(sight: &Sight<'_>, way: Way, id: u32, place: usize) -> u64
     }
 }
 
+/// The places of `neighbours` at which there may be ids, as the bits of a word: the lowest is place 0.
+#[inline]
+fn neighbour_places(sight: &Sight<'_>, way: Way, id: u32) -> u64
+    ensures { ArePlaces (edge_by way (seen sight.now.view) id) result }
+{
+    match way {
+        Way::Ahead => sight.view.target_places(id),
+        Way::Behind => sight.view.source_places(id),
+    }
+}
+
 impl Reach {
     /// Room for all ids. `AllocError` is returned if there is not enough memory.
     pub fn make(alloc: Global) -> Result<Reach, AllocError> {
@@ -91,20 +102,29 @@ impl Reach {
     }
 
     /// The least neighbour of the id in this direction, at or above `from`, that was not met; `None` if there is none.
-    fn next_unmet(&self, sight: &Sight<'_>, way: Way, id: u32, from: u32) -> Option<u32>
+    /// `places` are the places of its neighbours.
+    fn next_unmet(
+        &self,
+        sight: &Sight<'_>,
+        way: Way,
+        id: u32,
+        places: u64,
+        from: u32,
+    ) -> Option<u32>
+        requires { ArePlaces (edge_by way (seen sight.now.view) id) places }
         ensures next { IsNextAnswer
             (is_unmet (edge_by way (seen sight.now.view)) self.now id) from result }
         ensures within { IfSome result (λ n. n < MAX_PARTITIONS) }
     {
         let ids = sight.view.ids_used() as usize;
-        let mut at = from as usize;
+        let mut at = next_at(places, from as usize);
         while at < ids {
             let place = at / WORD_BITS;
             let unmet = neighbours(sight, way, id, place) & !self.word(place);
             if let Some(n) = next_in_word(unmet, at) {
                 return Some(n as u32);
             }
-            at = (place + 1) * WORD_BITS;
+            at = next_at(places, (place + 1) * WORD_BITS);
         }
         None
     }
@@ -149,8 +169,9 @@ impl Reach {
         ensures more { MeetsMore self.old self.new }
     {
         let id = self.list[next];
+        let places = neighbour_places(sight, way, id);
         let mut from = 0;
-        while let Some(n) = self.next_unmet(sight, way, id, from) {
+        while let Some(n) = self.next_unmet(sight, way, id, places, from) {
             self.add(n);
             from = n + 1;
         }

@@ -1,5 +1,6 @@
 //! The search backwards: the distances of pairs, starting from TERMINAL in the bad state.
 ghost use Rattle.std.specs.Prelude.{◌≡◌, ℕ, ◌<◌, ◌+◌, true, IfSome};
+ghost use Rattle.partition_graph.specs.NeighbourWords.{ArePlaces};
 ghost use Rattle.partition_graph.specs.Nexts.{IsNextAnswer};
 ghost use Rattle.path_finder.specs.Asking.{asked};
 ghost use Rattle.path_finder.specs.Walks.{IsPairOf, Leads};
@@ -9,7 +10,7 @@ ghost use Rattle.path_finder.specs.Turns.{IsTurn};
 use crate::pair::{Pair, STATES};
 use crate::question::Question;
 use crate::table::{OPEN, Table};
-use crate::words::next_in_word;
+use crate::words::{next_at, next_in_word};
 use limits::TERMINAL;
 use partition_graph::WORD_BITS;
 
@@ -22,34 +23,39 @@ struct Turn {
     distance: u16,
 }
 
-/// The least id at or above `from` that has an edge to q and is open in this state; `None` if there is none.
+/// The least id at or above `from` that has an edge to q and is open in this state; `None` if there is none. `places` are the
+/// places of the ids that have an edge to q.
 fn next_open(
     question: &Question<'_, '_>,
     table: &Table,
     q: u32,
+    places: u64,
     state: u8,
     from: u32,
 ) -> Option<u32>
-    requires { state < 3 }
+    requires state { state < 3 }
+    requires places { ArePlaces (λ id. (asked question.now).graph.edge id q) places }
     ensures next { IsNextAnswer (is_open_source (asked question.now) table.now q state) from result }
     ensures within { IfSome result (λ id. id < (asked question.now).ids) }
 {
     let ids = question.ids() as usize;
-    let mut at = from as usize;
+    let mut at = next_at(places, from as usize);
     while at < ids {
         let place = at / WORD_BITS;
         let open = question.source_word(q, place) & !table.entered_word(state, place);
         if let Some(id) = next_in_word(open, at) {
             return Some(id as u32);
         }
-        at = (place + 1) * WORD_BITS;
+        at = next_at(places, (place + 1) * WORD_BITS);
     }
     None
 }
 
-/// Enters the open pairs with this state that lead to the pair whose turn it is.
-fn enter_state(question: &Question<'_, '_>, table: &mut Table, turn: Turn, state: u8)
+/// Enters the open pairs with this state that lead to the pair whose turn it is. `places` are the places of the ids that have an
+/// edge to its id.
+fn enter_state(question: &Question<'_, '_>, table: &mut Table, turn: Turn, places: u64, state: u8)
     requires turn { IsTurn (asked question.now) turn table.old }
+    requires places { ArePlaces (λ id. (asked question.now).graph.edge id turn.pair.id) places }
     requires state { state < 3 }
 
     // The turn is still that of the pair, and what leads to it is entered.
@@ -62,7 +68,7 @@ fn enter_state(question: &Question<'_, '_>, table: &mut Table, turn: Turn, state
         return;
     }
     let mut from = 0;
-    while let Some(id) = next_open(question, table, turn.pair.id, state, from) {
+    while let Some(id) = next_open(question, table, turn.pair.id, places, state, from) {
         let pair = Pair { id, state };
         prove!(table.distance(pair) == OPEN);
         table.enter(pair, turn.distance);
@@ -76,8 +82,9 @@ fn expand(question: &Question<'_, '_>, table: &mut Table, turn: Turn)
     ensures searched { IsSearched (asked question.now) (turn.next + 1) table.new }
     ensures grows { Grows table.old table.new }
 {
+    let places = question.source_places(turn.pair.id);
     for state in 0..3 {
-        enter_state(question, table, turn, state);
+        enter_state(question, table, turn, places, state);
     }
 }
 

@@ -1,21 +1,38 @@
-use Rattle.std.proofs.Common.{◌+◌, ◌*◌, ◌/◌, ◌<◌, ℕ, Bool, arith}
+use Rattle.std.proofs.Common.{◌+◌, ◌*◌, ◌/◌, ◌<◌, ◌≤◌, ◌&&◌, not, ℕ, Bool, arith}
 use Rattle.std.proofs.lemmas.Nat.{div-add-mod', mod_below}
+use Rattle.partition_graph.specs.NeighbourWords.{ArePlaces}
 use Rattle.partition_graph.specs.Seen.{seen}
-use Rattle.path_finder.specs.Nearness.{is_met}
+use Rattle.partition_graph.proofs.Places.{places-fewer}
+use Rattle.path_finder.specs.Nearness.{Met, is_met}
 use Rattle.path_finder.specs.Reaching.{edge_by, is_unmet}
-use Rattle.path_finder.proofs.Neighbours.{none-before, none-after}
+use Rattle.path_finder.proofs.Neighbours.{none-after}
 use Rattle.path_finder.proofs.Reaching.{edge-below, edge-unmet, no-edge-past, no-unmet}
-use Rattle.path_finder.proofs.WordSteps.{next-from, word-less}
+use Rattle.path_finder.proofs.WordSteps.{next-from, none-between, word-less}
 use Rattle.path_finder.proofs.reach.Reach.next_unmet.Goals as goal
+
+-- the places of the neighbours are also places of those that are not met
+unmet-places : (e : ℕ → Bool) (m : Met) (x : ℕ) → ArePlaces e x → ArePlaces (λ n. e n && not (is_met m n)) x
+unmet-places e m x are = places-fewer e (λ n. e n && not (is_met m n)) x (λ n off. no-unmet (e n) (is_met m n) off) are
+
+pub loop-at-init : goal.loop-at-init
+loop-at-init c =
+    let e : ℕ → ℕ → Bool = edge_by c.args.way (seen c.args.sight.now.view) in
+    record {
+      reached = c.next_at-at.ensures.reached;
+      none = c.next_at-at.ensures.none (is_unmet e c.args.self.now c.args.id) (unmet-places (e c.args.id) c.args.self.now c.args.places c.requires);
+    }
 
 pub loop-at-preserved : goal.loop-at-preserved
 loop-at-preserved c =
     let e : ℕ → ℕ → Bool = edge_by c.args.way (seen c.args.sight.now.view) in
     let unmet : ℕ → Bool = is_unmet e c.args.self.now c.args.id in
+    let end : ℕ = c.loop-at.at / 64 * 64 + 64 in
+    let low : end ≤ c.next_at-at-in-loop-at.result = omega (arith, c.next_at-at-in-loop-at.ensures.reached) in
     let is = word-less (e c.args.id) (is_met c.args.self.now) (c.loop-at.at / 64) c.neighbours.result c.word.result c.word.type_inv c.neighbours.ensures c.word.ensures in
     record {
-      reached = omega (arith, c.loop-at.invariant.reached, div-add-mod' c.loop-at.at 64, mod_below c.loop-at.at 64 (omega arith));
-      none = λ n after before. none-before unmet c.args.from c.loop-at.at (c.loop-at.at / 64 * 64 + 64) c.loop-at.invariant.none (c.in_default.ensures unmet is) n after (omega (arith, before));
+      reached = omega (arith, low, c.loop-at.invariant.reached, div-add-mod' c.loop-at.at 64, mod_below c.loop-at.at 64 (omega arith));
+      none = none-between unmet c.args.from c.loop-at.at end c.next_at-at-in-loop-at.result c.loop-at.invariant.none (c.in_default.ensures unmet is)
+          (λ k after before. c.next_at-at-in-loop-at.ensures.none unmet (unmet-places (e c.args.id) c.args.self.now c.args.places c.requires) k (omega (arith, after)) before);
     }
 
 found-below : (c : goal.In-Some) → c.in-Some.n < c.ids_used-ids.result
