@@ -1,65 +1,29 @@
 -- The next bit of a row that is on, by the words of the row.
-use Rattle.std.proofs.Common.{◌≡◌, ◌≢◌, ℕ, ◌+◌, ◌-◌, ◌*◌, ◌/◌, ◌%◌, ◌^◌, ◌<◌, ◌≤◌, Bool, true, false, eqb, List, length, w64, not, ne_eqb, sym, ap, ◌∙◌, arith, inl, inr}
+use Rattle.std.proofs.Common.{◌≡◌, ◌≢◌, ℕ, ◌+◌, ◌*◌, ◌/◌, ◌%◌, ◌^◌, ◌<◌, ◌≤◌, Bool, false, eqb, List, length, w64, not, ne_eqb, sym, ap, ◌∙◌, arith, inl, inr}
 use Rattle.std.proofs.lemmas.List.{get_or_past}
-use Rattle.std.proofs.lemmas.Nat.{shr-shr, shr_le, div-add-mod', mod_below}
-use Rattle.std.proofs.lemmas.Nat.Bits.{bit_at-zero, bit_at-trailing_zeros, bit_at_above}
-use Rattle.std.proofs.lemmas.Bool.{cases_eq, cases_lt, true≢false, eq-eqb}
-use Rattle.std.specs.Int.{bit_at, trailing_zeros}
+use Rattle.std.proofs.lemmas.Nat.{div-add-mod', mod_below}
+use Rattle.std.proofs.lemmas.Bool.{cases_eq, cases_lt, true≢false}
+use Rattle.std.specs.Int.{trailing_zeros}
 use Rattle.limits.specs.declared.TheConstants.{MAX_PARTITIONS}
 use Rattle.bit_rows.specs.Tables.{row_at, is_set, IsNextSet}
 use Rattle.partition_graph.specs.Filled.{IsFilled}
+use Rattle.partition_graph.specs.NeighbourWords.{IsWordOf}
+use Rattle.partition_graph.proofs.NeighbourWords.{next_in_word}
 use Rattle.partition_graph.specs.Marks.{HasIdRows}
 
--- the bits of a word after the lowest ones are dropped
-dropped : (x s j : ℕ) → bit_at (x / 2 ^ s) j ≡ bit_at x (s + j)
-dropped x s j = ap (λ y. y % 2) (shr-shr x s j)
-
--- the word of a place
-abbrev pub IsWordOf : List Bool → ℕ → ℕ → Type 0
-IsWordOf row place x = (i : ℕ) → i < 64 → eqb (bit_at x i) 1 ≡ is_set row (place * 64 + i)
-
--- a word of 0 has no bit that is on
-pub blank_word : (row : List Bool) (place x : ℕ) → IsWordOf row place x → x ≡ 0 → (i : ℕ) → i < 64 → is_set row (place * 64 + i) ≡ false
-blank_word row place x is none i below = sym (is i below) ∙ ap (λ y. eqb (bit_at y i) 1) none ∙ ap (λ y. eqb y 1) (bit_at-zero i)
-
--- where nothing is left of the word of a place, no bit is on from there to its end
-pub none_in : (row : List Bool) (from x : ℕ) → IsWordOf row (from / 64) x → x / 2 ^ (from % 64) ≡ 0 → (i : ℕ) → from ≤ i → i < from / 64 * 64 + 64 → is_set row i ≡ false
-none_in row from x is none i after below =
-    let split : from / 64 * 64 + from % 64 ≡ from = div-add-mod' from 64 in
-    let j : ℕ = i - from in
-    let k : ℕ = from % 64 + j in
-    let whole : from / 64 * 64 + k ≡ i = omega (arith, split, after) in
-    let small : k < 64 = omega (arith, whole, below) in
-    sym (ap (is_set row) whole) ∙ sym (is k small) ∙ ap (λ y. eqb y 1) (sym (dropped x (from % 64) j) ∙ ap (λ y. bit_at y j) none ∙ bit_at-zero j)
-
--- else its lowest bit is the next one
-pub next_in : (row : List Bool) (from x : ℕ) → IsWordOf row (from / 64) x → x < 2 ^ 64 → x / 2 ^ (from % 64) ≢ 0 → IsNextSet row from (from + trailing_zeros w64 (x / 2 ^ (from % 64)))
+-- the next bit that is on, by the word of a place
+pub next_in : (row : List Bool) (from x : ℕ) → IsWordOf (is_set row) (from / 64) x → x < 2 ^ 64 → x / 2 ^ (from % 64) ≢ 0 → IsNextSet row from (from + trailing_zeros w64 (x / 2 ^ (from % 64)))
 next_in row from x is fits some =
-    let rest : ℕ = x / 2 ^ (from % 64) in
-    let t : ℕ = trailing_zeros w64 rest in
-    let split : from / 64 * 64 + from % 64 ≡ from = div-add-mod' from 64 in
-    let low : rest ≤ x = shr_le x (from % 64) in
-    let lowest = bit_at-trailing_zeros w64 rest (omega (arith, some)) (omega (arith, low, fits)) in
-    let at : bit_at x (from % 64 + t) ≡ 1 = sym (dropped x (from % 64) t) ∙ lowest.1 in
-    let small : from % 64 + t < 64 = elim (cases_lt (from % 64 + t) 64) [
-      | inl inside ↦ inside
-      | inr past ↦ absurd (omega (arith, at, bit_at_above x 64 (from % 64 + t) fits past))
-    ] in
-    let whole : from / 64 * 64 + (from % 64 + t) ≡ from + t = omega (arith, split) in
-    let here : is_set row (from + t) ≡ true = sym (ap (is_set row) whole) ∙ sym (is (from % 64 + t) small) ∙ eq-eqb (bit_at x (from % 64 + t)) 1 at in
+    let next = next_in_word (is_set row) from x is fits some in
+    let i : ℕ = from + trailing_zeros w64 (x / 2 ^ (from % 64)) in
     record {
-      behind = omega arith;
-      within = elim (cases_lt (from + t) (length row)) [
+      behind = next.reached;
+      within = elim (cases_lt i (length row)) [
         | inl inside ↦ inside
-        | inr past ↦ absurd (true≢false (sym here ∙ get_or_past row (from + t) false past))
+        | inr past ↦ absurd (true≢false (sym next.there ∙ get_or_past row i false past))
       ];
-      set = here;
-      first = λ i after before.
-          let j : ℕ = i - from in
-          let k : ℕ = from % 64 + j in
-          let joined : from / 64 * 64 + k ≡ i = omega (arith, split, after) in
-          let lower : j < t = omega (arith, after, before) in
-          sym (ap (is_set row) joined) ∙ sym (is k (omega (arith, small, lower))) ∙ ap (λ y. eqb y 1) (sym (dropped x (from % 64) j) ∙ lowest.2 j lower);
+      set = next.there;
+      first = next.first;
     }
 
 -- the place of a bit by its word

@@ -8,6 +8,8 @@ pub mod Gathered
 pub mod Moving
 pub mod Marking
 pub mod NextOnes
+pub mod NeighbourWords
+pub mod Places
 pub mod Linked
 pub mod Around
 pub mod Retyping

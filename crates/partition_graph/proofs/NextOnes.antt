@@ -11,8 +11,10 @@ use Rattle.partition_graph.specs.Cells.{traces_of}
 use Rattle.partition_graph.specs.Kept.{IsKept}
 use Rattle.partition_graph.specs.Marks.{is_counted}
 use Rattle.partition_graph.specs.MergedNeighbours.{own_source, gained_source, kept_source, own_target, gained_target, kept_target}
+use Rattle.partition_graph.specs.NeighbourWords.{IsWordOf}
 use Rattle.partition_graph.specs.Nexts.{IsNextAnswer, lesser}
 use Rattle.partition_graph.specs.Parts.{Parts, IsUsed}
+use Rattle.partition_graph.proofs.NeighbourWords.{word-same}
 use Rattle.partition_graph.proofs.UnusedIds.{edges_within, no_edge}
 
 -- an answer for another test that answers the same
@@ -69,7 +71,7 @@ next_lesser has other from (Some i) (Some j) x y =
     ]
 
 -- what is counted is an edge
-counted_is : (cells : List Cell) (firsts : List ℕ) (tables : Tables) (used : ℕ) → IsKept cells firsts tables used → (p q : ℕ) → is_counted tables.counts p q ≡ (G (traces_of cells)).edge p q
+pub counted_is : (cells : List Cell) (firsts : List ℕ) (tables : Tables) (used : ℕ) → IsKept cells firsts tables used → (p q : ℕ) → is_counted tables.counts p q ≡ (G (traces_of cells)).edge p q
 counted_is cells firsts tables used k p q =
     let limit : used ≤ MAX_PARTITIONS = k.limit in
     elim (cases_lt p MAX_PARTITIONS) [
@@ -108,6 +110,19 @@ pub next_target_is : (cells : List Cell) (firsts : List ℕ) (tables : Tables) (
 next_target_is cells firsts tables used parts k e p from o a =
     subst (λ (x : Parts). IsNextAnswer (λ q. (G x.traces).edge p q) from o) e
     (next_same (λ q. is_counted tables.counts p q) (λ q. (G (traces_of cells)).edge p q) from o (λ q. counted_is cells firsts tables used k p q) a)
+
+-- the words of sources and of targets by what is counted
+pub source_word_is : (cells : List Cell) (firsts : List ℕ) (tables : Tables) (used : ℕ) (parts : Parts) → IsKept cells firsts tables used → (let kept : Parts = record { traces = traces_of cells; used = used } in kept ≡ parts)
+    → (q place word : ℕ) → IsWordOf (λ p. is_counted tables.counts p q) place word → IsWordOf (λ p. (G parts.traces).edge p q) place word
+source_word_is cells firsts tables used parts k e q place word is =
+    subst (λ (x : Parts). IsWordOf (λ p. (G x.traces).edge p q) place word) e
+    (word-same (λ p. is_counted tables.counts p q) (λ p. (G (traces_of cells)).edge p q) place word (λ p. counted_is cells firsts tables used k p q) is)
+
+pub target_word_is : (cells : List Cell) (firsts : List ℕ) (tables : Tables) (used : ℕ) (parts : Parts) → IsKept cells firsts tables used → (let kept : Parts = record { traces = traces_of cells; used = used } in kept ≡ parts)
+    → (p place word : ℕ) → IsWordOf (λ q. is_counted tables.counts p q) place word → IsWordOf (λ q. (G parts.traces).edge p q) place word
+target_word_is cells firsts tables used parts k e p place word is =
+    subst (λ (x : Parts). IsWordOf (λ q. (G x.traces).edge p q) place word) e
+    (word-same (λ q. is_counted tables.counts p q) (λ q. (G (traces_of cells)).edge p q) place word (λ q. counted_is cells firsts tables used k p q) is)
 
 -- and they are used
 pub source_used : (cells : List Cell) (firsts : List ℕ) (tables : Tables) (used : ℕ) (parts : Parts) → IsKept cells firsts tables used → (let kept : Parts = record { traces = traces_of cells; used = used } in kept ≡ parts)

@@ -3,13 +3,13 @@ use Rattle.std.specs.Prelude.{ℕ, ◌≡◌, ◌+◌, ◌*◌, ◌<◌, Bool, f
 use Rattle.limits.specs.declared.TheConstants.{MAX_PARTITIONS}
 use Rattle.bit_rows.specs.Tables.{row_at, is_set, HasShape, KeepsShape}
 use Rattle.partition_graph.specs.Marks.{HasIdRows}
-use Rattle.partition_graph.specs.declared.id_rows.TheConstants.{WORD_BITS, WORDS}
+use Rattle.partition_graph.specs.declared.id_rows.TheConstants.{WORD_BITS, ID_WORDS}
 
 -- where a word is not marked as filled, its bits are off
 pub record IsFilled (rows filled : List (List Bool)) : Type 0 where
   pub rows_shape : HasIdRows rows
-  pub filled_shape : HasShape filled MAX_PARTITIONS WORDS
-  pub blank : (r w k : ℕ) → r < MAX_PARTITIONS → w < WORDS → k < WORD_BITS
+  pub filled_shape : HasShape filled MAX_PARTITIONS ID_WORDS
+  pub blank : (r w k : ℕ) → r < MAX_PARTITIONS → w < ID_WORDS → k < WORD_BITS
       → is_set (row_at filled r) w ≡ false → is_set (row_at rows r) (w * WORD_BITS + k) ≡ false
 
 -- the rows are the old ones, except that bit i of row r is this one

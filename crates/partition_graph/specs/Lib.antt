@@ -5,6 +5,7 @@ pub mod Links
 pub mod Marks
 pub mod MergedNeighbours
 pub mod Neighbours
+pub mod NeighbourWords
 pub mod Nexts
 pub mod Parts
 pub mod Seen

@@ -4,8 +4,9 @@ ghost use Rattle.limits.specs.declared.TheConstants.{MAX_PARTITIONS};
 ghost use Rattle.bit_rows.specs.Tables.{row_at, is_set};
 ghost use Rattle.partition_graph.specs.Counts.{is_edge};
 ghost use Rattle.partition_graph.specs.Joins.{joined_counts, with_sources, with_targets};
-ghost use Rattle.partition_graph.specs.Marks.{count_in, is_counted, HasIdRows, IsWithBit, NoneCounted};
-ghost use Rattle.partition_graph.specs.Nexts.{IsNextAnswer};
+ghost use Rattle.partition_graph.specs.Marks.{count_in, HasIdRows, IsWithBit, NoneCounted};
+
+mod neighbours;
 
 use crate::id_rows::IdRows;
 use limits::MAX_PARTITIONS;
@@ -64,6 +65,7 @@ impl EdgeCounts {
     }
 
     /// Counts an edge once more.
+    #[inline]
     pub fn add(&mut self, from: u32, to: u32)
         requires from { from < MAX_PARTITIONS }
         requires to { to < MAX_PARTITIONS }
@@ -86,6 +88,7 @@ impl EdgeCounts {
     }
 
     /// Counts an edge once less.
+    #[inline]
     pub fn remove(&mut self, from: u32, to: u32)
         requires from { from < MAX_PARTITIONS }
         requires to { to < MAX_PARTITIONS }
@@ -166,30 +169,7 @@ impl EdgeCounts {
         let place = to * IDS + from;
         reach(&mut self.counts, place);
         self.counts[place] = count;
-        self.sources.put(to, from, count > 0);
-        self.targets.put(from, to, count > 0);
-    }
-
-    /// The least id at or above `from` from which an edge to q is counted; `None` if there is none.
-    pub fn next_source(&self, q: u32, from: u32) -> Option<u32>
-        ensures { IsNextAnswer (λ p. is_counted self.now p q) from result }
-    {
-        if q >= MAX_PARTITIONS {
-            return None;
-        }
-        let p = self.sources.next_set(q as usize, from as usize)?;
-        Some(p as u32)
-    }
-
-    /// The least id at or above `from` to which an edge from p is counted; `None` if there is none.
-    pub fn next_target(&self, p: u32, from: u32) -> Option<u32>
-        ensures { IsNextAnswer (λ q. is_counted self.now p q) from result }
-    {
-        if p >= MAX_PARTITIONS {
-            return None;
-        }
-        let q = self.targets.next_set(p as usize, from as usize)?;
-        Some(q as u32)
+        put_marks(&mut self.sources, &mut self.targets, from, to, count > 0);
     }
 }
 
@@ -205,7 +185,22 @@ fn count_at(counts: &[u32], place: usize) -> u32
 }
 
 /// Appends counts of 0 until the list has this place. The list has the capacity for it.
+#[inline(always)]
 fn reach(counts: &mut Vec<u32>, place: usize)
+    requires room { place < vec_capacity counts.old }
+    ensures reached { place < length counts.new.items }
+    ensures same { (k : ℕ) → slice_index counts.new.items k ≡ slice_index counts.old.items k }
+    ensures capacity { vec_capacity counts.new ≡ vec_capacity counts.old }
+{
+    if place < counts.len() {
+        return;
+    }
+    append_zeros(counts, place);
+}
+
+/// Does what `reach` does, where the list ends before this place.
+#[inline(never)]
+fn append_zeros(counts: &mut Vec<u32>, place: usize)
     requires room { place < vec_capacity counts.old }
     ensures reached { place < length counts.new.items }
     ensures same { (k : ℕ) → slice_index counts.new.items k ≡ slice_index counts.old.items k }
@@ -225,6 +220,7 @@ pub fn no_counts(alloc: Global, room: usize) -> Result<Vec<u32>, AllocError>
 }
 
 /// Marks an edge whose count was `count` so far.
+#[inline(always)]
 fn mark(sources: &mut IdRows, targets: &mut IdRows, count: u32, from: usize, to: usize)
     requires from { from < MAX_PARTITIONS }
     requires to { to < MAX_PARTITIONS }
@@ -238,11 +234,11 @@ fn mark(sources: &mut IdRows, targets: &mut IdRows, count: u32, from: usize, to:
     if count > 0 {
         return;
     }
-    sources.put(to, from, true);
-    targets.put(from, to, true);
+    put_marks(sources, targets, from, to, true);
 }
 
 /// Removes the marks of an edge if nothing is left of its count.
+#[inline(always)]
 fn unmark(sources: &mut IdRows, targets: &mut IdRows, left: u32, from: usize, to: usize)
     requires from { from < MAX_PARTITIONS }
     requires to { to < MAX_PARTITIONS }
@@ -256,6 +252,18 @@ fn unmark(sources: &mut IdRows, targets: &mut IdRows, left: u32, from: usize, to
     if left > 0 {
         return;
     }
-    sources.put(to, from, false);
-    targets.put(from, to, false);
+    put_marks(sources, targets, from, to, false);
+}
+
+/// Turns both marks of an edge on or off. Few edges of a log are new, so the code for it stands outside of the loops that
+/// count them.
+#[inline(never)]
+fn put_marks(sources: &mut IdRows, targets: &mut IdRows, from: usize, to: usize, on: bool)
+    requires from { from < MAX_PARTITIONS }
+    requires to { to < MAX_PARTITIONS }
+    ensures sources { IsWithBit to from on sources.old sources.new }
+    ensures targets { IsWithBit from to on targets.old targets.new }
+{
+    sources.put(to, from, on);
+    targets.put(from, to, on);
 }

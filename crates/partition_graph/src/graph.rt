@@ -1,7 +1,8 @@
 //! The partitions of events, and the counts of edges.
-ghost use Rattle.std.specs.Prelude.{◌≡◌, ◌≤◌, ◌<◌, ◌+◌, IfOk, length, slice_index, slice_get, Some, MatchOption, IfSome};
+ghost use Rattle.std.specs.Prelude.{◌≡◌, ◌≤◌, ◌<◌, ◌+◌, IfOk, length, slice_index, slice_get, Some, MatchOption};
 
 mod listing;
+mod neighbours;
 
 use crate::cells::{Cell, copy_traces, gather, gather_shared};
 use crate::events::Events;
@@ -44,8 +45,7 @@ impl PartGraph {
     ghost use Rattle.partition_model.specs.Assignments.{edge_count, events, is_live, size, type_of, G, IsTyped};
     ghost use Rattle.partition_model.specs.Listings.{first_event, parts_of, AreBelow, IsLast};
     ghost use Rattle.partition_model.specs.Coarsening.{IsPair};
-    ghost use Rattle.partition_graph.specs.Parts.{divided, joined, start_of, HasEdgesBelow, IsUsed};
-    ghost use Rattle.partition_graph.specs.Nexts.{IsNextAnswer};
+    ghost use Rattle.partition_graph.specs.Parts.{divided, joined, start_of, HasEdgesBelow};
     ghost use Rattle.partition_graph.specs.Spread.{spread, SharesWords};
     ghost use Rattle.partition_graph.specs.declared.tables.Tables.{Tables};
     ghost use Rattle.partition_graph.specs.Cells.{traces_of};
@@ -54,7 +54,6 @@ impl PartGraph {
     ghost use Rattle.partition_graph.specs.Tables.{IsCountOf};
     ghost use Rattle.limits.specs.declared.TheConstants.{MAX_EVENTS};
     ghost use Rattle.std.specs.Prelude.{All};
-    ghost use Rattle.std.specs.Bool.{OnTrue};
 
     /// The graph with one partition for each type. The id of a partition is the number of its type. It allocates for
     /// `MAX_PARTITIONS` ids. `AllocError` is returned if there is not enough memory.
@@ -175,33 +174,6 @@ impl PartGraph {
             return 0;
         }
         self.tables.count_at(p, q)
-    }
-
-    /// Whether there is an edge from p to q.
-    pub(crate) fn has_edge(&self, p: u32, q: u32) -> bool
-        ensures value { result ≡ (G (self.now).traces).edge p q }
-        ensures within { OnTrue result (IsUsed self.now p × IsUsed self.now q) }
-    {
-        if p >= self.used || q >= self.used {
-            return false;
-        }
-        self.tables.count_at(p, q) > 0
-    }
-
-    /// The least id at or above `from` that has an edge to q; `None` if there is none.
-    pub(crate) fn next_source(&self, q: u32, from: u32) -> Option<u32>
-        ensures next { IsNextAnswer (λ p. (G (self.now).traces).edge p q) from result }
-        ensures within { IfSome result (IsUsed self.now) }
-    {
-        self.tables.next_source(q, from)
-    }
-
-    /// The least id at or above `from` to which p has an edge; `None` if there is none.
-    pub(crate) fn next_target(&self, p: u32, from: u32) -> Option<u32>
-        ensures next { IsNextAnswer (λ q. (G (self.now).traces).edge p q) from result }
-        ensures within { IfSome result (IsUsed self.now) }
-    {
-        self.tables.next_target(p, from)
     }
 
     /// How many events p has. For each of the two ends, it is how many traces there are.

@@ -4,6 +4,8 @@ ghost use Rattle.limits.specs.declared.TheConstants.{MAX_PARTITIONS};
 ghost use Rattle.bit_rows.specs.Tables.{row_at, is_set, IsNextSet};
 ghost use Rattle.partition_graph.specs.Marks.{HasIdRows, IsWithBit};
 ghost use Rattle.partition_graph.specs.Filled.{IsTurned};
+ghost use Rattle.partition_graph.specs.NeighbourWords.{ArePlaces, IsWordOf};
+ghost use Rattle.partition_graph.specs.declared.id_rows.TheConstants.{ID_WORDS};
 
 use bit_rows::Rows;
 use limits::MAX_PARTITIONS;
@@ -14,10 +16,10 @@ use std::marker::Model;
 const IDS: usize = MAX_PARTITIONS as usize;
 
 /// The bits of a word.
-const WORD_BITS: usize = 64;
+pub const WORD_BITS: usize = 64;
 
-/// The words of a row.
-const WORDS: usize = IDS / WORD_BITS;
+/// How many words have a bit for each id.
+pub const ID_WORDS: usize = IDS / WORD_BITS;
 
 /// A row of bits for each id, with a bit for each id. Contracts see them as `Rows` are seen: as a list of rows, and a row as
 /// the list of its truth values.
@@ -47,7 +49,7 @@ impl IdRows {
         ensures shape { IfOk result (λ made. HasIdRows made) }
     {
         let rows = Rows::make(alloc, IDS, IDS)?;
-        let filled = Rows::make(alloc, IDS, WORDS)?;
+        let filled = Rows::make(alloc, IDS, ID_WORDS)?;
         Ok(IdRows { rows, filled })
     }
 
@@ -60,6 +62,25 @@ impl IdRows {
         turn(&mut self.rows, r, i, on);
         let place = i / WORD_BITS;
         turn(&mut self.filled, r, place, self.rows.word(r, place) != 0);
+    }
+
+    /// The 64 bits of row `r` from bit `64 * place` on, as a word: the first of them is its lowest bit.
+    #[inline]
+    pub fn word(&self, r: usize, place: usize) -> u64
+        requires row { r < MAX_PARTITIONS }
+        requires place { place < ID_WORDS }
+        ensures { IsWordOf (is_set (row_at self.now r)) place result }
+    {
+        self.rows.word(r, place)
+    }
+
+    /// A word with a bit for each word of row `r`, the first as the lowest. Where it is off, that word has no bit that is on.
+    #[inline]
+    pub fn places(&self, r: usize) -> u64
+        requires { r < MAX_PARTITIONS }
+        ensures { ArePlaces (is_set (row_at self.now r)) result }
+    {
+        self.filled.word(r, 0)
     }
 
     /// The place of the first bit of row `r` that is on, at place `from` or after it; `None` if these are all off.
@@ -76,7 +97,7 @@ impl IdRows {
             return Some(i);
         }
         let mut place = from / WORD_BITS + 1;
-        while place < WORDS {
+        while place < ID_WORDS {
             let Some(filled) = next_in_word(&self.filled, r, place) else {
                 return None;
             };

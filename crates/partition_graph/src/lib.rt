@@ -9,11 +9,13 @@ mod id_rows;
 mod law;
 mod links;
 mod merged;
+mod merged_words;
 mod tables;
 mod view;
 mod word_slots;
 
 pub use graph::PartGraph;
+pub use id_rows::{ID_WORDS, WORD_BITS};
 pub use law::{set_is_typed, starts_are_typed};
 pub use links::{Link, Links};
 pub use view::View;

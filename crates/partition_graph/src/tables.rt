@@ -5,10 +5,13 @@ ghost use Rattle.partition_graph.specs.Cells.{IsClosed};
 ghost use Rattle.partition_graph.specs.Counts.{HasId, edges_at};
 ghost use Rattle.partition_graph.specs.Joins.{joined_counts};
 ghost use Rattle.partition_graph.specs.Marks.{is_counted};
+ghost use Rattle.partition_graph.specs.NeighbourWords.{ArePlaces, IsWordOf};
 ghost use Rattle.partition_graph.specs.Nexts.{IsNextAnswer};
+ghost use Rattle.partition_graph.specs.declared.id_rows.TheConstants.{ID_WORDS};
 
 use crate::cells::{Cell, id_before, id_behind};
 use crate::edge_counts::{EdgeCounts, no_counts};
+use crate::id_rows::ID_WORDS;
 use limits::{INITIAL, MAX_PARTITIONS, TERMINAL};
 use std::alloc::{AllocError, Global};
 
@@ -139,6 +142,40 @@ impl Tables {
         self.counts.next_target(p, from)
     }
 
+    /// The ids from `64 * place` on from which an edge to q is counted, as a word whose lowest bit is the first of them.
+    #[inline]
+    pub fn source_word(&self, q: u32, place: usize) -> u64
+        requires { place < ID_WORDS }
+        ensures { IsWordOf (λ p. is_counted (self.now).counts p q) place result }
+    {
+        self.counts.source_word(q, place)
+    }
+
+    /// The ids from `64 * place` on to which an edge from p is counted, as a word whose lowest bit is the first of them.
+    #[inline]
+    pub fn target_word(&self, p: u32, place: usize) -> u64
+        requires { place < ID_WORDS }
+        ensures { IsWordOf (λ q. is_counted (self.now).counts p q) place result }
+    {
+        self.counts.target_word(p, place)
+    }
+
+    /// The places of `source_word` at which there may be ids, as the bits of a word: the lowest is place 0.
+    #[inline]
+    pub fn source_places(&self, q: u32) -> u64
+        ensures { ArePlaces (λ p. is_counted (self.now).counts p q) result }
+    {
+        self.counts.source_places(q)
+    }
+
+    /// The places of `target_word` at which there may be ids, as the bits of a word: the lowest is place 0.
+    #[inline]
+    pub fn target_places(&self, p: u32) -> u64
+        ensures { ArePlaces (λ q. is_counted (self.now).counts p q) result }
+    {
+        self.counts.target_places(p)
+    }
+
     /// Tables in which nothing is counted.
     fn make(alloc: Global) -> Result<Tables, AllocError>
         ensures { IfOk result (λ tables. IsClear tables) }
@@ -169,6 +206,7 @@ impl Tables {
     }
 
     /// Notes the type of the cell's id, and adds the cell to the size of its id.
+    #[inline]
     fn count_cell(&mut self, cell: Cell)
         requires id { cell.id < MAX_PARTITIONS }
         requires few { size_at self.old cell.id + 1 < 2 ^ 32 }
@@ -183,6 +221,7 @@ impl Tables {
     }
 
     /// Takes a cell out of the size of its id. If no cell of the id is left, its type is 0 again.
+    #[inline]
     fn uncount_cell(&mut self, cell: Cell)
         requires id { cell.id < MAX_PARTITIONS }
         requires some { 0 < size_at self.old cell.id }
@@ -200,6 +239,7 @@ impl Tables {
     }
 
     /// Adds the edge to a cell and, if its trace ends there, the edge from it to TERMINAL.
+    #[inline]
     fn count_edges_at(&mut self, before: u32, cell: Cell)
         requires before { before < MAX_PARTITIONS }
         requires id { cell.id < MAX_PARTITIONS }

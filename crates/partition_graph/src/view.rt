@@ -1,11 +1,17 @@
 //! Views of a graph: as it is, or as it would be after a merge.
 ghost use Rattle.std.specs.Prelude.{◌≡◌, ◌≤◌, ◌<◌, IfSome, MatchOption};
 ghost use Rattle.partition_graph.specs.Parts.{HasEdgesBelow};
+ghost use Rattle.partition_graph.specs.NeighbourWords.{ArePlaces, IsWordOf};
 ghost use Rattle.partition_graph.specs.Neighbours.{HasNoSource, HasNoTarget, IsNextSource, IsNextTarget};
 ghost use Rattle.partition_graph.specs.Seen.{parts_seen, seen, IsSound};
+ghost use Rattle.partition_graph.specs.declared.id_rows.TheConstants.{ID_WORDS};
 
 use crate::graph::PartGraph;
+use crate::id_rows::ID_WORDS;
 use crate::merged::{has_merged_edge, next_merged_source, next_merged_target};
+use crate::merged_words::{
+    merged_source_places, merged_source_word, merged_target_places, merged_target_word,
+};
 use limits::{FIRST_TYPE, MAX_PARTITIONS};
 
 /// A graph in which edges, neighbours and paths are looked up.
@@ -76,6 +82,56 @@ impl View<'_> {
         match self {
             View::Plain(graph) => graph.next_target(p, from),
             View::Merged(graph, kept, gone) => next_merged_target(graph, *kept, *gone, p, from),
+        }
+    }
+
+    /// The ids from `64 * place` on that have an edge to q, as a word whose lowest bit is the first of them.
+    #[inline]
+    pub fn source_word(&self, q: u32, place: usize) -> u64
+        requires sound { IsSound self.now }
+        requires place { place < ID_WORDS }
+        ensures { IsWordOf (λ p. (seen self.now).edge p q) place result }
+    {
+        match self {
+            View::Plain(graph) => graph.source_word(q, place),
+            View::Merged(graph, kept, gone) => merged_source_word(graph, *kept, *gone, q, place),
+        }
+    }
+
+    /// The ids from `64 * place` on to which p has an edge, as a word whose lowest bit is the first of them.
+    #[inline]
+    pub fn target_word(&self, p: u32, place: usize) -> u64
+        requires sound { IsSound self.now }
+        requires place { place < ID_WORDS }
+        ensures { IsWordOf (λ q. (seen self.now).edge p q) place result }
+    {
+        match self {
+            View::Plain(graph) => graph.target_word(p, place),
+            View::Merged(graph, kept, gone) => merged_target_word(graph, *kept, *gone, p, place),
+        }
+    }
+
+    /// The places of `source_word` at which there may be ids, as the bits of a word: the lowest is place 0.
+    #[inline]
+    pub fn source_places(&self, q: u32) -> u64
+        requires { IsSound self.now }
+        ensures { ArePlaces (λ p. (seen self.now).edge p q) result }
+    {
+        match self {
+            View::Plain(graph) => graph.source_places(q),
+            View::Merged(graph, kept, gone) => merged_source_places(graph, *kept, *gone, q),
+        }
+    }
+
+    /// The places of `target_word` at which there may be ids, as the bits of a word: the lowest is place 0.
+    #[inline]
+    pub fn target_places(&self, p: u32) -> u64
+        requires { IsSound self.now }
+        ensures { ArePlaces (λ q. (seen self.now).edge p q) result }
+    {
+        match self {
+            View::Plain(graph) => graph.target_places(p),
+            View::Merged(graph, kept, gone) => merged_target_places(graph, *kept, *gone, p),
         }
     }
 }

@@ -4,3 +4,6 @@ pub mod Least
 pub mod Reaching
 pub mod Narrow
 pub mod Neighbours
+pub mod WordSteps
+pub mod OpenPairs
+pub mod Marked

@@ -1,5 +1,5 @@
 -- What is kept when an id is met.
-use Rattle.std.proofs.Common.{◌≡◌, ◌==◌, nat_lt, ℕ, zero, suc, ◌+◌, ◌<◌, ◌≤◌, true, false, not, Bool, List, [], ◌∷◌, ◌++◌, length, replicate, slice_get, set, get_or, count_by, Some, sym, ◌∙◌, ap, subst, inl, inr, arith, get_or-set_same, get_or-set_other, length-append, if◌then◌else◌, sum_by}
+use Rattle.std.proofs.Common.{◌≡◌, ◌==◌, nat_lt, ℕ, zero, suc, ◌+◌, ◌<◌, ◌≤◌, true, false, not, ◌&&◌, refl, Bool, List, [], ◌∷◌, ◌++◌, length, replicate, slice_get, set, get_or, count_by, Some, sym, ◌∙◌, ap, subst, inl, inr, arith, get_or-set_same, get_or-set_other, length-append, if◌then◌else◌, sum_by}
 use Rattle.std.proofs.lemmas.Bool.{cases_eq, cases_lt, cases_Bool, and_parts, ltb-true, eqb-true, true≢false}
 use Rattle.std.proofs.lemmas.List.{length-set, length-replicate}
 use Rattle.std.proofs.lemmas.List.Sums.{sum_by-set, count_by-le-length}
@@ -7,7 +7,10 @@ use Rattle.std.proofs.lemmas.Option.{same_Some, slice_get_within}
 use Rattle.limits.specs.declared.TheConstants.{MAX_PARTITIONS}
 use Rattle.path_finder.specs.Nearness.{Met, is_met, is_of_type, IsClosed}
 use Rattle.partition_model.specs.Graphs.{Graph}
-use Rattle.path_finder.specs.Reaching.{meeting, HasNoneOn, IsCounted, IsReaching, MeetsMore}
+use Rattle.partition_graph.specs.Parts.{HasEdgesBelow}
+use Rattle.path_finder.specs.declared.reach.Way.{Way}
+use Rattle.path_finder.specs.declared.reach.Way.TheVariants.{Ahead, Behind}
+use Rattle.path_finder.specs.Reaching.{edge_by, meeting, IsCounted, IsReaching, MeetsMore}
 use Rattle.path_finder.proofs.Entering.{slice_get_kept, slice_get_last, slice_get_push}
 
 -- the id is put behind those that are met
@@ -120,9 +123,9 @@ of_type_tells g ids typ p e =
     (ltb-true p ids parts.0, eqb-true (g.typ p) typ parts.1)
 
 -- where all to which an edge leads from the next one of the list are met, its edges were followed too
-pub reaching_next : (edge : ℕ → ℕ → Bool) (next from id : ℕ) (m : Met) → IsReaching edge next m → slice_get m.list next ≡ Some id
-    → ((q : ℕ) → q < from → edge id q ≡ true → is_met m q ≡ true) → HasNoneOn edge id from → IsReaching edge (next + 1) m
-reaching_next edge next from id m s there followed none =
+pub reaching_next : (edge : ℕ → ℕ → Bool) (next id : ℕ) (m : Met) → IsReaching edge next m → slice_get m.list next ≡ Some id
+    → ((q : ℕ) → edge id q ≡ true → is_met m q ≡ true) → IsReaching edge (next + 1) m
+reaching_next edge next id m s there followed =
     record {
       counted = s.counted;
       listed = s.listed;
@@ -131,10 +134,38 @@ reaching_next edge next from id m s there followed none =
         | inr above ↦
             let same : i ≡ next = omega arith in
             let is : p ≡ id = same_Some p id (sym at ∙ ap (slice_get m.list) same ∙ there) in
-            let led : edge id q ≡ true = subst (λ (x : ℕ). edge x q ≡ true) is e in
-            elim (cases_lt q from) [
-              | inl old ↦ followed q old led
-              | inr new ↦ absurd (true≢false (sym led ∙ none q new))
-            ]
+            followed q (subst (λ (x : ℕ). edge x q ≡ true) is e)
       ];
     }
+
+-- an id to which an edge leads is met, unless it is among those that are not met
+pub met-else : (e m : Bool) → (e && not m) ≡ false → e ≡ true → m ≡ true
+met-else true true n d = refl
+met-else true false n d = sym n
+met-else false m n d = absurd (true≢false (sym d))
+
+-- one of those is not met
+pub new-unmet : (e m : Bool) → (e && not m) ≡ true → m ≡ false
+new-unmet true true u = sym u
+new-unmet true false u = refl
+new-unmet false m u = absurd (true≢false (sym u))
+
+-- nor is there one where no edge leads
+pub no-unmet : (e m : Bool) → e ≡ false → (e && not m) ≡ false
+no-unmet e m n = ap (λ (x : Bool). x && not m) n
+
+-- an edge leads to one of them
+pub edge-unmet : (e m : Bool) → (e && not m) ≡ true → e ≡ true
+edge-unmet true m u = refl
+edge-unmet false m u = u
+
+-- the id to which an edge leads is below the bound on ids, in either direction
+pub edge-below : (way : Way) (g : Graph) (ids p q : ℕ) → HasEdgesBelow g ids → edge_by way g p q ≡ true → q < ids
+edge-below Ahead g ids p q below e = (below p q e).1
+edge-below Behind g ids p q below e = (below q p e).0
+
+pub no-edge-past : (way : Way) (g : Graph) (ids p q : ℕ) → HasEdgesBelow g ids → ids ≤ q → edge_by way g p q ≡ false
+no-edge-past way g ids p q below past = elim (cases_Bool (edge_by way g p q)) [
+  | inl there ↦ absurd (omega (arith, past, edge-below way g ids p q below there))
+  | inr gone ↦ gone
+]

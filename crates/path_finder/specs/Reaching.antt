@@ -1,5 +1,5 @@
 -- How the ids that walks lead to are met, one after another.
-use Rattle.std.specs.Prelude.{ℕ, ◌≡◌, ◌+◌, ◌<◌, ◌≤◌, Bool, true, false, not, [], ◌∷◌, ◌++◌, length, slice_get, slice_set, count_by, Some, if◌then◌else◌}
+use Rattle.std.specs.Prelude.{ℕ, ◌≡◌, ◌+◌, ◌<◌, ◌≤◌, Bool, true, not, ◌&&◌, [], ◌∷◌, ◌++◌, length, slice_get, slice_set, count_by, Some, if◌then◌else◌}
 use Rattle.limits.specs.declared.TheConstants.{MAX_PARTITIONS}
 use Rattle.partition_model.specs.Graphs.{Graph}
 use Rattle.path_finder.specs.declared.reach.Way.{Way}
@@ -11,15 +11,9 @@ abbrev pub edge_by : Way → Graph → ℕ → ℕ → Bool
 edge_by Ahead g p q = g.edge p q
 edge_by Behind g p q = g.edge q p
 
--- n is the least id at or above this one that an edge leads to
-pub record IsNextOn (edge : ℕ → ℕ → Bool) (id from n : ℕ) : Type 0 where
-  pub reached : from ≤ n
-  pub there : edge id n ≡ true
-  pub first : (r : ℕ) → from ≤ r → r < n → edge id r ≡ false
-
--- no edge leads to an id at or above this one
-abbrev pub HasNoneOn : (ℕ → ℕ → Bool) → ℕ → ℕ → Type 0
-HasNoneOn edge id from = (n : ℕ) → from ≤ n → edge id n ≡ false
+-- an edge leads to the id n, which is not met
+abbrev pub is_unmet : (ℕ → ℕ → Bool) → Met → ℕ → ℕ → Bool
+is_unmet edge m id n = edge id n && not (is_met m n)
 
 -- the id is met and listed, if it was not already
 abbrev pub meeting : Met → ℕ → Met

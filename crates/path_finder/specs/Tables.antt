@@ -1,9 +1,10 @@
 -- What the search has found: lengths of walks that end badly, and the pairs in the order they were entered.
-use Rattle.std.specs.Prelude.{◌≡◌, ◌==◌, ℕ, ◌+◌, ◌*◌, ◌<◌, ◌≤◌, true, List, [], ◌∷◌, ◌++◌, length, slice_index, slice_get, slice_set, count_by, Some}
-use Rattle.limits.specs.declared.TheConstants.{TERMINAL}
+use Rattle.std.specs.Prelude.{◌≡◌, ◌==◌, ℕ, ◌+◌, ◌*◌, ◌<◌, ◌≤◌, ◌&&◌, not, nat_lt, Bool, true, List, [], ◌∷◌, ◌++◌, length, slice_index, slice_get, slice_set, count_by, Some}
+use Rattle.limits.specs.declared.TheConstants.{MAX_PARTITIONS, TERMINAL}
+use Rattle.bit_rows.specs.Tables.{row_at, is_set, HasShape}
 use Rattle.invariants.specs.Monitors.{is_bad}
 use Rattle.path_finder.specs.declared.pair.TheConstants.{STATES}
-use Rattle.path_finder.specs.declared.table.TheConstants.{OPEN}
+use Rattle.path_finder.specs.declared.table.TheConstants.{MAX_ENTRIES, OPEN}
 use Rattle.path_finder.specs.declared.pair.Pair.{Pair}
 use Rattle.path_finder.specs.Walks.{Asked, IsPairOf, Leads, Finishes}
 
@@ -19,6 +20,22 @@ place r = r.id * STATES + r.state
 -- the distance of a pair
 abbrev pub at : Entries → Pair → ℕ
 at e r = slice_index e.distances (place r)
+
+-- whether the pair of the state and the id was entered
+abbrev pub is_entered : List ℕ → ℕ → ℕ → Bool
+is_entered distances state id =
+    nat_lt (id * STATES + state) (length distances) && nat_lt (slice_index distances (id * STATES + state)) OPEN
+
+-- the first row marks the pairs that were entered, those of each state after those of the state before
+pub record AreMarked (rows : List (List Bool)) (distances : List ℕ) : Type 0 where
+  pub shape : HasShape rows 1 MAX_ENTRIES
+  pub few : length distances ≤ MAX_ENTRIES
+  pub marks : (state id : ℕ) → state < STATES → id < MAX_PARTITIONS
+      → is_set (row_at rows 0) (state * MAX_PARTITIONS + id) ≡ is_entered distances state id
+
+-- whether the id has an edge to q and its pair with the state was not entered
+abbrev pub is_open_source : Asked → Entries → ℕ → ℕ → ℕ → Bool
+is_open_source a e q state id = a.graph.edge id q && not (is_entered e.distances state id)
 
 -- how many pairs are open
 abbrev pub open_count : Entries → ℕ

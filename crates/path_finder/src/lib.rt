@@ -17,5 +17,6 @@ mod search;
 mod sight;
 mod table;
 mod trace;
+mod words;
 
 pub use finder::Finder;

@@ -3,6 +3,7 @@ ghost use Rattle.std.specs.Prelude.{◌≡◌, ◌≤◌, ◌<◌, IfSome, Match
 ghost use Rattle.limits.specs.declared.TheConstants.{FIRST_TYPE, MAX_PARTITIONS};
 ghost use Rattle.partition_graph.specs.Parts.{HasEdgesBelow};
 ghost use Rattle.partition_graph.specs.Seen.{seen};
+ghost use Rattle.partition_graph.specs.declared.id_rows.TheConstants.{ID_WORDS};
 ghost use Rattle.path_finder.specs.Keeping.{is_around};
 ghost use Rattle.path_finder.specs.Nearness.{narrowed};
 
@@ -10,6 +11,7 @@ use crate::reach::Around;
 use crate::sight::Sight;
 use invariants::{Invariant, Monitor};
 use limits::{FIRST_TYPE, MAX_PARTITIONS};
+use partition_graph::ID_WORDS;
 
 /// An invariant, and a graph that may break it. Edges go between ids below `ids`. Only those between the ids in
 /// `around` are visited.
@@ -26,7 +28,8 @@ pub(crate) struct Question<'v, 'a> {
 
 impl<'v, 'a> Question<'v, 'a> {
     ghost use Rattle.invariants.specs.Monitors.{is_bad};
-    ghost use Rattle.partition_graph.specs.Neighbours.{HasNoSource, HasNoTarget, IsNextSource, IsNextTarget};
+    ghost use Rattle.partition_graph.specs.NeighbourWords.{ArePlaces, IsWordOf};
+    ghost use Rattle.partition_graph.specs.Neighbours.{HasNoTarget, IsNextTarget};
     ghost use Rattle.path_finder.specs.Asking.{asked};
     ghost use Rattle.path_finder.specs.Walks.{state_at};
 
@@ -52,24 +55,27 @@ impl<'v, 'a> Question<'v, 'a> {
         self.ids
     }
 
-    /// The least id at or above `from` that has an edge to q; `None` if there is none.
-    pub fn next_source(&self, q: u32, from: u32) -> Option<u32>
-        ensures next { MatchOption result
-            (HasNoSource (asked self.now).graph q from)
-            (λ p. IsNextSource (asked self.now).graph q from p) }
-        ensures within { IfSome result (λ p. p < (asked self.now).ids) }
+    /// The ids from `64 * place` on that have an edge to q, as a word whose lowest bit is the first of them.
+    #[inline]
+    pub fn source_word(&self, q: u32, place: usize) -> u64
+        requires { place < ID_WORDS }
+        ensures { IsWordOf (λ p. (asked self.now).graph.edge p q) place result }
     {
         if !self.around.has(q) {
-            return None;
+            return 0;
         }
-        let mut from = from;
-        while let Some(p) = self.sight.view.next_source(q, from) {
-            if self.around.has(p) {
-                return Some(p);
-            }
-            from = p + 1;
+        self.sight.view.source_word(q, place) & self.around.word(place)
+    }
+
+    /// The places of `source_word` at which there may be ids, as the bits of a word: the lowest is place 0.
+    #[inline]
+    pub fn source_places(&self, q: u32) -> u64
+        ensures { ArePlaces (λ p. (asked self.now).graph.edge p q) result }
+    {
+        if !self.around.has(q) {
+            return 0;
         }
-        None
+        self.sight.view.source_places(q)
     }
 
     /// The least id at or above `from` to which p has an edge; `None` if there is none.

@@ -5,12 +5,16 @@ ghost use Rattle.partition_graph.specs.Seen.{parts_seen, seen};
 ghost use Rattle.path_finder.specs.Nearness.{is_met, is_of_type, IsClosed, IsReachedFrom};
 ghost use Rattle.path_finder.specs.Keeping.{is_around};
 ghost use Rattle.path_finder.specs.declared.reach.Way.TheVariants.{Ahead, Behind};
-ghost use Rattle.path_finder.specs.Reaching.{edge_by, meeting, HasNoneOn, IsCounted, IsNextOn, IsReaching, MeetsMore};
+ghost use Rattle.path_finder.specs.Reaching.{edge_by, is_unmet, meeting, IsCounted, IsReaching, MeetsMore};
+ghost use Rattle.partition_graph.specs.NeighbourWords.{ArePlaces, IsWordOf};
+ghost use Rattle.partition_graph.specs.Nexts.{IsNextAnswer};
+ghost use Rattle.partition_graph.specs.declared.id_rows.TheConstants.{ID_WORDS};
 
 use crate::sight::Sight;
+use crate::words::{next_at, next_in_word};
 use bit_rows::Rows;
 use limits::MAX_PARTITIONS;
-use partition_graph::View;
+use partition_graph::{ID_WORDS, View, WORD_BITS};
 use std::alloc::{AllocError, Global};
 use std::marker::Model;
 
@@ -48,16 +52,26 @@ impl Model for Reach {
         HasShape r.met 1 MAX_PARTITIONS × (MAX_PARTITIONS ≤ vec_capacity r.list) };
 }
 
-/// The least neighbour of the id in this direction, at or above `from`; `None` if there is none.
-fn next_on(sight: &Sight<'_>, way: Way, id: u32, from: u32) -> Option<u32>
-    ensures next { MatchOption result
-        (HasNoneOn (edge_by way (seen sight.now.view)) id from)
-        (λ n. IsNextOn (edge_by way (seen sight.now.view)) id from n) }
-    ensures within { IfSome result (λ n. n < MAX_PARTITIONS) }
+/// The neighbours of the id in this direction from `64 * place` on, as a word whose lowest bit is the first of them.
+#[inline]
+fn neighbours(sight: &Sight<'_>, way: Way, id: u32, place: usize) -> u64
+    requires { place < ID_WORDS }
+    ensures { IsWordOf (edge_by way (seen sight.now.view) id) place result }
 {
     match way {
-        Way::Ahead => sight.view.next_target(id, from),
-        Way::Behind => sight.view.next_source(id, from),
+        Way::Ahead => sight.view.target_word(id, place),
+        Way::Behind => sight.view.source_word(id, place),
+    }
+}
+
+/// The places of `neighbours` at which there may be ids, as the bits of a word: the lowest is place 0.
+#[inline]
+fn neighbour_places(sight: &Sight<'_>, way: Way, id: u32) -> u64
+    ensures { ArePlaces (edge_by way (seen sight.now.view) id) result }
+{
+    match way {
+        Way::Ahead => sight.view.target_places(id),
+        Way::Behind => sight.view.source_places(id),
     }
 }
 
@@ -70,11 +84,49 @@ impl Reach {
     }
 
     /// Whether the id was met.
+    #[inline]
     pub fn has(&self, id: u32) -> bool
         ensures { result ≡ is_met self.now id }
     {
         let id = id as usize;
         id < IDS && self.met.get(0, id)
+    }
+
+    /// The ids from `64 * place` on that were met, as a word whose lowest bit is the first of them.
+    #[inline]
+    fn word(&self, place: usize) -> u64
+        requires { place < ID_WORDS }
+        ensures { IsWordOf (is_met self.now) place result }
+    {
+        self.met.word(0, place)
+    }
+
+    /// The least neighbour of the id in this direction, at or above `from`, that was not met; `None` if there is none.
+    /// `places` are the places of its neighbours.
+    fn next_unmet(
+        &self,
+        sight: &Sight<'_>,
+        way: Way,
+        id: u32,
+        places: u64,
+        from: u32,
+    ) -> Option<u32>
+        requires { ArePlaces (edge_by way (seen sight.now.view) id) places }
+        ensures next { IsNextAnswer
+            (is_unmet (edge_by way (seen sight.now.view)) self.now id) from result }
+        ensures within { IfSome result (λ n. n < MAX_PARTITIONS) }
+    {
+        let ids = sight.view.ids_used() as usize;
+        let mut at = next_at(places, from as usize);
+        while at < ids {
+            let place = at / WORD_BITS;
+            let unmet = neighbours(sight, way, id, place) & !self.word(place);
+            if let Some(n) = next_in_word(unmet, at) {
+                return Some(n as u32);
+            }
+            at = next_at(places, (place + 1) * WORD_BITS);
+        }
+        None
     }
 
     /// Forgets all ids.
@@ -95,6 +147,16 @@ impl Reach {
         if self.has(id) {
             return;
         }
+        self.add(id);
+    }
+
+    /// Meets the id, which was not met.
+    fn add(&mut self, id: u32)
+        requires id { id < MAX_PARTITIONS }
+        requires counted { IsCounted self.old }
+        requires unmet { is_met self.old id ≡ false }
+        ensures { self.new ≡ meeting self.old id }
+    {
         self.met.put(0, id as usize, true);
         self.list.push_reserved(id);
     }
@@ -107,9 +169,10 @@ impl Reach {
         ensures more { MeetsMore self.old self.new }
     {
         let id = self.list[next];
+        let places = neighbour_places(sight, way, id);
         let mut from = 0;
-        while let Some(n) = next_on(sight, way, id, from) {
-            self.meet(n);
+        while let Some(n) = self.next_unmet(sight, way, id, places, from) {
+            self.add(n);
             from = n + 1;
         }
     }
@@ -216,9 +279,19 @@ impl Around {
     }
 
     /// Whether the id is of either kind.
+    #[inline]
     pub fn has(&self, id: u32) -> bool
         ensures { result ≡ is_around self.now id }
     {
         self.ahead.has(id) || self.behind.has(id)
+    }
+
+    /// The ids from `64 * place` on that are of either kind, as a word whose lowest bit is the first of them.
+    #[inline]
+    pub fn word(&self, place: usize) -> u64
+        requires { place < ID_WORDS }
+        ensures { IsWordOf (is_around self.now) place result }
+    {
+        self.ahead.word(place) | self.behind.word(place)
     }
 }

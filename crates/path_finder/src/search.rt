@@ -1,14 +1,18 @@
 //! The search backwards: the distances of pairs, starting from TERMINAL in the bad state.
-ghost use Rattle.std.specs.Prelude.{◌≡◌, ◌==◌, ℕ, ◌<◌, ◌+◌, true, false, slice_index_or};
+ghost use Rattle.std.specs.Prelude.{◌≡◌, ℕ, ◌<◌, ◌+◌, true, IfSome};
+ghost use Rattle.partition_graph.specs.NeighbourWords.{ArePlaces};
+ghost use Rattle.partition_graph.specs.Nexts.{IsNextAnswer};
 ghost use Rattle.path_finder.specs.Asking.{asked};
-ghost use Rattle.path_finder.specs.Walks.{state_at, IsPairOf, Leads};
-ghost use Rattle.path_finder.specs.Tables.{at, Grows, HasEnds, IsBegun, IsMeasured, IsSearched};
+ghost use Rattle.path_finder.specs.Walks.{IsPairOf, Leads};
+ghost use Rattle.path_finder.specs.Tables.{at, is_open_source, Grows, HasEnds, IsBegun, IsMeasured, IsSearched};
 ghost use Rattle.path_finder.specs.Turns.{IsTurn};
 
 use crate::pair::{Pair, STATES};
 use crate::question::Question;
 use crate::table::{OPEN, Table};
+use crate::words::{next_at, next_in_word};
 use limits::TERMINAL;
+use partition_graph::WORD_BITS;
 
 /// A turn of the search: the pair whose turn it is, its place in the order in which pairs were entered, and the
 /// distance of the pairs that lead to it.
@@ -19,67 +23,56 @@ struct Turn {
     distance: u16,
 }
 
-/// For each state, whether it leads to that of the pair.
-fn leading(question: &Question<'_, '_>, pair: Pair) -> [bool; STATES]
-    ensures { (s : ℕ) → s < 3
-        → slice_index_or result s false ≡ (state_at (asked question.now) s pair.id == pair.state) }
-{
-    [
-        question.state_at(0, pair.id) == pair.state,
-        question.state_at(1, pair.id) == pair.state,
-        question.state_at(2, pair.id) == pair.state,
-    ]
-}
-
-/// Enters the pair, if it is open and its state leads to that of the pair whose turn it is. `leads` says whether it does.
-fn enter_pair(question: &Question<'_, '_>, table: &mut Table, turn: Turn, leads: bool, pair: Pair)
-    requires turn { IsTurn (asked question.now) turn table.old }
-    requires pair { IsPairOf (asked question.now) pair }
-    requires edge { (asked question.now).graph.edge pair.id turn.pair.id ≡ true }
-    requires leads { leads
-        ≡ (state_at (asked question.now) pair.state turn.pair.id == turn.pair.state) }
-    ensures turn { IsTurn (asked question.now) turn table.new }
-    ensures grows { Grows table.old table.new }
-    ensures entered { Leads (asked question.now) pair turn.pair → at table.new pair < OPEN }
-{
-    if !leads {
-        return;
-    }
-    if table.distance(pair) != OPEN {
-        return;
-    }
-    table.enter(pair, turn.distance);
-}
-
-/// Enters the open pairs of the id that lead to the pair whose turn it is. `leads` says of each state whether it leads to that
-/// of this pair.
-fn enter_source(
+/// The least id at or above `from` that has an edge to q and is open in this state; `None` if there is none. `places` are the
+/// places of the ids that have an edge to q.
+fn next_open(
     question: &Question<'_, '_>,
-    table: &mut Table,
-    turn: Turn,
-    leads: &[bool; STATES],
-    id: u32,
-)
+    table: &Table,
+    q: u32,
+    places: u64,
+    state: u8,
+    from: u32,
+) -> Option<u32>
+    requires state { state < 3 }
+    requires places { ArePlaces (λ id. (asked question.now).graph.edge id q) places }
+    ensures next { IsNextAnswer (is_open_source (asked question.now) table.now q state) from result }
+    ensures within { IfSome result (λ id. id < (asked question.now).ids) }
+{
+    let ids = question.ids() as usize;
+    let mut at = next_at(places, from as usize);
+    while at < ids {
+        let place = at / WORD_BITS;
+        let open = question.source_word(q, place) & !table.entered_word(state, place);
+        if let Some(id) = next_in_word(open, at) {
+            return Some(id as u32);
+        }
+        at = next_at(places, (place + 1) * WORD_BITS);
+    }
+    None
+}
+
+/// Enters the open pairs with this state that lead to the pair whose turn it is. `places` are the places of the ids that have an
+/// edge to its id.
+fn enter_state(question: &Question<'_, '_>, table: &mut Table, turn: Turn, places: u64, state: u8)
     requires turn { IsTurn (asked question.now) turn table.old }
-    requires id { id < (asked question.now).ids }
-    requires edge { (asked question.now).graph.edge id turn.pair.id ≡ true }
-    requires leads { (s : ℕ) → s < 3 → slice_index_or leads.now s false
-        ≡ (state_at (asked question.now) s turn.pair.id == turn.pair.state) }
+    requires places { ArePlaces (λ id. (asked question.now).graph.edge id turn.pair.id) places }
+    requires state { state < 3 }
 
     // The turn is still that of the pair, and what leads to it is entered.
     ensures turn { IsTurn (asked question.now) turn table.new }
     ensures grows { Grows table.old table.new }
-    ensures entered { (p : Pair) → p.id ≡ id → p.state < 3 → Leads (asked question.now) p turn.pair
-        → at table.new p < OPEN }
+    ensures entered { (p : Pair) → IsPairOf (asked question.now) p → p.state ≡ state
+        → Leads (asked question.now) p turn.pair → at table.new p < OPEN }
 {
-    for state in 0..3 {
-        enter_pair(
-            question,
-            table,
-            turn,
-            leads[state as usize],
-            Pair { id, state },
-        );
+    if question.state_at(state, turn.pair.id) != turn.pair.state {
+        return;
+    }
+    let mut from = 0;
+    while let Some(id) = next_open(question, table, turn.pair.id, places, state, from) {
+        let pair = Pair { id, state };
+        prove!(table.distance(pair) == OPEN);
+        table.enter(pair, turn.distance);
+        from = id + 1;
     }
 }
 
@@ -89,11 +82,9 @@ fn expand(question: &Question<'_, '_>, table: &mut Table, turn: Turn)
     ensures searched { IsSearched (asked question.now) (turn.next + 1) table.new }
     ensures grows { Grows table.old table.new }
 {
-    let leads = leading(question, turn.pair);
-    let mut from = 0;
-    while let Some(id) = question.next_source(turn.pair.id, from) {
-        enter_source(question, table, turn, &leads, id);
-        from = id + 1;
+    let places = question.source_places(turn.pair.id);
+    for state in 0..3 {
+        enter_state(question, table, turn, places, state);
     }
 }
 

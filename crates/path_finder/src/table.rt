@@ -1,14 +1,21 @@
 //! The table of distances.
 ghost use Rattle.std.specs.Prelude.{◌≡◌, ◌≤◌, ◌<◌, ◌+◌, [], length, replicate, slice_get, IfOk};
-ghost use Rattle.path_finder.specs.Tables.{at, open_count, place, with_pair};
+ghost use Rattle.partition_graph.specs.NeighbourWords.{IsWordOf};
+ghost use Rattle.partition_graph.specs.declared.id_rows.TheConstants.{ID_WORDS};
+ghost use Rattle.path_finder.specs.Tables.{at, is_entered, open_count, place, with_pair};
 
 use crate::pair::{Pair, STATES};
+use bit_rows::Rows;
 use limits::MAX_PARTITIONS;
+use partition_graph::ID_WORDS;
 use std::alloc::{AllocError, Global};
 use std::marker::Model;
 
+/// How many ids there may be.
+const IDS: usize = MAX_PARTITIONS as usize;
+
 /// The most pairs: each state with each id.
-pub(crate) const MAX_ENTRIES: usize = MAX_PARTITIONS as usize * STATES;
+pub(crate) const MAX_ENTRIES: usize = IDS * STATES;
 
 /// The distance of a pair that was not entered.
 pub(crate) const OPEN: u16 = 65535;
@@ -20,19 +27,22 @@ pub(crate) const OPEN: u16 = 65535;
 pub(crate) struct Table {
     distances: Vec<u16>,
     entered: Vec<Pair>,
+    /// One row, with the bits of all ids for each state: whether the pair was entered.
+    marks: Rows,
 }
 
 impl Model for Table {
     ghost use Rattle.std.specs.Prelude.{◌≤◌, vec_capacity};
     ghost use Rattle.path_finder.specs.declared.table.TheConstants.{MAX_ENTRIES};
-    ghost use Rattle.path_finder.specs.Tables.{Entries};
+    ghost use Rattle.path_finder.specs.Tables.{AreMarked, Entries};
 
     ghost Value = { Entries };
 
     ghost view = { λ t. record { distances = t.distances.items; entered = t.entered.items } };
 
     ghost invariant = { λ t.
-        (MAX_ENTRIES ≤ vec_capacity t.distances) × (MAX_ENTRIES ≤ vec_capacity t.entered) };
+        (MAX_ENTRIES ≤ vec_capacity t.distances) × (MAX_ENTRIES ≤ vec_capacity t.entered)
+        × AreMarked t.marks t.distances.items };
 }
 
 impl Table {
@@ -42,7 +52,12 @@ impl Table {
     {
         let distances = Vec::with_capacity(alloc, MAX_ENTRIES)?;
         let entered = Vec::with_capacity(alloc, MAX_ENTRIES)?;
-        Ok(Table { distances, entered })
+        let marks = Rows::make(alloc, 1, MAX_ENTRIES)?;
+        Ok(Table {
+            distances,
+            entered,
+            marks,
+        })
     }
 
     /// Leaves this many pairs, all of them open.
@@ -52,6 +67,7 @@ impl Table {
         ensures entered { (self.new).entered ≡ [] }
     {
         self.entered.clear();
+        self.marks.clear(0);
         self.distances.clear();
         if self.distances.resize(pairs, OPEN).is_err() {
             unreachable!()
@@ -66,6 +82,16 @@ impl Table {
         self.distances[pair.id as usize * STATES + pair.state as usize]
     }
 
+    /// The ids from `64 * place` on that were entered in this state, as a word whose lowest bit is the first of them.
+    #[inline]
+    pub fn entered_word(&self, state: u8, place: usize) -> u64
+        requires state { state < 3 }
+        requires place { place < ID_WORDS }
+        ensures { IsWordOf (is_entered (self.now).distances state) place result }
+    {
+        self.marks.word(0, state as usize * ID_WORDS + place)
+    }
+
     /// The pair that was entered as number `index`, counted from 0; `None` if fewer pairs were entered.
     pub fn entered(&self, index: usize) -> Option<Pair>
         ensures { result ≡ slice_get (self.now).entered index }
@@ -75,6 +101,7 @@ impl Table {
 
     /// Enters an open pair with this distance.
     pub fn enter(&mut self, pair: Pair, distance: u16)
+        requires state { pair.state < 3 }
         requires within { place pair < length (self.old).distances }
         requires stands_open { at self.old pair ≡ OPEN }
         requires closes { distance < OPEN }
@@ -82,6 +109,8 @@ impl Table {
         ensures { self.new ≡ with_pair self.old pair distance }
     {
         self.distances[pair.id as usize * STATES + pair.state as usize] = distance;
+        self.marks
+            .put(0, pair.state as usize * IDS + pair.id as usize, true);
         self.entered.push_reserved(pair);
     }
 }

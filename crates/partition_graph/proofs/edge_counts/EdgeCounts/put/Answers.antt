@@ -8,5 +8,5 @@ returns c = put_counts c.args.self.now c.self.inside.counts.items c.reach.new.co
 pub invariant_of-self : goal.invariant_of-self
 invariant_of-self c = (
   omega (arith, c.reach.ensures.capacity, c.self.invariant.0),
-  set_marked c.self.inside.counts.items c.reach.new.counts.items c.self.inside.sources c.self.inside.targets c.put.new.self c.put-2.new.self c.args.from c.args.to c.args.count (ltb 0 c.args.count) c.requires.from c.reach.ensures.reached c.reach.ensures.same refl c.self.invariant.1 c.put.ensures c.put-2.ensures,
+  set_marked c.self.inside.counts.items c.reach.new.counts.items c.self.inside.sources c.self.inside.targets c.put_marks.new.sources c.put_marks.new.targets c.args.from c.args.to c.args.count (ltb 0 c.args.count) c.requires.from c.reach.ensures.reached c.reach.ensures.same refl c.self.invariant.1 c.put_marks.ensures.sources c.put_marks.ensures.targets,
 )

@@ -4,8 +4,9 @@ use Rattle.std.proofs.lemmas.Nat.{div-add-mod', mod_below}
 use Rattle.limits.specs.declared.TheConstants.{MAX_PARTITIONS}
 use Rattle.bit_rows.specs.Tables.{row_at, is_set}
 use Rattle.partition_graph.specs.Marks.{IsWithBit}
-use Rattle.partition_graph.specs.declared.id_rows.TheConstants.{WORDS}
-use Rattle.partition_graph.proofs.Filling.{blank_word, no-other}
+use Rattle.partition_graph.specs.declared.id_rows.TheConstants.{ID_WORDS}
+use Rattle.partition_graph.proofs.Filling.{no-other}
+use Rattle.partition_graph.proofs.NeighbourWords.{word-blank}
 use Rattle.partition_graph.proofs.id_rows.IdRows.put.Goals as goal
 
 pub invariant_of-self : goal.invariant_of-self
@@ -16,13 +17,13 @@ invariant_of-self c =
     let old = c.self.invariant in
     record {
       rows_shape = c.turn.ensures.shape MAX_PARTITIONS MAX_PARTITIONS old.rows_shape;
-      filled_shape = c.turn-2.ensures.shape MAX_PARTITIONS WORDS old.filled_shape;
+      filled_shape = c.turn-2.ensures.shape MAX_PARTITIONS ID_WORDS old.filled_shape;
       blank = λ s w k low word bit off. elim (cases_eq w place) [
         | inl same ↦ elim (cases_eq s c.args.r) [
           | inl here ↦
               let off' : is_set (row_at c.turn-2.new.rows c.args.r) place ≡ false = ap₂ (λ a b. is_set (row_at c.turn-2.new.rows a) b) (sym here) (sym same) ∙ off in
               ap₂ (λ a b. is_set (row_at c.turn.new.rows a) (b * 64 + k)) here same
-              ∙ blank_word (row_at c.turn.new.rows c.args.r) place c.word.result c.word.ensures (no-other c.word.result (sym c.turn-2.ensures.here ∙ off')) k bit
+              ∙ word-blank (is_set (row_at c.turn.new.rows c.args.r)) place c.word.result c.word.ensures (no-other c.word.result (sym c.turn-2.ensures.here ∙ off')) k bit
           | inr other ↦
               c.turn.ensures.others s (w * 64 + k) (λ e d. other e)
               ∙ old.blank s w k low word bit (sym (c.turn-2.ensures.others s w (λ e d. other e)) ∙ off)

@@ -1,5 +1,5 @@
 use Rattle.std.proofs.Common.{◌≡◌, ◌+◌, ◌-◌, ℕ, length, slice_index, vec_capacity}
-use Rattle.partition_graph.proofs.edge_counts.reach.Given as goal
+use Rattle.partition_graph.proofs.edge_counts.append_zeros.Given as goal
 
 abbrev pub invariant-loop-counts : goal.invariant-loop-counts
 invariant-loop-counts l =

@@ -1,6 +1,6 @@
 use Rattle.std.proofs.Common.{ap, ◌∙◌, ℕ, List, get_or, arith}
 use Rattle.partition_graph.proofs.Marking.{zero_pushed}
-use Rattle.partition_graph.proofs.edge_counts.reach.Goals as goal
+use Rattle.partition_graph.proofs.edge_counts.append_zeros.Goals as goal
 
 pub loop-counts-preserved : goal.loop-counts-preserved
 loop-counts-preserved c =
