@@ -1,5 +1,6 @@
 pub mod Counted
 pub mod Found
+pub mod KeptTexts
 pub mod Noted
 pub mod Placing
 pub mod Rest

@@ -30,9 +30,9 @@ flat_map-shown f [] = refl
 flat_map-shown f (g ∷ gs) = ap (λ (t : List ℕ). f (shown g) ++ t) (flat_map-shown f gs)
 
 -- at the end of the list the text has the lines of all paths
-pub lines-all : (types of-log : List (List ℕ)) (items gs : List TakenPath) (i : ℕ) (text : List ℕ) (ts : List Taken) → items ≡ gs → length items ≤ i → types ≡ of-log
-    → map shown gs ≡ ts → text ≡ flat_map (λ (g : TakenPath). path_line types (shown g)) (take i items) → text ≡ flat_map (path_line of-log) ts
-lines-all types of-log items gs i text ts same all is-types is-taken before =
+pub lines-all : (types : List (List ℕ)) (items gs : List TakenPath) (i : ℕ) (text : List ℕ) (ts : List Taken) → items ≡ gs → length items ≤ i
+    → map shown gs ≡ ts → text ≡ flat_map (λ (g : TakenPath). path_line types (shown g)) (take i items) → text ≡ flat_map (path_line types) ts
+lines-all types items gs i text ts same all is-taken before =
     before
     ∙ (ap (flat_map (λ (g : TakenPath). path_line types (shown g))) (take_all i items all ∙ same)
-    ∙ (sym (flat_map-shown (path_line types) gs) ∙ (ap (flat_map (path_line types)) is-taken ∙ ap (λ (names : List (List ℕ)). flat_map (path_line names) ts) is-types)))
+    ∙ (sym (flat_map-shown (path_line types) gs) ∙ ap (flat_map (path_line types)) is-taken))

@@ -10,6 +10,7 @@ mod number;
 mod partitions;
 mod path;
 mod slots;
+mod steps;
 mod taken;
 
 pub use graph::graph_report;

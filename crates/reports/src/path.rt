@@ -6,46 +6,42 @@ ghost use Rattle.reports.specs.Paths.{path_line, path_report, shown, step_text};
 
 use crate::name::Names;
 use crate::number::push_number;
+use crate::steps::Steps;
 use crate::taken::{TakenPath, taken_paths};
 use invariants::Seq;
 use std::alloc::{AllocError, Global};
 use traces::TraceSet;
 
-/// Appends an event to the text: a space, the name of its type, `@`, and the id of its partition.
-fn push_step(text: &mut Vec<u8>, names: &Names<'_>, number: u16, id: u32) -> Result<(), AllocError>
-    ensures { OnOk result (text.new.items ≡ text.old.items ++ step_text names.now (number, id)) }
-{
-    text.push(b' ')?;
-    names.push_name(text, number)?;
-    text.push(b'@')?;
-    push_number(text, id)?;
-    Ok(())
-}
-
 /// Appends the events with these type numbers and ids to the text.
 fn push_steps(
     text: &mut Vec<u8>,
-    names: &Names<'_>,
+    steps: &mut Steps<'_>,
     numbers: &[u16],
     ids: &[u32],
 ) -> Result<(), AllocError>
-    ensures { OnOk result (text.new.items
-        ≡ text.old.items ++ flat_map (step_text names.now) (zip numbers.now ids.now)) }
+    ensures same { steps.new ≡ steps.old }
+    ensures text { OnOk result (text.new.items
+        ≡ text.old.items ++ flat_map (step_text steps.old) (zip numbers.now ids.now)) }
 {
     for (number, id) in numbers.iter().zip(ids) {
-        push_step(text, names, *number, *id)?;
+        steps.push_step(text, *number, *id)?;
     }
     Ok(())
 }
 
 /// Appends the line of a path to the text.
-fn push_line(text: &mut Vec<u8>, names: &Names<'_>, taken: &TakenPath<'_>) -> Result<(), AllocError>
-    ensures { OnOk result (text.new.items
-        ≡ text.old.items ++ path_line names.now (shown taken.now)) }
+fn push_line(
+    text: &mut Vec<u8>,
+    steps: &mut Steps<'_>,
+    taken: &TakenPath<'_>,
+) -> Result<(), AllocError>
+    ensures same { steps.new ≡ steps.old }
+    ensures text { OnOk result (text.new.items
+        ≡ text.old.items ++ path_line steps.old (shown taken.now)) }
 {
     push_number(text, taken.count)?;
     text.extend_from_slice(b": INITIAL")?;
-    push_steps(text, names, taken.types, taken.ids)?;
+    push_steps(text, steps, taken.types, taken.ids)?;
     text.extend_from_slice(b" TERMINAL\n")?;
     Ok(())
 }
@@ -65,9 +61,10 @@ pub fn path_report(alloc: Global, traces: &TraceSet, parts: &[u32]) -> Result<Se
 {
     let paths = taken_paths(alloc, traces, parts)?;
     let names = Names::make(alloc, traces.types())?;
+    let mut steps = Steps::make(alloc, names)?;
     let mut text = Vec::new(alloc);
     for path in &paths {
-        push_line(&mut text, &names, path)?;
+        push_line(&mut text, &mut steps, path)?;
     }
     Ok(Seq::from_vec(text))
 }

@@ -5,4 +5,5 @@ use Rattle.reports.proofs.path.push_steps.Given as goal
 
 abbrev pub invariant-loop-number : goal.invariant-loop-number
 invariant-loop-number l =
-    l.text.items ≡ l.initial.text.items ++ flat_map (step_text l.names) (take (length l.yielded) (zip l.numbers l.ids))
+    (l.steps ≡ l.initial.steps)
+    × (l.text.items ≡ l.initial.text.items ++ flat_map (step_text l.initial.steps) (take (length l.yielded) (zip l.numbers l.ids)))
