@@ -1,4 +1,4 @@
-//! Command lines: each line has the arguments of one, as in `crates/tests_basics/cases`.
+//! Command lines: each line has the arguments of one, as in `cases/basics/arguments.txt`.
 
 use command_line::parse;
 use std::alloc::{AllocError, Global};
