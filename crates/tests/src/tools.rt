@@ -2,7 +2,7 @@
 ghost use Rattle.std.specs.Prelude.{◌≡◌, IfOk, Ok};
 
 use invariants::{Kind, Kinds};
-use std::alloc::AllocError;
+use std::alloc::{AllocError, Global};
 
 /// The number of a text; 0 if it is not a number.
 pub fn number(text: &str) -> u32 {
@@ -26,6 +26,11 @@ pub fn kinds(number: &str) -> Kinds {
     } else {
         Kinds::Three
     }
+}
+
+/// The list of one number: that of a call that fails.
+pub fn listed(alloc: Global, number: u64) -> Result<Vec<u64>, AllocError> {
+    Ok(vec![in alloc; number]?)
 }
 
 /// Both, or out of memory if either ran out. The other one is dropped here, once for all callers.

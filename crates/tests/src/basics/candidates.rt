@@ -18,7 +18,7 @@ pub fn invariant(word: &str) -> Invariant {
 }
 
 /// `candidate KINDS TYPES INDEX`: how many candidates there are, the one at the index, and its index.
-pub fn at_index(alloc: Global, words: &str) -> Result<String, AllocError> {
+pub fn at_index(words: &str, out: &mut String) -> Result<(), AllocError> {
     let (number_of_kinds, rest) = halves(words, ' ');
     let (types, index) = halves(rest, ' ');
     let kinds = kinds(number_of_kinds);
@@ -28,44 +28,40 @@ pub fn at_index(alloc: Global, words: &str) -> Result<String, AllocError> {
         Some(inv) => index_of(kinds, types, inv),
         None => None,
     };
-    format!(in alloc; "{} {found:?} {back:?}", candidate_count(kinds, types))
+    write!(out, "{} {found:?} {back:?}", candidate_count(kinds, types))
 }
 
 /// `index KINDS TYPES INVARIANT`
-pub fn index(alloc: Global, words: &str) -> Result<String, AllocError> {
+pub fn index(words: &str, out: &mut String) -> Result<(), AllocError> {
     let (number_of_kinds, rest) = halves(words, ' ');
     let (types, inv) = halves(rest, ' ');
     let types = number(types).min(MAX_TYPES);
-    format!(in alloc;
-        "{:?}",
-        index_of(kinds(number_of_kinds), types, invariant(inv))
-    )
+    let found = index_of(kinds(number_of_kinds), types, invariant(inv));
+    write!(out, "{found:?}")
 }
 
 /// `monitor INVARIANT TYPE TYPE ..`: the state after each type, and whether the last is bad.
-pub fn monitor(alloc: Global, words: &str) -> Result<String, AllocError> {
+pub fn monitor(words: &str, out: &mut String) -> Result<(), AllocError> {
     let (inv, word) = halves(words, ' ');
     let inv = invariant(inv);
-    let mut told = String::new(alloc);
     let mut state = Monitor::start();
     'states: for x in word.split(' ') {
         state = Monitor::step(inv, state, x.parse().unwrap_or(0));
-        write!(told, "{state} ")?;
+        write!(out, "{state} ")?;
     }
-    write!(told, "{}", Monitor::bad(inv, state))?;
-    Ok(told)
+    write!(out, "{}", Monitor::bad(inv, state))
 }
 
 /// `seq NUMBER NUMBER ..`
-pub fn seq(alloc: Global, words: &str) -> Result<String, AllocError> {
+pub fn seq(alloc: Global, words: &str, out: &mut String) -> Result<(), AllocError> {
     let numbers = words.split(' ').filter(|word| !word.is_empty()).map(number);
     let list = Seq::from_vec(numbers.collect(alloc)?);
     let (count, none) = (list.len(), list.is_empty());
-    format!(in alloc; "{count} {none} {:?}", list.as_slice())
+    write!(out, "{count} {none} {:?}", list.as_slice())
 }
 
 /// `text TEXT`
-pub fn text(alloc: Global, word: &str) -> Result<String, AllocError> {
+pub fn text(alloc: Global, word: &str, out: &mut String) -> Result<(), AllocError> {
     let text = Text::from_string(String::from_str(alloc, word)?);
-    format!(in alloc; "{} {:?}", text.len(), text.as_str())
+    write!(out, "{} {:?}", text.len(), text.as_str())
 }

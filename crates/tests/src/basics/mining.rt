@@ -1,10 +1,10 @@
 //! Logs of types, and the invariants that are mined from them.
 
 use crate::basics::words::halves;
-use crate::tools::{kinds, number};
+use crate::tools::{both, kinds, number};
 use closure_miner::mine_again;
 use count_miner::mine;
-use invariants::{Invariant, Seq};
+use invariants::Invariant;
 use limits::MAX_TYPE_BYTES;
 use std::alloc::{AllocError, Global};
 use trace_builder::Builder;
@@ -13,84 +13,74 @@ use traces::TraceSet;
 /// The maximum number of invariants that are shown.
 const SHOWN: usize = 100;
 
-/// The traces of a log, and the number after each event.
-#[derive(Drop)]
-pub struct Log {
-    pub traces: TraceSet,
-    pub numbers: Vec<u32>,
-}
-
 /// Adds an event of a trace, given as `TYPE` or `TYPE@NUMBER`.
-fn add(
-    builder: &mut Builder,
-    numbers: &mut Vec<u32>,
-    trace: u32,
-    event: &str,
-) -> Result<(), AllocError> {
-    let (word, behind) = halves(event, '@');
-    if word.is_empty() || word.len() > MAX_TYPE_BYTES {
+fn add(builder: &mut Builder, trace: u32, word: &str) -> Result<(), AllocError> {
+    let typ = halves(word, '@').0;
+    if typ.is_empty() || typ.len() > MAX_TYPE_BYTES {
         return Ok(());
     }
-    numbers.push(number(behind))?;
-    match builder.add(0, trace, "", word, 0) {
+    match builder.add(0, trace, "", typ, 0) {
         Ok(_) => Ok(()),
         Err(_) => Err(AllocError),
     }
 }
 
 /// Adds the events of traces between bars.
-fn add_all(builder: &mut Builder, numbers: &mut Vec<u32>, log: &str) -> Result<(), AllocError> {
+fn add_all(builder: &mut Builder, log: &str) -> Result<(), AllocError> {
     let mut trace: u32 = 0;
     for events in log.split('|') {
         trace = trace.wrapping_add(1);
-        for event in events.split(' ') {
-            add(builder, numbers, trace, event)?;
+        for word in events.split(' ') {
+            add(builder, trace, word)?;
         }
     }
     Ok(())
 }
 
-/// The log of traces between bars.
-pub fn log_of(alloc: Global, log: &str) -> Result<Log, AllocError> {
-    let mut numbers = Vec::new(alloc);
+/// The traces of a log, between bars.
+pub fn traces_of(alloc: Global, log: &str) -> Result<TraceSet, AllocError> {
     let mut builder = Builder::new(alloc);
-    add_all(&mut builder, &mut numbers, log)?;
-    let traces = builder.finish()?;
-    Ok(Log { traces, numbers })
+    add_all(&mut builder, log)?;
+    builder.finish()
+}
+
+/// The number after each event of a log.
+pub fn numbers_of(alloc: Global, log: &str) -> Result<Vec<u32>, AllocError> {
+    log.split(['|', ' '])
+        .filter(|word| !word.is_empty())
+        .map(|word| number(halves(word, '@').1))
+        .collect(alloc)
 }
 
 /// Appends how many invariants there are, and the first of them, to the text.
-fn put(told: &mut String, mined: &[Invariant]) -> Result<(), AllocError> {
-    write!(told, "{}:", mined.len())?;
+fn put(out: &mut String, mined: &[Invariant]) -> Result<(), AllocError> {
+    write!(out, "{}:", mined.len())?;
     for inv in mined.iter().take(SHOWN) {
-        write!(told, " {:?}({},{})", inv.kind, inv.a, inv.b)?;
+        write!(out, " {:?}({},{})", inv.kind, inv.a, inv.b)?;
     }
     Ok(())
 }
 
-/// What was mined.
-fn listed(alloc: Global, mined: Result<Seq<Invariant>, AllocError>) -> Result<String, AllocError> {
-    let mined = mined?;
-    let mut told = String::new(alloc);
-    put(&mut told, mined.as_slice())?;
-    Ok(told)
-}
-
-/// Two texts. The second is not shown if it equals the first.
-fn both(alloc: Global, first: String, second: String) -> Result<String, AllocError> {
+/// Appends two lists to the text. The second is not shown if it equals the first.
+fn put_two(out: &mut String, first: &[Invariant], second: &[Invariant]) -> Result<(), AllocError> {
+    put(out, first)?;
+    out.push('\n')?;
     if first == second {
-        return format!(in alloc; "{first}\nthe same");
+        return out.push_str("the same");
     }
-    format!(in alloc; "{first}\n{second}")
+    put(out, second)
 }
 
 /// `mine KINDS|TRACE|TRACE..`: what each of the two miners finds.
-pub fn mined(alloc: Global, words: &str) -> Result<String, AllocError> {
+pub fn mined(alloc: Global, words: &str, out: &mut String) -> Result<(), AllocError> {
     let (number_of_kinds, log) = halves(words, '|');
     let kinds = kinds(number_of_kinds);
-    let log = log_of(alloc, log)?;
-    let counted = listed(alloc, mine(alloc, kinds, &log.traces));
-    let struck = listed(alloc, mine_again(alloc, kinds, &log.traces));
-    drop(log);
-    both(alloc, counted?, struck?)
+    let traces = traces_of(alloc, log)?;
+    let mined = both(
+        mine(alloc, kinds, &traces),
+        mine_again(alloc, kinds, &traces),
+    );
+    drop(traces);
+    let (counted, struck) = mined?;
+    put_two(out, counted.as_slice(), struck.as_slice())
 }

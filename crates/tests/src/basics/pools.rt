@@ -24,7 +24,7 @@ fn lists(cells: &Cells) -> ([Option<u32>; 2], [Option<u32>; 4])
 }
 
 /// `cells`
-pub fn cells(alloc: Global) -> Result<String, AllocError> {
+pub fn cells(alloc: Global, out: &mut String) -> Result<(), AllocError> {
     let mut cells = Cells::make(alloc, 4, 2)?;
     let made = lists(&cells);
     cells.move_to(1, 0, 1);
@@ -35,12 +35,13 @@ pub fn cells(alloc: Global) -> Result<String, AllocError> {
     cells.splice(1, 0);
     let again = [cells.first(0), cells.first(1)];
     drop(cells);
-    format!(in alloc; "{made:?}\n{moved:?}\n{spliced:?}\n{again:?}")
+    write!(out, "{made:?}\n{moved:?}\n{spliced:?}\n{again:?}")
 }
 
-/// `spans`
-pub fn spans(alloc: Global) -> Result<String, AllocError> {
-    let mut spans = Spans::make(alloc, 5)?;
+/// Fills spans with room for five numbers, and appends what each call answers to the text.
+fn put_spans(spans: &mut Spans, out: &mut String) -> Result<(), AllocError>
+    requires { spans.old ≡ record { numbers = []; room = 5 } }
+{
     let first = spans.push(&[7, 8, 9]);
     let refused = spans.push(&[1, 2, 3]);
     let used = spans.used();
@@ -49,30 +50,38 @@ pub fn spans(alloc: Global) -> Result<String, AllocError> {
     let none = spans.push(&[]);
     let over = spans.push(&[6]);
     if spans.used() != 5 {
-        return String::from_str(alloc, "not full");
+        return out.push_str("not full");
     }
     let three = spans.get(Span { from: 0, len: 3 });
     let two = spans.get(Span { from: 3, len: 2 });
     let empty = spans.get(Span { from: 5, len: 0 });
-    format!(in alloc;
+    write!(
+        out,
         "{first:?} {refused:?} {used}\n{second:?} {full}\n{none:?} {over:?}\n{three:?} {two:?} {empty:?}"
     )
 }
 
+/// `spans`
+pub fn spans(alloc: Global, out: &mut String) -> Result<(), AllocError> {
+    let mut spans = Spans::make(alloc, 5)?;
+    put_spans(&mut spans, out)
+}
+
+/// Appends the lists of the log of a run to the text.
+fn put_entries(run_log: &RunLog, out: &mut String) -> Result<(), AllocError> {
+    let (splits, merges, blocks) = (run_log.splits(), run_log.merges(), run_log.blocks());
+    write!(out, "{splits:?}\n{merges:?}\n{blocks:?}")
+}
+
 /// `entries`
-pub fn entries(alloc: Global) -> Result<String, AllocError> {
+pub fn entries(alloc: Global, out: &mut String) -> Result<(), AllocError> {
     let path = Span { from: 3, len: 2 };
     let mut run_log = RunLog::make(alloc, 1, 2, 1)?;
     run_log.add_merge(4, 6);
     run_log.add_split(5, 1, path);
     run_log.add_merge(2, 3);
     run_log.add_block(2, 4, 9, path);
-    format!(in alloc;
-        "{:?}\n{:?}\n{:?}",
-        run_log.splits(),
-        run_log.merges(),
-        run_log.blocks()
-    )
+    put_entries(&run_log, out)
 }
 
 /// Appends splits to the text.
@@ -158,14 +167,9 @@ fn put_history(
 }
 
 /// `history`
-pub fn history(alloc: Global) -> Result<String, AllocError> {
+pub fn history(alloc: Global, out: &mut String) -> Result<(), AllocError> {
     let (mut spans, mut run_log) = both(Spans::make(alloc, 9), RunLog::make(alloc, 2, 2, 1))?;
-    let mut told = String::new(alloc);
-    let end = put_history(alloc, &mut told, &mut run_log, &mut spans);
-    drop(spans);
-    drop(run_log);
-    end?;
-    Ok(told)
+    put_history(alloc, out, &mut run_log, &mut spans)
 }
 
 /// Three steps with a counter that others may use further.
@@ -199,8 +203,8 @@ fn count_six<L: Ledger>(blank: Blank) -> u32
 }
 
 /// `steps`: a count, and the size of the counter in bytes.
-pub fn steps(alloc: Global) -> Result<String, AllocError> {
+pub fn steps(out: &mut String) -> Result<(), AllocError> {
     let count = count_six::<Brand>(Blank::new(1));
     let size = std::mem::size_of::<Steps<Brand>>();
-    format!(in alloc; "{count} {size}")
+    write!(out, "{count} {size}")
 }

@@ -131,12 +131,10 @@ fn put_all(
 
 /// `rows STEP ROW ROW ROW ROW|PLACE PLACE ..`: all rows are as long as the first. The bits of a shorter one are off after its
 /// end.
-pub fn told(alloc: Global, words: &str) -> Result<String, AllocError> {
+pub fn told(alloc: Global, words: &str, out: &mut String) -> Result<(), AllocError> {
     let (head, places) = halves(words, '|');
     let (step, words) = halves(head, ' ');
     let bits = halves(words, ' ').0.len().min(MAX_BITS);
     let mut rows = filled(alloc, bits, words)?;
-    let mut told = String::new(alloc);
-    put_all(&mut told, &mut rows, step_of(step), bits, places)?;
-    Ok(told)
+    put_all(out, &mut rows, step_of(step), bits, places)
 }

@@ -1,8 +1,8 @@
 //! Inputs in memory, of files and of streams.
 ghost use Rattle.std.specs.Prelude.{◌≤◌};
 
-use crate::basics::words::{checksum, halves, plain, shown};
-use crate::tools::number;
+use crate::basics::words::{checksum, halves, plain, put_shown};
+use crate::tools::{both, listed, number};
 use outside::{Inputs, MemInputs, RealInputs, read_input};
 use std::alloc::{AllocError, Global};
 use std::io::{ErrorKind, Read};
@@ -13,12 +13,12 @@ use std::{fs, io};
 const ROOM: usize = 7_000;
 
 /// `read ROOM`
-fn read<I: Inputs>(alloc: Global, inputs: &mut I, room: &str) -> Result<String, AllocError> {
+fn read<I: Inputs>(inputs: &mut I, room: &str, out: &mut String) -> Result<(), AllocError> {
     let mut buf = [0u8; ROOM];
     let room = (number(room) as usize).min(ROOM);
     match inputs.read(&mut buf[..room]) {
-        Ok(count) => shown(alloc, &buf[..count]),
-        Err(error) => format!(in alloc; "{error:?}"),
+        Ok(count) => put_shown(out, &buf[..count]),
+        Err(error) => write!(out, "{error:?}"),
     }
 }
 
@@ -28,10 +28,11 @@ fn whole<I: Inputs>(
     inputs: &mut I,
     name: &str,
     limit: &str,
-) -> Result<String, AllocError> {
+    out: &mut String,
+) -> Result<(), AllocError> {
     match read_input(alloc, inputs, name, number(limit) as usize) {
-        Ok(bytes) => shown(alloc, &bytes),
-        Err(error) => format!(in alloc; "{error:?}"),
+        Ok(bytes) => put_shown(out, &bytes),
+        Err(error) => write!(out, "{error:?}"),
     }
 }
 
@@ -41,10 +42,27 @@ fn bytes_of(alloc: Global, count: u32) -> Result<Vec<u8>, AllocError> {
 }
 
 /// Makes a file with this many bytes.
-fn make<R: Files>(rt: &R, alloc: Global, name: &str, count: &str) -> Result<String, AllocError> {
-    let bytes = bytes_of(alloc, number(count))?;
-    let made = fs::write(rt, name, bytes.as_slice()).is_ok();
-    format!(in alloc; "{made} {}", checksum(&bytes))
+fn make<R: Files>(rt: &R, name: &str, bytes: &[u8], out: &mut String) -> Result<(), AllocError> {
+    let made = fs::write(rt, name, bytes).is_ok();
+    write!(out, "{made} {}", checksum(bytes))
+}
+
+/// The result of a call on a file of this name.
+fn answer<R: Files, I: Inputs>(
+    rt: &R,
+    alloc: Global,
+    inputs: &mut I,
+    call: (&str, &str, &str),
+    out: &mut String,
+) -> Result<(), AllocError> {
+    let (verb, name, text) = call;
+    match verb {
+        "open" => write!(out, "{:?}", inputs.open(name)),
+        "read" => read(inputs, name, out),
+        "whole" => whole(alloc, inputs, name, text, out),
+        "make" => make(rt, name, &bytes_of(alloc, number(text))?, out),
+        _ => write!(out, "{}", fs::remove_file(rt, name).is_ok()),
+    }
 }
 
 /// The result of one call.
@@ -53,63 +71,65 @@ fn step<R: Files, I: Inputs>(
     alloc: Global,
     inputs: &mut I,
     step: &str,
-) -> Result<String, AllocError> {
+    out: &mut String,
+) -> Result<(), AllocError> {
     let (verb, rest) = halves(step, ',');
-    let (name, number) = halves(rest, ',');
+    let (name, text) = halves(rest, ',');
     let name = plain(alloc, name)?;
-    match verb {
-        "open" => format!(in alloc; "{:?}", inputs.open(&name)),
-        "read" => read(alloc, inputs, &name),
-        "whole" => whole(alloc, inputs, &name, number),
-        "make" => make(rt, alloc, &name, number),
-        _ => format!(in alloc; "{}", fs::remove_file(rt, name.as_str()).is_ok()),
-    }
+    answer(rt, alloc, inputs, (verb, &name, text), out)
 }
 
 /// The results of calls, one line for each.
-fn told<R: Files, I: Inputs>(
+fn tell<R: Files, I: Inputs>(
     rt: &R,
     alloc: Global,
     inputs: &mut I,
     steps: &str,
-) -> Result<String, AllocError> {
-    let mut told = String::new(alloc);
+    out: &mut String,
+) -> Result<(), AllocError> {
     for one in steps.split(' ') {
-        let line = step(rt, alloc, inputs, one)?;
-        told.push_str(&line)?;
-        told.push('\n')?;
+        step(rt, alloc, inputs, one, out)?;
+        out.push('\n')?;
     }
-    Ok(told)
+    Ok(())
 }
 
-/// Files, each given as `NAME=BYTES`.
+/// A file, given as `NAME=BYTES`.
+fn file_of(alloc: Global, word: &str) -> Result<(String, Vec<u8>), AllocError> {
+    let (name, bytes) = halves(word, '=');
+    both(
+        plain(alloc, name),
+        plain(alloc, bytes).map(String::into_bytes),
+    )
+}
+
+/// Files between spaces.
 fn files_of(alloc: Global, words: &str) -> Result<Vec<(String, Vec<u8>)>, AllocError> {
     let mut files = Vec::new(alloc);
     for word in words.split(' ') {
-        let (name, bytes) = halves(word, '=');
-        files.push((plain(alloc, name)?, plain(alloc, bytes)?.into_bytes()))?;
+        files.push(file_of(alloc, word)?)?;
     }
     Ok(files)
 }
 
 /// `memory PIECE FAILING FILE FILE ..|STEP STEP ..`
-pub fn memory(rt: &HostRuntime, words: &str) -> Result<String, AllocError> {
+pub fn memory(rt: &HostRuntime, words: &str, out: &mut String) -> Result<(), AllocError> {
     let alloc = rt.alloc();
     let (setting, steps) = halves(words, '|');
     let (piece, rest) = halves(setting, ' ');
     let (failing, files) = halves(rest, ' ');
-    let failing = vec![in alloc; u64::from(number(failing))]?;
-    let files = files_of(alloc, files)?;
-    let mut inputs = MemInputs::new(files, (number(piece) as usize).max(1), failing);
-    told(rt, alloc, &mut inputs, steps)
+    let calls = listed(alloc, u64::from(number(failing)));
+    let (files, calls) = both(files_of(alloc, files), calls)?;
+    let mut inputs = MemInputs::new(files, (number(piece) as usize).max(1), calls);
+    tell(rt, alloc, &mut inputs, steps, out)
 }
 
 /// `real STDIN|STEP STEP ..`
-pub fn real(rt: &HostRuntime, words: &str) -> Result<String, AllocError> {
+pub fn real(rt: &HostRuntime, words: &str, out: &mut String) -> Result<(), AllocError> {
     let (stdin, steps) = halves(words, '|');
     let stdin = plain(rt.alloc(), stdin)?;
     let mut inputs = RealInputs::new(rt, stdin.as_bytes());
-    told(rt, rt.alloc(), &mut inputs, steps)
+    tell(rt, rt.alloc(), &mut inputs, steps, out)
 }
 
 /// A stream that fails at each read.
@@ -123,7 +143,7 @@ impl Read for Broken {
 }
 
 /// `failing STEP STEP ..`
-pub fn failing(rt: &HostRuntime, steps: &str) -> Result<String, AllocError> {
+pub fn failing(rt: &HostRuntime, steps: &str, out: &mut String) -> Result<(), AllocError> {
     let mut inputs = RealInputs::new(rt, Broken);
-    told(rt, rt.alloc(), &mut inputs, steps)
+    tell(rt, rt.alloc(), &mut inputs, steps, out)
 }

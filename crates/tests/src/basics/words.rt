@@ -39,10 +39,10 @@ pub fn checksum(bytes: &[u8]) -> u64 {
     })
 }
 
-/// The bytes if they are few; otherwise their number and their checksum.
-pub fn shown(alloc: Global, bytes: &[u8]) -> Result<String, AllocError> {
+/// Appends the bytes to the text if they are few; otherwise their number and their checksum.
+pub fn put_shown(out: &mut String, bytes: &[u8]) -> Result<(), AllocError> {
     if bytes.len() > 99 {
-        return format!(in alloc; "{} bytes, {}", bytes.len(), checksum(bytes));
+        return write!(out, "{} bytes, {}", bytes.len(), checksum(bytes));
     }
-    format!(in alloc; "{:?}", text(bytes))
+    write!(out, "{:?}", text(bytes))
 }

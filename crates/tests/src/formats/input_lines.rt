@@ -2,6 +2,7 @@
 ghost use Rattle.std.specs.Prelude.{◌≡◌, false};
 
 use crate::formats::notation::{bytes_of, number_of, write_bytes};
+use crate::tools::listed;
 use log_reader::Lines;
 use outside::{Inputs, MemInputs};
 use std::alloc::{AllocError, Global};
@@ -14,10 +15,9 @@ fn input_of(
     piece: usize,
     failing: u64,
 ) -> Result<MemInputs, AllocError> {
-    let failing = vec![in alloc; failing]?;
     let mut files = Vec::new(alloc);
     files.push((String::new(alloc), bytes))?;
-    Ok(MemInputs::new(files, piece.max(1), failing))
+    Ok(MemInputs::new(files, piece.max(1), listed(alloc, failing)?))
 }
 
 /// Reports what the lines are, and how they end.

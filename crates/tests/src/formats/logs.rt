@@ -2,18 +2,24 @@
 
 use crate::formats::notation::{bytes_of, number_of, write_bytes};
 use crate::formats::said::write_log;
+use crate::tools::{both, listed};
 use line_rules::{LineRules, RegexPatterns};
 use log_reader::{Form, read_log};
 use outside::{Inputs, MemInputs};
 use std::alloc::{AllocError, Global};
 use std::fmt::Write;
 
-/// The files of these steps, each `NAME|TEXT`.
+/// The file of a step `NAME|TEXT`.
+fn file_of(alloc: Global, step: &str) -> Result<(String, Vec<u8>), AllocError> {
+    let (name, text) = step.split_once('|').unwrap_or(("", ""));
+    both(name.to_string(alloc), bytes_of(alloc, text))
+}
+
+/// The files of these steps.
 fn files_of(alloc: Global, steps: &str) -> Result<Vec<(String, Vec<u8>)>, AllocError> {
     let mut files = Vec::new(alloc);
     for step in steps.split('\n') {
-        let (name, text) = step.split_once('|').unwrap_or(("", ""));
-        files.push((name.to_string(alloc)?, bytes_of(alloc, text)?))?;
+        files.push(file_of(alloc, step)?)?;
     }
     Ok(files)
 }
@@ -27,7 +33,26 @@ fn names_of(alloc: Global, words: &str) -> Result<Vec<String>, AllocError> {
     Ok(names)
 }
 
-/// Reads the log of the inputs, and reports what it has, or why it is refused. The arguments are the options and the names.
+/// Reads the log of the inputs with these names, and reports what it has, or why it is refused.
+fn read_named(
+    alloc: Global,
+    inputs: &mut MemInputs,
+    names: &[String],
+    options: &str,
+    form: Form<'_>,
+    out: &mut String,
+) -> Result<(), AllocError> {
+    if names.len() > 1_000 {
+        return out.push_str("too many names\n");
+    }
+    let (ignore, join) = (options.contains('i'), options.contains('j'));
+    match read_log(alloc, inputs, names, form, ignore, join) {
+        Ok(log) => write_log(out, &log),
+        Err(fault) => writeln!(out, "{fault:?}"),
+    }
+}
+
+/// The same. The arguments are the options and the names.
 fn read(
     alloc: Global,
     inputs: &mut MemInputs,
@@ -36,17 +61,8 @@ fn read(
     out: &mut String,
 ) -> Result<(), AllocError> {
     let (options, names) = words.split_once('|').unwrap_or(("", ""));
-    let (ignore, join) = (options.contains('i'), options.contains('j'));
     let names = names_of(alloc, names)?;
-    if names.len() > 1_000 {
-        return out.push_str("too many names\n");
-    }
-    let log = read_log(alloc, inputs, &names, form, ignore, join);
-    drop(names);
-    match log {
-        Ok(log) => write_log(out, &log),
-        Err(fault) => writeln!(out, "{fault:?}"),
-    }
+    read_named(alloc, inputs, &names, options, form, out)
 }
 
 /// Reads the log of the inputs in the plain form, or by the rules of a file, if there is one.
@@ -75,20 +91,31 @@ fn write_left(inputs: &mut MemInputs, out: &mut String) -> Result<(), AllocError
     out.push('\n')
 }
 
-/// Reports what the log of the inputs has. The arguments are the maximum number of bytes of a read, the call that fails, the
-/// options and the names. The first step is the rules file, and the others are the inputs. If a call fails, a further read
-/// reports what is left.
+/// Reports what the log of the inputs has. If a call fails, a further read reports what is left.
+fn read_all(
+    alloc: Global,
+    inputs: &mut MemInputs,
+    words: &str,
+    file: &str,
+    fails: bool,
+    out: &mut String,
+) -> Result<(), AllocError> {
+    read_by(alloc, inputs, words, file, out)?;
+    if fails {
+        return write_left(inputs, out);
+    }
+    Ok(())
+}
+
+/// The same. The arguments are the maximum number of bytes of a read, the call that fails, the
+/// options and the names. The first step is the rules file, and the others are the inputs.
 pub fn run(alloc: Global, words: &str, steps: &str, out: &mut String) -> Result<(), AllocError> {
     let (piece, rest) = number_of(words);
     let (failing, words) = number_of(rest);
     let piece = usize::try_from(piece).unwrap_or(1).max(1);
     let failing = u64::try_from(failing).unwrap_or(0);
     let (file, inputs) = steps.split_once('\n').unwrap_or((steps, ""));
-    let calls = vec![in alloc; failing]?;
-    let mut inputs = MemInputs::new(files_of(alloc, inputs)?, piece, calls);
-    read_by(alloc, &mut inputs, words, file, out)?;
-    if failing > 0 {
-        return write_left(&mut inputs, out);
-    }
-    Ok(())
+    let (files, calls) = both(files_of(alloc, inputs), listed(alloc, failing))?;
+    let mut inputs = MemInputs::new(files, piece, calls);
+    read_all(alloc, &mut inputs, words, file, failing > 0, out)
 }

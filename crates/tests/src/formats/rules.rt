@@ -1,6 +1,7 @@
 //! Files of rules, and what their rules decide of lines.
 
 use crate::formats::notation::{bytes_of, text_of, write_bytes};
+use crate::tools::listed;
 use line_rules::{Decision, LineRules, ListedPatterns, Named, Patterns, RegexPatterns};
 use std::alloc::{AllocError, Global};
 use std::fmt::Write;
@@ -83,6 +84,6 @@ pub fn run(alloc: Global, words: &str, steps: &str, out: &mut String) -> Result<
         let mut patterns = patterns;
         return read(alloc, steps, &mut patterns, out);
     };
-    let mut patterns = ListedPatterns::new(patterns, vec![in alloc; refused]?);
+    let mut patterns = ListedPatterns::new(patterns, listed(alloc, refused)?);
     read(alloc, steps, &mut patterns, out)
 }

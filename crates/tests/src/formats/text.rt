@@ -9,7 +9,15 @@ use model_reader::read_model;
 use std::alloc::{AllocError, Global};
 use std::fmt::Write;
 
-/// Reports whether the model is well shaped, which types it has, and what its text is: the same as another, or not.
+/// Reports what the text of a model is: the same as another, or not.
+fn write_same(written: &[u8], base: &[u8], out: &mut String) -> Result<(), AllocError> {
+    if written == base {
+        return out.push_str("the same, ");
+    }
+    write_bytes(out, written)
+}
+
+/// Reports whether the model is well shaped, which types it has, and what its text is.
 fn write_text(
     alloc: Global,
     model: &Model,
@@ -20,11 +28,7 @@ fn write_text(
         return out.push_str("not well shaped\n");
     }
     let written = write_model(alloc, model)?;
-    if written.as_slice() == base {
-        out.push_str("the same, ")?;
-    } else {
-        write_bytes(out, written.as_slice())?;
-    }
+    write_same(written.as_slice(), base, out)?;
     write_types(out, model.types.as_slice())
 }
 

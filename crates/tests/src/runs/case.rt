@@ -1,12 +1,13 @@
 //! The steps of a case. What they write is kept until the step `run`, which runs the program over it.
 
 use crate::runs::inputs::Given;
+use crate::tools::{both, listed};
 use line_rules::{ListedPatterns, RegexPatterns};
 use outside::{MemInputs, MemSink};
 use std::alloc::{AllocError, Global};
 use std::fmt::Write;
 use std::{mem, str};
-use synoptic_cli::run;
+use synoptic_cli::{Status, run};
 
 /// The calls that fail, each by its number from 1, and 0 for none.
 #[derive(Clone, Copy)]
@@ -79,8 +80,7 @@ fn put_byte(to: &mut Vec<u8>, number: &str) -> Result<(), AllocError> {
 
 /// A sink with this much room. The write with this number fails.
 fn sink(alloc: Global, room: usize, piece: usize, failing: u64) -> Result<MemSink, AllocError> {
-    let failing = vec![in alloc; failing]?;
-    MemSink::make(alloc, room, piece.max(1), failing)
+    MemSink::make(alloc, room, piece.max(1), listed(alloc, failing)?)
 }
 
 /// Reports how many bytes were written, and the bytes from the next line on.
@@ -100,6 +100,11 @@ fn tell_count(
     let text = String::from_utf8_lossy(alloc, bytes)?;
     let count = text.matches(sought).count();
     write!(told, "has {count} times\n{sought}\n")
+}
+
+/// Reports the status of a run, and what was opened.
+fn tell_status(told: &mut String, status: &Status, opened: &str) -> Result<(), AllocError> {
+    write!(told, "{} {status:?}\nopened {opened}\n", status.code())
 }
 
 impl Case {
@@ -138,13 +143,14 @@ impl Case {
         out: &mut MemSink,
         err: &mut MemSink,
     ) -> Result<(), AllocError> {
-        let failing = vec![in alloc; self.failing.input]?;
-        let refused = vec![in alloc; self.failing.build]?;
+        let failing = listed(alloc, self.failing.input);
+        let refused = listed(alloc, self.failing.build);
+        let (failing, refused) = both(failing, refused)?;
         let mut patterns = ListedPatterns::new(RegexPatterns::new(alloc), refused);
         let mut inputs = self.inputs(alloc, failing);
         let status = run(alloc, &self.words, &mut inputs, &mut patterns, out, err);
-        let (code, opened) = (status.code(), inputs.opened.as_str());
-        write!(told, "{code} {status:?}\nopened {opened}\n")
+        drop(patterns);
+        tell_status(told, &status, &inputs.opened)
     }
 
     /// Reports the output, which is kept, and the message.
@@ -176,15 +182,16 @@ impl Case {
         err: &mut MemSink,
     ) -> Result<(), AllocError> {
         self.run(told, alloc, out, err)?;
-        self.tell_written(told, alloc, out, err)
+        self.tell_written(told, alloc, out, err)?;
+        told.push('\n')
     }
 
     /// Runs the program, and reports how it ended and what it wrote.
     fn end(&mut self, told: &mut String, alloc: Global) -> Result<(), AllocError> {
-        let mut out = sink(alloc, self.room, self.piece, self.failing.out)?;
-        let mut err = sink(alloc, MESSAGE_ROOM, self.piece, self.failing.err)?;
-        self.tell_run(told, alloc, &mut out, &mut err)?;
-        told.push('\n')
+        let out = sink(alloc, self.room, self.piece, self.failing.out);
+        let err = sink(alloc, MESSAGE_ROOM, self.piece, self.failing.err);
+        let (mut out, mut err) = both(out, err)?;
+        self.tell_run(told, alloc, &mut out, &mut err)
     }
 
     /// Forgets what the steps have given, except what the last run wrote.
