@@ -1,0 +1,38 @@
+//! Bytes cut at line feeds, and the fields of lines.
+
+use crate::basics::words::{halves, plain, text};
+use crate::tools::both;
+use lines::{next_piece, plain_fields_ahead, without_return};
+use std::alloc::{AllocError, Global};
+
+/// Appends the first piece of bytes to the text, its line, and what follows its line feed.
+fn put_cut(out: &mut String, bytes: &[u8]) -> Result<(), AllocError> {
+    if bytes.is_empty() {
+        return out.push_str("none");
+    }
+    let (piece, rest) = next_piece(bytes);
+    let (piece, line, rest) = (text(piece), text(without_return(piece)), text(rest));
+    write!(out, "{piece:?} {line:?} {rest:?}")
+}
+
+/// `piece BYTES`
+pub fn piece(alloc: Global, word: &str, out: &mut String) -> Result<(), AllocError> {
+    let bytes = plain(alloc, word)?;
+    put_cut(out, bytes.as_bytes())
+}
+
+/// Appends the fields of a line with what follows it to the text.
+fn put_parted(alloc: Global, out: &mut String, line: &str, behind: &str) -> Result<(), AllocError> {
+    let mut bytes = String::from_str(alloc, line)?;
+    bytes.push_str(behind)?;
+    let ahead = plain_fields_ahead(line, bytes.as_bytes());
+    let ahead = ahead.map(|fields| (fields.0, fields.1, text(fields.2)));
+    write!(out, "{ahead:?}")
+}
+
+/// `fields LINE BEHIND`
+pub fn fields(alloc: Global, words: &str, out: &mut String) -> Result<(), AllocError> {
+    let (line, behind) = halves(words, ' ');
+    let (line, behind) = both(plain(alloc, line), plain(alloc, behind))?;
+    put_parted(alloc, out, &line, &behind)
+}

@@ -1,0 +1,117 @@
+//! The reports of a graph.
+use crate::graphs::known::can_be_spread;
+use crate::tools::number;
+use partition_graph::PartGraph;
+use std::alloc::{AllocError, Global};
+
+/// The maximum number of ids that are listed one by one.
+const FEW: usize = 40;
+
+/// Appends ids to the text. If there are many, their number and a checksum are appended instead.
+pub fn put_ids(told: &mut String, ids: &[u32]) -> Result<(), AllocError> {
+    if ids.len() > FEW {
+        let mut sum = 0u32;
+        for id in ids {
+            sum = sum.wrapping_mul(31).wrapping_add(*id);
+        }
+        return write!(told, " {} ids #{sum}", ids.len());
+    }
+    for id in ids {
+        write!(told, " {id}")?;
+    }
+    Ok(())
+}
+
+/// Appends the partitions to the text, each as its id, its type and its count.
+fn put_partitions(alloc: Global, told: &mut String, graph: &PartGraph) -> Result<(), AllocError> {
+    let partitions = graph.partitions(alloc)?;
+    for partition in partitions.as_slice() {
+        write!(
+            told,
+            " {}:{}*{}",
+            partition.id, partition.typ, partition.count
+        )?;
+    }
+    Ok(())
+}
+
+/// Appends the edges to the text, each as its ids and its count.
+fn put_edges(alloc: Global, told: &mut String, graph: &PartGraph) -> Result<(), AllocError> {
+    let edges = graph.edges(alloc)?;
+    for edge in edges.as_slice() {
+        write!(told, " {}>{}*{}", edge.from, edge.to, edge.count)?;
+    }
+    Ok(())
+}
+
+/// Appends the id of each event to the text, with a bar after each trace.
+fn put_events(told: &mut String, graph: &PartGraph) -> Result<(), AllocError> {
+    told.push_str(" ")?;
+    for event in 0..graph.event_count() {
+        let last = graph.next_event(event).is_none();
+        write!(
+            told,
+            "{}{}",
+            graph.part_of(event),
+            if last { "|" } else { "." }
+        )?;
+    }
+    Ok(())
+}
+
+/// Appends the number of the first event of each trace to the text, and then how many ids are used.
+fn put_firsts(told: &mut String, graph: &PartGraph) -> Result<(), AllocError> {
+    for t in 0..graph.trace_count() {
+        write!(told, "{}#", graph.first_event(t))?;
+    }
+    write!(told, "{}", graph.ids_used())
+}
+
+/// All reports of the graph: its partitions, its edges, the id of each event, the first event of each trace, and how many ids
+/// are used.
+pub fn put_graph(alloc: Global, told: &mut String, graph: &PartGraph) -> Result<(), AllocError> {
+    put_partitions(alloc, told, graph)?;
+    put_edges(alloc, told, graph)?;
+    put_events(told, graph)?;
+    put_firsts(told, graph)
+}
+
+/// The reports of a graph whose events have these ids, with a note if they have others.
+fn put_graph_with(
+    alloc: Global,
+    told: &mut String,
+    graph: &PartGraph,
+    ids: &[u32],
+) -> Result<(), AllocError> {
+    let parts = graph.parts(alloc)?;
+    if parts.as_slice() != ids {
+        told.push_str(" other ids:")?;
+    }
+    put_graph(alloc, told, graph)
+}
+
+/// The reports of the graph that is spread over traces with these numbers.
+pub fn put_spread(
+    alloc: Global,
+    told: &mut String,
+    graph: &PartGraph,
+    numbers: &[u32],
+) -> Result<(), AllocError> {
+    if !can_be_spread(graph, numbers) {
+        return told.push_str(" no");
+    }
+    let ids = graph.spread_parts(alloc, numbers)?;
+    let whole = graph.spread(alloc, numbers)?;
+    let end = put_graph_with(alloc, told, &whole, ids.as_slice());
+    drop(whole);
+    end
+}
+
+/// How many ids are used, and how many events each of the given ids has. The ids are separated by spaces.
+pub fn put_sizes(told: &mut String, graph: &PartGraph, ids: &str) -> Result<(), AllocError> {
+    write!(told, " {}:", graph.ids_used())?;
+    for id in ids.split_whitespace() {
+        write!(told, " {}", graph.size(number(id)))?;
+    }
+    Ok(())
+}

@@ -1,5 +1,0 @@
-use Rattle.std.specs.Prelude.{◌≤◌}
-use Rattle.tests_basics.proofs.candidates.monitor.Given as goal
-
-abbrev pub invariant-states : goal.invariant-states
-invariant-states l = l.state ≤ 2

@@ -1,5 +1,0 @@
-use Rattle.bit_rows.specs.Tables.{HasShape}
-use Rattle.tests_basics.proofs.rows.filled.Given as goal
-
-abbrev pub invariant-loop-r : goal.invariant-loop-r
-invariant-loop-r l = HasShape l.rows 4 l.bits
