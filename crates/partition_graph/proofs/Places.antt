@@ -1,8 +1,10 @@
 -- The places at which there may be neighbours.
-use Rattle.std.proofs.Common.{◌≡◌, ◌≢◌, ℕ, ◌+◌, ◌*◌, ◌/◌, ◌<◌, ◌≤◌, ◌==◌, ◌&&◌, ◌||◌, not, Bool, true, false, eqb, ltb, eq-eqb, ne_eqb, List, length, sym, ap, ◌∙◌, refl, arith, inl, inr, subst}
+use Rattle.std.proofs.Common.{◌≡◌, ◌≢◌, ℕ, ◌+◌, ◌*◌, ◌/◌, ◌%◌, ◌<◌, ◌≤◌, ◌==◌, ◌&&◌, ◌||◌, not, Bool, true, false, eqb, ltb, eq-eqb, ne_eqb, List, length, sym, ap, ◌∙◌, refl, arith, inl, inr, subst}
 use Rattle.std.proofs.lemmas.Bool.{cases_lt, le-ltb, true≢false}
 use Rattle.std.proofs.lemmas.List.{get_or_past}
+use Rattle.std.proofs.lemmas.Nat.{div-add-mod', mod_below}
 use Rattle.std.proofs.lemmas.Nat.Bits.{bit_at-zero}
+use lib.Bits.{bit_and}
 use Rattle.std.specs.Int.Bits.{bit_or}
 use Rattle.limits.specs.declared.TheConstants.{MAX_PARTITIONS}
 use Rattle.bit_rows.specs.Tables.{row_at, is_set}
@@ -17,7 +19,7 @@ use Rattle.partition_graph.specs.Marks.{is_counted}
 use Rattle.partition_graph.specs.MergedNeighbours.{gained_source, gained_target}
 use Rattle.partition_graph.specs.NeighbourWords.{IsWordOf, ArePlaces}
 use Rattle.partition_graph.specs.Parts.{Parts}
-use Rattle.partition_graph.proofs.NeighbourWords.{word-either}
+use Rattle.partition_graph.proofs.NeighbourWords.{word-both, word-blank, word-either}
 use Rattle.partition_graph.proofs.NextOnes.{counted_is}
 
 -- no place where no number has the property
@@ -74,6 +76,10 @@ places-row rows filled r x inv low is =
         | inr past ↦ (let long : length (row_at rows r) ≡ MAX_PARTITIONS = inv.rows_shape.long r low in get_or_past (row_at rows r) (place * 64 + i) false (omega (arith, past, long)))
       ];
     }
+
+left-off : (a b : Bool) → b ≡ true → (a && b) ≡ false → a ≡ false
+left-off true b on off = absurd (true≢false (sym on ∙ off))
+left-off false b on off = refl
 
 and-false : (a : Bool) → (a && false) ≡ false
 and-false true = refl
@@ -156,3 +162,59 @@ merged_targets_at g p q u x y z own gained kept =
     (λ v a b. target_none (u == q) (v == q) (u == p) (v == p) (g.edge u v) (g.edge q v) (g.edge u q) (g.edge q q) a (neither-first (gained_target g p q u v) (v == p) b) (neither-second (gained_target g p q u v) (v == p) b))
     own
     (places-either (gained_target g p q u) (λ v. v == p) (λ v. gained_target g p q u v || v == p) y z (λ v a b. ap (λ t. t || v == p) a ∙ b) gained kept)
+
+-- a merge leaves an edge as it is between ids that are neither of the two
+alone : (x : Bool) → x ≡ (x || false || false || false)
+alone true = refl
+alone false = refl
+
+pub apart-edge : (g : Graph) (p q u v : ℕ) → u ≢ q → v ≢ q → u ≢ p → v ≢ p → g.edge u v ≡ merged_edge g p q u v
+apart-edge g p q u v a b c d =
+    let uq : (u == q) ≡ false = ne_eqb u q a in
+    let vq : (v == q) ≡ false = ne_eqb v q b in
+    let up : (u == p) ≡ false = ne_eqb u p c in
+    let vp : (v == p) ≡ false = ne_eqb v p d in
+    rw (uq, vq, up, vp) (alone (g.edge u v))
+
+-- an id whose bit is in another word is none of the numbers of a word
+pub other-word : (id place i : ℕ) → i < 64 → id / 64 ≢ place → place * 64 + i ≢ id
+other-word id place i below other e = other (omega (arith, e, below))
+
+-- an id whose place is off does not have the property
+pub place-off : (has : ℕ → Bool) (places id x : ℕ) → ArePlaces has places → id < MAX_PARTITIONS → IsWordOf (λ k. k == id / 64) 0 x → bit_and places x ≡ 0 → has id ≡ false
+place-off has places id x are low is none =
+    let k : ℕ = id / 64 in
+    let split : k * 64 + id % 64 ≡ id = div-add-mod' id 64 in
+    let both : (are.marks (0 * 64 + k) && (0 * 64 + k == k)) ≡ false = word-blank (λ n. are.marks n && n == k) 0 (bit_and places x) (word-both are.marks (λ n. n == k) 0 places x are.bits is) none k (omega (arith, low, split)) in
+    let same : 0 * 64 + k ≡ k = omega arith in
+    let off : (are.marks k && (k == k)) ≡ false = ap (λ n. are.marks n && n == k) (sym same) ∙ both in
+    sym (ap has split) ∙ are.others k (id % 64) (mod_below id 64 (omega arith)) (left-off (are.marks k) (k == k) (eq-eqb k k refl) off)
+
+-- the places of an id that a merge leaves as they are
+source_bare : (a b c d x y z w : Bool) → x ≡ false → y ≡ false → d ≡ false → (not a && not b && (x || (c && y) || (d && z) || (c && d && w))) ≡ false
+source_bare true b c d x y z w o k n = refl
+source_bare false true c d x y z w o k n = refl
+source_bare false false c d true y z w o k n = o
+source_bare false false c d false true z w o k n = absurd (true≢false k)
+source_bare false false c true false false z w o k n = absurd (true≢false n)
+source_bare false false true false false false z w o k n = refl
+source_bare false false false false false false z w o k n = refl
+
+target_bare : (a b c d x y z w : Bool) → x ≡ false → z ≡ false → c ≡ false → (not a && not b && (x || (c && y) || (d && z) || (c && d && w))) ≡ false
+target_bare true b c d x y z w o k n = refl
+target_bare false true c d x y z w o k n = refl
+target_bare false false c d true y z w o k n = o
+target_bare false false c d false y true w o k n = absurd (true≢false k)
+target_bare false false true d false y false w o k n = absurd (true≢false n)
+target_bare false false false true false y false w o k n = refl
+target_bare false false false false false y false w o k n = refl
+
+pub bare-sources : (g : Graph) (p q v x : ℕ) → v ≢ p → g.edge q v ≡ false → ArePlaces (λ u. g.edge u v) x → ArePlaces (λ u. merged_edge g p q u v) x
+bare-sources g p q v x other none are =
+    places-fewer (λ u. g.edge u v) (λ u. merged_edge g p q u v) x
+    (λ u off. source_bare (u == q) (v == q) (u == p) (v == p) (g.edge u v) (g.edge q v) (g.edge u q) (g.edge q q) off none (ne_eqb v p other)) are
+
+pub bare-targets : (g : Graph) (p q u x : ℕ) → u ≢ p → g.edge u q ≡ false → ArePlaces (λ v. g.edge u v) x → ArePlaces (λ v. merged_edge g p q u v) x
+bare-targets g p q u x other none are =
+    places-fewer (λ v. g.edge u v) (λ v. merged_edge g p q u v) x
+    (λ v off. target_bare (u == q) (v == q) (u == p) (v == p) (g.edge u v) (g.edge q v) (g.edge u q) (g.edge q q) off none (ne_eqb u p other)) are

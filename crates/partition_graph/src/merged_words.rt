@@ -1,5 +1,6 @@
 //! The neighbours of an id in a graph as it would be if partition q were merged into partition p, as words of bits.
-ghost use Rattle.std.specs.Prelude.{ℕ, Bool, ◌<◌, ◌==◌, ◌&&◌, not};
+ghost use Rattle.std.specs.Prelude.{◌≡◌, ◌≢◌, ℕ, Bool, false, ◌/◌, ◌<◌, ◌==◌, ◌&&◌, not};
+ghost use Rattle.std.specs.Bool.{OnTrue};
 ghost use Rattle.partition_model.specs.Graphs.{merged_edge};
 ghost use Rattle.partition_model.specs.Assignments.{G};
 ghost use Rattle.partition_model.specs.Coarsening.{IsPair};
@@ -9,6 +10,7 @@ ghost use Rattle.partition_graph.specs.declared.id_rows.TheConstants.{ID_WORDS};
 
 use crate::graph::PartGraph;
 use crate::id_rows::{ID_WORDS, WORD_BITS};
+use limits::MAX_PARTITIONS;
 
 /// The ids from `64 * place` on that have an edge to v in the merged graph.
 #[inline]
@@ -19,6 +21,9 @@ pub fn merged_source_word(graph: &PartGraph, p: u32, q: u32, v: u32, place: usiz
 {
     if v == q {
         return 0;
+    }
+    if is_apart(p, q, v, place) {
+        return graph.source_word(v, place);
     }
     let own = own_source_word(graph, q, v, place);
     let gained = gained_source_word(graph, p, q, v, place);
@@ -75,6 +80,9 @@ pub fn merged_target_word(graph: &PartGraph, p: u32, q: u32, u: u32, place: usiz
     if u == q {
         return 0;
     }
+    if is_apart(p, q, u, place) {
+        return graph.target_word(u, place);
+    }
     let own = own_target_word(graph, q, u, place);
     let gained = gained_target_word(graph, p, q, u, place);
     let kept = kept_target_word(graph, p, q, u, place);
@@ -120,6 +128,33 @@ fn kept_target_word(graph: &PartGraph, p: u32, q: u32, u: u32, place: usize) -> 
     0
 }
 
+/// Whether an id is not p, and neither p nor q has its bit in the word at this place.
+#[inline]
+fn is_apart(p: u32, q: u32, id: u32, place: usize) -> bool
+    ensures { OnTrue result ((id ≢ p) × (p / 64 ≢ place) × (q / 64 ≢ place)) }
+{
+    id != p && p as usize / WORD_BITS != place && q as usize / WORD_BITS != place
+}
+
+/// Whether an id is not p, and q is in none of these places.
+#[inline]
+fn is_bare(p: u32, q: u32, id: u32, places: u64) -> bool
+    ensures { OnTrue result ((id ≢ p) × ((has : ℕ → Bool) → ArePlaces has places → has q ≡ false)) }
+{
+    id != p && lacks(places, q)
+}
+
+/// Whether the id is in none of these places. An id past the limit may be.
+#[inline]
+fn lacks(places: u64, id: u32) -> bool
+    ensures { OnTrue result ((has : ℕ → Bool) → ArePlaces has places → has id ≡ false) }
+{
+    if id >= MAX_PARTITIONS {
+        return false;
+    }
+    places & only_id(id / WORD_BITS as u32, 0) == 0
+}
+
 /// The word in which only the bit of the id is on; 0 if it is in another word.
 #[inline]
 fn only_id(id: u32, place: usize) -> u64
@@ -147,6 +182,9 @@ pub fn merged_source_places(graph: &PartGraph, p: u32, q: u32, v: u32) -> u64
     ensures { ArePlaces (λ u. merged_edge (G (graph.now).traces) p q u v) result }
 {
     let own = graph.source_places(v);
+    if is_bare(p, q, v, own) {
+        return own;
+    }
     let gained = gained_source_places(graph, p, q, v);
     own | (gained | place_of(p))
 }
@@ -168,6 +206,9 @@ pub fn merged_target_places(graph: &PartGraph, p: u32, q: u32, u: u32) -> u64
     ensures { ArePlaces (λ v. merged_edge (G (graph.now).traces) p q u v) result }
 {
     let own = graph.target_places(u);
+    if is_bare(p, q, u, own) {
+        return own;
+    }
     let gained = gained_target_places(graph, p, q, u);
     own | (gained | place_of(p))
 }
