@@ -1,5 +1,5 @@
 //! The question that the finder answers.
-ghost use Rattle.std.specs.Prelude.{◌≡◌, ◌≤◌, ◌<◌, IfSome, MatchOption};
+ghost use Rattle.std.specs.Prelude.{◌≡◌, ◌≤◌, ◌<◌, true, IfSome, MatchOption};
 ghost use Rattle.limits.specs.declared.TheConstants.{FIRST_TYPE, MAX_PARTITIONS};
 ghost use Rattle.partition_graph.specs.Parts.{HasEdgesBelow};
 ghost use Rattle.partition_graph.specs.Seen.{seen};
@@ -30,7 +30,7 @@ impl<'v, 'a> Question<'v, 'a> {
     ghost use Rattle.invariants.specs.Monitors.{is_bad};
     ghost use Rattle.partition_graph.specs.NeighbourWords.{ArePlaces, IsWordOf};
     ghost use Rattle.partition_graph.specs.Neighbours.{HasNoTarget, IsNextTarget};
-    ghost use Rattle.path_finder.specs.Asking.{asked};
+    ghost use Rattle.path_finder.specs.Asking.{asked, looks_at};
     ghost use Rattle.path_finder.specs.Walks.{state_at};
 
     /// The question whether the graph breaks the invariant by edges between the ids in `around`.
@@ -55,15 +55,21 @@ impl<'v, 'a> Question<'v, 'a> {
         self.ids
     }
 
+    /// Whether the edges of the id are looked at.
+    #[inline]
+    pub fn looks_at(&self, id: u32) -> bool
+        ensures { result ≡ looks_at self.now id }
+    {
+        self.around.has(id)
+    }
+
     /// The ids from `64 * place` on that have an edge to q, as a word whose lowest bit is the first of them.
     #[inline]
     pub fn source_word(&self, q: u32, place: usize) -> u64
-        requires { place < ID_WORDS }
+        requires looked { looks_at self.now q ≡ true }
+        requires place { place < ID_WORDS }
         ensures { IsWordOf (λ p. (asked self.now).graph.edge p q) place result }
     {
-        if !self.around.has(q) {
-            return 0;
-        }
         self.sight.view.source_word(q, place) & self.around.word(place)
     }
 
@@ -72,9 +78,6 @@ impl<'v, 'a> Question<'v, 'a> {
     pub fn source_places(&self, q: u32) -> u64
         ensures { ArePlaces (λ p. (asked self.now).graph.edge p q) result }
     {
-        if !self.around.has(q) {
-            return 0;
-        }
         self.sight.view.source_places(q)
     }
 

@@ -2,7 +2,7 @@
 ghost use Rattle.std.specs.Prelude.{◌≡◌, ℕ, ◌<◌, ◌+◌, true, IfSome};
 ghost use Rattle.partition_graph.specs.NeighbourWords.{ArePlaces};
 ghost use Rattle.partition_graph.specs.Nexts.{IsNextAnswer};
-ghost use Rattle.path_finder.specs.Asking.{asked};
+ghost use Rattle.path_finder.specs.Asking.{asked, looks_at};
 ghost use Rattle.path_finder.specs.Walks.{IsPairOf, Leads};
 ghost use Rattle.path_finder.specs.Tables.{at, is_open_source, Grows, HasEnds, IsBegun, IsMeasured, IsSearched};
 ghost use Rattle.path_finder.specs.Turns.{IsTurn};
@@ -33,6 +33,7 @@ fn next_open(
     state: u8,
     from: u32,
 ) -> Option<u32>
+    requires looked { looks_at question.now q ≡ true }
     requires state { state < 3 }
     requires places { ArePlaces (λ id. (asked question.now).graph.edge id q) places }
     ensures next { IsNextAnswer (is_open_source (asked question.now) table.now q state) from result }
@@ -55,6 +56,7 @@ fn next_open(
 /// edge to its id.
 fn enter_state(question: &Question<'_, '_>, table: &mut Table, turn: Turn, places: u64, state: u8)
     requires turn { IsTurn (asked question.now) turn table.old }
+    requires looked { looks_at question.now turn.pair.id ≡ true }
     requires places { ArePlaces (λ id. (asked question.now).graph.edge id turn.pair.id) places }
     requires state { state < 3 }
 
@@ -82,6 +84,9 @@ fn expand(question: &Question<'_, '_>, table: &mut Table, turn: Turn)
     ensures searched { IsSearched (asked question.now) (turn.next + 1) table.new }
     ensures grows { Grows table.old table.new }
 {
+    if !question.looks_at(turn.pair.id) {
+        return;
+    }
     let places = question.source_places(turn.pair.id);
     for state in 0..3 {
         enter_state(question, table, turn, places, state);
