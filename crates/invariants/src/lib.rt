@@ -14,8 +14,12 @@ ghost use Rattle.invariants.specs.Candidates.{candidates_for, candidate_total};
 
 use limits::MAX_TYPES;
 
+mod ids;
+mod labels;
 mod seq;
 
+pub use ids::Ids;
+pub use labels::Labels;
 pub use seq::{Seq, Text};
 
 /// How a type `a` and a type `b` are related in a word. Earlier and later are strict: a place is not before itself.

@@ -1,5 +1,5 @@
 //! The data of a model: its types, partitions, edges and invariants, and the steps that led to it.
-use crate::{Invariant, Kinds, Seq, Text};
+use crate::{Ids, Invariant, Kinds, Labels, Seq, Text};
 
 /// A partition of events.
 #[derive(Clone, Copy, Debug, PartialEq, Eq)]
@@ -31,7 +31,7 @@ pub struct Listed {
     pub inv: Invariant,
     /// For each partition of the model, in their order, the set of states as a number from 0 to 7: 1 for the state 0, plus 2 for
     /// the state 1, plus 4 for the state 2. It is the number itself, not the byte of its digit.
-    pub labels: Seq<u8>,
+    pub labels: Labels,
 }
 
 /// A step of refinement: a partition is divided at the place where a path that breaks an invariant leaves the traces.
@@ -43,7 +43,7 @@ pub struct Split {
     /// Which partition is divided: the place of its id in `path`, counted from 0.
     pub place: u32,
     /// The ids of the path that breaks the invariant.
-    pub path: Seq<u32>,
+    pub path: Ids,
 }
 
 /// A step of coarsening: the events of `q` go to `p`.
@@ -66,7 +66,7 @@ pub struct Block {
     /// `Model::invariants`.
     pub inv: u32,
     /// The ids of the path in the merged graph.
-    pub path: Seq<u32>,
+    pub path: Ids,
 }
 
 /// The content of a model file.

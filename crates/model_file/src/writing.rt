@@ -149,12 +149,10 @@ fn write_kinds(alloc: Global, kinds: Kinds, out: &mut Writer) -> Result<(), Allo
 }
 
 /// Writes labels as a string with a digit for each.
-fn write_labels(alloc: Global, labels: &[u8], out: &mut Writer) -> Result<(), AllocError>
-    requires { All (λ label. label ≤ 7) labels.now }
+fn write_labels(labels: &Labels, out: &mut Writer) -> Result<(), AllocError>
     ensures { Appends result out.old out.new (tokens_of (string (map digit_of labels.now))) }
 {
-    let digits = digits_of(alloc, labels)?;
-    let Ok(text) = str::from_utf8(&digits) else {
+    let Ok(text) = str::from_utf8(labels.as_digits()) else {
         unreachable!()
     };
     write_text(text, out)
@@ -173,12 +171,12 @@ impl Written for Listed {
         write_text(kind_text(self.inv.kind), out)?;
         write_number(u32::from(self.inv.a), out)?;
         write_number(u32::from(self.inv.b), out)?;
-        write_labels(alloc, self.labels.as_slice(), out)?;
+        write_labels(&self.labels, out)?;
         out.end_array()
     }
 }
 
-fn write_path(alloc: Global, path: &Seq<u32>, out: &mut Writer) -> Result<(), AllocError>
+fn write_path(alloc: Global, path: &Ids, out: &mut Writer) -> Result<(), AllocError>
     ensures { Appends result out.old out.new (tokens_of (path_data path.now)) }
 {
     write_list(alloc, path.as_slice(), out)

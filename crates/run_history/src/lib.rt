@@ -6,16 +6,16 @@ ghost use Rattle.std.specs.Prelude.{◌≡◌, IfOk};
 ghost use Rattle.run_history.specs.Records.{path_of, splits_of, merges_of, blocks_of, IsWithin, HoldsPaths};
 
 use cell_pool::{RunLog, Span, Spans};
-use invariants::{Block, Merge, Seq, Split};
+use invariants::{Block, Ids, Merge, Seq, Split};
 use std::alloc::{AllocError, Global};
 
 /// A copy of the numbers of the span. The span must lie within the numbers that were pushed.
-fn copy_of(alloc: Global, spans: &Spans, span: Span) -> Result<Seq<u32>, AllocError>
+fn copy_of(alloc: Global, spans: &Spans, span: Span) -> Result<Ids, AllocError>
     requires { IsWithin (spans.now).numbers span }
     ensures { IfOk result (λ path. path ≡ path_of (spans.now).numbers span) }
 {
     let path = spans.get(span).to_vec(alloc)?;
-    Ok(Seq::from_vec(path))
+    Ok(Ids::from_vec(path))
 }
 
 /// The splits of the run's log, in their order, each with its path. `spans` must hold the log's paths. `AllocError` is
