@@ -1,8 +1,9 @@
 -- The model of a run that has ended.
-use Rattle.std.proofs.Common.{◌≡◌, ◌↔◌, ℕ, zero, suc, ◌+◌, ◌<◌, ◌≤◌, true, List, [], ◌∷◌, ◌++◌, map, filter, take, get_or, length, slice_get, Some, sym, ◌∙◌, ap, subst, subst₂, add-one, arith}
+use Rattle.std.proofs.Common.{◌≡◌, ◌↔◌, ℕ, zero, suc, ◌+◌, ◌<◌, ◌≤◌, Bool, true, false, List, [], ◌∷◌, ◌++◌, map, filter, take, get_or, length, slice_get, Some, sym, ◌∙◌, ap, subst, subst₂, add-one, arith}
 use Rattle.std.proofs.Math.Seq.{take-suc}
 use Rattle.std.proofs.lemmas.List.{length-map, map-append}
-use Rattle.std.specs.List.{AllByRecursion}
+use Rattle.std.specs.List.{All, AllByRecursion}
+use Rattle.std.proofs.lemmas.List.Elements.{All-from_recursion}
 use Rattle.limits.specs.declared.TheConstants.{MAX_PARTITIONS, MAX_PATH_NUMBERS}
 use Rattle.invariants.specs.declared.Invariant.{Invariant}
 use Rattle.invariants.specs.declared.Kinds.{Kinds}
@@ -32,7 +33,7 @@ use Rattle.models.specs.Histories.{first_new}
 use Rattle.models.specs.Limits.{KeepsLimits}
 use Rattle.models.proofs.Listed.{numbers_give_labels}
 use Rattle.partition_graph.specs.Parts.{Parts}
-use Rattle.labelling.specs.Labelled.{Labelling, AreLabelsOf, digit}
+use Rattle.labelling.specs.Labelled.{Labelling, AreLabelsOf, digit, is_found, number_of}
 use Rattle.infer_core.specs.Runs.{AreFinal}
 use Rattle.infer_core.specs.Ends.{HasEnded}
 use Rattle.infer_core.specs.Workbenches.{Tells}
@@ -56,6 +57,22 @@ at-map f (y ∷ xs) (suc k) x e = at-map f xs k x e
 each-small : (f : Partition → ℕ) (xs : List Partition) → ((x : Partition) → f x ≤ 7) → AllByRecursion IsLabel (map f xs)
 each-small f [] small = tt
 each-small f (x ∷ xs) small = (small x, each-small f xs small)
+
+number-small : (zeroth first second : Bool) → number_of zeroth first second ≤ 7
+number-small true true true = omega arith
+number-small true true false = omega arith
+number-small true false true = omega arith
+number-small true false false = omega arith
+number-small false true true = omega arith
+number-small false true false = omega arith
+number-small false false true = omega arith
+number-small false false false = omega arith
+
+-- what is read place by place are labels
+pub digits-small : (labels : Labelling) (k : ℕ) (partitions : List Partition) → All IsLabel (map (λ x. digit labels k x.id) partitions)
+digits-small labels k partitions =
+    All-from_recursion IsLabel (map (λ x. digit labels k x.id) partitions) (each-small (λ x. digit labels k x.id) partitions
+    (λ x. number-small (is_found labels k x.id 0) (is_found labels k x.id 1) (is_found labels k x.id 2)))
 
 -- the labels say which states are reached at each partition
 pub labels-reached : (labels : Labelling) (h : Assignment) (partitions : List Partition) (k : ℕ) (inv : Invariant) → ArePartitions partitions h → AreLabelsOf labels (G h)

@@ -14,7 +14,7 @@ ghost use Rattle.labelling.specs.Labelled.{digit, AreLabelsOf, SaysSwapped};
 ghost use Rattle.infer_core.specs.declared.labels.TheConstants.{AT_ONCE, TOGETHER};
 ghost use Rattle.infer_core.specs.Windows.{IsWindowOf};
 
-use invariants::{Invariant, Listed, Partition, Seq};
+use invariants::{Invariant, Labels, Listed, Partition, Seq};
 use labelling::Planes;
 use limits::MAX_PARTITIONS;
 use std::alloc::{AllocError, Global};
@@ -150,7 +150,7 @@ fn labels_of(
     count: usize,
     partitions: &[Partition],
     window: &mut Window,
-) -> Result<Seq<u8>, AllocError>
+) -> Result<Labels, AllocError>
     requires count { count ≡ length (planes.now).invs }
     requires number { number < count }
     requires ids { (k : ℕ) (x : Partition) → slice_get partitions.now k ≡ Some x
@@ -165,7 +165,7 @@ fn labels_of(
     for digits in &window.digits {
         labels.push_reserved(digits[place]);
     }
-    Ok(Seq::from_vec(labels))
+    Labels::from_numbers(alloc, labels)
 }
 
 /// The invariants, each with its labels at these partitions. `AllocError` is returned if there is not enough memory.

@@ -1,7 +1,8 @@
 //! The labels of one invariant, by ids.
-ghost use Rattle.std.specs.Prelude.{◌≡◌, ◌<◌, ℕ, List, length, slice_index, All};
+ghost use Rattle.std.specs.Prelude.{◌≡◌, ◌<◌, ℕ, List, length, map, slice_index, All};
 ghost use Rattle.limits.specs.declared.TheConstants.{MAX_PARTITIONS};
-ghost use Rattle.model_shape.specs.Shapes.{IsLabel, IsShapedListed, IsWellShaped};
+ghost use Rattle.invariants.specs.Labels.{IsDigit, number_of};
+ghost use Rattle.model_shape.specs.Shapes.{IsShapedListed, IsWellShaped};
 ghost use Rattle.models.specs.Models.{label_at};
 ghost use Rattle.model_check.specs.Rows.{IsMarkable, AreApart};
 
@@ -25,18 +26,19 @@ impl Model for LabelTable {
     ghost invariant = { λ table. length table.sets.items ≡ MAX_PARTITIONS };
 }
 
-/// Puts the label of each partition at the place of its id. All other ids get the label of no state.
+/// Puts the label of each partition, given as its digit, at the place of its id. All other ids get the label of no state.
 fn lay_labels(sets: &mut [StateSet], partitions: &[Partition], given: &[u8])
     requires size { length sets.old ≡ MAX_PARTITIONS }
     requires markable { All IsMarkable partitions.now }
     requires apart { AreApart partitions.now }
     requires count { length given.now ≡ length partitions.now }
-    requires given { All IsLabel given.now }
-    ensures { (p : ℕ) → slice_index sets.new p ≡ label_at p partitions.now given.now }
+    requires given { All IsDigit given.now }
+    ensures { (p : ℕ) → slice_index sets.new p
+        ≡ label_at p partitions.now (map number_of given.now) }
 {
     sets.fill(StateSet::none());
     for (i, partition) in partitions.iter().enumerate() {
-        sets[partition.id as usize] = StateSet::of(given[i]);
+        sets[partition.id as usize] = StateSet::of(given[i] - b'0');
     }
 }
 
@@ -68,7 +70,7 @@ impl LabelTable {
         lay_labels(
             &mut self.sets,
             model.partitions.as_slice(),
-            listed.labels.as_slice(),
+            listed.labels.as_digits(),
         );
     }
 }

@@ -1,10 +1,10 @@
 -- The labels of digits, tested all at once and then put in place.
-use Rattle.std.proofs.Common.{◌≡◌, ℕ, ◌-◌, ◌<◌, ◌≤◌, List, [], ◌∷◌, Some, None, map, length, get_or, refl, sym, ◌∙◌, inl, inr, arith}
+use Rattle.std.proofs.Common.{◌≡◌, ℕ, ◌-◌, ◌≤◌, List, [], ◌∷◌, Some, None, true, nat_le, map, refl, inl, inr}
 use Rattle.std.proofs.lemmas.Bool.{le-leb}
 use Rattle.std.proofs.lemmas.Bool.Decides.{leb_tells}
-use Rattle.std.proofs.lemmas.List.{get_or_default, same_lists}
 use Rattle.std.proofs.lemmas.List.Elements.{recursion_from_All, All-from_recursion}
-use Rattle.std.specs.List.{All, AllByRecursion}
+use Rattle.std.specs.List.{All, AllByRecursion, list_all}
+use Rattle.invariants.specs.Labels.{IsLabel}
 use Rattle.model_file.specs.Labels.{IsLabelDigit}
 use Rattle.model_file.specs.Entries.{label_of, labels_of}
 
@@ -37,16 +37,12 @@ no-labels (byte ∷ bytes) n =
 pub labels_none : (bytes : List ℕ) → (All IsLabelDigit bytes → ⊥) → labels_of bytes ≡ None
 labels_none bytes n = no-labels bytes (λ a. n (All-from_recursion IsLabelDigit bytes a))
 
--- a list of which the numbers before a place were made anew
-pub record IsPartly (old now made : List ℕ) (k : ℕ) : Type 0 where
-  pub size : length now ≡ length old
-  pub before : (j : ℕ) → j < k → get_or now j 0 ≡ get_or made j 0
-  pub after : (j : ℕ) → k ≤ j → get_or now j 0 ≡ get_or old j 0
+small-labels : (numbers : List ℕ) → AllByRecursion IsLabel numbers → list_all (λ label. nat_le label 7) numbers ≡ true
+small-labels [] a = refl
+small-labels (x ∷ xs) a =
+    let low : x ≤ 7 = a.0 in
+    rw (le-leb x 7 low, small-labels xs a.1) refl
 
-pub partly-first : (old made : List ℕ) → IsPartly old old made 0
-partly-first old made = record { size = refl; before = λ j l. absurd (omega arith); after = λ j l. refl }
-
-pub partly-all : (old now made : List ℕ) (k : ℕ) → length made ≡ length old → length old ≤ k → IsPartly old now made k → now ≡ made
-partly-all old now made k e l p =
-    let size : length now ≡ length old = p.size in
-    same_lists now made (p.size ∙ sym e) (λ j d m. get_or_default now j d 0 m ∙ p.before j (omega arith) ∙ get_or_default made j 0 d (omega arith))
+-- labels are at most 7
+pub small_labels : (numbers : List ℕ) → All IsLabel numbers → list_all (λ label. nat_le label 7) numbers ≡ true
+small_labels numbers a = small-labels numbers (recursion_from_All IsLabel numbers a)

@@ -5,7 +5,9 @@ ghost use Rattle.model_file.specs.Entries.{if_below, kind_named, kinds_from};
 use crate::labels::Labels;
 use crate::lists::{Entry, Whole, list, row_of};
 use crate::stream::{Stop, number, string};
-use invariants::{Block, Edge, Invariant, Kind, Kinds, Listed, Merge, Partition, Seq, Split, Text};
+use invariants::{
+    Block, Edge, Ids, Invariant, Kind, Kinds, Listed, Merge, Partition, Seq, Split, Text,
+};
 use json::Reader;
 use std::alloc::Global;
 
@@ -82,6 +84,20 @@ impl<T: Entry + Drop> Entry for Seq<T> {
     #[inline(always)]
     fn read(alloc: Global, reader: &mut Reader<'_>, depth: usize) -> Result<Option<Seq<T>>, Stop> {
         list::<T, Whole>(alloc, reader, depth)
+    }
+}
+
+impl Entry for Ids {
+    ghost use Rattle.model_file.specs.Entries.{list_in, number_in};
+
+    ghost read_as = { list_in number_in };
+
+    fn read(alloc: Global, reader: &mut Reader<'_>, depth: usize) -> Result<Option<Ids>, Stop> {
+        match Seq::<u32>::read(alloc, reader, depth) {
+            Ok(Some(ids)) => Ok(Some(Ids::from_vec(ids.into_vec()))),
+            Ok(None) => Ok(None),
+            Err(e) => Err(e),
+        }
     }
 }
 
@@ -224,7 +240,7 @@ impl Entry for Split {
     ghost read_as = { split_in };
 
     fn read(alloc: Global, reader: &mut Reader<'_>, depth: usize) -> Result<Option<Split>, Stop> {
-        match row_of::<(u32, (u32, (Seq<u32>, ())))>(alloc, reader, depth) {
+        match row_of::<(u32, (u32, (Ids, ())))>(alloc, reader, depth) {
             Ok(Some((inv, (place, (path, ()))))) => Ok(Some(Split { inv, place, path })),
             Ok(None) => Ok(None),
             Err(e) => Err(e),
@@ -238,7 +254,7 @@ impl Entry for Block {
     ghost read_as = { block_in };
 
     fn read(alloc: Global, reader: &mut Reader<'_>, depth: usize) -> Result<Option<Block>, Stop> {
-        match row_of::<(u32, (u32, (u32, (Seq<u32>, ()))))>(alloc, reader, depth) {
+        match row_of::<(u32, (u32, (u32, (Ids, ()))))>(alloc, reader, depth) {
             Ok(Some((p, (q, (inv, (path, ())))))) => Ok(Some(Block { p, q, inv, path })),
             Ok(None) => Ok(None),
             Err(e) => Err(e),

@@ -5,7 +5,6 @@ ghost use Rattle.model_file.specs.Labels.{IsLabelDigit};
 
 use crate::lists::Entry;
 use crate::stream::{Stop, string};
-use invariants::Seq;
 use json::Reader;
 use std::alloc::{AllocError, Global};
 
@@ -21,33 +20,21 @@ fn are_labels(bytes: &[u8]) -> bool
     all
 }
 
-/// Replaces each digit by its number.
-fn digits_to_numbers(bytes: &mut [u8])
-    requires { All IsLabelDigit bytes.old }
-    ensures { bytes.new ≡ map (λ byte. byte - 48) bytes.old }
-{
-    for k in 0..bytes.len() {
-        bytes[k] = bytes[k] - b'0';
-    }
-}
-
 /// The labels that digits from `0` to `7` write; `None` for any other byte.
-fn labels_of(alloc: Global, digits: &[u8]) -> Result<Option<Seq<u8>>, AllocError>
+fn labels_of(alloc: Global, digits: &[u8]) -> Result<Option<invariants::Labels>, AllocError>
     ensures { IfOk result (λ found. found ≡ labels_of digits.now) }
 {
-    if !are_labels(digits) {
-        return Ok(None);
+    if are_labels(digits) {
+        Ok(Some(invariants::Labels::from_digits(alloc, digits)?))
+    } else {
+        Ok(None)
     }
-    let mut labels = Vec::with_capacity(alloc, digits.len())?;
-    labels.extend_from_slice(digits)?;
-    digits_to_numbers(labels.as_mut_slice());
-    Ok(Some(Seq::from_vec(labels)))
 }
 
 /// The labels of an invariant.
 #[derive(Drop)]
 pub(crate) struct Labels {
-    pub(crate) labels: Seq<u8>,
+    pub(crate) labels: invariants::Labels,
 }
 
 impl Entry for Labels {

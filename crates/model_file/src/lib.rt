@@ -13,7 +13,6 @@ mod entries;
 mod found;
 mod history;
 mod keys;
-mod label_digits;
 mod labels;
 mod law;
 mod lists;

@@ -176,24 +176,11 @@ fn place_of(kinds: Kinds, types: u32, inv: Invariant) -> Option<u32>
     index_of(kinds, types, inv)
 }
 
-fn labels_hold(labels: &[u8]) -> bool
-    ensures { result ≡ list_all (λ label. nat_le label 7) labels.now }
-{
-    // No early exit, so that many labels are tested at once.
-    let mut all = true;
-    'labels: for label in labels {
-        all = all & (*label <= 7);
-    }
-    all
-}
-
 fn listed_holds(kinds: Kinds, types: u32, partitions: usize, listed: &Listed) -> bool
     requires { types ≤ MAX_TYPES }
     ensures { result ≡ listed_holds kinds types partitions listed.now }
 {
-    place_of(kinds, types, listed.inv).is_some()
-        && listed.labels.len() == partitions
-        && labels_hold(listed.labels.as_slice())
+    place_of(kinds, types, listed.inv).is_some() && listed.labels.len() == partitions
 }
 
 fn invariants_ascend(kinds: Kinds, types: u32, invariants: &[Listed]) -> bool

@@ -7,8 +7,9 @@ ghost use Rattle.model_shape.specs.Shapes.{IsWellShaped};
 ghost use Rattle.model_file.specs.Reading.{reads};
 ghost use Rattle.model_file.specs.Writing.{tokens_of, first_members, last_members, Appends};
 
-use crate::label_digits::digits_of;
-use invariants::{Block, Edge, Kind, Kinds, Listed, Merge, Model, Partition, Seq, Split, Text};
+use invariants::{
+    Block, Edge, Ids, Kind, Kinds, Labels, Listed, Merge, Model, Partition, Seq, Split, Text,
+};
 use json::Writer;
 use std::alloc::{AllocError, Global};
 use std::str;
@@ -159,12 +160,11 @@ fn write_labels(labels: &Labels, out: &mut Writer) -> Result<(), AllocError>
 }
 
 impl Written for Listed {
-    ghost use Rattle.std.specs.Prelude.{◌≤◌, All};
     ghost use Rattle.model_file.specs.Tree.{listed_data};
 
     ghost written_as = { listed_data };
 
-    ghost can_write = { λ l. All (λ label. label ≤ 7) l.labels };
+    ghost can_write = { λ _. Unit {0} };
 
     fn write(&self, alloc: Global, out: &mut Writer) -> Result<(), AllocError> {
         out.begin_array()?;
@@ -232,7 +232,6 @@ fn write_part<T: Written>(
 
 /// Writes the keys from `blocks` to `kinds` with their values.
 fn write_first_members(alloc: Global, model: &Model, out: &mut Writer) -> Result<(), AllocError>
-    requires { All (λ l. All (λ label. label ≤ 7) l.labels) model.now.invariants }
     ensures { Appends result out.old out.new (first_members model.now) }
 {
     write_part(alloc, "blocks", &model.blocks, out)?;
@@ -256,7 +255,6 @@ fn write_last_members(alloc: Global, model: &Model, out: &mut Writer) -> Result<
 
 /// Writes the object.
 fn write_tree(alloc: Global, model: &Model, out: &mut Writer) -> Result<(), AllocError>
-    requires { All (λ l. All (λ label. label ≤ 7) l.labels) model.now.invariants }
     ensures { Appends result out.old out.new (tokens_of (tree_of model.now)) }
 {
     out.begin_object()?;

@@ -2,7 +2,9 @@ use Rattle.std.proofs.Common.{◌≡◌, ◌<◌, ◌+◌, ℕ, Some, List, [], 
 use Rattle.std.proofs.lemmas.Option.{slice_get-get_or}
 use Rattle.invariants.specs.declared.records.Partition.{Partition}
 use Rattle.labelling.specs.Labelled.{digit}
-use Rattle.infer_core.proofs.Telling.{mapped-more}
+use Rattle.infer_core.proofs.Telling.{digits-small, mapped-more}
+use Rattle.invariants.specs.Labels.{IsLabel}
+use Rattle.std.specs.List.{All}
 use Rattle.infer_core.proofs.labels.labels_of.Goals as goal
 
 -- what stands where there is no partition
@@ -26,3 +28,10 @@ loop-digits-preserved c =
       count = omega (arith, c.push_reserved.ensures.len, c.loop-digits.invariant.count);
       room = omega (arith, c.push_reserved.ensures.capacity, c.loop-digits.invariant.room);
     }
+
+pub from_numbers-requires : goal.from_numbers-requires
+from_numbers-requires c =
+    let partitions : List Partition = c.args.partitions.now in
+    let all : take c.loop-digits.digits-index partitions ≡ partitions = ? in
+    subst (λ (ns : List ℕ). All IsLabel ns) (sym (c.loop-digits.invariant.told ∙ ap (λ (xs : List Partition). map (λ x. digit c.args.planes.now c.args.number x.id) xs) all))
+    (digits-small c.args.planes.now c.args.number partitions)

@@ -1,24 +1,11 @@
-use Rattle.std.proofs.Common.{◌≡◌, ◌≤◌, ℕ, List, ◌++◌, All, length, IsUtf8, ap, ◌∙◌, subst}
-use Rattle.std.proofs.lemmas.List.Elements.{All-from_recursion}
+use Rattle.std.proofs.Common.{◌≡◌, ℕ, List, ◌++◌, IsUtf8, ap, ◌∙◌, subst}
 use Rattle.json.specs.Print.{print}
-use Rattle.limits.specs.declared.TheConstants.{MAX_TYPES}
-use Rattle.invariants.specs.declared.records.Listed.{Listed}
 use Rattle.model_file.specs.Tree.{file_text}
 use Rattle.model_file.specs.Reading.{reads}
-use Rattle.model_file.proofs.Back.{FitsListed}
-use Rattle.model_file.proofs.Bounds.{few-types, fits-invariants, all-weaker}
 use Rattle.model_file.proofs.Limit.{short-enough}
 use Rattle.model_file.proofs.Telling.{passes}
 use Rattle.model_file.proofs.Trees.{text-reads-back, printed}
 use Rattle.model_file.proofs.writing.write_model.Goals as goal
-
-pub write_tree-requires : goal.write_tree-requires
-write_tree-requires c =
-    let m = c.args.model.now in
-    let passed = passes m c.requires in
-    let fit = fits-invariants m.kinds (length m.types) (length m.partitions) m.invariants (few-types MAX_TYPES m.types passed.types) passed.invariants in
-    All-from_recursion (λ (l : Listed). All (λ label. label ≤ 7) l.labels) m.invariants
-    (all-weaker FitsListed (λ (l : Listed). All (λ label. label ≤ 7) l.labels) (λ l f. All-from_recursion (λ label. label ≤ 7) l.labels f.labels) m.invariants fit)
 
 pub returns-clause-value : goal.returns-clause-value
 returns-clause-value c =

@@ -17,7 +17,7 @@ returns c =
     let d3 : Data = number_data c.args.self.now.inv.b in
     let t3 = row-more front (d1 ∷ d2 ∷ []) d3 c.write_number.new.out.tokens c.write_number-2.new.out.tokens t2 (rw c.from-2.ensures at c.in_ok-write_number-2.ensures.ok) in
     let d4 : Data = string (map digit_of c.args.self.now.labels) in
-    let t4 = row-more front (d1 ∷ d2 ∷ d3 ∷ []) d4 c.write_number-2.new.out.tokens c.write_labels.new.out.tokens t3 (rw c.as_slice.ensures at c.in_ok-write_labels.ensures.ok) in
+    let t4 = row-more front (d1 ∷ d2 ∷ d3 ∷ []) d4 c.write_number-2.new.out.tokens c.write_labels.new.out.tokens t3 c.in_ok-write_labels.ensures.ok in
     record {
       ok = row-end c.end_array.result (d1 ∷ d2 ∷ d3 ∷ d4 ∷ []) first c.write_labels.new.out.tokens c.end_array.new.self.tokens t4 c.end_array.ensures.ok;
       before = c.end_array.ensures.room.0 ∙ c.in_ok-write_labels.ensures.before ∙ c.in_ok-write_number-2.ensures.before ∙ c.in_ok-write_number.ensures.before ∙ c.in_ok-write_text.ensures.before ∙ c.in_ok-begin_array.ensures.room.0;
