@@ -10,5 +10,5 @@ abbrev pub invariant-loop-i : goal.invariant-loop-i
 invariant-loop-i l =
     record {
       apart : AreApart (drop l.i l.partitions);
-      labels : (p : ℕ) → with_table (λ q. is_listed q (drop l.i l.partitions)) (λ q. label_at q (drop l.i l.partitions) (drop l.i (map number_of l.given))) l.sets p ≡ label_at p l.partitions (map number_of l.given);
+      labels : (p : ℕ) → with_table (λ q. is_listed q (drop l.i l.partitions)) (λ q. label_at q (drop l.i l.partitions) (map number_of (drop l.i l.given))) l.sets p ≡ label_at p l.partitions (map number_of l.given);
     }
