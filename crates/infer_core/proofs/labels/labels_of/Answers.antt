@@ -1,4 +1,4 @@
-use Rattle.std.proofs.Common.{◌≡◌, ◌<◌, ◌+◌, ℕ, Some, List, [], length, map, take, get_or, slice_get, slice_index_or, sym, ◌∙◌, ap, subst, arith}
+use Rattle.std.proofs.Common.{◌≡◌, ◌<◌, ◌≤◌, ◌+◌, ℕ, Some, List, [], length, map, take, get_or, slice_get, slice_index_or, sym, ◌∙◌, ap, subst, arith, take_all}
 use Rattle.std.proofs.lemmas.Option.{slice_get-get_or}
 use Rattle.invariants.specs.declared.records.Partition.{Partition}
 use Rattle.labelling.specs.Labelled.{digit}
@@ -32,6 +32,7 @@ loop-digits-preserved c =
 pub from_numbers-requires : goal.from_numbers-requires
 from_numbers-requires c =
     let partitions : List Partition = c.args.partitions.now in
-    let all : take c.loop-digits.digits-index partitions ≡ partitions = ? in
+    let size : length partitions ≤ c.loop-digits.digits-index = omega (arith, c.loop-digits-test.false, ap length c.deref-digits-items.ensures.value, c.place_of-place.ensures.window.size) in
+    let all : take c.loop-digits.digits-index partitions ≡ partitions = take_all c.loop-digits.digits-index partitions size in
     subst (λ (ns : List ℕ). All IsLabel ns) (sym (c.loop-digits.invariant.told ∙ ap (λ (xs : List Partition). map (λ x. digit c.args.planes.now c.args.number x.id) xs) all))
     (digits-small c.args.planes.now c.args.number partitions)
