@@ -1,7 +1,7 @@
 //! What a log and a model say, part by part.
 
 use crate::formats::notation::{bytes_of, write_bytes};
-use invariants::{Block, Listed, Model, Split, Text};
+use invariants::{Block, Labels, Listed, Model, Split, Text};
 use model_reader::read_model;
 use std::alloc::{AllocError, Global};
 use std::fmt::Write;
@@ -43,9 +43,22 @@ pub fn write_log(out: &mut String, log: &TraceSet) -> Result<(), AllocError> {
     write_traces(out, log)
 }
 
+/// Reports labels as a list of numbers.
+fn write_labels(out: &mut String, labels: &Labels) -> Result<(), AllocError> {
+    out.push('[')?;
+    let mut before = "";
+    for digit in labels.as_digits() {
+        out.push_str(before)?;
+        out.push(char::from(*digit))?;
+        before = ", ";
+    }
+    out.push_str("]\n")
+}
+
 fn write_invariants(out: &mut String, invariants: &[Listed]) -> Result<(), AllocError> {
     for listed in invariants {
-        writeln!(out, "{:?} {:?}", listed.inv, listed.labels.as_slice())?;
+        write!(out, "{:?} ", listed.inv)?;
+        write_labels(out, &listed.labels)?;
     }
     Ok(())
 }
