@@ -1,12 +1,11 @@
 -- Bytes that are written without escapes.
-use Rattle.std.proofs.Common.{◌≡◌, ℕ, ◌+◌, ◌-◌, ◌<◌, ◌≤◌, List, [], ◌∷◌, ◌++◌, map, take, length, get_or, refl, sym, ap, ap₂, ◌∙◌, arith}
+use Rattle.std.proofs.Common.{◌≡◌, ℕ, ◌+◌, ◌<◌, ◌≤◌, List, [], ◌∷◌, ◌++◌, take, length, get_or, refl, sym, ap, ap₂, ◌∙◌, arith}
 use Rattle.std.proofs.lemmas.Grind.{flat_map-append, take_at_read}
 use Rattle.std.proofs.lemmas.List.Elements.{recursion_from_All}
 use Rattle.std.specs.List.{All, AllByRecursion}
 use Rattle.json.specs.Print.{escape, escape_byte}
 use Rattle.json.proofs.Printed.Strings.{escape_byte_plain}
-use Rattle.model_file.specs.Labels.{IsLabelDigit}
-use Rattle.model_file.specs.Tree.{digit_of}
+use Rattle.invariants.specs.Labels.{IsDigit}
 
 -- a byte that is no control byte, no quotation mark and no backslash stands for itself
 pub itself : (x : ℕ) → 32 ≤ x → (x ≡ 34 → ⊥) → (x ≡ 92 → ⊥) → escape_byte x ≡ x ∷ []
@@ -23,7 +22,7 @@ escape_step xs i d l low quote slash e =
     let more = (take_at_read xs i d l).1 in
     ap escape more ∙ (escape_more (take i xs) (get_or xs i d) low quote slash e ∙ sym more)
 
-labels-themselves : (bytes : List ℕ) → AllByRecursion IsLabelDigit bytes → escape bytes ≡ bytes
+labels-themselves : (bytes : List ℕ) → AllByRecursion IsDigit bytes → escape bytes ≡ bytes
 labels-themselves [] all = refl
 labels-themselves (x ∷ xs) all =
     let low : 48 ≤ x = all.0.0 in
@@ -31,16 +30,5 @@ labels-themselves (x ∷ xs) all =
     ap₂ (λ (ys zs : List ℕ). ys ++ zs) (itself x (omega arith) (λ e. absurd (omega arith)) (λ e. absurd (omega arith))) (labels-themselves xs all.1)
 
 -- digits of labels stand for themselves
-pub labels_themselves : (bytes : List ℕ) → All IsLabelDigit bytes → escape bytes ≡ bytes
-labels_themselves bytes all = labels-themselves bytes (recursion_from_All IsLabelDigit bytes all)
-
-digits-back : (bytes : List ℕ) → AllByRecursion IsLabelDigit bytes → bytes ≡ map digit_of (map (λ byte. byte - 48) bytes)
-digits-back [] all = refl
-digits-back (x ∷ xs) all =
-    let low : 48 ≤ x = all.0.0 in
-    let same : x ≡ 48 + (x - 48) = omega arith in
-    ap₂ (λ (y : ℕ) (ys : List ℕ). y ∷ ys) same (digits-back xs all.1)
-
--- the digits of the labels of digits
-pub digits_back : (bytes : List ℕ) → All IsLabelDigit bytes → bytes ≡ map digit_of (map (λ byte. byte - 48) bytes)
-digits_back bytes all = digits-back bytes (recursion_from_All IsLabelDigit bytes all)
+pub labels_themselves : (bytes : List ℕ) → All IsDigit bytes → escape bytes ≡ bytes
+labels_themselves bytes all = labels-themselves bytes (recursion_from_All IsDigit bytes all)

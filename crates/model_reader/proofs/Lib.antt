@@ -2,3 +2,4 @@ pub mod Numbers
 pub mod Listing
 pub mod Escapes
 pub mod Objects
+pub mod Tails

@@ -32,17 +32,19 @@ pieces : (a b c rest : List ℕ) → (a ++ (b ++ c)) ++ rest ≡ a ++ (b ++ (c +
 pieces a b c rest = append_assoc a (b ++ c) rest ∙ ap (λ text. a ++ text) (append_assoc b c rest)
 
 -- an entry and a comma were taken
-pub taken_more : {T : Type 0} (f : T → Data) (xs : List T) (x : T) (whole first second third : List ℕ)
-    → whole ≡ texts_before f xs ++ first → first ≡ compact_text (f x) ++ second → second ≡ 44 ∷ third
-    → whole ≡ texts_before f (xs ++ x ∷ []) ++ third
-taken_more f xs x whole first second third a b c =
+pub taken_more : {T : Type 0} (f : T → Data) (xs : List T) (x : T) (ys : List T) (whole first second third : List ℕ)
+    → ys ≡ xs ++ x ∷ [] → whole ≡ texts_before f xs ++ first → first ≡ compact_text (f x) ++ second → second ≡ 44 ∷ third
+    → whole ≡ texts_before f ys ++ third
+taken_more f xs x ys whole first second third more a b c =
     a ∙ ap (λ text. texts_before f xs ++ text) (b ∙ ap (λ text. compact_text (f x) ++ text) c)
     ∙ sym (ap (λ text. text ++ third) (one-more f xs x) ∙ pieces (texts_before f xs) (compact_text (f x)) (44 ∷ []) third)
+    ∙ ap (λ zs. texts_before f zs ++ third) (sym more)
 
 -- the last entry and the closing bracket were taken
-pub taken_last : {T : Type 0} (f : T → Data) (xs : List T) (x : T) (whole first second third : List ℕ)
-    → whole ≡ texts_before f xs ++ first → first ≡ compact_text (f x) ++ second → second ≡ 93 ∷ third
-    → 91 ∷ whole ≡ compact_text (array_of (map f (xs ++ x ∷ []))) ++ third
-taken_last f xs x whole first second third a b c =
+pub taken_last : {T : Type 0} (f : T → Data) (xs : List T) (x : T) (ys : List T) (whole first second third : List ℕ)
+    → ys ≡ xs ++ x ∷ [] → whole ≡ texts_before f xs ++ first → first ≡ compact_text (f x) ++ second → second ≡ 93 ∷ third
+    → 91 ∷ whole ≡ compact_text (array_of (map f ys)) ++ third
+taken_last f xs x ys whole first second third more a b c =
     ap (λ text. 91 ∷ text) (a ∙ ap (λ text. texts_before f xs ++ text) (b ∙ ap (λ text. compact_text (f x) ++ text) c)
     ∙ sym (ap (λ text. text ++ third) (last f xs x) ∙ pieces (texts_before f xs) (compact_text (f x)) (93 ∷ []) third))
+    ∙ ap (λ zs. compact_text (array_of (map f zs)) ++ third) (sym more)

@@ -6,7 +6,7 @@ ghost use Rattle.model_file.specs.Tree.{path_data};
 use crate::lists::{Spelled, take_list};
 use crate::rest::Rest;
 use crate::texts::{kind_number, take_kind, take_labels, take_type_text};
-use invariants::{Block, Edge, Invariant, Listed, Merge, Partition, Seq, Split, Text};
+use invariants::{Block, Edge, Ids, Invariant, Listed, Merge, Partition, Split, Text};
 use limits::MAX_PARTITIONS;
 use std::alloc::Global;
 
@@ -138,17 +138,14 @@ impl Spelled for Merge {
     }
 }
 
-/// Takes a path. A shortest path to a bad state goes from INITIAL to TERMINAL and meets each partition in each of the three
-/// states of a monitor at most once. So any path that is written has at least 2 and at most 3,072 ids.
+/// Takes a path. A shortest path to a bad state meets each partition in each of the three states of a monitor at most once. So
+/// any path that is written has at most 3,072 ids.
 #[inline(always)]
-fn take_path(alloc: Global, rest: &mut Rest<'_>) -> Option<Seq<u32>>
+fn take_path(alloc: Global, rest: &mut Rest<'_>) -> Option<Ids>
     ensures { IfSome result (λ path. rest.old ≡ compact_text (path_data path) ++ rest.new) }
 {
-    let path = take_list::<u32>(alloc, rest, 3 * MAX_PARTITIONS as usize)?;
-    if path.len() < 2 {
-        return None;
-    }
-    Some(path)
+    let ids = take_list::<u32>(alloc, rest, 3 * MAX_PARTITIONS as usize)?;
+    Some(Ids::from_vec(ids))
 }
 
 impl Spelled for Split {
@@ -200,13 +197,13 @@ impl Spelled for Listed {
     ghost data_of = { listed_data };
 
     #[inline(always)]
-    fn take(alloc: Global, rest: &mut Rest<'_>) -> Option<Listed> {
+    fn take(_alloc: Global, rest: &mut Rest<'_>) -> Option<Listed> {
         rest.byte(b'[')?;
         let kind = take_kind(rest)?;
         rest.byte(b',')?;
         let a = take_type(rest)?;
         let b = take_type(rest)?;
-        let labels = take_labels(alloc, rest)?;
+        let labels = take_labels(rest)?;
         rest.byte(b']')?;
         Some(Listed {
             inv: Invariant { kind, a, b },

@@ -1,10 +1,12 @@
 //! Reads a model file. The spelling that `model_file::write_model` writes is read without a tokenizer.
 //!
 //! Almost every model file was written by `infer` or `migrate`: one line without blanks, with its keys in a fixed order. Such
-//! bytes are read in one pass. `model_file::read_model` reads all others, and gives every refusal.
+//! bytes are read in one pass, and the labels are parts of them. `model_file::read_model` reads all others, and gives every
+//! refusal.
 #![tactic(auto)]
 
 mod entries;
+mod labels;
 mod lists;
 mod members;
 mod reading;

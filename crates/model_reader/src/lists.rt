@@ -4,7 +4,6 @@ ghost use Rattle.serde_json.specs.Written.{compact_text};
 ghost use Rattle.model_file.specs.Tree.{array_of};
 
 use crate::rest::Rest;
-use invariants::Seq;
 use std::alloc::Global;
 
 /// An entry of a model in its shortest spelling.
@@ -60,12 +59,13 @@ fn take_entries<T: Spelled + Drop>(
     alloc: Global,
     rest: &mut Rest<'_>,
     most: usize,
-) -> Option<Seq<T>>
-    ensures { IfSome result (λ entries. 91 ∷ rest.old ≡ compact_text (array_of (map T.data_of entries)) ++ rest.new) }
+) -> Option<Vec<T>>
+    ensures { IfSome result (λ entries. 91 ∷ rest.old
+        ≡ compact_text (array_of (map T.data_of entries.items)) ++ rest.new) }
 {
     let mut entries = empty_list::<T>(alloc, rest, most)?;
     if rest.takes(b']') {
-        return Some(Seq::from_vec(entries));
+        return Some(entries);
     }
     'entries: loop {
         let entry = T::take(alloc, rest)?;
@@ -76,7 +76,7 @@ fn take_entries<T: Spelled + Drop>(
             return None;
         };
         if rest.takes(b']') {
-            return Some(Seq::from_vec(entries));
+            return Some(entries);
         }
         rest.byte(b',')?;
     }
@@ -88,8 +88,9 @@ pub(crate) fn take_list<T: Spelled + Drop>(
     alloc: Global,
     rest: &mut Rest<'_>,
     most: usize,
-) -> Option<Seq<T>>
-    ensures { IfSome result (λ entries. rest.old ≡ compact_text (array_of (map T.data_of entries)) ++ rest.new) }
+) -> Option<Vec<T>>
+    ensures { IfSome result (λ entries. rest.old
+        ≡ compact_text (array_of (map T.data_of entries.items)) ++ rest.new) }
 {
     rest.byte(b'[')?;
     take_entries::<T>(alloc, rest, most)

@@ -22,7 +22,8 @@ fn take_member<T: Spelled + Drop>(
         ≡ key.now ++ (compact_text (array_of (map T.data_of entries)) ++ rest.new)) }
 {
     rest.text(key)?;
-    take_list::<T>(alloc, rest, most)
+    let entries = take_list::<T>(alloc, rest, most)?;
+    Some(Seq::from_vec(entries))
 }
 
 /// Takes all members, and puts their values into a model.

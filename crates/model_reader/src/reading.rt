@@ -9,6 +9,7 @@ use crate::rest::Rest;
 use invariants::{Kinds, Model, Seq, Text};
 use model_file::{FileError, is_well_shaped, written_reads_back};
 use std::alloc::Global;
+use std::rc::Rc;
 
 /// A model with nothing in its lists.
 fn empty(alloc: Global) -> Model {
@@ -33,15 +34,15 @@ fn texts_are_utf8(texts: &[Text])
     }
 }
 
-/// The model whose text these bytes are, if they are spelled as `write_model` spells it.
+/// The model with this text, if it is spelled as `write_model` spells it. Its labels share the text.
 ///
 /// It is also `None` if memory runs out.
-fn written_model(alloc: Global, bytes: &[u8]) -> Option<Model>
-    ensures text { IfSome result (λ model. bytes.now ≡ file_text model) }
+fn written_model(alloc: Global, text: &Rc<Vec<u8>>) -> Option<Model>
+    ensures text { IfSome result (λ model. (text.now).value.items ≡ file_text model) }
     ensures utf8 { IfSome result (λ model. All IsUtf8 model.types) }
 {
     let mut model = empty(alloc);
-    let mut rest = Rest::new(bytes);
+    let mut rest = Rest::new(text);
     take_members(alloc, &mut rest, &mut model)?;
     if !rest.is_empty() {
         return None;
@@ -51,11 +52,11 @@ fn written_model(alloc: Global, bytes: &[u8]) -> Option<Model>
 }
 
 /// The model that `written_model` gives, if it is well shaped.
-fn shaped_model(alloc: Global, bytes: &[u8]) -> Option<Model>
-    ensures read { IfSome result (λ model. reads bytes.now ≡ Ok model) }
+fn shaped_model(alloc: Global, text: &Rc<Vec<u8>>) -> Option<Model>
+    ensures read { IfSome result (λ model. reads (text.now).value.items ≡ Ok model) }
     ensures shape { IfSome result IsWellShaped }
 {
-    let model = written_model(alloc, bytes)?;
+    let model = written_model(alloc, text)?;
     written_reads_back();
     match is_well_shaped(alloc, &model) {
         Ok(true) => Some(model),
@@ -75,15 +76,18 @@ fn shaped_model(alloc: Global, bytes: &[u8]) -> Option<Model>
 ///
 /// `Memory` may be returned instead of any answer.
 ///
-/// Bytes that are spelled as `write_model` spells a model are read in one pass. All others are read again by
-/// `model_file::read_model`, which takes longer and gives the same model or a refusal.
-pub fn read_model(alloc: Global, bytes: &[u8]) -> Result<Model, FileError>
-    ensures ok { IfOk result (λ model. reads bytes.now ≡ Ok model) }
+/// Bytes that are spelled as `write_model` spells a model are read in one pass, and the labels of the model share them. All
+/// others are read again by `model_file::read_model`, which takes longer and gives the same model or a refusal.
+pub fn read_model(alloc: Global, bytes: Vec<u8>) -> Result<Model, FileError>
+    ensures ok { IfOk result (λ model. reads bytes.items ≡ Ok model) }
     ensures shape { IfOk result IsWellShaped }
-    ensures err { IfErr result (λ e. Fails e (reads bytes.now)) }
+    ensures err { IfErr result (λ e. Fails e (reads bytes.items)) }
 {
-    match shaped_model(alloc, bytes) {
+    let Ok(text) = Rc::new(alloc, bytes) else {
+        return Err(FileError::Memory);
+    };
+    match shaped_model(alloc, &text) {
         Some(model) => Ok(model),
-        None => model_file::read_model(alloc, bytes),
+        None => model_file::read_model(alloc, text.as_slice()),
     }
 }

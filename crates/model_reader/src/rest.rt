@@ -1,9 +1,14 @@
 //! The bytes that are still to be read. Tokens in their shortest spelling are taken from the start.
-ghost use Rattle.std.specs.Prelude.{◌≡◌, ◌<◌, ◌≤◌, ◌+◌, ◌^◌, ◌∷◌, ◌++◌, [], IfSome, OnSome, MatchOption, decimal, length};
+ghost use Rattle.std.specs.Prelude.{◌≡◌, ◌<◌, ◌≤◌, ◌+◌, ◌^◌, ◌∷◌, ◌++◌, [], IfSome, OnSome, MatchOption, decimal, length, map, take};
 ghost use Rattle.std.specs.Bool.{OnTrue, OnFalse};
+ghost use Rattle.json.specs.Print.{escape};
+ghost use Rattle.invariants.specs.Labels.{digit_of};
 
+use crate::labels::labels_at;
+use invariants::Labels;
 use memchr::memchr;
 use std::marker::Model;
+use std::rc::Rc;
 
 /// How often a byte occurs. There is no branch and no wide counter, so that many bytes are compared at once.
 fn count_of(byte: u8, bytes: &[u8]) -> u32 {
@@ -14,27 +19,35 @@ fn count_of(byte: u8, bytes: &[u8]) -> u32 {
     count
 }
 
-/// The bytes that are still to be read, and how long the last labels were. Contracts see the bytes.
+/// The bytes that are still to be read, which are the end of a text, and how long the last labels were. Contracts see the bytes.
 #[derive(Drop)]
 pub(crate) struct Rest<'a> {
+    text: &'a Rc<Vec<u8>>,
     bytes: &'a [u8],
     labels: usize,
 }
 
 impl<'a> Model for Rest<'a> {
     ghost use Rattle.std.specs.Prelude.{List, ℕ};
+    ghost use Rattle.model_reader.specs.Tails.{IsTail};
 
     ghost Value = { List ℕ };
 
     ghost view = { λ r. r.bytes.now };
+
+    ghost invariant = { λ r. IsTail (r.text.now).value.items r.bytes.now };
 }
 
 impl<'a> Rest<'a> {
-    /// All of these bytes.
-    pub(crate) fn new(bytes: &'a [u8]) -> Rest<'a>
-        ensures { result ≡ bytes.now }
+    /// All bytes of the text.
+    pub(crate) fn new(text: &'a Rc<Vec<u8>>) -> Rest<'a>
+        ensures { result ≡ (text.now).value.items }
     {
-        Rest { bytes, labels: 0 }
+        Rest {
+            text,
+            bytes: text.as_slice(),
+            labels: 0,
+        }
     }
 
     /// Whether all bytes were taken.
@@ -137,7 +150,8 @@ impl<'a> Rest<'a> {
     #[inline(always)]
     fn up_to_quote(&mut self, end: usize) -> Option<&'a [u8]>
         requires { end ≤ length self.old }
-        ensures { IfSome result (λ inside. self.old ≡ inside.now ++ 34 ∷ self.new) }
+        ensures text { IfSome result (λ inside. self.old ≡ inside.now ++ 34 ∷ self.new) }
+        ensures inside { IfSome result (λ inside. inside.now ≡ take end self.old) }
     {
         let (inside, others) = self.bytes.split_at(end);
         self.bytes = others;
@@ -166,15 +180,27 @@ impl<'a> Rest<'a> {
         memchr(b'"', self.bytes)
     }
 
-    /// Takes a string of labels, and returns the bytes between its quotation marks. All labels of a model are of one length, so
-    /// their end is seldom searched.
+    /// The labels whose digits are the next bytes, before a place.
     #[inline(always)]
-    pub(crate) fn string_of_labels(&mut self) -> Option<&'a [u8]>
-        ensures { IfSome result (λ inside. self.old ≡ 34 ∷ (inside.now ++ 34 ∷ self.new)) }
+    fn labels_before(&self, end: usize) -> Option<Labels>
+        requires { end ≤ length self.now }
+        ensures text { IfSome result (λ labels. take end self.now ≡ map digit_of labels) }
+        ensures plain { IfSome result (λ labels. escape (map digit_of labels) ≡ map digit_of labels) }
+    {
+        labels_at(self.text, self.text.len() - self.bytes.len(), end)
+    }
+
+    /// Takes a string of labels. All labels of a model are of one length, so their end is seldom searched.
+    #[inline(always)]
+    pub(crate) fn labels(&mut self) -> Option<Labels>
+        ensures text { IfSome result (λ labels. self.old ≡ 34 ∷ (map digit_of labels ++ 34 ∷ self.new)) }
+        ensures plain { IfSome result (λ labels. escape (map digit_of labels) ≡ map digit_of labels) }
     {
         self.byte(b'"')?;
         let end = self.end_of_labels()?;
         self.labels = end;
-        self.up_to_quote(end)
+        let labels = self.labels_before(end)?;
+        self.up_to_quote(end)?;
+        Some(labels)
     }
 }

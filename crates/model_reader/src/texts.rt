@@ -1,16 +1,16 @@
 //! The strings of a model: kinds, labels and the texts of types.
-ghost use Rattle.std.specs.Prelude.{◌≡◌, ◌↔◌, ◌≤◌, ◌-◌, ◌++◌, map, All, IfOk, IfSome, IsTrue};
+ghost use Rattle.std.specs.Prelude.{◌≡◌, ◌≤◌, ◌++◌, map, IfSome};
 ghost use Rattle.std.specs.Bool.{OnTrue};
 ghost use Rattle.json.specs.Print.{escape};
 ghost use Rattle.serde_json.specs.Data.{string};
 ghost use Rattle.serde_json.specs.Written.{compact_text};
-ghost use Rattle.model_file.specs.Labels.{IsLabelDigit};
-ghost use Rattle.model_file.specs.Tree.{digit_of, kind_data, kinds_data};
+ghost use Rattle.invariants.specs.Labels.{digit_of};
+ghost use Rattle.model_file.specs.Tree.{kind_data, kinds_data};
 
 use crate::rest::Rest;
-use invariants::{Kind, Kinds, Seq, Text};
-use limits::{MAX_PARTITIONS, MAX_TYPE_BYTES};
-use std::alloc::{AllocError, Global};
+use invariants::{Kind, Kinds, Labels, Text};
+use limits::MAX_TYPE_BYTES;
+use std::alloc::Global;
 use std::str;
 
 /// The place of a kind in the order of the kinds.
@@ -56,62 +56,11 @@ pub(crate) fn take_kinds(rest: &mut Rest<'_>) -> Option<Kinds>
     Some(Kinds::Four)
 }
 
-/// Whether all bytes are digits from `0` to `7`.
-fn are_labels(bytes: &[u8]) -> bool
-    ensures { IsTrue result ↔ All IsLabelDigit bytes.now }
-{
-    // No early exit, so that many bytes are tested at once.
-    let mut all = true;
-    for byte in bytes {
-        all = all & (*byte >= b'0') & (*byte <= b'7');
-    }
-    all
-}
-
-/// Replaces each digit by its number.
-fn digits_to_numbers(bytes: &mut [u8])
-    requires { All IsLabelDigit bytes.old }
-    ensures { bytes.new ≡ map (λ byte. byte - 48) bytes.old }
-{
-    for k in 0..bytes.len() {
-        bytes[k] = bytes[k] - b'0';
-    }
-}
-
-/// The numbers of these digits.
-fn numbers_of(alloc: Global, digits: &[u8]) -> Result<Seq<u8>, AllocError>
-    requires { All IsLabelDigit digits.now }
-    ensures { IfOk result (λ labels. labels ≡ map (λ byte. byte - 48) digits.now) }
-{
-    let mut labels = Vec::with_capacity(alloc, digits.len())?;
-    labels.extend_from_slice(digits)?;
-    digits_to_numbers(labels.as_mut_slice());
-    Ok(Seq::from_vec(labels))
-}
-
-/// The labels that digits from `0` to `7` write, at most as many as a model has partitions.
-fn labels_of(alloc: Global, digits: &[u8]) -> Option<Seq<u8>>
-    ensures text { IfSome result (λ labels. digits.now ≡ map digit_of labels) }
-    ensures plain { IfSome result (λ _. escape digits.now ≡ digits.now) }
-{
-    if digits.len() > MAX_PARTITIONS as usize {
-        return None;
-    }
-    if !are_labels(digits) {
-        return None;
-    }
-    let Ok(labels) = numbers_of(alloc, digits) else {
-        return None;
-    };
-    Some(labels)
-}
-
 /// Takes the labels of an invariant: a string with a digit for each partition.
-pub(crate) fn take_labels(alloc: Global, rest: &mut Rest<'_>) -> Option<Seq<u8>>
+pub(crate) fn take_labels(rest: &mut Rest<'_>) -> Option<Labels>
     ensures { IfSome result (λ labels. rest.old ≡ compact_text (string (map digit_of labels)) ++ rest.new) }
 {
-    let digits = rest.string_of_labels()?;
-    labels_of(alloc, digits)
+    rest.labels()
 }
 
 /// Whether a string of these bytes has no escapes: no control byte, no quotation mark and no backslash.

@@ -1,0 +1,31 @@
+-- What is left of a text, piece by piece.
+use Rattle.std.proofs.Common.{◌≡◌, ℕ, ◌-◌, ◌≤◌, List, [], ◌++◌, drop, length, take, refl, sym, ap, ◌∙◌, arith, append_assoc}
+use Rattle.std.proofs.lemmas.List.{drop_at, length-append, take-append-drop, take_rest}
+use Rattle.model_reader.specs.Tails.{IsTail}
+
+-- the whole text is left
+pub all-left : (text : List ℕ) → IsTail text text
+all-left text = record { front = []; is = refl }
+
+-- a piece was taken
+pub less-left : (text old piece new : List ℕ) → IsTail text old → old ≡ piece ++ new → IsTail text new
+less-left text old piece new tail e = record {
+  front = tail.front ++ piece;
+  is = tail.is ∙ ap (λ xs. tail.front ++ xs) e ∙ sym (append_assoc tail.front piece new);
+}
+
+-- the first bytes were taken
+pub without-first : (text old : List ℕ) (k : ℕ) → IsTail text old → IsTail text (take (length old - k) (drop k old))
+without-first text old k tail =
+    less-left text old (take k old) (take (length old - k) (drop k old)) tail
+    (sym (ap (λ xs. take k old ++ xs) (take_rest old k) ∙ take-append-drop k old))
+
+-- how much is left
+pub left-length : (text rest : List ℕ) → IsTail text rest → length rest ≤ length text
+left-length text rest tail = omega (arith, ap (λ xs. length xs) tail.is, length-append tail.front rest)
+
+-- what is left stands behind all that was taken
+pub left-behind : (text rest : List ℕ) → IsTail text rest → drop (length text - length rest) text ≡ rest
+left-behind text rest tail =
+    let taken : length tail.front ≡ length text - length rest = omega (arith, ap (λ xs. length xs) tail.is, length-append tail.front rest) in
+    ap (λ xs. drop (length text - length rest) xs) tail.is ∙ drop_at tail.front rest (length text - length rest) taken
