@@ -38,13 +38,13 @@ fn halt_of(error: FileError) -> ModelHalt
 }
 
 /// The model in the bytes of a file of this version.
-fn read_of(alloc: Global, version: Version, bytes: &[u8]) -> Result<Model, FileError>
-    ensures ok { IfOk result (λ model. reads_as version bytes.now ≡ Ok model) }
+fn read_of(alloc: Global, version: Version, bytes: Vec<u8>) -> Result<Model, FileError>
+    ensures ok { IfOk result (λ model. reads_as version bytes.items ≡ Ok model) }
     ensures shaped { IfOk result (FitsVersion version) }
-    ensures err { IfErr result (λ e. Fails e (reads_as version bytes.now)) }
+    ensures err { IfErr result (λ e. Fails e (reads_as version bytes.items)) }
 {
     match version {
-        Version::One => read_version_1(alloc, bytes),
+        Version::One => read_version_1(alloc, bytes.as_slice()),
         Version::Two => read_model(alloc, bytes),
     }
 }
@@ -85,7 +85,7 @@ pub fn read_model_file<I: Inputs>(
         Err(InputError::Fault) => return Err(ModelHalt::Fault),
         Err(InputError::Memory) => return Err(ModelHalt::Memory),
     };
-    match read_of(alloc, version, &bytes) {
+    match read_of(alloc, version, bytes) {
         Ok(model) => Ok(model),
         Err(error) => Err(halt_of(error)),
     }

@@ -38,7 +38,7 @@ fn recheck(alloc: Global, workbench: &Workbench) -> Result<Verdict, AllocError>
     drop(model);
     let text = written?;
     // What was written reads back, so only memory can be missing.
-    match read_model(alloc, text.as_slice()) {
+    match read_model(alloc, text.into_vec()) {
         Ok(read) => check(alloc, &read, workbench.traces()),
         Err(_) => Err(AllocError),
     }

@@ -62,9 +62,9 @@ fn summary(alloc: Global, traces: &TraceSet, model: &Model) -> Result<Seq<u8>, A
 }
 
 /// Reads the model in the text of a file, and checks it against the log.
-fn read_and_check(alloc: Global, text: &[u8], traces: &TraceSet) -> Result<Checked, AllocError>
-    requires { SaysModel text.now }
-    ensures { IfOk result (λ c. IsChecked text.now (typed_words c.model.kinds traces.now) c.model c.verdict) }
+fn read_and_check(alloc: Global, text: Vec<u8>, traces: &TraceSet) -> Result<Checked, AllocError>
+    requires { SaysModel text.items }
+    ensures { IfOk result (λ c. IsChecked text.items (typed_words c.model.kinds traces.now) c.model c.verdict) }
 {
     let model = match read_model(alloc, text) {
         Ok(model) => model,
@@ -90,9 +90,7 @@ fn tell(alloc: Global, workbench: &Workbench) -> Result<Answer, AllocError>
     first_part_fails();
     let traces = workbench.traces();
     let file = write(alloc, workbench)?;
-    let read = read_and_check(alloc, file.text.as_slice(), traces);
-    drop(file);
-    let checked = read?;
+    let checked = read_and_check(alloc, file.text.into_vec(), traces)?;
     let Checked { model, verdict } = checked;
     match verdict {
         Verdict::Yes => {

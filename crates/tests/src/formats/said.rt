@@ -94,9 +94,7 @@ fn write_model(out: &mut String, model: &Model) -> Result<(), AllocError> {
 /// Reports what the model in a file contains.
 pub fn run(alloc: Global, file: &str, out: &mut String) -> Result<(), AllocError> {
     let file = bytes_of(alloc, file)?;
-    let read = read_model(alloc, &file);
-    drop(file);
-    match read {
+    match read_model(alloc, file) {
         Ok(model) => write_model(out, &model),
         Err(fault) => writeln!(out, "{fault:?}"),
     }

@@ -35,7 +35,7 @@ fn write_text(
 /// Reports the result of reading a file: the text of its model, or why it is refused.
 fn write_answer(
     alloc: Global,
-    file: &[u8],
+    file: Vec<u8>,
     base: &[u8],
     out: &mut String,
 ) -> Result<(), AllocError> {
@@ -51,7 +51,7 @@ pub fn run(alloc: Global, steps: &str, out: &mut String) -> Result<(), AllocErro
     let base = bytes_of(alloc, base)?;
     for change in changes.split('\n') {
         let file = changed(alloc, &base, change)?;
-        write_answer(alloc, &file, &base, out)?;
+        write_answer(alloc, file, &base, out)?;
     }
     Ok(())
 }
@@ -84,7 +84,7 @@ pub fn old(alloc: Global, steps: &str, out: &mut String) -> Result<(), AllocErro
 }
 
 /// Whether the bytes are a JSON text.
-fn is_json(alloc: Global, bytes: &[u8]) -> bool {
+fn is_json(alloc: Global, bytes: Vec<u8>) -> bool {
     !matches!(read_model(alloc, bytes), Err(FileError::NotJson))
 }
 
@@ -93,7 +93,7 @@ pub fn fronts(alloc: Global, file: &str, out: &mut String) -> Result<(), AllocEr
     let file = bytes_of(alloc, file)?;
     let mut refused = 0usize;
     for length in 0..file.len() {
-        if !is_json(alloc, &file[..length]) {
+        if !is_json(alloc, file[..length].to_vec(alloc)?) {
             refused = refused.saturating_add(1);
         }
     }

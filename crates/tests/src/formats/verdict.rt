@@ -40,7 +40,7 @@ fn log_of(alloc: Global, traces: &str, out: &mut String) -> Result<TraceSet, All
 /// Reports whether the model of a file is valid for the log.
 fn write_verdict(
     alloc: Global,
-    file: &[u8],
+    file: Vec<u8>,
     log: &TraceSet,
     out: &mut String,
 ) -> Result<(), AllocError> {
@@ -64,7 +64,7 @@ fn write_verdicts(
     let base = bytes_of(alloc, base)?;
     for change in changes.split('\n') {
         let file = changed(alloc, &base, change)?;
-        write_verdict(alloc, &file, log, out)?;
+        write_verdict(alloc, file, log, out)?;
     }
     Ok(())
 }
