@@ -171,6 +171,40 @@ impl Builder {
         }
     }
 
+    /// Adds an event without a time by its texts, as `add` does. It is a part of its caller, so that room for the answer of `add` is
+    /// cleared only when `add` is called.
+    #[inline(always)]
+    fn add_unpacked(
+        &mut self,
+        file: u32,
+        section: u32,
+        text: &PackedText<'_>,
+        type_text: &PackedText<'_>,
+    ) -> Result<Placed, AddError>
+        requires text { length text.now ≤ MAX_TRACE_BYTES }
+        requires type_text { length type_text.now ≤ MAX_TYPE_BYTES }
+        requires type_text_stands { 0 < length type_text.now }
+        ensures placed { IfOk result (λ placed. placed ≡ placed_in self.old
+            (record { file = file; section = section; text = text.now }) type_text.now) }
+        ensures exact { OnOk result (self.new
+            ≡ gathered_with self.old (event_of file section text.now type_text.now 0)) }
+        ensures ok { OnOk result
+            (AddsEvent self.old self.new (event_of file section text.now type_text.now 0)) }
+
+        // Each refusal comes exactly at its limit, and leaves all as it was.
+        ensures type_limit { (result ≡ Err AddError.TypeLimit)
+            ↔ PassesTypeLimit (self.old).types type_text.now }
+        ensures event_limit { (result ≡ Err AddError.EventLimit)
+            ↔ PassesEventLimit (self.old).types (event_count_of (self.old).traces) type_text.now }
+        ensures err { OnErr result (self.new ≡ self.old) }
+
+        // What stands is within the limits.
+        ensures limits { OnOk result ((length (self.new).types ≤ MAX_TYPES)
+            × (event_count_of (self.new).traces ≤ MAX_EVENTS)) }
+    {
+        self.add(file, section, text.text(), type_text.text(), 0)
+    }
+
     /// Adds an event without a time, as `add` does, from texts with the words of their fingerprints.
     #[inline(always)]
     pub fn add_packed(
@@ -216,7 +250,7 @@ impl Builder {
                 None => {}
             }
         }
-        self.add(file, section, text.text(), type_text.text(), 0)
+        self.add_unpacked(file, section, text, type_text)
     }
 
     /// The types and traces of the events that were added, each trace ordered by the times of its events. Events of the same time
