@@ -208,6 +208,24 @@ impl Lines {
         }
     }
 
+    /// Does what `find_end` does. It is a part of its caller, so that room for the answer is cleared only when it is called.
+    #[inline(always)]
+    fn far_end<I: Inputs>(&mut self, inputs: &mut I) -> Result<Cut, LineError>
+        requires line { self.old ≡ without_line self.old }
+        ensures stays { Stays (I.state inputs.old) (I.state inputs.new) }
+        ensures mark { (I.state inputs.new).mark ≡ (I.state inputs.old).mark }
+        ensures opens { (I.state inputs.new).opens ≡ (I.state inputs.old).opens }
+        ensures turn { (I.state inputs.new).followed ≡ (I.state inputs.old).followed }
+
+        // Where the end is found, and why it is not found.
+        ensures ok { IfOk result
+            (FindsEnd self.old self.new (I.state inputs.old) (I.state inputs.new)) }
+        ensures err { IfErr result
+            (λ e. MissesEnd self.old (I.state inputs.old) e self.new (I.state inputs.new)) }
+    {
+        self.find_end(inputs)
+    }
+
     /// How long the first piece to come is, if more than `LANES` bytes are buffered and a line feed among the first `LANES` of
     /// them ends it. Then it is within the limits, since at most one byte past the limit on all input is ever buffered.
     #[inline(always)]
@@ -283,7 +301,7 @@ impl Lines {
         }
         self.line = None;
         self.fed = false;
-        let cut = match self.find_end(inputs) {
+        let cut = match self.far_end(inputs) {
             Ok(cut) => cut,
             Err(error) => {
                 self.refused = true;

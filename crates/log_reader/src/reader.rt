@@ -73,7 +73,7 @@ impl<'r> LogReader<'r> {
     {
         match &mut self.decider {
             Decider::Plain => self.log.take_plain(at, text, bytes),
-            Decider::Rules(kept) => self.log.take_by_rules(kept, at, text),
+            Decider::Rules(kept) => self.log.take_ruled(kept, at, text),
         }
     }
 
@@ -131,6 +131,35 @@ impl<'r> LogReader<'r> {
         }
     }
 
+    /// Does what `read_unknown` does. It is a part of its caller, so that room for the answer is cleared only when it is called.
+    #[inline(always)]
+    fn read_any(
+        &mut self,
+        alloc: Global,
+        at: At,
+        line: &[u8],
+        bytes: &[u8],
+    ) -> Result<Taken, ReadError>
+        requires begins { take (length line.now) bytes.now ≡ line.now }
+        requires ready { IsReady self.old }
+        requires room { self.old.log.section < 2 ^ 32 - 1 }
+        requires some { 0 < length line.now }
+
+        // The line is taken in, or the error gives the cause.
+        ensures taken { IfOk result (λ taken. taken
+            ≡ taken_for at (decided_line (setting_of self.old).form line.now) self.old.log) }
+        ensures ok { OnOk result
+            (ReadsText at (decided_line (setting_of self.old).form line.now) self.old self.new) }
+        ensures err { IfErr result (IsRefusal
+            (refusal_in (setting_of self.old).ignore at self.old.log.builder
+            (decided_line (setting_of self.old).form line.now))) }
+        ensures memory { result ≡ Err ReadError.Memory → IsUtf8 line.now
+            → refusal_in (setting_of self.old).ignore at self.old.log.builder
+            (decided_line (setting_of self.old).form line.now) ≡ None }
+    {
+        self.read_unknown(alloc, at, line, bytes)
+    }
+
     /// Takes in a line, which may be known to be ASCII and with which these bytes begin, and returns what it was taken for. If
     /// the line is UTF-8, `Memory` is returned only if the line has no refusal.
     #[inline(always)]
@@ -166,7 +195,7 @@ impl<'r> LogReader<'r> {
             let text = unsafe { str::from_utf8_unchecked(line) };
             return self.read_text(at, text, bytes);
         }
-        self.read_unknown(alloc, at, line, bytes)
+        self.read_any(alloc, at, line, bytes)
     }
 
     /// Ends a file: the sections of the next one are counted from 0 again, unless files are joined.

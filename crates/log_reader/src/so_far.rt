@@ -158,6 +158,36 @@ impl LogSoFar {
         }
     }
 
+    /// Adds the event of a line with these texts, which has no time. Each text is the start of the bytes after it.
+    #[inline(always)]
+    fn add_fields(
+        &mut self,
+        at: At,
+        trace_text: &str,
+        from_trace: &[u8],
+        type_text: &str,
+        from_type: &[u8],
+    ) -> Result<Taken, ReadError>
+        requires trace_begins { take (length trace_text.now) from_trace.now ≡ trace_text.now }
+        requires type_begins { take (length type_text.now) from_type.now ≡ type_text.now }
+        requires within { IsWithin self.old.builder }
+        requires stands { 0 < length type_text.now }
+        ensures taken { IfOk result (λ taken. taken
+            ≡ taken_for at (spec.Event type_text.now trace_text.now 0) self.old) }
+        ensures ok { OnOk result
+            (TakesLine at (spec.Event type_text.now trace_text.now 0) self.old self.new) }
+        ensures err { IfErr result (IsRefusal (refusal_in self.old.ignore at self.old.builder
+            (spec.Event type_text.now trace_text.now 0))) }
+        ensures memory { result ≡ Err ReadError.Memory → refusal_in self.old.ignore at self.old.builder
+            (spec.Event type_text.now trace_text.now 0) ≡ None }
+    {
+        self.add_packed(
+            at,
+            &PackedText::at_start(trace_text, from_trace),
+            &PackedText::at_start(type_text, from_type),
+        )
+    }
+
     /// Takes in a line in the plain form, with which these bytes begin.
     #[inline(always)]
     pub fn take_plain(&mut self, at: At, text: &str, bytes: &[u8]) -> Result<Taken, ReadError>
@@ -173,11 +203,9 @@ impl LogSoFar {
             (by_fields (plain_fields_of text.now)) ≡ None }
     {
         match plain_fields_ahead(text, bytes) {
-            Some((trace_text, type_text, from_type)) => self.add_packed(
-                at,
-                &PackedText::at_start(trace_text, bytes),
-                &PackedText::at_start(type_text, from_type),
-            ),
+            Some((trace_text, type_text, from_type)) => {
+                self.add_fields(at, trace_text, bytes, type_text, from_type)
+            }
             None => self.pass(at),
         }
     }
@@ -185,7 +213,7 @@ impl LogSoFar {
     /// Takes in a line by rules. A bad time is refused whether or not undecided lines are skipped.
     /// It stays a call, so that the path of a plain line is short.
     #[inline(never)]
-    pub fn take_by_rules(
+    fn take_by_rules(
         &mut self,
         kept: &mut KeptRules<'_>,
         at: At,
@@ -229,5 +257,33 @@ impl LogSoFar {
             Err(DecideError::BadTime) => Err(ReadError::BadTime(at)),
             Err(DecideError::Memory) => Err(ReadError::Memory),
         }
+    }
+
+    /// Does what `take_by_rules` does. It is a part of its caller, so that room for the answer is cleared only when it is called.
+    #[inline(always)]
+    pub fn take_ruled(
+        &mut self,
+        kept: &mut KeptRules<'_>,
+        at: At,
+        text: &str,
+    ) -> Result<Taken, ReadError>
+        requires within { IsWithin self.old.builder }
+        requires matchers { matched_rules kept.old.matchers ≡ rules_in kept.old.rules.now }
+        requires room { self.old.section < 2 ^ 32 - 1 }
+
+        // The line is taken in or refused, and the rules stay.
+        ensures taken { IfOk result (λ taken. taken
+            ≡ taken_for at (decided (spec.Rules (rules_in kept.old.rules.now)) text.now) self.old) }
+        ensures ok { OnOk result
+            (TakesLine at (decided (spec.Rules (rules_in kept.old.rules.now)) text.now)
+            self.old self.new) }
+        ensures err { IfErr result (IsRefusal (refusal_in self.old.ignore at self.old.builder
+            (decided (spec.Rules (rules_in kept.old.rules.now)) text.now))) }
+        ensures memory { result ≡ Err ReadError.Memory → refusal_in self.old.ignore at self.old.builder
+            (decided (spec.Rules (rules_in kept.old.rules.now)) text.now) ≡ None }
+        ensures matchers { matched_rules kept.new.matchers ≡ matched_rules kept.old.matchers }
+        ensures rules { rules_in kept.new.rules.now ≡ rules_in kept.old.rules.now }
+    {
+        self.take_by_rules(kept, at, text)
     }
 }
