@@ -17,8 +17,8 @@ use Rattle.cell_pool.specs.Numbers.{Numbers}
 use Rattle.cell_pool.specs.RunLists.{RunLists}
 use Rattle.run_history.specs.Records.{splits_of, merges_of}
 use Rattle.traces.specs.Words.{Log}
+use Rattle.invariants.specs.Labels.{IsLabel}
 use Rattle.model_shape.specs.Numbers.{split_numbers, block_numbers}
-use Rattle.model_shape.specs.Shapes.{IsLabel}
 use Rattle.partition_model.specs.Assignments.{Assignment, G, is_live}
 use Rattle.partition_model.specs.Labels.{Reached}
 use Rattle.partition_model.specs.Listings.{ids_below, partition_of, partitions_below, parts_of, ArePartitions}

@@ -5,8 +5,8 @@
 //! 2011).
 //! A trace is read as a word of type numbers: 0 is INITIAL, 1 is TERMINAL, and the T types of a log have the numbers 2 to T + 1.
 //! The crate `limits` names 0, 1 and 2.
-//! `Seq` and `Text` are the lists and the texts of public data, and the records are the data of a model. No call here takes
-//! memory.
+//! `Seq`, `Text`, `Labels` and `Ids` are the lists and the texts of public data, and the records are the data of a model. Only
+//! the calls that make `Labels` may take memory.
 #![tactic(auto)]
 
 ghost use Rattle.std.specs.Prelude.{◌≡◌, ◌≤◌, length};

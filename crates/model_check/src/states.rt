@@ -1,8 +1,8 @@
 //! Sets of the three states of a monitor, and how they change along edges.
 ghost use Rattle.std.specs.Prelude.{◌≡◌, ◌↔◌, ◌<◌, ◌==◌, ◌||◌, ℕ, true, IsTrue};
 ghost use Rattle.invariants.specs.Monitors.{step};
+ghost use Rattle.invariants.specs.Labels.{IsLabel};
 ghost use Rattle.models.specs.Models.{has_state};
-ghost use Rattle.model_shape.specs.Shapes.{IsLabel};
 ghost use Rattle.model_check.specs.States.{IsSource, AreSources};
 
 use invariants::{Invariant, Monitor};

@@ -2,12 +2,12 @@
 use Rattle.std.proofs.Common.{◌≡◌, ◌↔◌, ℕ, zero, suc, ◌<◌, ◌≤◌, true, List, [], ◌∷◌, slice_get, Some, refl, ap, subst₂, inl, inr, arith}
 use Rattle.invariants.specs.declared.Invariant.{Invariant}
 use Rattle.invariants.specs.declared.records.Partition.{Partition}
+use Rattle.invariants.specs.Labels.{IsLabel}
 use Rattle.partition_model.specs.Assignments.{Assignment, G, events}
 use Rattle.partition_model.specs.Labels.{Reached}
 use Rattle.partition_model.specs.Listings.{AreBelow}
 use Rattle.partition_model.proofs.Forming.{graphs_are_formed}
 use Rattle.partition_bounds.proofs.Merges.{graphs_are_below}
-use Rattle.model_shape.specs.Shapes.{IsLabel}
 use Rattle.models.specs.Models.{has_state}
 use Rattle.models.specs.Laws.{AreReachedNumbers}
 use Rattle.models.proofs.Deciding.{OrNot}

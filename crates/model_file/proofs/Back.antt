@@ -13,7 +13,8 @@ use Rattle.invariants.specs.declared.records.Listed.{Listed}
 use Rattle.invariants.specs.declared.records.Merge.{Merge}
 use Rattle.invariants.specs.declared.records.Split.{Split}
 use Rattle.invariants.specs.declared.records.Block.{Block}
-use Rattle.model_file.specs.Tree.{number_data, array_of, path_data, partition_data, edge_data, kind_text, kinds_data, digit_of, listed_data, merge_data, split_data, block_data}
+use Rattle.invariants.specs.Labels.{digit_of}
+use Rattle.model_file.specs.Tree.{number_data, array_of, path_data, partition_data, edge_data, kind_text, kinds_data, listed_data, merge_data, split_data, block_data}
 use Rattle.model_file.specs.Entries.{number_below, number_in, each, list_in, two_in, three_in, four_in, kind_in, kinds_named, labels_of, labels_in, path_in, partition_in, edge_in, invariant_in, listed_in, merge_in, split_in, block_in}
 
 -- where each entry is read back from its value, so is a row of them

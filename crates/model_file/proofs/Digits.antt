@@ -4,25 +4,24 @@ use Rattle.std.proofs.lemmas.Bool.{le-leb}
 use Rattle.std.proofs.lemmas.Bool.Decides.{leb_tells}
 use Rattle.std.proofs.lemmas.List.Elements.{recursion_from_All, All-from_recursion}
 use Rattle.std.specs.List.{All, AllByRecursion, list_all}
-use Rattle.invariants.specs.Labels.{IsLabel}
-use Rattle.model_file.specs.Labels.{IsLabelDigit}
+use Rattle.invariants.specs.Labels.{IsDigit, IsLabel}
 use Rattle.model_file.specs.Entries.{label_of, labels_of}
 
-label-is : (byte : ℕ) → IsLabelDigit byte → label_of byte ≡ Some (byte - 48)
+label-is : (byte : ℕ) → IsDigit byte → label_of byte ≡ Some (byte - 48)
 label-is byte d =
     let l : 48 ≤ byte = d.0 in
     let h : byte ≤ 55 = d.1 in
     rw (le-leb 48 byte l, le-leb byte 55 h) refl
 
-all-labels : (bytes : List ℕ) → AllByRecursion IsLabelDigit bytes → labels_of bytes ≡ Some (map (λ byte. byte - 48) bytes)
+all-labels : (bytes : List ℕ) → AllByRecursion IsDigit bytes → labels_of bytes ≡ Some (map (λ byte. byte - 48) bytes)
 all-labels [] a = refl
 all-labels (byte ∷ bytes) a = rw (label-is byte a.0, all-labels bytes a.1) refl
 
 -- digits that all are labels
-pub labels_are : (bytes : List ℕ) → All IsLabelDigit bytes → labels_of bytes ≡ Some (map (λ byte. byte - 48) bytes)
-labels_are bytes a = all-labels bytes (recursion_from_All IsLabelDigit bytes a)
+pub labels_are : (bytes : List ℕ) → All IsDigit bytes → labels_of bytes ≡ Some (map (λ byte. byte - 48) bytes)
+labels_are bytes a = all-labels bytes (recursion_from_All IsDigit bytes a)
 
-no-labels : (bytes : List ℕ) → (AllByRecursion IsLabelDigit bytes → ⊥) → labels_of bytes ≡ None
+no-labels : (bytes : List ℕ) → (AllByRecursion IsDigit bytes → ⊥) → labels_of bytes ≡ None
 no-labels [] n = absurd (n tt)
 no-labels (byte ∷ bytes) n =
     elim (leb_tells 48 byte) [
@@ -34,8 +33,8 @@ no-labels (byte ∷ bytes) n =
     ]
 
 -- and other bytes
-pub labels_none : (bytes : List ℕ) → (All IsLabelDigit bytes → ⊥) → labels_of bytes ≡ None
-labels_none bytes n = no-labels bytes (λ a. n (All-from_recursion IsLabelDigit bytes a))
+pub labels_none : (bytes : List ℕ) → (All IsDigit bytes → ⊥) → labels_of bytes ≡ None
+labels_none bytes n = no-labels bytes (λ a. n (All-from_recursion IsDigit bytes a))
 
 small-labels : (numbers : List ℕ) → AllByRecursion IsLabel numbers → list_all (λ label. nat_le label 7) numbers ≡ true
 small-labels [] a = refl

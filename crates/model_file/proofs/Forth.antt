@@ -17,7 +17,8 @@ use Rattle.invariants.specs.declared.records.Listed.{Listed}
 use Rattle.invariants.specs.declared.records.Merge.{Merge}
 use Rattle.invariants.specs.declared.records.Split.{Split}
 use Rattle.invariants.specs.declared.records.Block.{Block}
-use Rattle.model_file.specs.Tree.{number_data, array_of, path_data, partition_data, edge_data, kind_text, kind_data, kinds_in_order, kinds_data, digit_of, listed_data, merge_data, split_data, block_data}
+use Rattle.invariants.specs.Labels.{digit_of}
+use Rattle.model_file.specs.Tree.{number_data, array_of, path_data, partition_data, edge_data, kind_text, kind_data, kinds_in_order, kinds_data, listed_data, merge_data, split_data, block_data}
 use Rattle.model_file.specs.Entries.{◌>>=◌, number_below, number_in, type_in, each, list_in, two, three, four, two_in, three_in, four_in, kind_named, kind_in, kinds_from, kinds_named, label_of, labels_of, labels_in, path_in, partition_in, edge_in, invariant_in, listed_in, merge_in, split_in, block_in}
 
 -- two options that are the same have the same value

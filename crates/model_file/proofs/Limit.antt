@@ -19,7 +19,8 @@ use Rattle.invariants.specs.declared.records.Listed.{Listed}
 use Rattle.invariants.specs.declared.records.Merge.{Merge}
 use Rattle.invariants.specs.declared.records.Split.{Split}
 use Rattle.invariants.specs.declared.records.Block.{Block}
-use Rattle.model_file.specs.Tree.{number_data, array_of, path_data, partition_data, edge_data, kind_data, kinds_in_order, kinds_data, digit_of, listed_data, merge_data, split_data, block_data, tree_of, file_text}
+use Rattle.invariants.specs.Labels.{digit_of}
+use Rattle.model_file.specs.Tree.{number_data, array_of, path_data, partition_data, edge_data, kind_data, kinds_in_order, kinds_data, listed_data, merge_data, split_data, block_data, tree_of, file_text}
 use Rattle.limits.specs.declared.TheConstants.{MAX_TYPES, MAX_TYPE_BYTES, MAX_INVARIANTS, MAX_PARTITIONS, MAX_EVENTS, MAX_EDGE_COUNT, MAX_PATH_NUMBERS, MAX_MODEL_BYTES, MAX_WRITTEN_BYTES}
 use Rattle.invariants.specs.declared.Kinds.{Kinds}
 use Rattle.invariants.specs.declared.Kinds.TheVariants.{Three, Four}

@@ -17,9 +17,10 @@ use Rattle.invariants.specs.declared.records.Model.{Model}
 use Rattle.invariants.specs.declared.Kinds.{Kinds}
 use Rattle.invariants.proofs.EachKinds.{candidates-differ}
 use Rattle.invariants.proofs.Members.{Contains-from_place, place-from_Contains}
+use Rattle.invariants.specs.Labels.{IsLabel}
 use Rattle.model_shape.specs.Numbers.{split_numbers, block_numbers}
 use Rattle.model_shape.specs.Ascending.{LeadsTo, Ascends, EdgeBefore, BlockBefore, CandidateBefore}
-use Rattle.model_shape.specs.Shapes.{is_listed, listed_type, IsLabel, IsShapedEdge, AreShapedEdges, IsShapedListed, AreShapedInvariants, IsShapedMerge, AreShapedMerges, AreIds, IsShapedSplit, AreShapedSplits, IsShapedBlock, AreShapedBlocks, IsWellShaped}
+use Rattle.model_shape.specs.Shapes.{is_listed, listed_type, IsShapedEdge, AreShapedEdges, IsShapedListed, AreShapedInvariants, IsShapedMerge, AreShapedMerges, AreIds, IsShapedSplit, AreShapedSplits, IsShapedBlock, AreShapedBlocks, IsWellShaped}
 use Rattle.model_file.specs.Rules.{types_hold, partitions_hold, ascends_from, pair_less, type_of, edge_holds, edges_hold, place_of, listed_holds, invariants_hold, merge_holds, merges_hold, path_holds, split_holds, splits_hold, are_one, block_holds, blocks_hold, PassesRules, RulesTell, others_hold}
 use Rattle.model_file.specs.declared.version.Version.{Version}
 use Rattle.model_file.specs.Reading.{reads_as}

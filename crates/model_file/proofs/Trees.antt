@@ -18,8 +18,9 @@ use Rattle.invariants.specs.declared.Kind.{Kind}
 use Rattle.invariants.specs.declared.Kind.TheVariants.{AF, NF, AP, IB}
 use Rattle.invariants.specs.declared.records.Model.{Model}
 use Rattle.limits.specs.declared.TheConstants.{MAX_TYPES, MAX_MODEL_BYTES}
+use Rattle.invariants.specs.Labels.{digit_of}
 use Rattle.model_file.specs.declared.version.Version.TheVariants.{Two}
-use Rattle.model_file.specs.Tree.{number_data, array_of, path_data, partition_data, edge_data, kind_text, kind_data, kinds_in_order, kinds_data, digit_of, listed_data, merge_data, split_data, block_data, tree_of, file_text}
+use Rattle.model_file.specs.Tree.{number_data, array_of, path_data, partition_data, edge_data, kind_text, kind_data, kinds_in_order, kinds_data, listed_data, merge_data, split_data, block_data, tree_of, file_text}
 use Rattle.model_file.specs.Rules.{types_hold, partitions_hold, type_of, edges_hold, invariants_hold, merges_hold, splits_hold, blocks_hold, PassesRules}
 use Rattle.model_file.specs.Entries.{partition_in, edge_in, listed_in, merge_in, split_in, block_in}
 use Rattle.model_file.specs.Reading.{root_in, version_in, is_key, keys_in, head_in, part_in, types_in, kinds_in, partitions_in, edges_in, invariants_in, merges_in, splits_in, blocks_in, parts_in, model_in, value_of, reads_as, reads}

@@ -10,4 +10,3 @@ pub mod Rows
 pub mod Found
 pub mod Writing
 pub mod Laws
-pub mod Labels

@@ -3,6 +3,7 @@ use Rattle.std.specs.Prelude.{ℕ, ◌+◌, List, [], ◌∷◌, map, codes}
 use Rattle.serde_json.specs.Data.{unsigned, Data, number, string, array, object, Members, no_members, member}
 use Rattle.serde_json.specs.View.{items_of}
 use Rattle.serde_json.specs.Written.{compact_text}
+use Rattle.invariants.specs.Labels.{digit_of}
 use Rattle.invariants.specs.declared.Kind.{Kind}
 use Rattle.invariants.specs.declared.Kind.TheVariants.{AF, NF, AP, IB}
 use Rattle.invariants.specs.declared.Kinds.{Kinds}
@@ -56,10 +57,6 @@ kinds_in_order Four = AF ∷ NF ∷ AP ∷ IB ∷ []
 -- the kinds, as the array of their names
 abbrev pub kinds_data : Kinds → Data
 kinds_data kinds = array_of (map kind_data (kinds_in_order kinds))
-
--- the byte of a label's digit
-abbrev pub digit_of : ℕ → ℕ
-digit_of label = 48 + label
 
 -- `[kind,a,b,labels]`, with one digit per label
 abbrev pub listed_data : Listed → Data

@@ -1,7 +1,7 @@
 //! The labels of an invariant, a digit for each.
 ghost use Rattle.std.specs.Prelude.{◌≡◌, ◌↔◌, ◌-◌, map, IfOk, IsTrue, All};
+ghost use Rattle.invariants.specs.Labels.{IsDigit};
 ghost use Rattle.model_file.specs.Entries.{labels_of};
-ghost use Rattle.model_file.specs.Labels.{IsLabelDigit};
 
 use crate::lists::Entry;
 use crate::stream::{Stop, string};
@@ -10,7 +10,7 @@ use std::alloc::{AllocError, Global};
 
 /// Whether all bytes are digits from `0` to `7`.
 fn are_labels(bytes: &[u8]) -> bool
-    ensures { IsTrue result ↔ All IsLabelDigit bytes.now }
+    ensures { IsTrue result ↔ All IsDigit bytes.now }
 {
     // No early exit, so that many bytes are tested at once.
     let mut all = true;

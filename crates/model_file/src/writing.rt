@@ -2,7 +2,8 @@
 ghost use Rattle.std.specs.Prelude.{◌≡◌, ◌≤◌, [], ◌∷◌, ◌++◌, All, map, length, IfOk, Ok};
 ghost use Rattle.json.specs.Token.{key};
 ghost use Rattle.serde_json.specs.Data.{string};
-ghost use Rattle.model_file.specs.Tree.{digit_of, kind_text, kind_data, kinds_data, number_data, array_of, path_data, tree_of, file_text};
+ghost use Rattle.invariants.specs.Labels.{digit_of};
+ghost use Rattle.model_file.specs.Tree.{kind_text, kind_data, kinds_data, number_data, array_of, path_data, tree_of, file_text};
 ghost use Rattle.model_shape.specs.Shapes.{IsWellShaped};
 ghost use Rattle.model_file.specs.Reading.{reads};
 ghost use Rattle.model_file.specs.Writing.{tokens_of, first_members, last_members, Appends};

@@ -13,6 +13,7 @@ use Rattle.invariants.specs.declared.records.Split.{Split}
 use Rattle.invariants.specs.declared.records.Merge.{Merge}
 use Rattle.invariants.specs.declared.records.Block.{Block}
 use Rattle.invariants.specs.declared.records.Model.{Model}
+use Rattle.invariants.specs.Labels.{IsLabel}
 use Rattle.invariants.specs.Candidates.{candidates_for}
 use Rattle.model_shape.specs.Numbers.{split_numbers, block_numbers}
 use Rattle.model_shape.specs.Ascending.{Ascends, PartitionBefore, EdgeBefore, BlockBefore, CandidateBefore}
@@ -32,10 +33,6 @@ listed_type p (x ∷ xs) = if x.id == p then x.typ else listed_type p xs
 -- the invariants that the model lists
 abbrev pub listing_of : Model → List Invariant
 listing_of m = map (λ l. l.inv) m.invariants
-
--- a number from 0 to 7, which is a set of the three states of a monitor
-abbrev pub IsLabel : ℕ → Type 0
-IsLabel number = number ≤ 7
 
 -- ---- types
 

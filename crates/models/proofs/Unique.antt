@@ -6,6 +6,7 @@ use Rattle.invariants.specs.declared.records.Model.{Model}
 use Rattle.invariants.specs.declared.records.Listed.{Listed}
 use Rattle.invariants.specs.declared.records.Partition.{Partition}
 use Rattle.invariants.specs.declared.records.Edge.{Edge}
+use Rattle.invariants.specs.Labels.{IsLabel}
 use Rattle.partition_model.specs.Assignments.{Assignment, G, by_type, is_live}
 use Rattle.partition_model.specs.Listings.{AscendIds, AscendEdges, ArePartitions, AreEdges}
 use Rattle.partition_model.specs.Coarsening.{Coarsens, PairBefore, AreBlocks}
@@ -16,7 +17,6 @@ use Rattle.partition_bounds.proofs.Ordered.{Sorted, same-lists, pair-asym, pair-
 use Rattle.partition_bounds.proofs.Blocks.{one_blocks}
 use Rattle.models.specs.Models.{mined_of, has_state, label_at, AreReached}
 use Rattle.models.specs.Laws.{OneModel}
-use Rattle.model_shape.specs.Shapes.{IsLabel}
 
 -- the id of the one partition is below that of the other
 abbrev IdBefore : Partition → Partition → Type 0

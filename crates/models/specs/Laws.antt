@@ -5,6 +5,7 @@ use Rattle.limits.specs.declared.TheConstants.{FIRST_TYPE, MAX_PARTITIONS}
 use Rattle.invariants.specs.declared.Invariant.{Invariant}
 use Rattle.invariants.specs.declared.records.Partition.{Partition}
 use Rattle.invariants.specs.declared.records.Model.{Model}
+use Rattle.invariants.specs.Labels.{IsLabel}
 use Rattle.partition_model.specs.Graphs.{IsFormed}
 use Rattle.partition_model.specs.Assignments.{Assignment, G}
 use Rattle.partition_model.specs.Labels.{Reached}
@@ -17,7 +18,7 @@ use Rattle.models.specs.declared.parts.ReplayPart.{ReplayPart}
 use Rattle.models.specs.Models.{TypedWords, graph_of, has_state, AreReached, IsModelOf}
 use Rattle.models.specs.Checks.{IsValid, IsFirstPart, Promises}
 use Rattle.models.specs.Histories.{IsGraphOf, IsJustified, IsFirstStep}
-use Rattle.model_shape.specs.Shapes.{listing_of, IsLabel, IsWellShaped}
+use Rattle.model_shape.specs.Shapes.{listing_of, IsWellShaped}
 use Rattle.models.specs.Limits.{IsWithinLimits, KeepsLimits}
 
 -- a log has at most one model

@@ -9,13 +9,14 @@ use Rattle.invariants.specs.declared.records.Edge.{Edge}
 use Rattle.invariants.specs.declared.records.Listed.{Listed}
 use Rattle.invariants.specs.declared.records.Model.{Model}
 use Rattle.invariants.specs.Mined.{mined_for}
+use Rattle.invariants.specs.Labels.{IsLabel}
 use Rattle.partition_model.specs.Graphs.{Graph}
 use Rattle.partition_model.specs.Assignments.{Assignment, with_ends, is_live, G}
 use Rattle.partition_model.specs.Labels.{IsInductive, Reached}
 use Rattle.partition_model.specs.Listings.{ArePartitions, AreEdges}
 use Rattle.partition_model.specs.Refinement.{IsRefined}
 use Rattle.partition_model.specs.Coarsening.{Coarsens, AreBlocks}
-use Rattle.model_shape.specs.Shapes.{listed_type, is_listed, listing_of, IsLabel}
+use Rattle.model_shape.specs.Shapes.{listed_type, is_listed, listing_of}
 
 -- what inference needs of a log: the kinds of invariants to mine, the texts of its types, and its words without their ends
 pub record TypedWords : Type 0 where

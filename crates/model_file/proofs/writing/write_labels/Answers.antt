@@ -1,7 +1,7 @@
 use Rattle.std.proofs.Common.{◌≡◌, ◌≤◌, ◌∙◌, sym, subst, map, IsUtf8}
 use Rattle.std.proofs.lemmas.List.Elements.{recursion_from_All}
 use Rattle.serde_json.specs.Data.{string}
-use Rattle.model_file.specs.Tree.{digit_of}
+use Rattle.invariants.specs.Labels.{digit_of}
 use Rattle.model_file.specs.Writing.{tokens_of, Appends}
 use Rattle.model_file.proofs.Trees.{digits-ascii}
 use Rattle.model_file.proofs.writing.write_labels.Goals as goal

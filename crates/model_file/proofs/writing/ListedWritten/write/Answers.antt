@@ -1,7 +1,8 @@
 use Rattle.std.proofs.Common.{[], ◌∷◌, ◌++◌, ◌∙◌, map}
 use Rattle.json.specs.Token.{begin_array}
 use Rattle.serde_json.specs.Data.{Data, string}
-use Rattle.model_file.specs.Tree.{number_data, kind_text, digit_of}
+use Rattle.invariants.specs.Labels.{digit_of}
+use Rattle.model_file.specs.Tree.{number_data, kind_text}
 use Rattle.model_file.proofs.Tokens.{row-begin, row-more, row-end}
 use Rattle.model_file.proofs.writing.ListedWritten.write.Goals as goal
 
