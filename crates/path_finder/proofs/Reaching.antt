@@ -1,11 +1,11 @@
 -- What is kept when an id is met.
-use Rattle.std.proofs.Common.{◌≡◌, ◌==◌, nat_lt, ℕ, zero, suc, ◌+◌, ◌<◌, ◌≤◌, true, false, not, ◌&&◌, refl, Bool, List, [], ◌∷◌, ◌++◌, length, replicate, slice_get, set, get_or, count_by, Some, sym, ◌∙◌, ap, subst, inl, inr, arith, get_or-set_same, get_or-set_other, length-append, if◌then◌else◌, sum_by}
+use Rattle.std.proofs.Common.{◌≡◌, ◌≢◌, ◌==◌, nat_lt, ℕ, zero, suc, ◌+◌, ◌<◌, ◌≤◌, true, false, not, ◌&&◌, refl, Bool, List, [], ◌∷◌, ◌++◌, length, replicate, slice_get, set, get_or, count_by, Some, sym, ◌∙◌, ap, subst, inl, inr, arith, get_or-set_same, get_or-set_other, length-append, if◌then◌else◌, sum_by}
 use Rattle.std.proofs.lemmas.Bool.{cases_eq, cases_lt, cases_Bool, and_parts, ltb-true, eqb-true, true≢false}
 use Rattle.std.proofs.lemmas.List.{length-set, length-replicate}
 use Rattle.std.proofs.lemmas.List.Sums.{sum_by-set, count_by-le-length}
 use Rattle.std.proofs.lemmas.Option.{same_Some, slice_get_within}
 use Rattle.limits.specs.declared.TheConstants.{MAX_PARTITIONS}
-use Rattle.path_finder.specs.Nearness.{Met, is_met, is_of_type, IsClosed}
+use Rattle.path_finder.specs.Nearness.{Met, is_met, IsClosed}
 use Rattle.partition_model.specs.Graphs.{Graph}
 use Rattle.partition_graph.specs.Parts.{HasEdgesBelow}
 use Rattle.path_finder.specs.declared.reach.Way.{Way}
@@ -97,6 +97,28 @@ meets_reaching edge next m id w l s =
           (with_reaching edge next m id w l n s, with_more m id (omega arith), with_met m id (omega arith))
     ]
 
+-- what is left where an id is met that was not
+pub record Added (old new : Met) (id : ℕ) : Type 0 where
+  pub counted : IsCounted new
+  pub longer : length new.list ≡ length old.list + 1
+  pub reaching : (edge : ℕ → ℕ → Bool) (next : ℕ) → next ≤ length old.list → IsReaching edge next old → IsReaching edge next new
+  pub more : MeetsMore old new
+  pub met : is_met new id ≡ true
+  pub others : (n : ℕ) → n ≢ id → is_met new n ≡ is_met old n
+
+pub added : (m : Met) (id : ℕ) → id < MAX_PARTITIONS → is_met m id ≡ false → IsCounted m → Added m (meeting m id) id
+added m id l o c =
+    let z : length m.flags ≡ MAX_PARTITIONS = c.size in
+    let w : id < length m.flags = omega (arith, z, l) in
+    subst (λ (x : Met). Added m x id) (sym (met_first m id o)) (record {
+      counted = with_counted m id l o c;
+      longer = length-append m.list (id ∷ []);
+      reaching = λ edge next low r. with_reaching edge next m id low l o r;
+      more = with_more m id w;
+      met = with_met m id w;
+      others = λ n apart. get_or-set_other m.flags id n true false apart;
+    })
+
 -- at first none is met
 pub blank_reaching : (edge : ℕ → ℕ → Bool) (m : Met) (n : ℕ) → n ≡ MAX_PARTITIONS → m.flags ≡ replicate n false → m.list ≡ [] → IsReaching edge 0 m
 blank_reaching edge m n k f l =
@@ -115,12 +137,6 @@ all_followed edge next m s l p q a d =
     let f : (i : ℕ) × (slice_get m.list i ≡ Some p) = s.listed p a in
     let w : f.0 < length m.list = slice_get_within m.list f.0 p f.1 in
     s.done f.0 p q (omega arith) f.1 d
-
--- an id with the type, below the bound
-pub of_type_tells : (g : Graph) (ids typ p : ℕ) → is_of_type g ids typ p ≡ true → (p < ids) × (g.typ p ≡ typ)
-of_type_tells g ids typ p e =
-    let parts : (nat_lt p ids ≡ true) × ((g.typ p == typ) ≡ true) = and_parts (nat_lt p ids) (g.typ p == typ) e in
-    (ltb-true p ids parts.0, eqb-true (g.typ p) typ parts.1)
 
 -- where all to which an edge leads from the next one of the list are met, its edges were followed too
 pub reaching_next : (edge : ℕ → ℕ → Bool) (next id : ℕ) (m : Met) → IsReaching edge next m → slice_get m.list next ≡ Some id

@@ -1,5 +1,8 @@
 -- The next number with two properties, word by word.
-use Rattle.std.proofs.Common.{◌≡◌, ℕ, ◌+◌, ◌-◌, ◌*◌, ◌^◌, ◌<◌, ◌≤◌, ◌&&◌, not, Bool, false, bit_and, eqb, sym, ap, ◌∙◌, arith}
+use Rattle.std.proofs.Common.{◌≡◌, ◌==◌, ℕ, ◌+◌, ◌-◌, ◌*◌, ◌/◌, ◌%◌, ◌^◌, ◌<◌, ◌≤◌, ◌&&◌, not, Bool, true, false, bit_and, eqb, eq-eqb, eqb-true, sym, ap, subst, ◌∙◌, arith}
+use Rattle.std.specs.Int.{bit_at}
+use Rattle.std.proofs.lemmas.Bool.{and_parts}
+use Rattle.std.proofs.lemmas.Nat.{div-add-mod', mod_below}
 use Rattle.std.proofs.lemmas.Nat.Bits.{bit_at-zero}
 use Rattle.partition_graph.specs.NeighbourWords.{IsWordOf}
 use Rattle.partition_graph.specs.Nexts.{IsNext}
@@ -27,3 +30,30 @@ next-from has from at n low none next =
 pub none-between : (has : ℕ → Bool) (from at end next : ℕ) → ((k : ℕ) → from ≤ k → k < at → has k ≡ false) → ((k : ℕ) → at ≤ k → k < end → has k ≡ false) → ((k : ℕ) → end ≤ k → k < next → has k ≡ false)
     → (k : ℕ) → from ≤ k → k < next → has k ≡ false
 none-between has from at end next first word rest = none-before has from end next (none-before has from at end first word) rest
+
+-- the first number of a word is one of its numbers
+pub first-of-word : (has : ℕ → Bool) (place x id : ℕ) → IsWordOf has place x → ((h : ℕ → Bool) → IsWordOf h (place * 64 / 64) x → IsNext h (place * 64) id) → (id / 64 ≡ place) × (has id ≡ true)
+first-of-word has place x id is next =
+    let own : ℕ → Bool = λ k. (k / 64 == place) && has k in
+    let same : place ≡ place * 64 / 64 = omega (arith, div-add-mod' (place * 64) 64, mod_below (place * 64) 64 (omega arith)) in
+    let its : IsWordOf own place x = λ i below.
+        let here : (place * 64 + i) / 64 ≡ place = place-of place i below in
+        is i below ∙ sym (ap (λ (b : Bool). b && has (place * 64 + i)) (eq-eqb ((place * 64 + i) / 64) place here)) in
+    let both : ((id / 64 == place) ≡ true) × (has id ≡ true) = and_parts (id / 64 == place) (has id) (next own (subst (λ (w : ℕ). IsWordOf own w x) same its)).there in
+    (eqb-true (id / 64) place both.0, both.1)
+  where
+    place-of : (p i : ℕ) → i < 64 → (p * 64 + i) / 64 ≡ p
+    place-of p i below = omega (arith, below, div-add-mod' (p * 64 + i) 64, mod_below (p * 64 + i) 64 (omega arith))
+
+-- and its bit is on
+pub bit-of-word : (place x id : ℕ) → ((h : ℕ → Bool) → IsWordOf h (place * 64 / 64) x → IsNext h (place * 64) id) → (id / 64 ≡ place) × ((bit_at x (id % 64) == 1) ≡ true)
+bit-of-word place x id next =
+    first-of-word (λ n. bit_at x (n % 64) == 1) place x id
+    (λ i below.
+        let same : i ≡ (place * 64 + i) % 64 = omega (arith, below, div-add-mod' (place * 64 + i) 64, mod_below (place * 64 + i) 64 (omega arith)) in
+        ap (λ (k : ℕ). bit_at x k == 1) same)
+    next
+
+-- a number of a word is between its first one and the first one of the next word
+pub in-place : (place id : ℕ) → id / 64 ≡ place → place * 64 + id % 64 ≡ id
+in-place place id here = omega (arith, here, div-add-mod' id 64)

@@ -11,10 +11,6 @@ abbrev pub edge_by : Way → Graph → ℕ → ℕ → Bool
 edge_by Ahead g p q = g.edge p q
 edge_by Behind g p q = g.edge q p
 
--- an edge leads to the id n, which is not met
-abbrev pub is_unmet : (ℕ → ℕ → Bool) → Met → ℕ → ℕ → Bool
-is_unmet edge m id n = edge id n && not (is_met m n)
-
 -- the id is met and listed, if it was not already
 abbrev pub meeting : Met → ℕ → Met
 meeting m id =

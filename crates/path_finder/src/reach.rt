@@ -1,20 +1,20 @@
 //! The ids that walks from some ids reach, and those from which walks reach one of them.
-ghost use Rattle.std.specs.Prelude.{◌≡◌, ◌==◌, ℕ, ◌≤◌, ◌<◌, ◌+◌, [], Bool, true, length, replicate, IfSome, MatchOption, false};
+ghost use Rattle.std.specs.Prelude.{◌≡◌, ◌==◌, ℕ, ◌≤◌, ◌<◌, ◌+◌, ◌*◌, [], Bool, true, length, replicate, false};
+ghost use Rattle.std.specs.Int.{bit_at};
 ghost use Rattle.limits.specs.declared.TheConstants.{MAX_PARTITIONS};
-ghost use Rattle.partition_graph.specs.Seen.{parts_seen, seen};
-ghost use Rattle.path_finder.specs.Nearness.{is_met, is_of_type, IsClosed, IsReachedFrom};
+ghost use Rattle.partition_graph.specs.Seen.{seen};
+ghost use Rattle.path_finder.specs.Nearness.{is_met, IsClosed, IsReachedFrom};
 ghost use Rattle.path_finder.specs.Keeping.{is_around};
 ghost use Rattle.path_finder.specs.declared.reach.Way.TheVariants.{Ahead, Behind};
-ghost use Rattle.path_finder.specs.Reaching.{edge_by, is_unmet, meeting, IsCounted, IsReaching, MeetsMore};
+ghost use Rattle.path_finder.specs.Reaching.{edge_by, meeting, IsCounted, IsReaching, MeetsMore};
 ghost use Rattle.partition_graph.specs.NeighbourWords.{ArePlaces, IsWordOf};
-ghost use Rattle.partition_graph.specs.Nexts.{IsNextAnswer};
 ghost use Rattle.partition_graph.specs.declared.id_rows.TheConstants.{ID_WORDS};
 
 use crate::sight::Sight;
-use crate::words::{next_at, next_in_word};
+use crate::words::{next_at, next_in_word, without_bit};
 use bit_rows::Rows;
 use limits::MAX_PARTITIONS;
-use partition_graph::{ID_WORDS, View, WORD_BITS};
+use partition_graph::{ID_WORDS, WORD_BITS};
 use std::alloc::{AllocError, Global};
 use std::marker::Model;
 
@@ -101,34 +101,6 @@ impl Reach {
         self.met.word(0, place)
     }
 
-    /// The least neighbour of the id in this direction, at or above `from`, that was not met; `None` if there is none.
-    /// `places` are the places of its neighbours.
-    fn next_unmet(
-        &self,
-        sight: &Sight<'_>,
-        way: Way,
-        id: u32,
-        places: u64,
-        from: u32,
-    ) -> Option<u32>
-        requires { ArePlaces (edge_by way (seen sight.now.view) id) places }
-        ensures next { IsNextAnswer
-            (is_unmet (edge_by way (seen sight.now.view)) self.now id) from result }
-        ensures within { IfSome result (λ n. n < MAX_PARTITIONS) }
-    {
-        let ids = sight.view.ids_used() as usize;
-        let mut at = next_at(places, from as usize);
-        while at < ids {
-            let place = at / WORD_BITS;
-            let unmet = neighbours(sight, way, id, place) & !self.word(place);
-            if let Some(n) = next_in_word(unmet, at) {
-                return Some(n as u32);
-            }
-            at = next_at(places, (place + 1) * WORD_BITS);
-        }
-        None
-    }
-
     /// Forgets all ids.
     fn clear(&mut self)
         ensures flags { (self.new).flags ≡ replicate MAX_PARTITIONS false }
@@ -161,6 +133,28 @@ impl Reach {
         self.list.push_reserved(id);
     }
 
+    /// Meets the ids of a word, none of which was met. The word has a bit for each of the ids from `64 * place` on.
+    fn add_all(&mut self, place: usize, word: u64)
+        requires place { place < ID_WORDS }
+        requires counted { IsCounted self.old }
+        requires unmet { (i : ℕ) → i < 64 → (bit_at word i == 1) ≡ true
+            → is_met self.old (place * 64 + i) ≡ false }
+
+        // The ids are met, and all that was met stays so.
+        ensures met { (i : ℕ) → i < 64 → (bit_at word i == 1) ≡ true
+            → is_met self.new (place * 64 + i) ≡ true }
+        ensures reaching { (edge : ℕ → ℕ → Bool) (next : ℕ) → next ≤ length (self.old).list
+            → IsReaching edge next self.old → IsReaching edge next self.new }
+        ensures more { MeetsMore self.old self.new }
+    {
+        let from = place * WORD_BITS;
+        let mut rest = word;
+        while let Some(id) = next_in_word(rest, from) {
+            self.add(id as u32);
+            rest = without_bit(rest, (id % WORD_BITS) as u32);
+        }
+    }
+
     /// Meets the neighbours in this direction of the id at this place of the list.
     fn follow(&mut self, sight: &Sight<'_>, way: Way, next: usize)
         requires place { next < length (self.old).list }
@@ -170,10 +164,13 @@ impl Reach {
     {
         let id = self.list[next];
         let places = neighbour_places(sight, way, id);
-        let mut from = 0;
-        while let Some(n) = self.next_unmet(sight, way, id, places, from) {
-            self.add(n);
-            from = n + 1;
+        let ids = sight.view.ids_used() as usize;
+        let mut at = next_at(places, 0);
+        while at < ids {
+            let place = at / WORD_BITS;
+            let unmet = neighbours(sight, way, id, place) & !self.word(place);
+            self.add_all(place, unmet);
+            at = next_at(places, (place + 1) * WORD_BITS);
         }
     }
 
@@ -190,32 +187,6 @@ impl Reach {
         }
     }
 
-    /// Meets the id, if it has the type.
-    fn meet_of_type(&mut self, view: &View<'_>, typ: u16, id: u32)
-        requires id { id < MAX_PARTITIONS }
-        requires reaching { (edge : ℕ → ℕ → Bool) → IsReaching edge 0 self.old }
-        ensures reaching { (edge : ℕ → ℕ → Bool) → IsReaching edge 0 self.new }
-        ensures more { MeetsMore self.old self.new }
-        ensures met { (seen view.now).typ id ≡ typ → is_met self.new id ≡ true }
-    {
-        if view.type_of(id) != typ {
-            return;
-        }
-        self.meet(id);
-    }
-
-    /// Forgets all ids, and meets those of the type.
-    fn begin_with_type(&mut self, view: &View<'_>, typ: u16)
-        ensures reaching { (edge : ℕ → ℕ → Bool) → IsReaching edge 0 self.new }
-        ensures first { (p : ℕ) → is_of_type (seen view.now) (parts_seen view.now).used typ p ≡ true
-            → is_met self.new p ≡ true }
-    {
-        self.clear();
-        for id in 0..view.ids_used() {
-            self.meet_of_type(view, typ, id);
-        }
-    }
-
     /// Forgets all ids, and meets this one and all that walks in this direction reach from it.
     fn reach_from(&mut self, sight: &Sight<'_>, way: Way, start: u32)
         requires { start < MAX_PARTITIONS }
@@ -223,16 +194,6 @@ impl Reach {
     {
         self.clear();
         self.meet(start);
-        self.follow_all(sight, way);
-    }
-
-    /// Forgets all ids, and meets those of the type and all that walks in this direction reach from them.
-    fn reach_from_type(&mut self, sight: &Sight<'_>, way: Way, typ: u16)
-        ensures { IsReachedFrom (is_met self.new)
-            (is_of_type (seen sight.now.view) (parts_seen sight.now.view).used typ)
-            (edge_by way (seen sight.now.view)) }
-    {
-        self.begin_with_type(&sight.view, typ);
         self.follow_all(sight, way);
     }
 }
@@ -262,20 +223,6 @@ impl Around {
     {
         self.ahead.reach_from(sight, Way::Ahead, id);
         self.behind.reach_from(sight, Way::Behind, id);
-    }
-
-    /// Finds the ids around those of this type.
-    pub fn find_type(&mut self, sight: &Sight<'_>, typ: u16)
-        // In each direction, the ids of the type are met, and so is each id that a walk from one of them reaches.
-        ensures ahead { IsReachedFrom (is_met (self.new).ahead)
-            (is_of_type (seen sight.now.view) (parts_seen sight.now.view).used typ)
-            (edge_by Ahead (seen sight.now.view)) }
-        ensures behind { IsReachedFrom (is_met (self.new).behind)
-            (is_of_type (seen sight.now.view) (parts_seen sight.now.view).used typ)
-            (edge_by Behind (seen sight.now.view)) }
-    {
-        self.ahead.reach_from_type(sight, Way::Ahead, typ);
-        self.behind.reach_from_type(sight, Way::Behind, typ);
     }
 
     /// Whether the id is of either kind.

@@ -1,16 +1,16 @@
 //! The search backwards: the distances of pairs, starting from TERMINAL in the bad state.
-ghost use Rattle.std.specs.Prelude.{◌≡◌, ℕ, ◌<◌, ◌+◌, true, IfSome};
-ghost use Rattle.partition_graph.specs.NeighbourWords.{ArePlaces};
-ghost use Rattle.partition_graph.specs.Nexts.{IsNextAnswer};
+ghost use Rattle.std.specs.Prelude.{◌≡◌, ℕ, ◌<◌, ◌≤◌, ◌+◌, ◌*◌, true, false};
+ghost use Rattle.partition_graph.specs.NeighbourWords.{ArePlaces, IsWordOf};
+ghost use Rattle.partition_graph.specs.declared.id_rows.TheConstants.{ID_WORDS};
 ghost use Rattle.path_finder.specs.Asking.{asked, looks_at};
-ghost use Rattle.path_finder.specs.Walks.{IsPairOf, Leads};
+ghost use Rattle.path_finder.specs.Walks.{state_at, IsPairOf, Leads};
 ghost use Rattle.path_finder.specs.Tables.{at, is_open_source, Grows, HasEnds, IsBegun, IsMeasured, IsSearched};
 ghost use Rattle.path_finder.specs.Turns.{IsTurn};
 
 use crate::pair::{Pair, STATES};
 use crate::question::Question;
 use crate::table::{OPEN, Table};
-use crate::words::{next_at, next_in_word};
+use crate::words::{next_at, next_in_word, without_bit};
 use limits::TERMINAL;
 use partition_graph::WORD_BITS;
 
@@ -23,33 +23,39 @@ struct Turn {
     distance: u16,
 }
 
-/// The least id at or above `from` that has an edge to q and is open in this state; `None` if there is none. `places` are the
-/// places of the ids that have an edge to q.
-fn next_open(
+/// Enters the pairs of this state with the ids of a word. These are the open ones from `64 * place` on that lead to the pair whose
+/// turn it is.
+fn enter_word(
     question: &Question<'_, '_>,
-    table: &Table,
-    q: u32,
-    places: u64,
+    table: &mut Table,
+    turn: Turn,
     state: u8,
-    from: u32,
-) -> Option<u32>
-    requires looked { looks_at question.now q ≡ true }
+    place: usize,
+    word: u64,
+)
+    requires turn { IsTurn (asked question.now) turn table.old }
     requires state { state < 3 }
-    requires places { ArePlaces (λ id. (asked question.now).graph.edge id q) places }
-    ensures next { IsNextAnswer (is_open_source (asked question.now) table.now q state) from result }
-    ensures within { IfSome result (λ id. id < (asked question.now).ids) }
+    requires step { state_at (asked question.now) state turn.pair.id ≡ turn.pair.state }
+    requires place { place < ID_WORDS }
+    requires word { IsWordOf (is_open_source (asked question.now) table.old turn.pair.id state) place word }
+
+    // The turn is still that of the pair, and none of the word is open.
+    ensures turn { IsTurn (asked question.now) turn table.new }
+    ensures grows { Grows table.old table.new }
+    ensures none { (id : ℕ) → place * 64 ≤ id → id < place * 64 + 64
+        → is_open_source (asked question.now) table.new turn.pair.id state id ≡ false }
 {
-    let ids = question.ids() as usize;
-    let mut at = next_at(places, from as usize);
-    while at < ids {
-        let place = at / WORD_BITS;
-        let open = question.source_word(q, place) & !table.entered_word(state, place);
-        if let Some(id) = next_in_word(open, at) {
-            return Some(id as u32);
-        }
-        at = next_at(places, (place + 1) * WORD_BITS);
+    let from = place * WORD_BITS;
+    let mut rest = word;
+    while let Some(id) = next_in_word(rest, from) {
+        let pair = Pair {
+            id: id as u32,
+            state,
+        };
+        prove!(table.distance(pair) == OPEN);
+        table.enter(pair, turn.distance);
+        rest = without_bit(rest, (id % WORD_BITS) as u32);
     }
-    None
 }
 
 /// Enters the open pairs with this state that lead to the pair whose turn it is. `places` are the places of the ids that have an
@@ -66,15 +72,17 @@ fn enter_state(question: &Question<'_, '_>, table: &mut Table, turn: Turn, place
     ensures entered { (p : Pair) → IsPairOf (asked question.now) p → p.state ≡ state
         → Leads (asked question.now) p turn.pair → at table.new p < OPEN }
 {
-    if question.state_at(state, turn.pair.id) != turn.pair.state {
+    let q = turn.pair.id;
+    if question.state_at(state, q) != turn.pair.state {
         return;
     }
-    let mut from = 0;
-    while let Some(id) = next_open(question, table, turn.pair.id, places, state, from) {
-        let pair = Pair { id, state };
-        prove!(table.distance(pair) == OPEN);
-        table.enter(pair, turn.distance);
-        from = id + 1;
+    let ids = question.ids() as usize;
+    let mut at = next_at(places, 0);
+    while at < ids {
+        let place = at / WORD_BITS;
+        let open = question.source_word(q, place) & !table.entered_word(state, place);
+        enter_word(question, table, turn, state, place, open);
+        at = next_at(places, (place + 1) * WORD_BITS);
     }
 }
 

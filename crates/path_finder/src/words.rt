@@ -1,5 +1,6 @@
 //! Words of bits, each for 64 numbers.
-ghost use Rattle.std.specs.Prelude.{◌≡◌, ℕ, ◌+◌, ◌*◌, ◌/◌, ◌^◌, ◌<◌, ◌≤◌, Bool, false, MatchOption};
+ghost use Rattle.std.specs.Prelude.{◌≡◌, ◌≢◌, ℕ, ◌+◌, ◌*◌, ◌/◌, ◌^◌, ◌<◌, ◌≤◌, Bool, false, MatchOption};
+ghost use Rattle.std.specs.Int.{bit_at};
 ghost use Rattle.partition_graph.specs.NeighbourWords.{ArePlaces, IsWordOf};
 ghost use Rattle.partition_graph.specs.Nexts.{IsNext};
 
@@ -46,4 +47,14 @@ pub(crate) fn next_at(places: u64, from: usize) -> usize
         return from;
     }
     next * WORD_BITS
+}
+
+/// The word with this bit turned off.
+#[inline]
+pub(crate) fn without_bit(word: u64, place: u32) -> u64
+    requires { place < 64 }
+    ensures there { bit_at result place ≡ 0 }
+    ensures others { (i : ℕ) → i < 64 → i ≢ place → bit_at result i ≡ bit_at word i }
+{
+    word & !(1 << place)
 }

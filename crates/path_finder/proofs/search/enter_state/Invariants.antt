@@ -1,4 +1,5 @@
-use Rattle.std.proofs.Common.{◌≡◌, ◌<◌, ◌≤◌, ◌-◌}
+use Rattle.std.proofs.Common.{◌≡◌, ◌<◌, ◌-◌}
+use Rattle.limits.specs.declared.TheConstants.{MAX_PARTITIONS}
 use Rattle.path_finder.specs.declared.table.TheConstants.{OPEN}
 use Rattle.path_finder.specs.declared.pair.Pair.{Pair}
 use Rattle.path_finder.specs.Asking.{asked}
@@ -7,14 +8,13 @@ use Rattle.path_finder.specs.Tables.{at, Grows}
 use Rattle.path_finder.specs.Turns.{IsTurn}
 use Rattle.path_finder.proofs.search.enter_state.Given as goal
 
-abbrev pub invariant-loop-id : goal.invariant-loop-id
-invariant-loop-id l =
+abbrev pub invariant-loop-at : goal.invariant-loop-at
+invariant-loop-at l =
     record {
       turn : IsTurn (asked l.question) l.turn l.table;
       grows : Grows l.initial.table l.table;
-      low : l.from ≤ l.question.ids;
-      entered : (p : Pair) → IsPairOf (asked l.question) p → p.state ≡ l.state → p.id < l.from → Leads (asked l.question) p l.turn.pair → at l.table p < OPEN;
+      entered : (p : Pair) → IsPairOf (asked l.question) p → p.state ≡ l.state → p.id < l.at → Leads (asked l.question) p l.turn.pair → at l.table p < OPEN;
     }
 
-abbrev pub decreases-loop-id : goal.decreases-loop-id
-decreases-loop-id l = l.question.ids - l.from
+abbrev pub decreases-loop-at : goal.decreases-loop-at
+decreases-loop-at l = MAX_PARTITIONS - l.at
