@@ -3,12 +3,14 @@ use Rattle.std.proofs.Common.{◌≡◌, ◌≢◌, ◌⊎◌, ◌==◌, ◌&&�
 use Rattle.std.proofs.lemmas.Bool.{cases_Bool, cases_lt, le-ltb, lt-ltb, eq-eqb}
 use Rattle.limits.specs.declared.TheConstants.{TERMINAL}
 use Rattle.invariants.specs.declared.Invariant.{Invariant}
-use Rattle.invariants.specs.Holds.{Holds}
+use Rattle.invariants.specs.declared.Kind.{Kind}
+use Rattle.invariants.specs.declared.Kind.TheVariants.{AF, NF, AP, IB}
+use Rattle.invariants.specs.Holds.{At, Holds, HoldsAs}
 use Rattle.partition_model.specs.Graphs.{Graph, Walk, IsPath, word, Breaks, Satisfies, IsLeastViolation, Merged}
 use Rattle.invariants.specs.Monitors.{run, is_bad}
 use Rattle.invariants.proofs.Agree.{monitor_agrees}
 use Rattle.path_finder.specs.declared.reach.Way.TheVariants.{Ahead, Behind}
-use Rattle.path_finder.specs.Nearness.{narrowed, is_met, AvoidsGone, IsReachedFrom}
+use Rattle.path_finder.specs.Nearness.{narrowed, is_met, is_of_type, key_of, AvoidsGone, IsReachedFrom}
 use Rattle.path_finder.specs.Reaching.{edge_by}
 use Rattle.path_finder.specs.declared.reach.Around.{Around}
 use Rattle.path_finder.specs.Keeping.{is_around}
@@ -150,6 +152,27 @@ pub loss_keeps : (kept : ℕ → Bool) (g : Graph) (p q : ℕ) (inv : Invariant)
 loss_keeps kept g p q inv k s =
     starts_keep kept (Merged g p q) (λ u. u == p) inv k (λ x xs a w. s (x ∷ xs) (w.0, avoiding_walk g p q xs x TERMINAL a w.1))
 
+-- a word without the key of the invariant keeps it
+lacks_holds : (kind : Kind) (a b : ℕ) (w : List ℕ) → ((i : ℕ) → At w i (key_of kind a b) → ⊥) → HoldsAs kind a b w
+lacks_holds AF a b w n = λ i t. absurd (n i t)
+lacks_holds NF a b w n = λ i t j l u. n i t
+lacks_holds AP a b w n = λ j t. absurd (n j t)
+lacks_holds IB a b w n = λ i j t u l. absurd (n i t)
+
+-- the word of a walk that goes through no id of the type lacks it
+avoiding_lacks : (g : Graph) (ids typ : ℕ) → HasEdgesBelow g ids → (xs : List ℕ) (x y : ℕ) → x < ids → Avoids (is_of_type g ids typ) (x ∷ xs) → Walk g x xs y → (i : ℕ) → At (word g (x ∷ xs)) i typ → ⊥
+avoiding_lacks g ids typ w xs x y l a k zero t =
+    let e : is_of_type g ids typ x ≡ true = ap₂ (λ (b c : Bool). b && c) (lt-ltb x ids l) (eq-eqb (g.typ x) typ t) in
+    (let z : true ≡ false = sym e ∙ a.0 in cc)
+avoiding_lacks g ids typ w [] x y l a k (suc i) t = t
+avoiding_lacks g ids typ w (r ∷ rs) x y l a k (suc i) t = avoiding_lacks g ids typ w rs r y (w x r k.0).1 a.1 k.1 i t
+
+-- what breaks an invariant goes through an id of its key
+pub key_keeps : (kept : ℕ → Bool) (g : Graph) (ids : ℕ) (inv : Invariant) → 2 ≤ ids → HasEdgesBelow g ids → KeepsAround kept g (is_of_type g ids (key_of inv.kind inv.a inv.b)) → KeepsViolations kept g inv
+key_keeps kept g ids inv two w k =
+    starts_keep kept g (is_of_type g ids (key_of inv.kind inv.a inv.b)) inv k
+    (λ x xs a p. lacks_holds inv.kind inv.a inv.b (word g (x ∷ xs)) (avoiding_lacks g ids (key_of inv.kind inv.a inv.b) w xs x TERMINAL (let z : x ≡ 0 = p.0 in omega arith) a p.1))
+
 -- what is around an id is kept
 pub around_keeps : (a : Around) (g : Graph) (starts : ℕ → Bool) → IsReachedFrom (is_met a.ahead) starts (edge_by Ahead g) → IsReachedFrom (is_met a.behind) starts (edge_by Behind g)
     → KeepsAround (is_around a) g starts
@@ -184,12 +207,11 @@ live_below h n p two b l =
           absurd (let x : true ≡ false = sym l ∙ d in cc)
     ]
 
--- where all edges are looked at, so are those of a walk
-pub every_walk : (g : Graph) (xs : List ℕ) (x y : ℕ) → Walk g x xs y → Walk (narrowed (λ p. true) g) x xs y
-every_walk g [] x y w = w
-every_walk g (r ∷ rs) x y w = (kept_edge (λ p. true) g x r refl refl w.0, every_walk g rs r y w.1)
-
--- and those of each path that breaks the invariant
-pub every_keeps : (g : Graph) (inv : Invariant) → KeepsViolations (λ p. true) g inv
-every_keeps g inv [] b = absurd b.0
-every_keeps g inv (x ∷ xs) b = (b.0.0, every_walk g xs x TERMINAL b.0.1)
+-- what breaks the invariant that is asked for has its edges looked at, where ids around those of its key are kept
+pub asked_keeps : (v : View) (a : Around) (inv : Invariant) (ids typ : ℕ) → ids ≡ (parts_seen v).used → 2 ≤ ids → HasEdgesBelow (seen v) ids → typ ≡ key_of inv.kind inv.a inv.b
+    → IsReachedFrom (is_met a.ahead) (is_of_type (seen v) (parts_seen v).used typ) (edge_by Ahead (seen v)) → IsReachedFrom (is_met a.behind) (is_of_type (seen v) (parts_seen v).used typ) (edge_by Behind (seen v))
+    → KeepsViolations (is_around a) (seen v) inv
+asked_keeps v a inv ids typ e two w t s c =
+    let k : KeepsAround (is_around a) (seen v) (is_of_type (seen v) (parts_seen v).used typ) = around_keeps a (seen v) (is_of_type (seen v) (parts_seen v).used typ) s c in
+    key_keeps (is_around a) (seen v) ids inv two w
+    (subst₂ (λ (n x : ℕ). KeepsAround (is_around a) (seen v) (is_of_type (seen v) n x)) (sym e) t k)

@@ -5,7 +5,7 @@ use Rattle.std.proofs.lemmas.List.{length-set, length-replicate}
 use Rattle.std.proofs.lemmas.List.Sums.{sum_by-set, count_by-le-length}
 use Rattle.std.proofs.lemmas.Option.{same_Some, slice_get_within}
 use Rattle.limits.specs.declared.TheConstants.{MAX_PARTITIONS}
-use Rattle.path_finder.specs.Nearness.{Met, is_met, IsClosed}
+use Rattle.path_finder.specs.Nearness.{Met, is_met, is_of_type, IsClosed}
 use Rattle.partition_model.specs.Graphs.{Graph}
 use Rattle.partition_graph.specs.Parts.{HasEdgesBelow}
 use Rattle.path_finder.specs.declared.reach.Way.{Way}
@@ -137,6 +137,12 @@ all_followed edge next m s l p q a d =
     let f : (i : ℕ) × (slice_get m.list i ≡ Some p) = s.listed p a in
     let w : f.0 < length m.list = slice_get_within m.list f.0 p f.1 in
     s.done f.0 p q (omega arith) f.1 d
+
+-- an id with the type, below the bound
+pub of_type_tells : (g : Graph) (ids typ p : ℕ) → is_of_type g ids typ p ≡ true → (p < ids) × (g.typ p ≡ typ)
+of_type_tells g ids typ p e =
+    let parts : (nat_lt p ids ≡ true) × ((g.typ p == typ) ≡ true) = and_parts (nat_lt p ids) (g.typ p == typ) e in
+    (ltb-true p ids parts.0, eqb-true (g.typ p) typ parts.1)
 
 -- where all to which an edge leads from the next one of the list are met, its edges were followed too
 pub reaching_next : (edge : ℕ → ℕ → Bool) (next id : ℕ) (m : Met) → IsReaching edge next m → slice_get m.list next ≡ Some id

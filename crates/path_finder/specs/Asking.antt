@@ -2,15 +2,15 @@
 use Rattle.std.specs.Prelude.{ℕ, Bool}
 use Rattle.partition_graph.specs.Seen.{seen}
 use Rattle.path_finder.specs.declared.question.Question.{Question}
-use Rattle.path_finder.specs.Keeping.{is_kept}
+use Rattle.path_finder.specs.Keeping.{is_around}
 use Rattle.path_finder.specs.Nearness.{narrowed}
 use Rattle.path_finder.specs.Walks.{Asked}
 
 -- whether the question looks at the edges of the id
 abbrev pub looks_at : Question → ℕ → Bool
-looks_at q id = is_kept q.region id
+looks_at q id = is_around q.around.now id
 
--- the graph that the question's view shows, with only the edges of ids that are looked at; the invariant; and the
+-- the graph that the question's view shows, with only the edges of ids around the key ids; the invariant; and the
 -- number of ids
 abbrev pub asked : Question → Asked
-asked q = record { graph = narrowed (is_kept q.region) (seen q.sight.now.view); inv = q.inv; ids = q.ids }
+asked q = record { graph = narrowed (is_around q.around.now) (seen q.sight.now.view); inv = q.inv; ids = q.ids }

@@ -1,6 +1,8 @@
 -- Ids that walks lead to from given ids, and a graph restricted to the edges of some ids.
-use Rattle.std.specs.Prelude.{ℕ, ◌≡◌, ◌≢◌, ◌&&◌, Bool, true, false, List, slice_index_or}
+use Rattle.std.specs.Prelude.{ℕ, ◌≡◌, ◌≢◌, ◌==◌, ◌&&◌, nat_lt, Bool, true, false, List, slice_index_or}
 use Rattle.std.specs.List.{AllByRecursion}
+use Rattle.invariants.specs.declared.Kind.{Kind}
+use Rattle.invariants.specs.declared.Kind.TheVariants.{AF, NF, AP, IB}
 use Rattle.partition_model.specs.Graphs.{Graph}
 use Rattle.partition_graph.specs.declared.view.View.{View}
 use Rattle.partition_graph.specs.declared.view.View.TheVariants.{Plain, Merged}
@@ -27,6 +29,17 @@ IsClosed met edge = (p q : ℕ) → met p ≡ true → edge p q ≡ true → met
 pub record IsReachedFrom (met starts : ℕ → Bool) (edge : ℕ → ℕ → Bool) : Type 0 where
   pub first : (p : ℕ) → starts p ≡ true → met p ≡ true
   pub along : IsClosed met edge
+
+-- whether the id is below this number and has the type
+abbrev pub is_of_type : Graph → ℕ → ℕ → ℕ → Bool
+is_of_type g ids typ p = nat_lt p ids && (g.typ p == typ)
+
+-- the type that occurs in every word that breaks the invariant
+abbrev pub key_of : Kind → ℕ → ℕ → ℕ
+key_of AF a b = a
+key_of NF a b = a
+key_of AP a b = b
+key_of IB a b = a
 
 -- the path does not contain the id that a merged view removes
 abbrev pub AvoidsGone : View → List ℕ → Type 0

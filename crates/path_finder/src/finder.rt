@@ -6,18 +6,17 @@ ghost use Rattle.partition_model.specs.Assignments.{G};
 ghost use Rattle.partition_model.specs.Coarsening.{IsPair};
 ghost use Rattle.partition_model.specs.Graphs.{IsLeastViolation, Satisfies, Merged as merged_graph};
 ghost use Rattle.path_finder.specs.Asking.{asked};
-ghost use Rattle.path_finder.specs.Nearness.{AvoidsGone};
+ghost use Rattle.path_finder.specs.Nearness.{key_of, AvoidsGone};
 ghost use Rattle.path_finder.specs.Walks.{IsLeastOf};
 
 use crate::pair::Pair;
 use crate::question::Question;
 use crate::reach::Around;
-use crate::region::Region;
 use crate::search::measure;
 use crate::sight::Sight;
 use crate::table::{MAX_ENTRIES, OPEN, Table};
 use crate::trace::trace;
-use invariants::{Invariant, Merge, Monitor};
+use invariants::{Invariant, Kind, Merge, Monitor};
 use limits::{INITIAL, MAX_PARTITIONS};
 use partition_graph::{PartGraph, View};
 use std::alloc::{AllocError, Global};
@@ -65,6 +64,16 @@ fn search<L: Ledger>(
     true
 }
 
+/// The type that occurs in every word that breaks the invariant.
+fn key_of(inv: Invariant) -> u16
+    ensures { result ≡ key_of inv.kind inv.a inv.b }
+{
+    match inv.kind {
+        Kind::AF | Kind::NF | Kind::IB => inv.a,
+        Kind::AP => inv.b,
+    }
+}
+
 impl Finder {
     /// A finder with all the memory that its searches need. Only this call allocates; `AllocError` is returned if there
     /// is not enough memory.
@@ -105,8 +114,10 @@ impl Finder {
         // How many steps are counted.
         ensures counted { steps.new ≡ steps.old + 1 }
     {
+        prove!(view.ids_used() <= MAX_PARTITIONS);
         let sight = Sight { view: *view };
-        let question = Question::new(&sight, inv, Region::Everywhere);
+        self.around.find_type(&sight, key_of(inv));
+        let question = Question::new(&sight, inv, &self.around);
         if !search(&question, &mut self.table, &mut self.path, steps) {
             return None;
         }
@@ -150,7 +161,7 @@ impl Finder {
             view: View::Merged(graph, merge.p, merge.q),
         };
         self.around.find(&sight, merge.p);
-        let question = Question::new(&sight, inv, Region::Nearby(&self.around));
+        let question = Question::new(&sight, inv, &self.around);
         if !search(&question, &mut self.table, &mut self.path, steps) {
             return None;
         }

@@ -4,15 +4,15 @@
 //! The search runs backwards over pairs of an id and a state of the invariant's monitor, starting from TERMINAL in the
 //! bad state. Then the path is followed forwards from INITIAL by least ids.
 //!
-//! If the question is about a merge and an invariant that the graph satisfies, only ids around the merged one are visited:
-//! those that walks from it reach, and those from which walks reach it. All other searches visit any id.
+//! Only ids around the key ids are visited: those that walks from a key id reach, and those from which walks reach a
+//! key id. The key ids are those of the invariant's key type. If the question is about a merge and an invariant that
+//! the graph satisfies, the only key id is the merged one.
 #![tactic(auto)]
 
 mod finder;
 mod pair;
 mod question;
 mod reach;
-mod region;
 mod search;
 mod sight;
 mod table;

@@ -4,26 +4,26 @@ ghost use Rattle.limits.specs.declared.TheConstants.{FIRST_TYPE, MAX_PARTITIONS}
 ghost use Rattle.partition_graph.specs.Parts.{HasEdgesBelow};
 ghost use Rattle.partition_graph.specs.Seen.{seen};
 ghost use Rattle.partition_graph.specs.declared.id_rows.TheConstants.{ID_WORDS};
-ghost use Rattle.path_finder.specs.Keeping.{is_kept};
+ghost use Rattle.path_finder.specs.Keeping.{is_around};
 ghost use Rattle.path_finder.specs.Nearness.{narrowed};
 
-use crate::region::Region;
+use crate::reach::Around;
 use crate::sight::Sight;
 use invariants::{Invariant, Monitor};
 use limits::{FIRST_TYPE, MAX_PARTITIONS};
 use partition_graph::ID_WORDS;
 
-/// An invariant, and a graph that may break it. Edges go between ids below `ids`. Only those between the ids of
-/// `region` are visited.
+/// An invariant, and a graph that may break it. Edges go between ids below `ids`. Only those between the ids in
+/// `around` are visited.
 #[derive(Drop)]
 pub(crate) struct Question<'v, 'a> {
     sight: &'v Sight<'v>,
     inv: Invariant,
     ids: u32,
-    region: Region<'a>,
+    around: &'a Around,
     ghost two: { FIRST_TYPE ≤ ids },
     ghost few: { ids ≤ MAX_PARTITIONS },
-    ghost within: { HasEdgesBelow (narrowed (is_kept region) (seen sight.now.view)) ids },
+    ghost within: { HasEdgesBelow (narrowed (is_around around.now) (seen sight.now.view)) ids },
 }
 
 impl<'v, 'a> Question<'v, 'a> {
@@ -33,16 +33,16 @@ impl<'v, 'a> Question<'v, 'a> {
     ghost use Rattle.path_finder.specs.Asking.{asked, looks_at};
     ghost use Rattle.path_finder.specs.Walks.{state_at};
 
-    /// The question whether the graph breaks the invariant by edges between the ids of a region.
-    pub fn new(sight: &'v Sight<'v>, inv: Invariant, region: Region<'a>) -> Question<'v, 'a>
-        ensures graph { (asked result).graph ≡ narrowed (is_kept region.entry) (seen sight.now.view) }
+    /// The question whether the graph breaks the invariant by edges between the ids in `around`.
+    pub fn new(sight: &'v Sight<'v>, inv: Invariant, around: &'a Around) -> Question<'v, 'a>
+        ensures graph { (asked result).graph ≡ narrowed (is_around around.now) (seen sight.now.view) }
         ensures inv { (asked result).inv ≡ inv }
     {
         Question {
             sight,
             inv,
             ids: sight.view.ids_used(),
-            region,
+            around,
         }
     }
 
@@ -60,7 +60,7 @@ impl<'v, 'a> Question<'v, 'a> {
     pub fn looks_at(&self, id: u32) -> bool
         ensures { result ≡ looks_at self.now id }
     {
-        self.region.has(id)
+        self.around.has(id)
     }
 
     /// The ids from `64 * place` on that have an edge to q, as a word whose lowest bit is the first of them.
@@ -70,8 +70,7 @@ impl<'v, 'a> Question<'v, 'a> {
         requires place { place < ID_WORDS }
         ensures { IsWordOf (λ p. (asked self.now).graph.edge p q) place result }
     {
-        self.region
-            .within(place, self.sight.view.source_word(q, place))
+        self.sight.view.source_word(q, place) & self.around.word(place)
     }
 
     /// The places of `source_word` at which there may be ids, as the bits of a word: the lowest is place 0.
@@ -89,12 +88,12 @@ impl<'v, 'a> Question<'v, 'a> {
             (λ q. IsNextTarget (asked self.now).graph p from q) }
         ensures within { IfSome result (λ q. q < (asked self.now).ids) }
     {
-        if !self.region.has(p) {
+        if !self.around.has(p) {
             return None;
         }
         let mut from = from;
         while let Some(q) = self.sight.view.next_target(p, from) {
-            if self.region.has(q) {
+            if self.around.has(q) {
                 return Some(q);
             }
             from = q + 1;

@@ -2,8 +2,8 @@
 ghost use Rattle.std.specs.Prelude.{◌≡◌, ◌==◌, ℕ, ◌≤◌, ◌<◌, ◌+◌, ◌*◌, [], Bool, true, length, replicate, false};
 ghost use Rattle.std.specs.Int.{bit_at};
 ghost use Rattle.limits.specs.declared.TheConstants.{MAX_PARTITIONS};
-ghost use Rattle.partition_graph.specs.Seen.{seen};
-ghost use Rattle.path_finder.specs.Nearness.{is_met, IsClosed, IsReachedFrom};
+ghost use Rattle.partition_graph.specs.Seen.{parts_seen, seen};
+ghost use Rattle.path_finder.specs.Nearness.{is_met, is_of_type, IsClosed, IsReachedFrom};
 ghost use Rattle.path_finder.specs.Keeping.{is_around};
 ghost use Rattle.path_finder.specs.declared.reach.Way.TheVariants.{Ahead, Behind};
 ghost use Rattle.path_finder.specs.Reaching.{edge_by, meeting, IsCounted, IsReaching, MeetsMore};
@@ -14,7 +14,7 @@ use crate::sight::Sight;
 use crate::words::{next_at, next_in_word, without_bit};
 use bit_rows::Rows;
 use limits::MAX_PARTITIONS;
-use partition_graph::{ID_WORDS, WORD_BITS};
+use partition_graph::{ID_WORDS, View, WORD_BITS};
 use std::alloc::{AllocError, Global};
 use std::marker::Model;
 
@@ -187,6 +187,32 @@ impl Reach {
         }
     }
 
+    /// Meets the id, if it has the type.
+    fn meet_of_type(&mut self, view: &View<'_>, typ: u16, id: u32)
+        requires id { id < MAX_PARTITIONS }
+        requires reaching { (edge : ℕ → ℕ → Bool) → IsReaching edge 0 self.old }
+        ensures reaching { (edge : ℕ → ℕ → Bool) → IsReaching edge 0 self.new }
+        ensures more { MeetsMore self.old self.new }
+        ensures met { (seen view.now).typ id ≡ typ → is_met self.new id ≡ true }
+    {
+        if view.type_of(id) != typ {
+            return;
+        }
+        self.meet(id);
+    }
+
+    /// Forgets all ids, and meets those of the type.
+    fn begin_with_type(&mut self, view: &View<'_>, typ: u16)
+        ensures reaching { (edge : ℕ → ℕ → Bool) → IsReaching edge 0 self.new }
+        ensures first { (p : ℕ) → is_of_type (seen view.now) (parts_seen view.now).used typ p ≡ true
+            → is_met self.new p ≡ true }
+    {
+        self.clear();
+        for id in 0..view.ids_used() {
+            self.meet_of_type(view, typ, id);
+        }
+    }
+
     /// Forgets all ids, and meets this one and all that walks in this direction reach from it.
     fn reach_from(&mut self, sight: &Sight<'_>, way: Way, start: u32)
         requires { start < MAX_PARTITIONS }
@@ -194,6 +220,16 @@ impl Reach {
     {
         self.clear();
         self.meet(start);
+        self.follow_all(sight, way);
+    }
+
+    /// Forgets all ids, and meets those of the type and all that walks in this direction reach from them.
+    fn reach_from_type(&mut self, sight: &Sight<'_>, way: Way, typ: u16)
+        ensures { IsReachedFrom (is_met self.new)
+            (is_of_type (seen sight.now.view) (parts_seen sight.now.view).used typ)
+            (edge_by way (seen sight.now.view)) }
+    {
+        self.begin_with_type(&sight.view, typ);
         self.follow_all(sight, way);
     }
 }
@@ -223,6 +259,20 @@ impl Around {
     {
         self.ahead.reach_from(sight, Way::Ahead, id);
         self.behind.reach_from(sight, Way::Behind, id);
+    }
+
+    /// Finds the ids around those of this type.
+    pub fn find_type(&mut self, sight: &Sight<'_>, typ: u16)
+        // In each direction, the ids of the type are met, and so is each id that a walk from one of them reaches.
+        ensures ahead { IsReachedFrom (is_met (self.new).ahead)
+            (is_of_type (seen sight.now.view) (parts_seen sight.now.view).used typ)
+            (edge_by Ahead (seen sight.now.view)) }
+        ensures behind { IsReachedFrom (is_met (self.new).behind)
+            (is_of_type (seen sight.now.view) (parts_seen sight.now.view).used typ)
+            (edge_by Behind (seen sight.now.view)) }
+    {
+        self.ahead.reach_from_type(sight, Way::Ahead, typ);
+        self.behind.reach_from_type(sight, Way::Behind, typ);
     }
 
     /// Whether the id is of either kind.

@@ -2,7 +2,7 @@ use Rattle.std.proofs.Common.{ℕ, Bool, sym, ◌∙◌, refl, inl, inr, arith}
 use Rattle.std.proofs.lemmas.Bool.{cases_lt, true≢false}
 use Rattle.partition_graph.specs.Seen.{seen}
 use Rattle.path_finder.specs.Asking.{asked}
-use Rattle.path_finder.specs.Keeping.{is_kept}
+use Rattle.path_finder.specs.Keeping.{is_around}
 use Rattle.path_finder.proofs.Entering.{turn_done}
 use Rattle.path_finder.proofs.Neighbours.{to-gone}
 use Rattle.path_finder.proofs.OpenPairs.{entered-still, grows-on}
@@ -23,7 +23,7 @@ loop-state-preserved c =
 
 pub returns-then-not-looks_at-clause-searched : goal.returns-then-not-looks_at-clause-searched
 returns-then-not-looks_at-clause-searched c =
-    let around : ℕ → Bool = is_kept c.args.question.now.region in
+    let around : ℕ → Bool = is_around c.args.question.now.around.now in
     let q : ℕ = c.args.turn.pair.id in
     turn_done (asked c.args.question.now) c.args.turn c.args.table.now c.requires
     (λ p pp d. absurd (true≢false (sym d.edge ∙ to-gone (around p.id) (around q) ((seen c.args.question.now.sight.now.view).edge p.id q) c.if-not-looks_at.ensures)))

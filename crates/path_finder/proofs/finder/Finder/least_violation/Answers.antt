@@ -1,14 +1,17 @@
-use Rattle.std.proofs.Common.{ℕ, List, true, sym, subst, subst₂, refl, rules}
+use Rattle.std.proofs.Common.{ℕ, List, sym, subst, subst₂, refl, rules}
 use Rattle.invariants.specs.declared.Invariant.{Invariant}
 use Rattle.partition_graph.specs.Seen.{seen}
 use Rattle.partition_model.specs.Graphs.{Graph, Satisfies, IsLeastViolation}
-use Rattle.path_finder.proofs.Narrow.{avoids_gone, every_keeps, narrowed_least, narrowed_satisfies}
+use Rattle.path_finder.specs.Keeping.{is_around}
+use Rattle.path_finder.proofs.Narrow.{KeepsViolations, asked_keeps, avoids_gone, narrowed_least, narrowed_satisfies}
 use Rattle.path_finder.proofs.finder.Finder.least_violation.Goals as goal
 
 pub returns-then-not-search : goal.returns-then-not-search
 returns-then-not-search g c =
+    let k : KeepsViolations (is_around c.find_type.new.self) (seen c.args.view.now) c.args.inv =
+    asked_keeps c.args.view.now c.find_type.new.self c.args.inv c.ids_used.result c.key_of.result c.ids_used.ensures.value c.ids_used.ensures.two (c.ids_used.ensures.within c.requires) c.key_of.ensures c.find_type.ensures.ahead c.find_type.ensures.behind in
     record {
-      found = narrowed_satisfies (λ p. true) (seen c.args.view.now) c.args.inv (every_keeps (seen c.args.view.now) c.args.inv)
+      found = narrowed_satisfies (is_around c.find_type.new.self) (seen c.args.view.now) c.args.inv k
           (subst₂ (λ (x : Graph) (i : Invariant). Satisfies x i) c.new-question.ensures.graph c.new-question.ensures.inv (c.if-not-search.ensures.satisfied refl));
       short = tt;
       avoids = tt;
@@ -17,9 +20,11 @@ returns-then-not-search g c =
 
 pub returns : goal.returns
 returns g c =
+    let k : KeepsViolations (is_around c.find_type.new.self) (seen c.args.view.now) c.args.inv =
+    asked_keeps c.args.view.now c.find_type.new.self c.args.inv c.ids_used.result c.key_of.result c.ids_used.ensures.value c.ids_used.ensures.two (c.ids_used.ensures.within c.requires) c.key_of.ensures c.find_type.ensures.ahead c.find_type.ensures.behind in
     let l : IsLeastViolation (seen c.args.view.now) c.args.inv c.deref.result.now =
     subst (λ (p : List ℕ). IsLeastViolation (seen c.args.view.now) c.args.inv p) (sym c.deref.ensures.value)
-    (narrowed_least (λ p. true) (seen c.args.view.now) c.args.inv c.search.new.path.items (every_keeps (seen c.args.view.now) c.args.inv)
+    (narrowed_least (is_around c.find_type.new.self) (seen c.args.view.now) c.args.inv c.search.new.path.items k
     (subst₂ (λ (x : Graph) (i : Invariant). IsLeastViolation x i c.search.new.path.items) c.new-question.ensures.graph c.new-question.ensures.inv (c.if-not-search.ensures.found refl))) in
     record {
       found = l;
