@@ -27,7 +27,7 @@ pub(crate) struct Question<'v, 'a> {
 }
 
 impl<'v, 'a> Question<'v, 'a> {
-    ghost use Rattle.invariants.specs.Monitors.{is_bad};
+    ghost use Rattle.invariants.specs.Monitors.{step, is_bad};
     ghost use Rattle.partition_graph.specs.NeighbourWords.{ArePlaces, IsWordOf};
     ghost use Rattle.partition_graph.specs.Neighbours.{HasNoTarget, IsNextTarget};
     ghost use Rattle.path_finder.specs.Asking.{asked, looks_at};
@@ -99,6 +99,24 @@ impl<'v, 'a> Question<'v, 'a> {
             from = q + 1;
         }
         None
+    }
+
+    /// The type of q.
+    #[inline]
+    pub fn type_of(&self, q: u32) -> u16
+        ensures { result ≡ (asked self.now).graph.typ q }
+    {
+        self.sight.view.type_of(q)
+    }
+
+    /// The state after the type is read.
+    #[inline]
+    pub fn state_after(&self, state: u8, typ: u16) -> u8
+        requires { state < 3 }
+        ensures value { result ≡ step (asked self.now).inv state typ }
+        ensures bound { result < 3 }
+    {
+        Monitor::step(self.inv, state, typ)
     }
 
     /// The state after the type of q is read.

@@ -1,17 +1,16 @@
 //! The ids that walks from some ids reach, and those from which walks reach one of them.
-ghost use Rattle.std.specs.Prelude.{◌≡◌, ◌==◌, ℕ, ◌≤◌, ◌<◌, ◌+◌, ◌*◌, [], Bool, true, length, replicate, false};
+ghost use Rattle.std.specs.Prelude.{◌≡◌, ◌==◌, ◌||◌, ℕ, ◌≤◌, ◌<◌, ◌+◌, ◌*◌, [], Bool, true, length, replicate, slice_index, false};
 ghost use Rattle.std.specs.Int.{bit_at};
 ghost use Rattle.limits.specs.declared.TheConstants.{MAX_PARTITIONS};
 ghost use Rattle.partition_graph.specs.Seen.{parts_seen, seen};
 ghost use Rattle.path_finder.specs.Nearness.{is_met, is_of_type, IsClosed, IsReachedFrom};
-ghost use Rattle.path_finder.specs.Keeping.{is_around};
 ghost use Rattle.path_finder.specs.declared.reach.Way.TheVariants.{Ahead, Behind};
 ghost use Rattle.path_finder.specs.Reaching.{edge_by, meeting, IsCounted, IsReaching, MeetsMore};
 ghost use Rattle.partition_graph.specs.NeighbourWords.{ArePlaces, IsWordOf};
 ghost use Rattle.partition_graph.specs.declared.id_rows.TheConstants.{ID_WORDS};
 
 use crate::sight::Sight;
-use crate::words::{next_at, next_in_word, without_bit};
+use crate::words::{has_bit, next_at, next_in_word, without_bit};
 use bit_rows::Rows;
 use limits::MAX_PARTITIONS;
 use partition_graph::{ID_WORDS, View, WORD_BITS};
@@ -234,19 +233,42 @@ impl Reach {
     }
 }
 
+/// Which ids were met in one direction or the other: a word for each 64 ids.
+fn join(ahead: &Reach, behind: &Reach) -> [u64; ID_WORDS]
+    ensures { (place : ℕ) → place < ID_WORDS
+        → IsWordOf (λ p. is_met ahead.now p || is_met behind.now p) place (slice_index result place) }
+{
+    let mut joined = [0; ID_WORDS];
+    for place in 0..ID_WORDS {
+        joined[place] = ahead.word(place) | behind.word(place);
+    }
+    joined
+}
+
 /// The ids that walks from some ids reach, and those from which walks reach one of them.
 #[derive(Drop)]
 pub(crate) struct Around {
     ahead: Reach,
     behind: Reach,
+    /// The ids of either kind: a word for each 64 ids.
+    joined: [u64; ID_WORDS],
+    ghost joins: { (place : ℕ) → place < ID_WORDS
+        → IsWordOf (λ p. is_met ahead p || is_met behind p) place (slice_index joined place) },
 }
 
 impl Around {
+    ghost use Rattle.path_finder.specs.Keeping.{is_around};
+
     /// Room for all ids. `AllocError` is returned if there is not enough memory.
     pub fn make(alloc: Global) -> Result<Around, AllocError> {
         let ahead = Reach::make(alloc)?;
         let behind = Reach::make(alloc)?;
-        Ok(Around { ahead, behind })
+        let joined = join(&ahead, &behind);
+        Ok(Around {
+            ahead,
+            behind,
+            joined,
+        })
     }
 
     /// Finds the ids around this id. The id itself is among both kinds.
@@ -259,6 +281,7 @@ impl Around {
     {
         self.ahead.reach_from(sight, Way::Ahead, id);
         self.behind.reach_from(sight, Way::Behind, id);
+        self.joined = join(&self.ahead, &self.behind);
     }
 
     /// Finds the ids around those of this type.
@@ -273,6 +296,7 @@ impl Around {
     {
         self.ahead.reach_from_type(sight, Way::Ahead, typ);
         self.behind.reach_from_type(sight, Way::Behind, typ);
+        self.joined = join(&self.ahead, &self.behind);
     }
 
     /// Whether the id is of either kind.
@@ -280,7 +304,11 @@ impl Around {
     pub fn has(&self, id: u32) -> bool
         ensures { result ≡ is_around self.now id }
     {
-        self.ahead.has(id) || self.behind.has(id)
+        let place = id as usize / WORD_BITS;
+        if place >= ID_WORDS {
+            return self.ahead.has(id) || self.behind.has(id);
+        }
+        has_bit(self.joined[place], id % WORD_BITS as u32)
     }
 
     /// The ids from `64 * place` on that are of either kind, as a word whose lowest bit is the first of them.
@@ -289,6 +317,6 @@ impl Around {
         requires { place < ID_WORDS }
         ensures { IsWordOf (is_around self.now) place result }
     {
-        self.ahead.word(place) | self.behind.word(place)
+        self.joined[place]
     }
 }

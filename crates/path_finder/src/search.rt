@@ -59,8 +59,16 @@ fn enter_word(
 }
 
 /// Enters the open pairs with this state that lead to the pair whose turn it is. `places` are the places of the ids that have an
-/// edge to its id.
-fn enter_state(question: &Question<'_, '_>, table: &mut Table, turn: Turn, places: u64, state: u8)
+/// edge to its id, and `typ` is the type of that.
+fn enter_state(
+    question: &Question<'_, '_>,
+    table: &mut Table,
+    turn: Turn,
+    typ: u16,
+    places: u64,
+    state: u8,
+)
+    requires typ { typ ≡ (asked question.now).graph.typ turn.pair.id }
     requires turn { IsTurn (asked question.now) turn table.old }
     requires looked { looks_at question.now turn.pair.id ≡ true }
     requires places { ArePlaces (λ id. (asked question.now).graph.edge id turn.pair.id) places }
@@ -73,7 +81,7 @@ fn enter_state(question: &Question<'_, '_>, table: &mut Table, turn: Turn, place
         → Leads (asked question.now) p turn.pair → at table.new p < OPEN }
 {
     let q = turn.pair.id;
-    if question.state_at(state, q) != turn.pair.state {
+    if question.state_after(state, typ) != turn.pair.state {
         return;
     }
     let ids = question.ids() as usize;
@@ -95,9 +103,10 @@ fn expand(question: &Question<'_, '_>, table: &mut Table, turn: Turn)
     if !question.looks_at(turn.pair.id) {
         return;
     }
+    let typ = question.type_of(turn.pair.id);
     let places = question.source_places(turn.pair.id);
     for state in 0..3 {
-        enter_state(question, table, turn, places, state);
+        enter_state(question, table, turn, typ, places, state);
     }
 }
 

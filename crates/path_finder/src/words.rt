@@ -1,5 +1,5 @@
 //! Words of bits, each for 64 numbers.
-ghost use Rattle.std.specs.Prelude.{◌≡◌, ◌≢◌, ℕ, ◌+◌, ◌*◌, ◌/◌, ◌^◌, ◌<◌, ◌≤◌, Bool, false, MatchOption};
+ghost use Rattle.std.specs.Prelude.{◌≡◌, ◌≢◌, ◌==◌, ℕ, ◌+◌, ◌*◌, ◌/◌, ◌^◌, ◌<◌, ◌≤◌, Bool, false, MatchOption};
 ghost use Rattle.std.specs.Int.{bit_at};
 ghost use Rattle.partition_graph.specs.NeighbourWords.{ArePlaces, IsWordOf};
 ghost use Rattle.partition_graph.specs.Nexts.{IsNext};
@@ -57,4 +57,13 @@ pub(crate) fn without_bit(word: u64, place: u32) -> u64
     ensures others { (i : ℕ) → i < 64 → i ≢ place → bit_at result i ≡ bit_at word i }
 {
     word & !(1 << place)
+}
+
+/// Whether the bit is on.
+#[inline]
+pub(crate) fn has_bit(word: u64, place: u32) -> bool
+    requires { place < 64 }
+    ensures { result ≡ (bit_at word place == 1) }
+{
+    (word >> place) & 1 == 1
 }
