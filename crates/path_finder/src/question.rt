@@ -9,9 +9,10 @@ ghost use Rattle.path_finder.specs.Nearness.{narrowed};
 
 use crate::reach::Around;
 use crate::sight::Sight;
+use crate::words::{next_at, next_in_word};
 use invariants::{Invariant, Monitor};
 use limits::{FIRST_TYPE, MAX_PARTITIONS};
-use partition_graph::ID_WORDS;
+use partition_graph::{ID_WORDS, WORD_BITS};
 
 /// An invariant, and a graph that may break it. Edges go between ids below `ids`. Only those between the ids in
 /// `around` are visited.
@@ -91,12 +92,16 @@ impl<'v, 'a> Question<'v, 'a> {
         if !self.around.has(p) {
             return None;
         }
-        let mut from = from;
-        while let Some(q) = self.sight.view.next_target(p, from) {
-            if self.around.has(q) {
-                return Some(q);
+        let places = self.sight.view.target_places(p);
+        let ids = self.ids as usize;
+        let mut at = next_at(places, from as usize);
+        while at < ids {
+            let place = at / WORD_BITS;
+            let targets = self.sight.view.target_word(p, place) & self.around.word(place);
+            if let Some(q) = next_in_word(targets, at) {
+                return Some(q as u32);
             }
-            from = q + 1;
+            at = next_at(places, (place + 1) * WORD_BITS);
         }
         None
     }
