@@ -1,5 +1,5 @@
 -- The next neighbour of an id among those that are looked at.
-use Rattle.std.proofs.Common.{◌≡◌, ℕ, ◌+◌, ◌<◌, ◌≤◌, ◌&&◌, Bool, true, false, refl, sym, ap, ◌∙◌, inl, inr, arith}
+use Rattle.std.proofs.Common.{◌≡◌, ℕ, ◌<◌, ◌≤◌, ◌&&◌, Bool, true, false, refl, sym, ◌∙◌, inl, inr}
 use Rattle.std.proofs.lemmas.Bool.{cases_lt, true≢false}
 
 -- no edge of the graph is none here
@@ -18,12 +18,6 @@ to-gone true true e n = absurd (true≢false (sym n))
 to-gone true false e n = refl
 to-gone false b e n = refl
 
--- an edge between two that are looked at is one here
-pub between : (a b e : Bool) → true ≡ a → true ≡ b → e ≡ true → ((a && b) && e) ≡ true
-between true true e s t i = i
-between true false e s t i = absurd (true≢false t)
-between false b e s t i = absurd (true≢false s)
-
 -- none below the next one, where there was none below the place from which it was looked for
 pub none-before : (here : ℕ → Bool) (first from next : ℕ) → ((r : ℕ) → first ≤ r → r < from → here r ≡ false) → ((r : ℕ) → from ≤ r → r < next → here r ≡ false)
     → (r : ℕ) → first ≤ r → r < next → here r ≡ false
@@ -31,15 +25,6 @@ none-before here first from next old new r l h =
     elim (cases_lt r from) [
       | inl below ↦ old r l below
       | inr above ↦ new r above h
-    ]
-
--- and none up to it, where it is none itself
-pub none-through : (here : ℕ → Bool) (first from next : ℕ) → ((r : ℕ) → first ≤ r → r < from → here r ≡ false) → ((r : ℕ) → from ≤ r → r < next → here r ≡ false)
-    → here next ≡ false → (r : ℕ) → first ≤ r → r < next + 1 → here r ≡ false
-none-through here first from next old new none r l h =
-    elim (cases_lt r next) [
-      | inl below ↦ none-before here first from next old new r l below
-      | inr above ↦ let same : r ≡ next = omega arith in ap here same ∙ none
     ]
 
 -- none at all, where there is none from that place on

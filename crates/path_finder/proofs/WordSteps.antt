@@ -37,8 +37,8 @@ first-of-word has place x id is next =
     let own : ℕ → Bool = λ k. (k / 64 == place) && has k in
     let same : place ≡ place * 64 / 64 = omega (arith, div-add-mod' (place * 64) 64, mod_below (place * 64) 64 (omega arith)) in
     let its : IsWordOf own place x = λ i below.
-        let here : (place * 64 + i) / 64 ≡ place = place-of place i below in
-        is i below ∙ sym (ap (λ (b : Bool). b && has (place * 64 + i)) (eq-eqb ((place * 64 + i) / 64) place here)) in
+    let here : (place * 64 + i) / 64 ≡ place = place-of place i below in
+    is i below ∙ sym (ap (λ (b : Bool). b && has (place * 64 + i)) (eq-eqb ((place * 64 + i) / 64) place here)) in
     let both : ((id / 64 == place) ≡ true) × (has id ≡ true) = and_parts (id / 64 == place) (has id) (next own (subst (λ (w : ℕ). IsWordOf own w x) same its)).there in
     (eqb-true (id / 64) place both.0, both.1)
   where
@@ -50,8 +50,8 @@ pub bit-of-word : (place x id : ℕ) → ((h : ℕ → Bool) → IsWordOf h (pla
 bit-of-word place x id next =
     first-of-word (λ n. bit_at x (n % 64) == 1) place x id
     (λ i below.
-        let same : i ≡ (place * 64 + i) % 64 = omega (arith, below, div-add-mod' (place * 64 + i) 64, mod_below (place * 64 + i) 64 (omega arith)) in
-        ap (λ (k : ℕ). bit_at x k == 1) same)
+    let same : i ≡ (place * 64 + i) % 64 = omega (arith, below, div-add-mod' (place * 64 + i) 64, mod_below (place * 64 + i) 64 (omega arith)) in
+    ap (λ (k : ℕ). bit_at x k == 1) same)
     next
 
 -- a number of a word is between its first one and the first one of the next word

@@ -186,32 +186,6 @@ impl Reach {
         }
     }
 
-    /// Meets the id, if it has the type.
-    fn meet_of_type(&mut self, view: &View<'_>, typ: u16, id: u32)
-        requires id { id < MAX_PARTITIONS }
-        requires reaching { (edge : ℕ → ℕ → Bool) → IsReaching edge 0 self.old }
-        ensures reaching { (edge : ℕ → ℕ → Bool) → IsReaching edge 0 self.new }
-        ensures more { MeetsMore self.old self.new }
-        ensures met { (seen view.now).typ id ≡ typ → is_met self.new id ≡ true }
-    {
-        if view.type_of(id) != typ {
-            return;
-        }
-        self.meet(id);
-    }
-
-    /// Forgets all ids, and meets those of the type.
-    fn begin_with_type(&mut self, view: &View<'_>, typ: u16)
-        ensures reaching { (edge : ℕ → ℕ → Bool) → IsReaching edge 0 self.new }
-        ensures first { (p : ℕ) → is_of_type (seen view.now) (parts_seen view.now).used typ p ≡ true
-            → is_met self.new p ≡ true }
-    {
-        self.clear();
-        for id in 0..view.ids_used() {
-            self.meet_of_type(view, typ, id);
-        }
-    }
-
     /// Forgets all ids, and meets this one and all that walks in this direction reach from it.
     fn reach_from(&mut self, sight: &Sight<'_>, way: Way, start: u32)
         requires { start < MAX_PARTITIONS }
@@ -221,15 +195,42 @@ impl Reach {
         self.meet(start);
         self.follow_all(sight, way);
     }
+}
 
-    /// Forgets all ids, and meets those of the type and all that walks in this direction reach from them.
-    fn reach_from_type(&mut self, sight: &Sight<'_>, way: Way, typ: u16)
-        ensures { IsReachedFrom (is_met self.new)
-            (is_of_type (seen sight.now.view) (parts_seen sight.now.view).used typ)
-            (edge_by way (seen sight.now.view)) }
-    {
-        self.begin_with_type(&sight.view, typ);
-        self.follow_all(sight, way);
+/// Meets the id in both directions, if it has the type.
+fn meet_of_type(ahead: &mut Reach, behind: &mut Reach, view: &View<'_>, typ: u16, id: u32)
+    requires id { id < MAX_PARTITIONS }
+    requires ahead { (edge : ℕ → ℕ → Bool) → IsReaching edge 0 ahead.old }
+    requires behind { (edge : ℕ → ℕ → Bool) → IsReaching edge 0 behind.old }
+    ensures ahead { (edge : ℕ → ℕ → Bool) → IsReaching edge 0 ahead.new }
+    ensures behind { (edge : ℕ → ℕ → Bool) → IsReaching edge 0 behind.new }
+
+    // What was met stays so, and the id is met if it has the type.
+    ensures more_ahead { MeetsMore ahead.old ahead.new }
+    ensures more_behind { MeetsMore behind.old behind.new }
+    ensures met_ahead { (seen view.now).typ id ≡ typ → is_met ahead.new id ≡ true }
+    ensures met_behind { (seen view.now).typ id ≡ typ → is_met behind.new id ≡ true }
+{
+    if view.type_of(id) != typ {
+        return;
+    }
+    ahead.meet(id);
+    behind.meet(id);
+}
+
+/// Forgets all ids in both directions, and meets those of the type.
+fn begin_with_type(ahead: &mut Reach, behind: &mut Reach, view: &View<'_>, typ: u16)
+    ensures ahead { (edge : ℕ → ℕ → Bool) → IsReaching edge 0 ahead.new }
+    ensures behind { (edge : ℕ → ℕ → Bool) → IsReaching edge 0 behind.new }
+    ensures first_ahead { (p : ℕ) → is_of_type (seen view.now) (parts_seen view.now).used typ p ≡ true
+        → is_met ahead.new p ≡ true }
+    ensures first_behind { (p : ℕ) → is_of_type (seen view.now) (parts_seen view.now).used typ p ≡ true
+        → is_met behind.new p ≡ true }
+{
+    ahead.clear();
+    behind.clear();
+    for id in 0..view.ids_used() {
+        meet_of_type(ahead, behind, view, typ, id);
     }
 }
 
@@ -294,8 +295,9 @@ impl Around {
             (is_of_type (seen sight.now.view) (parts_seen sight.now.view).used typ)
             (edge_by Behind (seen sight.now.view)) }
     {
-        self.ahead.reach_from_type(sight, Way::Ahead, typ);
-        self.behind.reach_from_type(sight, Way::Behind, typ);
+        begin_with_type(&mut self.ahead, &mut self.behind, &sight.view, typ);
+        self.ahead.follow_all(sight, Way::Ahead);
+        self.behind.follow_all(sight, Way::Behind);
         self.joined = join(&self.ahead, &self.behind);
     }
 

@@ -69,4 +69,4 @@ returns-clause-reaching c =
     let id : ℕ = c.index-id.result.now in
     let i = c.loop-at.invariant in
     reaching_next e c.args.next id c.loop-at.self i.reaching i.there (λ q d.
-        i.followed q (omega (arith, edge-below c.args.way (seen c.args.sight.now.view) c.ids_used-ids.result id q (c.ids_used-ids.ensures.within c.args.sight.now.sound) d, c.loop-at-test.false)) d)
+    i.followed q (omega (arith, edge-below c.args.way (seen c.args.sight.now.view) c.ids_used-ids.result id q (c.ids_used-ids.ensures.within c.args.sight.now.sound) d, c.loop-at-test.false)) d)
