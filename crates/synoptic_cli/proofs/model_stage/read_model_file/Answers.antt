@@ -8,8 +8,8 @@ returns-in-Ok-read_of-clause-ok g c =
     model-read c.args.version (g.I.Inputs.state c.args.inputs.now) (g.I.Inputs.state c.read_bytes.new.inputs) c.args.name.now c.in-Ok.bytes.items c.in-Ok-read_of.model c.in-Ok.ensures.gives
     c.in-Ok-read_of.ensures.ok c.in-Ok-read_of.ensures.shaped
 
-pub returns-clause-err : goal.returns-clause-err
-returns-clause-err g c =
+pub returns-in-Err-clause-err : goal.returns-in-Err-clause-err
+returns-in-Err-clause-err g c =
     let old = g.I.Inputs.state c.args.inputs.now in
     let new = g.I.Inputs.state c.read_bytes.new.inputs in
     subst (ModelHalts c.args.version old new c.args.name.now) (sym c.halt_of.ensures)
