@@ -10,5 +10,5 @@ ids_in (Many ids) = ids.items
 
 -- those that are kept in place are there
 abbrev pub IsWithin : Places → Type 0
-IsWithin (Few count ids) = (count ≤ 4) × (length ids ≡ 4)
+IsWithin (Few count ids) = (count ≤ 5) × (length ids ≡ 5)
 IsWithin (Many ids) = Unit

@@ -4,13 +4,13 @@ ghost use Rattle.std.specs.Prelude.{◌≡◌, ◌↔◌, ◌≤◌, [], IsTrue,
 use std::marker::Model;
 
 /// At most this many ids are kept in the value itself.
-const IN_PLACE: usize = 4;
+const IN_PLACE: usize = 5;
 
 /// Where the ids are.
 #[derive(Drop)]
 enum Places {
     /// The first `count` of these ids.
-    Few { count: usize, ids: [u32; 4] },
+    Few { count: u32, ids: [u32; 5] },
     /// All of these ids.
     Many(Vec<u32>),
 }
@@ -34,12 +34,12 @@ impl Model for Ids {
 
 /// A list of so few ids that they take no memory of their own.
 fn few(listed: &[u32]) -> Ids
-    requires { length listed.now ≤ 4 }
+    requires { length listed.now ≤ 5 }
     ensures { result ≡ listed.now }
 {
-    let mut ids = [0; 4];
-    let count = listed.len();
-    ids[..count].copy_from_slice(listed);
+    let mut ids = [0; 5];
+    ids[..listed.len()].copy_from_slice(listed);
+    let count = listed.len() as u32;
     Ids {
         places: Places::Few { count, ids },
     }
@@ -64,7 +64,7 @@ impl Ids {
         ensures { result ≡ length self.now }
     {
         match &self.places {
-            Places::Few { count, .. } => *count,
+            Places::Few { count, .. } => *count as usize,
             Places::Many(ids) => ids.len(),
         }
     }
@@ -81,7 +81,7 @@ impl Ids {
         ensures { result.now ≡ self.now }
     {
         match &self.places {
-            Places::Few { count, ids } => &ids[..*count],
+            Places::Few { count, ids } => &ids[..*count as usize],
             Places::Many(ids) => ids.as_slice(),
         }
     }

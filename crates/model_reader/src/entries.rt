@@ -10,6 +10,14 @@ use invariants::{Block, Edge, Ids, Invariant, Listed, Merge, Partition, Split, T
 use limits::MAX_PARTITIONS;
 use std::alloc::Global;
 
+/// How many ids a path that is written has at most: a shortest path to a bad state meets each partition in each of the three
+/// states of a monitor at most once.
+const LONGEST_PATH: usize = 3 * MAX_PARTITIONS as usize;
+
+/// Room for the blocks and for the invariants, more than a model may have of either. It is so large that the system gives it
+/// apart from all other memory and takes it back whole: if the file has to be read a second time, nothing is left of it.
+const ROOM: usize = 1 << 20;
+
 /// An id of a path.
 impl Spelled for u32 {
     ghost use Rattle.model_file.specs.Tree.{number_data};
@@ -28,7 +36,7 @@ impl Spelled for u32 {
 
     #[inline(always)]
     fn room(rest: &Rest<'_>) -> usize {
-        rest.commas_in_list() + 1
+        (rest.commas_in_list() + 1).min(LONGEST_PATH)
     }
 }
 
@@ -138,13 +146,12 @@ impl Spelled for Merge {
     }
 }
 
-/// Takes a path. A shortest path to a bad state meets each partition in each of the three states of a monitor at most once. So
-/// any path that is written has at most 3,072 ids.
+/// Takes a path of at most `LONGEST_PATH` ids.
 #[inline(always)]
 fn take_path(alloc: Global, rest: &mut Rest<'_>) -> Option<Ids>
     ensures { IfSome result (λ path. rest.old ≡ compact_text (path_data path) ++ rest.new) }
 {
-    let ids = take_list::<u32>(alloc, rest, 3 * MAX_PARTITIONS as usize)?;
+    let ids = take_list::<u32>(alloc, rest, LONGEST_PATH)?;
     Some(Ids::from_vec(ids))
 }
 
@@ -189,6 +196,11 @@ impl Spelled for Block {
     fn may_follow(&self, before: &Block) -> bool {
         are_rising((before.p, before.q), (self.p, self.q))
     }
+
+    #[inline(always)]
+    fn room(_rest: &Rest<'_>) -> usize {
+        ROOM
+    }
 }
 
 impl Spelled for Listed {
@@ -214,6 +226,11 @@ impl Spelled for Listed {
     #[inline(always)]
     fn may_follow(&self, before: &Listed) -> bool {
         are_rising(invariant_key(before.inv), invariant_key(self.inv))
+    }
+
+    #[inline(always)]
+    fn room(_rest: &Rest<'_>) -> usize {
+        ROOM
     }
 }
 
