@@ -1,35 +1,24 @@
 -- Where the counting of cells begins, how it goes on, and where it ends.
-use Rattle.std.proofs.Common.{◌≡◌, ℕ, ◌+◌, ◌*◌, ◌<◌, ◌≤◌, ◌==◌, cond, true, false, List, ◌∷◌, [], length, drop, get_or, arith, ap, sym, ◌∙◌, Vec, Global}
+use Rattle.std.proofs.Common.{◌≡◌, ℕ, ◌+◌, ◌*◌, ◌<◌, ◌≤◌, ◌==◌, cond, true, false, List, ◌∷◌, [], length, drop, get_or, arith, ap, sym, ◌∙◌, refl, Vec, Global}
 use Rattle.std.proofs.lemmas.List.{drop_all}
-use Rattle.std.proofs.lemmas.List.Elements.{All-get_or}
-use Rattle.std.specs.List.{All}
 use Rattle.limits.specs.declared.TheConstants.{INITIAL, MAX_PARTITIONS}
 use Rattle.partition_graph.specs.declared.cells.Cell.{Cell}
 use Rattle.partition_graph.specs.declared.tables.Tables.{Tables}
-use Rattle.partition_graph.specs.Counts.{HasId, cells_with, last_type, edges_along, edges_at, before_next}
-use Rattle.partition_graph.specs.Tables.{type_at, size_at, count_at, IsClear, IsCountOf}
-use Rattle.partition_graph.proofs.Counting.{IsCounting, rest-cons}
+use Rattle.partition_graph.specs.Counts.{cells_with, last_type, edges_along, edges_at, before_next}
+use Rattle.partition_graph.specs.Tables.{type_at, size_at, count_at, IsClear, IsCountMore, IsCountOf}
+use Rattle.partition_graph.proofs.Counting.{IsCounting}
 
--- nothing is counted yet
-pub counting_begins : (t : Tables) (cells : List Cell) → IsClear t → IsCounting t INITIAL 0 cells
-counting_begins t cells clear =
-    record {
-      known = omega arith;
-      types = λ p l. ap (λ n. last_type p n cells) (clear.types p l);
-      sizes = λ p l. omega (arith, clear.sizes p l);
-      counts = λ p q l m. omega (arith, clear.counts p q l m);
-    }
+-- no cell is counted yet
+pub counting_begins : (o : Tables) (cells : List Cell) → IsCounting o o INITIAL 0 cells
+counting_begins o cells = record { known = omega arith; types = λ p l. refl; sizes = λ p l. refl; counts = λ p q l m. refl }
 
 -- one cell more is counted
-pub counting_goes_on : (t u v : Tables) (before next i : ℕ) (cells : List Cell) (d : Cell) → i < length cells → All HasId cells → IsCounting t before i cells
-    → ((p : ℕ) → p < MAX_PARTITIONS → type_at u p ≡ cond ((get_or cells i d).id == p) (get_or cells i d).typ (type_at t p))
-    → ((p : ℕ) → p < MAX_PARTITIONS → size_at u p ≡ size_at t p + cond ((get_or cells i d).id == p) 1 0) → u.counts ≡ t.counts
-    → ((p q : ℕ) → p < MAX_PARTITIONS → q < MAX_PARTITIONS → count_at v p q ≡ count_at u p q + edges_at before (get_or cells i d) p q)
-    → v.types ≡ u.types → v.sizes ≡ u.sizes → next ≡ before_next (get_or cells i d) → IsCounting v next (i + 1) cells
-counting_goes_on t u v before next i cells d l ids k typed sized kept counted same_types same_sizes is_next =
-    let c : Cell = get_or cells i d in
-    let rest : drop i cells ≡ c ∷ drop (i + 1) cells = rest-cons cells i d l in
-    let id : c.id < MAX_PARTITIONS = (All-get_or HasId cells i d l ids).1 in
+pub counting_goes_on : (o t u v : Tables) (before next i : ℕ) (cells : List Cell) (c : Cell) → drop i cells ≡ c ∷ drop (i + 1) cells → c.id < MAX_PARTITIONS → IsCounting o t before i cells
+    → ((p : ℕ) → p < MAX_PARTITIONS → type_at u p ≡ cond (c.id == p) c.typ (type_at t p))
+    → ((p : ℕ) → p < MAX_PARTITIONS → size_at u p ≡ size_at t p + cond (c.id == p) 1 0) → u.counts ≡ t.counts
+    → ((p q : ℕ) → p < MAX_PARTITIONS → q < MAX_PARTITIONS → count_at v p q ≡ count_at u p q + edges_at before c p q)
+    → v.types ≡ u.types → v.sizes ≡ u.sizes → next ≡ before_next c → IsCounting o v next (i + 1) cells
+counting_goes_on o t u v before next i cells c rest id k typed sized kept counted same_types same_sizes is_next =
     let low : before_next c < MAX_PARTITIONS = elim c.last as (λ b. cond {A = ℕ} b INITIAL c.id < MAX_PARTITIONS) [ true ↦ omega arith | false ↦ id ] in
     record {
       known = omega (arith, low, is_next);
@@ -48,11 +37,20 @@ counting_goes_on t u v before next i cells d l ids k typed sized kept counted sa
     }
 
 -- all cells are counted
-pub counting_ends : (t : Tables) (before i : ℕ) (cells : List Cell) → length cells ≤ i → IsCounting t before i cells → IsCountOf t cells
-counting_ends t before i cells past k =
+pub counting_ends : (o t : Tables) (before i : ℕ) (cells : List Cell) → length cells ≤ i → IsCounting o t before i cells → IsCountMore o t cells
+counting_ends o t before i cells past k =
     let none : drop i cells ≡ [] = drop_all i cells past in
     record {
       types = λ p l. sym (ap (λ (cs : List Cell). last_type p (type_at t p) cs) none) ∙ k.types p l;
       sizes = λ p l. (let left : cells_with p (drop i cells) ≡ 0 = ap (λ (cs : List Cell). cells_with p cs) none in omega (arith, left, k.sizes p l));
       counts = λ p q l m. (let left : edges_along before (drop i cells) p q ≡ 0 = ap (λ (cs : List Cell). edges_along before cs p q) none in omega (arith, left, k.counts p q l m));
+    }
+
+-- beside nothing, only these cells are counted
+pub counted-alone : (o t : Tables) (cells : List Cell) → IsClear o → IsCountMore o t cells → IsCountOf t cells
+counted-alone o t cells clear more =
+    record {
+      types = λ p l. more.types p l ∙ ap (λ n. last_type p n cells) (clear.types p l);
+      sizes = λ p l. omega (arith, more.sizes p l, clear.sizes p l);
+      counts = λ p q l m. omega (arith, more.counts p q l m, clear.counts p q l m);
     }

@@ -18,7 +18,7 @@ use Rattle.partition_graph.proofs.Edges.{edges_are}
 use Rattle.partition_graph.proofs.WordCells.{IsNew, words_new, all_weaker, words_closed, traces_are, first_event_of, new_below, new_typed, named}
 
 -- what is new of each cell
-gathered_new : (bound t : ℕ) (words : List (List ℕ)) (cells : List Cell) (firsts : List ℕ) → IsGathered bound words t cells firsts → AllByRecursion (IsNew bound) cells
+pub gathered_new : (bound t : ℕ) (words : List (List ℕ)) (cells : List Cell) (firsts : List ℕ) → IsGathered bound words t cells firsts → AllByRecursion (IsNew bound) cells
 gathered_new bound t words cells firsts g = subst (λ (cs : List Cell). AllByRecursion (IsNew bound) cs) (sym g.cells_are) (words_new bound (take t words) g.numbered)
 
 -- each cell has the id of a partition of events

@@ -27,4 +27,5 @@ pub mod Begun
 pub mod Looking
 pub mod SetCounts
 pub mod CountSteps
+mod CountedWords
 pub mod Filling

@@ -76,7 +76,7 @@ pub all_append : {X : Type 0} (P : X → Type 0) (xs ys : List X) → AllByRecur
 all_append P [] ys a b = b
 all_append P (x ∷ xs) ys a b = (a.0, all_append P xs ys a.1 b)
 
-new_word : (bound : ℕ) (w : List ℕ) → AllByRecursion (λ n. (2 ≤ n) × (n < bound)) w → AllByRecursion (IsNew bound) (cells_of w)
+pub new_word : (bound : ℕ) (w : List ℕ) → AllByRecursion (λ n. (2 ≤ n) × (n < bound)) w → AllByRecursion (IsNew bound) (cells_of w)
 new_word bound [] a = tt
 new_word bound (n ∷ ns) a = ((a.0.0, a.0.1, refl), new_word bound ns a.1)
 

@@ -1,6 +1,7 @@
 -- Tables of the counts of cells.
-use Rattle.std.specs.Prelude.{ℕ, ◌≡◌, ◌<◌, ◌+◌, ◌==◌, if◌then◌else◌, List, slice_index}
+use Rattle.std.specs.Prelude.{ℕ, ◌≡◌, ◌<◌, ◌+◌, ◌^◌, ◌==◌, if◌then◌else◌, List, length, slice_index}
 use Rattle.limits.specs.declared.TheConstants.{MAX_PARTITIONS, INITIAL}
+use Rattle.partition_model.specs.Assignments.{Assignment, edge_count, events, first_type, members}
 use Rattle.partition_graph.specs.declared.cells.Cell.{Cell}
 use Rattle.partition_graph.specs.declared.tables.Tables.{Tables}
 use Rattle.partition_graph.specs.Marks.{count_in}
@@ -31,6 +32,26 @@ pub record IsCountOf (t : Tables) (cells : List Cell) : Type 0 where
   pub sizes : (p : ℕ) → p < MAX_PARTITIONS → size_at t p ≡ cells_with p cells
   pub counts : (p q : ℕ) → p < MAX_PARTITIONS → q < MAX_PARTITIONS
       → count_at t p q ≡ edges_along INITIAL cells p q
+
+-- there is room to count these cells as well
+pub record HasRoomFor (t : Tables) (cells : List Cell) : Type 0 where
+  pub sizes : (p : ℕ) → p < MAX_PARTITIONS → size_at t p + cells_with p cells < 2 ^ 32
+  pub counts : (p q : ℕ) → p < MAX_PARTITIONS → q < MAX_PARTITIONS
+      → count_at t p q + edges_along INITIAL cells p q < 2 ^ 32
+
+-- the new tables count what the old ones do, and these cells as well
+pub record IsCountMore (old new : Tables) (cells : List Cell) : Type 0 where
+  pub types : (p : ℕ) → p < MAX_PARTITIONS → type_at new p ≡ last_type p (type_at old p) cells
+  pub sizes : (p : ℕ) → p < MAX_PARTITIONS → size_at new p ≡ size_at old p + cells_with p cells
+  pub counts : (p q : ℕ) → p < MAX_PARTITIONS → q < MAX_PARTITIONS
+      → count_at new p q ≡ count_at old p q + edges_along INITIAL cells p q
+
+-- the type and size of each id, and the count of each edge, are those of this assignment, which has so many traces
+pub record IsCountedFor (t : Tables) (traces : ℕ) (h : Assignment) : Type 0 where
+  pub traces_are : traces ≡ length h
+  pub types_are : (p : ℕ) → p < MAX_PARTITIONS → type_at t p ≡ first_type p (events h)
+  pub sizes_are : (p : ℕ) → p < MAX_PARTITIONS → size_at t p ≡ members h p
+  pub counts_are : (p q : ℕ) → p < MAX_PARTITIONS → q < MAX_PARTITIONS → count_at t p q ≡ edge_count h p q
 
 -- the sizes and the edge counts are those of the cells
 pub record HasCountsOf (t : Tables) (cells : List Cell) : Type 0 where

@@ -24,6 +24,18 @@ pub struct Cell {
 }
 
 impl Cell {
+    /// An event of a type in the graph with one partition for each type: the id of its partition is the number of its type.
+    #[inline]
+    pub fn of_type(number: u16, last: bool) -> Cell
+        ensures { result ≡ record { typ = number; last = last; id = number } }
+    {
+        Cell {
+            typ: number,
+            last,
+            id: number,
+        }
+    }
+
     /// The id that stands before the next cell: that of this one, and INITIAL where a trace ends here.
     pub fn before_next(&self) -> u32
         ensures { result ≡ before_next self.now }
@@ -176,11 +188,7 @@ fn push_cells(cells: &mut Vec<Cell>, numbers: &[u16]) -> Result<(), AllocError>
     ensures { OnOk result (cells.new.items ≡ cells.old.items ++ cells_of numbers.now) }
 {
     for (i, number) in numbers.iter().enumerate() {
-        cells.push(Cell {
-            typ: *number,
-            last: i + 1 == numbers.len(),
-            id: *number,
-        })?;
+        cells.push(Cell::of_type(*number, i + 1 == numbers.len()))?;
     }
     Ok(())
 }

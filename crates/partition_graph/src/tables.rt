@@ -1,12 +1,15 @@
 //! What is counted over cells: the type and the size of each id, and the edges between ids.
 ghost use Rattle.std.specs.Prelude.{◌≡◌, ◌≢◌, ◌+◌, ◌<◌, ◌≤◌, ◌^◌, ℕ, true, length, slice_index, All, IfOk, if◌then◌else◌, ◌==◌};
 ghost use Rattle.limits.specs.declared.TheConstants.{MAX_EVENTS, MAX_PARTITIONS};
-ghost use Rattle.partition_graph.specs.Cells.{IsClosed};
+ghost use Rattle.partition_model.specs.Assignments.{IsTyped};
+ghost use Rattle.partition_model.specs.Listings.{AreBelow};
+ghost use Rattle.partition_graph.specs.Cells.{cells_of, IsClosed};
 ghost use Rattle.partition_graph.specs.Counts.{HasId, edges_at};
 ghost use Rattle.partition_graph.specs.Joins.{joined_counts};
 ghost use Rattle.partition_graph.specs.Marks.{is_counted};
 ghost use Rattle.partition_graph.specs.NeighbourWords.{ArePlaces, IsWordOf};
 ghost use Rattle.partition_graph.specs.Nexts.{IsNextAnswer};
+ghost use Rattle.partition_graph.specs.Parts.{start_of};
 ghost use Rattle.partition_graph.specs.declared.id_rows.TheConstants.{ID_WORDS};
 
 use crate::cells::{Cell, id_before, id_behind};
@@ -14,6 +17,7 @@ use crate::edge_counts::{EdgeCounts, no_counts};
 use crate::id_rows::ID_WORDS;
 use limits::{INITIAL, MAX_PARTITIONS, TERMINAL};
 use std::alloc::{AllocError, Global};
+use traces::TraceSet;
 
 /// How many ids the tables are made for.
 const IDS: usize = MAX_PARTITIONS as usize;
@@ -32,7 +36,7 @@ pub struct Tables {
 }
 
 impl Tables {
-    ghost use Rattle.partition_graph.specs.Tables.{type_at, size_at, count_at, HasCountsBut, HasCountsOf, IsClear, IsCountOf};
+    ghost use Rattle.partition_graph.specs.Tables.{type_at, size_at, count_at, HasCountsBut, HasCountsOf, HasRoomFor, IsClear, IsCountedFor, IsCountMore, IsCountOf};
     ghost use Rattle.partition_graph.specs.Types.{HaveTypes, KnowsTypes};
 
     /// The tables of these cells. Only this call allocates; `AllocError` is returned if there is not enough memory.
@@ -43,6 +47,25 @@ impl Tables {
     {
         let mut tables = Tables::make(alloc)?;
         tables.count(cells);
+        Ok(tables)
+    }
+
+    /// The tables of the words of these traces, with one partition for each type: each event has the number of its type for
+    /// its id. Only this call allocates; `AllocError` is returned if there is not enough memory.
+    pub fn of_words(alloc: Global, traces: &TraceSet) -> Result<Tables, AllocError>
+        ensures counted { IfOk result (λ tables.
+            IsCountedFor tables (length traces.now.traces) (start_of traces.now).traces) }
+        ensures typed { IfOk result (λ tables. IsTyped (start_of traces.now).traces) }
+        ensures below { IfOk result (λ tables.
+            AreBelow (start_of traces.now).used (start_of traces.now).traces) }
+    {
+        // How many types and events there are at most.
+        traces.types();
+        traces.event_count();
+        let mut tables = Tables::make(alloc)?;
+        for t in 0..traces.trace_count() {
+            tables.count_word(traces.events(t));
+        }
         Ok(tables)
     }
 
@@ -201,6 +224,21 @@ impl Tables {
         for cell in cells {
             self.count_cell(*cell);
             self.count_edges_at(before, *cell);
+            before = cell.before_next();
+        }
+    }
+
+    /// Counts the cells of a word as well, in which each event has the number of its type for its id.
+    fn count_word(&mut self, word: &[u16])
+        requires ids { All HasId (cells_of word.now) }
+        requires room { HasRoomFor self.old (cells_of word.now) }
+        ensures { IsCountMore self.old self.new (cells_of word.now) }
+    {
+        let mut before = INITIAL;
+        for (i, number) in word.iter().enumerate() {
+            let cell = Cell::of_type(*number, i + 1 == word.len());
+            self.count_cell(cell);
+            self.count_edges_at(before, cell);
             before = cell.before_next();
         }
     }

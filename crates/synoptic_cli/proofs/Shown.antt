@@ -61,19 +61,11 @@ graph-shown log accepts tell formed typed two below =
       named = names-found log.types h (partitions_below (start_of log).used h) same below listed.0;
     }
 
--- the same for the parts of the graph that was opened
-pub graph-exact : (log : Log) (parts : Parts) (used : ℕ) → AcceptsTraces → ListingsTell → GraphsAreFormed → parts ≡ start_of log → used ≡ parts.used → 2 ≤ used → IsTyped parts.traces → AreBelow used parts.traces
-    → ShowsExactly log
-graph-exact log parts used accepts tell formed start count two typed below =
-    let all : used ≡ (start_of log).used = count ∙ ap (λ (s : Parts). s.used) start in
-    let traces : parts.traces ≡ (start_of log).traces = ap (λ (s : Parts). s.traces) start in
-    graph-shown log accepts tell formed (subst IsTyped traces typed) (subst (λ n. 2 ≤ n) all two)
-    (subst (λ (h : Assignment). AreBelow (start_of log).used h) traces (subst (λ n. AreBelow n parts.traces) all below))
-
 -- the text of the lists of the first assignment is that of the log's graph
-pub graph-text : (log : Log) (parts : Parts) (types : List (List ℕ)) (partitions : List Partition) (edges : List Edge) (text : List ℕ) → parts ≡ start_of log → types ≡ log.types
-    → partitions ≡ partitions_below parts.used parts.traces → edges ≡ edges_below parts.used parts.traces → text ≡ graph_report types partitions edges → text ≡ parts_report log.types (start_of log)
-graph-text log parts types partitions edges text start same-types listed-partitions listed-edges same =
+pub graph-text : (log : Log) (types : List (List ℕ)) (partitions : List Partition) (edges : List Edge) (text : List ℕ) → types ≡ log.types
+    → partitions ≡ partitions_below (start_of log).used (start_of log).traces → edges ≡ edges_below (start_of log).used (start_of log).traces
+    → text ≡ graph_report types partitions edges → text ≡ parts_report log.types (start_of log)
+graph-text log types partitions edges text same-types listed-partitions listed-edges same =
     same
     ∙ (ap (λ (l : List (List ℕ)). graph_report l partitions edges) same-types
-    ∙ (ap₂ (λ (ps : List Partition) (es : List Edge). graph_report log.types ps es) listed-partitions listed-edges ∙ ap (parts_report log.types) start))
+    ∙ ap₂ (λ (ps : List Partition) (es : List Edge). graph_report log.types ps es) listed-partitions listed-edges)

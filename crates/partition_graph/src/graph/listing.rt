@@ -1,8 +1,9 @@
 //! The lists that a graph gives: its partitions, its edges, and the ids of its events.
-ghost use Rattle.std.specs.Prelude.{◌≡◌, ◌≤◌, ◌<◌, ◌++◌, IfOk, OnOk, length, map};
+ghost use Rattle.std.specs.Prelude.{◌≡◌, ◌≤◌, ◌<◌, IfOk, length, map};
 
 use super::PartGraph;
 use crate::cells::{Cell, copy_traces};
+use crate::lists::{edges_of, partitions_of};
 use invariants::{Edge, Partition, Seq};
 use std::alloc::{AllocError, Global};
 
@@ -16,7 +17,7 @@ fn ids_of(alloc: Global, cells: &[Cell]) -> Result<Seq<u32>, AllocError>
 
 impl PartGraph {
     ghost use Rattle.partition_model.specs.Assignments.{events};
-    ghost use Rattle.partition_model.specs.Listings.{edges_below, edges_from, partitions_below, parts_of};
+    ghost use Rattle.partition_model.specs.Listings.{edges_below, partitions_below, parts_of};
     ghost use Rattle.partition_graph.specs.Spread.{spread};
     ghost use Rattle.limits.specs.declared.TheConstants.{MAX_EVENTS};
     ghost use Rattle.std.specs.Prelude.{All};
@@ -25,17 +26,7 @@ impl PartGraph {
     pub fn partitions(&self, alloc: Global) -> Result<Seq<Partition>, AllocError>
         ensures { IfOk result (λ list. list ≡ partitions_below (self.now).used (self.now).traces) }
     {
-        let mut list = Vec::new(alloc);
-        for p in 0..self.ids_used() {
-            if self.is_live(p) {
-                list.push(Partition {
-                    id: p,
-                    typ: self.type_of(p),
-                    count: self.size(p),
-                })?;
-            }
-        }
-        Ok(Seq::from_vec(list))
+        partitions_of(alloc, &self.tables, self.trace_count(), self.used)
     }
 
     /// The edges whose count is above 0, in the order of the ids that they leave and then of those that they enter.
@@ -43,29 +34,7 @@ impl PartGraph {
     pub fn edges(&self, alloc: Global) -> Result<Seq<Edge>, AllocError>
         ensures { IfOk result (λ list. list ≡ edges_below (self.now).used (self.now).traces) }
     {
-        let mut list = Vec::new(alloc);
-        for p in 0..self.ids_used() {
-            self.push_edges_from(p, &mut list)?;
-        }
-        Ok(Seq::from_vec(list))
-    }
-
-    /// Appends the edges that leave p.
-    fn push_edges_from(&self, p: u32, list: &mut Vec<Edge>) -> Result<(), AllocError>
-        ensures { OnOk result
-            (list.new.items ≡ list.old.items ++ edges_from (self.now).used (self.now).traces p) }
-    {
-        for q in 0..self.ids_used() {
-            let count = self.edge_count(p, q);
-            if count > 0 {
-                list.push(Edge {
-                    from: p,
-                    to: q,
-                    count,
-                })?;
-            }
-        }
-        Ok(())
+        edges_of(alloc, &self.tables, self.used)
     }
 
     /// The id of each event, trace after trace. `AllocError` is returned if there is not enough memory.

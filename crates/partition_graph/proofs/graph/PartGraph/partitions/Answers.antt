@@ -1,13 +1,13 @@
-use Rattle.std.proofs.Common.{sym, ◌∙◌}
-use Rattle.partition_model.proofs.OneMore.{live_more, dead_more}
+use Rattle.std.proofs.Common.{◌≡◌, ◌∙◌, IfOk, length, ap, sym, subst}
+use Rattle.partition_model.specs.Listings.{partitions_below}
+use Rattle.partition_graph.specs.Cells.{traces_of}
+use Rattle.partition_graph.specs.Parts.{Parts}
+use Rattle.partition_graph.proofs.CountedWords.{kept-counted}
 use Rattle.partition_graph.proofs.graph.PartGraph.partitions.Goals as goal
-use Rattle.partition_graph.proofs.graph.PartGraph.partitions.Goals.{then-is_live+in_ok-push, else-is_live}
 
-pub loop-p-preserved : goal.loop-p-preserved
-loop-p-preserved c =
-    elim c.if-is_live.branch [
-      | then-is_live+in_ok-push w ↦
-          live_more c.args.self.now.traces c.loop-p.p w.type_of.result w.size.result c.loop-p.list.items c.if-is_live.list.items (sym c.is_live.ensures ∙ w.if-is_live.true) w.type_of.ensures w.size.ensures
-          c.loop-p.invariant (rw w.list-is w.in_ok-push.ensures.items)
-      | else-is_live w ↦ rw w.list-is (dead_more c.args.self.now.traces c.loop-p.p c.loop-p.list.items (sym c.is_live.ensures ∙ w.if-is_live.false) c.loop-p.invariant)
-    ]
+pub returns : goal.returns
+returns c =
+    let g = c.self.inside in
+    subst (λ (x : Parts). IfOk c.partitions_of.result (λ list. list ≡ partitions_below x.used x.traces)) c.self.view_is
+    (c.partitions_of.ensures (traces_of g.events)
+    (kept-counted g.events g.firsts.items g.tables g.used c.trace_count.result (c.trace_count.ensures ∙ sym (ap (λ (x : Parts). length x.traces) c.self.view_is)) c.self.invariant))

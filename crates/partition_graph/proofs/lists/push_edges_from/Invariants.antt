@@ -1,0 +1,8 @@
+use Rattle.std.proofs.Common.{◌≡◌, ◌++◌, ℕ}
+use Rattle.partition_model.specs.Assignments.{Assignment}
+use Rattle.partition_model.specs.Listings.{edges_from}
+use Rattle.partition_graph.specs.Tables.{IsCountedFor}
+use Rattle.partition_graph.proofs.lists.push_edges_from.Given as goal
+
+abbrev pub invariant-loop-q : goal.invariant-loop-q
+invariant-loop-q l = (h : Assignment) (n : ℕ) → IsCountedFor l.tables n h → l.list.items ≡ l.initial.list.items ++ edges_from l.q h l.p
