@@ -103,7 +103,7 @@ all_picked P ts [] a w = tt
 all_picked P ts (n ∷ ns) a w =
     (All-get_or P ts n [] (All-head (λ k. k < length ts) n ns w) (All-from_recursion P ts a), all_picked P ts ns a (All-tail (λ k. k < length ts) n ns w))
 
-all_parts : (P : Cell → Type 0) (xs ys : List Cell) → AllByRecursion P (xs ++ ys) → AllByRecursion P xs × AllByRecursion P ys
+pub all_parts : (P : Cell → Type 0) (xs ys : List Cell) → AllByRecursion P (xs ++ ys) → AllByRecursion P xs × AllByRecursion P ys
 all_parts P [] ys a = (tt, a)
 all_parts P (x ∷ xs) ys a = let b : AllByRecursion P xs × AllByRecursion P ys = all_parts P xs ys a.1 in ((a.0, b.0), b.1)
 
@@ -179,6 +179,18 @@ pub copied_ids : (cells : List Cell) (numbers : List ℕ) → All HasId cells �
 copied_ids cells numbers ids w =
     All-from_recursion HasId (joined_traces (picked numbers (trace_cells cells))) (all_copied HasId cells numbers (recursion_from_All HasId cells ids) w)
 
+-- the type of each copy is that of its id
+pub copied_typed : (cells : List Cell) (firsts : List ℕ) (tables : Tables) (used : ℕ) (numbers : List ℕ) → IsKept cells firsts tables used → All (λ k. k < length (trace_cells cells)) numbers
+    → AllByRecursion (λ (c : Cell). (2 ≤ c.id) × (c.typ ≡ type_of (traces_of cells) c.id)) (joined_traces (picked numbers (trace_cells cells)))
+copied_typed cells firsts tables used numbers k w =
+    let T : ℕ → ℕ = λ x. type_of (traces_of cells) x in
+    all_copied (λ (c : Cell). (2 ≤ c.id) × (c.typ ≡ T c.id)) cells numbers (all_cells (λ (e : Event). (2 ≤ e.id) × (e.typ ≡ T e.id)) cells k.typed) w
+
+-- its id is used
+pub copied_below : (cells : List Cell) (firsts : List ℕ) (tables : Tables) (used : ℕ) (numbers : List ℕ) → IsKept cells firsts tables used → All (λ k. k < length (trace_cells cells)) numbers
+    → AllByRecursion (λ (c : Cell). c.id < used) (joined_traces (picked numbers (trace_cells cells)))
+copied_below cells firsts tables used numbers k w = all_copied (λ (c : Cell). c.id < used) cells numbers (all_cells (λ (e : Event). e.id < used) cells k.below) w
+
 -- the graph of copies
 pub copied_kept : (cells : List Cell) (firsts : List ℕ) (tables : Tables) (used : ℕ) (numbers : List ℕ) (copies : List Cell) (starts : List ℕ) (counted : Tables) → IsKept cells firsts tables used
     → All (λ k. k < length (trace_cells cells)) numbers → copies ≡ joined_traces (picked numbers (trace_cells cells)) → Begin starts (picked numbers (trace_cells cells)) → length copies ≤ MAX_EVENTS
@@ -187,10 +199,10 @@ copied_kept cells firsts tables used numbers copies starts counted k w e b few n
     let T : ℕ → ℕ = λ x. type_of (traces_of cells) x in
     let typed : AllByRecursion (λ (c : Cell). (2 ≤ c.id) × (c.typ ≡ T c.id)) copies =
     subst (λ (cs : List Cell). AllByRecursion (λ (c : Cell). (2 ≤ c.id) × (c.typ ≡ T c.id)) cs) (sym e)
-    (all_copied (λ (c : Cell). (2 ≤ c.id) × (c.typ ≡ T c.id)) cells numbers (all_cells (λ (e : Event). (2 ≤ e.id) × (e.typ ≡ T e.id)) cells k.typed) w) in
+    (copied_typed cells firsts tables used numbers k w) in
     let below : AllByRecursion (λ (c : Cell). c.id < used) copies =
     subst (λ (cs : List Cell). AllByRecursion (λ (c : Cell). c.id < used) cs) (sym e)
-    (all_copied (λ (c : Cell). c.id < used) cells numbers (all_cells (λ (e : Event). e.id < used) cells k.below) w) in
+    (copied_below cells firsts tables used numbers k w) in
     let closed : IsClosed true copies = subst (λ (cs : List Cell). IsClosed true cs) (sym e) (copied_closed cells numbers k.closed w) in
     let by : traces_of copies ≡ map events_in (picked numbers (trace_cells cells)) =
     ap (λ (cs : List Cell). traces_of cs) e ∙ whole_traces (picked numbers (trace_cells cells)) (all_picked IsWhole (trace_cells cells) numbers (all_whole true cells k.closed) w) in

@@ -27,5 +27,6 @@ pub mod Begun
 pub mod Looking
 pub mod SetCounts
 pub mod CountSteps
+mod CountedTraces
 mod CountedWords
 pub mod Filling

@@ -162,7 +162,7 @@ pub fn copy_traces(
 }
 
 /// The cells of trace t.
-fn trace_at<'a>(cells: &'a [Cell], firsts: &[u32], t: usize) -> &'a [Cell]
+pub fn trace_at<'a>(cells: &'a [Cell], firsts: &[u32], t: usize) -> &'a [Cell]
     requires begin { Begin firsts.now (trace_cells cells.now) }
     requires within { t < length (trace_cells cells.now) }
     ensures { result.now ≡ slice_index_or (trace_cells cells.now) t [] }

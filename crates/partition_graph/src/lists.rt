@@ -99,6 +99,24 @@ fn push_edges_from(
     Ok(())
 }
 
+/// Both lists. `AllocError` is returned if there is not enough memory.
+pub fn lists_of(
+    alloc: Global,
+    tables: &Tables,
+    traces: u32,
+    used: u32,
+) -> Result<(Seq<Partition>, Seq<Edge>), AllocError>
+    requires { used ≤ MAX_PARTITIONS }
+    ensures partitions { (h : Assignment) → IsCountedFor tables.now traces h
+        → IfOk result (λ pair. pair.0 ≡ partitions_below used h) }
+    ensures edges { (h : Assignment) → IsCountedFor tables.now traces h
+        → IfOk result (λ pair. pair.1 ≡ edges_below used h) }
+{
+    let partitions = partitions_of(alloc, tables, traces, used)?;
+    let edges = edges_of(alloc, tables, used)?;
+    Ok((partitions, edges))
+}
+
 /// The partitions and the edges of the graph with one partition for each type, as `PartGraph::open` makes it of these traces
 /// and lists them. Each event is visited once, and no memory is taken for the events. `AllocError` is returned if there is
 /// not enough memory.
@@ -118,10 +136,7 @@ pub fn start_lists(
 {
     let used = traces.types().len() as u32 + FIRST_TYPE;
     let tables = Tables::of_words(alloc, traces)?;
-    let partitions = partitions_of(alloc, &tables, traces.trace_count(), used);
-    let edges = edges_of(alloc, &tables, used);
+    let lists = lists_of(alloc, &tables, traces.trace_count(), used);
     drop(tables);
-    let partitions = partitions?;
-    let edges = edges?;
-    Ok((partitions, edges))
+    lists
 }

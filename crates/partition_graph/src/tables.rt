@@ -10,9 +10,10 @@ ghost use Rattle.partition_graph.specs.Marks.{is_counted};
 ghost use Rattle.partition_graph.specs.NeighbourWords.{ArePlaces, IsWordOf};
 ghost use Rattle.partition_graph.specs.Nexts.{IsNextAnswer};
 ghost use Rattle.partition_graph.specs.Parts.{start_of};
+ghost use Rattle.partition_graph.specs.Shared.{joined_traces, picked, trace_cells, Begin};
 ghost use Rattle.partition_graph.specs.declared.id_rows.TheConstants.{ID_WORDS};
 
-use crate::cells::{Cell, id_before, id_behind};
+use crate::cells::{Cell, id_before, id_behind, trace_at};
 use crate::edge_counts::{EdgeCounts, no_counts};
 use crate::id_rows::ID_WORDS;
 use limits::{INITIAL, MAX_PARTITIONS, TERMINAL};
@@ -47,6 +48,29 @@ impl Tables {
     {
         let mut tables = Tables::make(alloc)?;
         tables.count(cells);
+        Ok(tables)
+    }
+
+    /// The tables of the traces with these numbers, one trace for each number. `firsts` has the place of the first cell of
+    /// each trace. Only this call allocates; `AllocError` is returned if there is not enough memory.
+    pub fn of_traces(
+        alloc: Global,
+        cells: &[Cell],
+        firsts: &[u32],
+        numbers: &[u32],
+    ) -> Result<Tables, AllocError>
+        requires ids { All HasId cells.now }
+        requires closed { IsClosed true cells.now }
+        requires begin { Begin firsts.now (trace_cells cells.now) }
+        requires within { All (λ k. k < length (trace_cells cells.now)) numbers.now }
+        requires few { length (joined_traces (picked numbers.now (trace_cells cells.now))) ≤ MAX_EVENTS }
+        ensures { IfOk result
+            (λ tables. IsCountOf tables (joined_traces (picked numbers.now (trace_cells cells.now)))) }
+    {
+        let mut tables = Tables::make(alloc)?;
+        for number in numbers {
+            tables.count(trace_at(cells, firsts, *number as usize));
+        }
         Ok(tables)
     }
 
@@ -213,12 +237,11 @@ impl Tables {
         })
     }
 
-    /// Counts the cells. Nothing is counted yet.
+    /// Counts the cells as well.
     fn count(&mut self, cells: &[Cell])
         requires ids { All HasId cells.now }
-        requires few { length cells.now < 2 ^ 32 }
-        requires clear { IsClear self.old }
-        ensures { IsCountOf self.new cells.now }
+        requires room { HasRoomFor self.old cells.now }
+        ensures { IsCountMore self.old self.new cells.now }
     {
         let mut before = INITIAL;
         for cell in cells {

@@ -3,7 +3,8 @@ ghost use Rattle.std.specs.Prelude.{◌≡◌, ◌≤◌, ◌<◌, IfOk, length,
 
 use super::PartGraph;
 use crate::cells::{Cell, copy_traces};
-use crate::lists::{edges_of, partitions_of};
+use crate::lists::{edges_of, lists_of, partitions_of};
+use crate::tables::Tables;
 use invariants::{Edge, Partition, Seq};
 use std::alloc::{AllocError, Global};
 
@@ -17,7 +18,7 @@ fn ids_of(alloc: Global, cells: &[Cell]) -> Result<Seq<u32>, AllocError>
 
 impl PartGraph {
     ghost use Rattle.partition_model.specs.Assignments.{events};
-    ghost use Rattle.partition_model.specs.Listings.{edges_below, partitions_below, parts_of};
+    ghost use Rattle.partition_model.specs.Listings.{edges_below, partitions_below, parts_of, AreBelow};
     ghost use Rattle.partition_graph.specs.Spread.{spread};
     ghost use Rattle.limits.specs.declared.TheConstants.{MAX_EVENTS};
     ghost use Rattle.std.specs.Prelude.{All};
@@ -35,6 +36,29 @@ impl PartGraph {
         ensures { IfOk result (λ list. list ≡ edges_below (self.now).used (self.now).traces) }
     {
         edges_of(alloc, &self.tables, self.used)
+    }
+
+    /// The partitions and the edges of the graph that `spread` makes of the traces with these numbers. Each event of these
+    /// is visited once, and no memory is taken for the events. `AllocError` is returned if there is not enough memory.
+    pub fn spread_lists(
+        &self,
+        alloc: Global,
+        numbers: &[u32],
+    ) -> Result<(Seq<Partition>, Seq<Edge>), AllocError>
+        requires within { All (λ k. k < length (self.now).traces) numbers.now }
+        requires few { length (events (spread numbers.now (self.now).traces)) ≤ MAX_EVENTS }
+        ensures partitions { IfOk result (λ pair. pair.0
+            ≡ partitions_below (self.now).used (spread numbers.now (self.now).traces)) }
+        ensures edges { IfOk result (λ pair. pair.1
+            ≡ edges_below (self.now).used (spread numbers.now (self.now).traces)) }
+        ensures below { IfOk result
+            (λ pair. AreBelow (self.now).used (spread numbers.now (self.now).traces)) }
+    {
+        let cells = self.events.cells();
+        let tables = Tables::of_traces(alloc, cells, &self.firsts, numbers)?;
+        let lists = lists_of(alloc, &tables, numbers.len() as u32, self.used);
+        drop(tables);
+        lists
     }
 
     /// The id of each event, trace after trace. `AllocError` is returned if there is not enough memory.

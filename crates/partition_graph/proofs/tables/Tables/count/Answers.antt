@@ -2,8 +2,8 @@ use Rattle.std.proofs.Common.{false}
 use Rattle.std.proofs.lemmas.List.Elements.{All-get_or}
 use Rattle.partition_graph.specs.declared.cells.Cell.{Cell}
 use Rattle.partition_graph.specs.Counts.{HasId}
-use Rattle.partition_graph.proofs.Counting.{clear-room, rest-cons, room-for-cell, room-for-edges}
-use Rattle.partition_graph.proofs.CountSteps.{counting_begins, counting_goes_on, counting_ends, counted-alone}
+use Rattle.partition_graph.proofs.Counting.{rest-cons, room-for-cell, room-for-edges}
+use Rattle.partition_graph.proofs.CountSteps.{counting_begins, counting_goes_on, counting_ends}
 use Rattle.partition_graph.proofs.tables.Tables.count.Goals as goal
 
 none : Cell
@@ -15,7 +15,7 @@ count_cell-requires-clause-few c =
     let cells = c.args.cells.now in
     let i = c.loop-cell.cell-index in
     room-for-cell c.args.self.now c.loop-cell.self c.loop-cell.before i cells _ (rest-cons cells i none c.loop-cell-test.true) (All-get_or HasId cells i none c.loop-cell-test.true c.requires.ids).1
-    (clear-room c.args.self.now cells c.requires.clear c.requires.ids c.requires.few) c.loop-cell.invariant
+    c.requires.room c.loop-cell.invariant
 
 pub count_edges_at-requires-clause-few : goal.count_edges_at-requires-clause-few
 unfolding none
@@ -23,7 +23,7 @@ count_edges_at-requires-clause-few c = λ p q a b.
     let cells = c.args.cells.now in
     let i = c.loop-cell.cell-index in
     room-for-edges c.args.self.now c.loop-cell.self c.count_cell.new.self c.loop-cell.before i cells _ p q (rest-cons cells i none c.loop-cell-test.true)
-    (clear-room c.args.self.now cells c.requires.clear c.requires.ids c.requires.few) c.loop-cell.invariant c.count_cell.ensures.counts a b
+    c.requires.room c.loop-cell.invariant c.count_cell.ensures.counts a b
 
 pub loop-cell-init : goal.loop-cell-init
 loop-cell-init c = counting_begins c.args.self.now c.args.cells.now
@@ -38,6 +38,4 @@ loop-cell-preserved c =
     c.count_cell.ensures.types c.count_cell.ensures.sizes c.count_cell.ensures.counts c.count_edges_at.ensures.counts c.count_edges_at.ensures.types c.count_edges_at.ensures.sizes c.before_next-before.ensures
 
 pub returns : goal.returns
-returns c =
-    counted-alone c.args.self.now c.loop-cell.self c.args.cells.now c.requires.clear
-    (counting_ends c.args.self.now c.loop-cell.self c.loop-cell.before c.loop-cell.cell-index c.args.cells.now c.loop-cell-test.false c.loop-cell.invariant)
+returns c = counting_ends c.args.self.now c.loop-cell.self c.loop-cell.before c.loop-cell.cell-index c.args.cells.now c.loop-cell-test.false c.loop-cell.invariant
