@@ -27,6 +27,7 @@ pub mod Begun
 pub mod Looking
 pub mod SetCounts
 pub mod CountSteps
+mod DividingBefore
 mod CountedTraces
 mod CountedWords
 pub mod Filling
