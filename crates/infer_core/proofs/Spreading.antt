@@ -1,12 +1,18 @@
--- The graph of all traces, where no two of them share a word.
-use Rattle.std.proofs.Common.{◌≡◌, ℕ, ◌<◌, ◌≤◌, List, [], length, get_or, Option, Some, None, MatchOption, Contains, slice_index, slice_index_or, sym, ◌∙◌, ap, inl, inr, arith}
+-- The graph of all traces, and the lists of a graph.
+use Rattle.std.proofs.Common.{◌≡◌, ℕ, ◌<◌, ◌≤◌, List, [], length, get_or, Some, Contains, slice_get, slice_index, slice_index_or, sym, ◌∙◌, ap, subst, inl, inr, arith}
 use Rattle.std.proofs.lemmas.Bool.{cases_lt}
 use Rattle.std.proofs.lemmas.List.{ext_get_or, get_or-map, get_or_default, length-map}
 use Rattle.std.proofs.lemmas.List.Elements.{All-get_or}
+use Rattle.limits.specs.declared.TheConstants.{FIRST_TYPE, MAX_PARTITIONS}
+use Rattle.invariants.specs.declared.records.Partition.{Partition}
+use Rattle.invariants.specs.declared.records.Edge.{Edge}
 use Rattle.partition_model.specs.Assignments.{Assignment}
+use Rattle.partition_model.specs.Listings.{edges_below, partitions_below, AreBelow, AreEdges, ArePartitions}
+use Rattle.partition_model.proofs.Listing.{are_edges, are_partitions}
 use Rattle.partition_graph.specs.Parts.{Parts}
 use Rattle.partition_graph.specs.Spread.{spread, AreAllOf}
-use Rattle.infer_core.specs.Workbenches.{whole_of}
+use Rattle.infer_core.specs.Workbenches.{whole_of, AreListsOf}
+use Rattle.infer_core.proofs.Telling.{listed-below}
 
 -- all traces have a number, each number is that of a trace, and each is that of its place: so there are as many of both
 as-many : (ks : List ℕ) (h : Assignment) → AreAllOf ks h → ((k : ℕ) → k < length ks → slice_index ks k ≡ k) → length ks ≡ length h
@@ -41,7 +47,14 @@ spread-in-order ks h all o =
 pub whole-in-order : (ks : List ℕ) (graph : Parts) → AreAllOf ks graph.traces → ((k : ℕ) → k < length ks → slice_index ks k ≡ k) → graph ≡ whole_of ks graph
 whole-in-order ks graph all o = ap (λ (h : Assignment). record { traces = h; used = graph.used }) (sym (spread-in-order ks graph.traces all o))
 
--- the graph that was made, or else the one that there was
-pub told-whole : (made : Option Parts) (graph whole result : Parts) → MatchOption made (graph ≡ whole) (λ g. g ≡ whole) → MatchOption made (result ≡ graph) (λ g. result ≡ g) → result ≡ whole
-told-whole None graph whole result m r = r ∙ m
-told-whole (Some g) graph whole result m r = r ∙ m
+-- the lists of a graph whose ids are below a bound
+pub lists-of : (graph : Parts) (partitions : List Partition) (edges : List Edge) → FIRST_TYPE ≤ graph.used → graph.used ≤ MAX_PARTITIONS → AreBelow graph.used graph.traces
+    → partitions ≡ partitions_below graph.used graph.traces → edges ≡ edges_below graph.used graph.traces → AreListsOf graph partitions edges
+lists-of graph partitions edges two limit below ps es =
+    record {
+      partitions_are = subst (λ (xs : List Partition). ArePartitions xs graph.traces) (sym ps) (are_partitions graph.traces graph.used two below);
+      edges_are = subst (λ (xs : List Edge). AreEdges xs graph.traces) (sym es) (are_edges graph.traces graph.used two below);
+      ids = λ k x at.
+          let l : x.id < graph.used = listed-below graph.used graph.traces k x (subst (λ (xs : List Partition). slice_get xs k ≡ Some x) ps at) in
+          omega (arith, l, limit);
+    }

@@ -1,10 +1,12 @@
 -- What contracts see of a workbench, and its contents at each stage.
-use Rattle.std.specs.Prelude.{◌≡◌, ◌≤◌, ℕ, List, length}
+use Rattle.std.specs.Prelude.{◌≡◌, ◌≤◌, ◌<◌, ℕ, List, Some, length, slice_get}
 use Rattle.std.specs.List.{AllByRecursion}
-use Rattle.limits.specs.declared.TheConstants.{MAX_EVENTS}
+use Rattle.limits.specs.declared.TheConstants.{MAX_EVENTS, MAX_PARTITIONS}
 use Rattle.invariants.specs.declared.Invariant.{Invariant}
 use Rattle.invariants.specs.declared.Kinds.{Kinds}
+use Rattle.invariants.specs.declared.records.Edge.{Edge}
 use Rattle.invariants.specs.declared.records.Model.{Model}
+use Rattle.invariants.specs.declared.records.Partition.{Partition}
 use Rattle.traces.specs.Words.{Log}
 use Rattle.cell_pool.specs.Numbers.{Numbers}
 use Rattle.cell_pool.specs.RunLists.{RunLists}
@@ -30,6 +32,12 @@ pub record WorkbenchView : Type 0 where
 -- the graph of all traces of a log; each trace is given by a number
 abbrev pub whole_of : List ℕ → Parts → Parts
 whole_of numbers graph = record { traces = spread numbers graph.traces; used = graph.used }
+
+-- the lists have the partitions and the edges of the graph, whose ids are below the limit
+pub record AreListsOf (graph : Parts) (partitions : List Partition) (edges : List Edge) : Type 0 where
+  pub partitions_are : ArePartitions partitions graph.traces
+  pub edges_are : AreEdges edges graph.traces
+  pub ids : (k : ℕ) (x : Partition) → slice_get partitions k ≡ Some x → x.id < MAX_PARTITIONS
 
 -- the invariants mined from the log and the first graph of its distinct words are ready for a run
 pub record IsAtStart (kinds : Kinds) (log : Log) (invs : List Invariant) (graph : Parts) (numbers : List ℕ) (stitcher : ℕ)

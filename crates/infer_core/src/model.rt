@@ -1,15 +1,16 @@
 //! The model of a run that has ended.
-ghost use Rattle.std.specs.Prelude.{◌≡◌, IfOk};
+ghost use Rattle.std.specs.Prelude.{◌≡◌, ◌<◌, ℕ, IfOk, Some, slice_get};
+ghost use Rattle.limits.specs.declared.TheConstants.{MAX_PARTITIONS};
+ghost use Rattle.invariants.specs.declared.records.Partition.{Partition};
 ghost use Rattle.run_history.specs.Records.{HoldsPaths};
 ghost use Rattle.partition_model.specs.Assignments.{G};
 ghost use Rattle.labelling.specs.Labelled.{AreLabelsOf};
-ghost use Rattle.infer_core.specs.Workbenches.{Tells};
+ghost use Rattle.partition_graph.specs.Parts.{Parts};
+ghost use Rattle.infer_core.specs.Workbenches.{AreListsOf, Tells};
 
 use crate::labels::listed;
 use crate::tools::{Tools, both};
-use invariants::{Invariant, Kinds, Model, Seq, Text};
-use limits::MAX_PARTITIONS;
-use partition_graph::PartGraph;
+use invariants::{Edge, Invariant, Kinds, Model, Partition, Seq, Text};
 use run_history::{blocks, merges, splits};
 use std::alloc::{AllocError, Global};
 use traces::TraceSet;
@@ -26,34 +27,34 @@ fn copy_of(alloc: Global, types: &Seq<Text>) -> Result<Seq<Text>, AllocError>
     Ok(Seq::from_vec(copy))
 }
 
-/// The model: the types of the log, the kinds that are asked for, the graph where coarsening ended with the labels of
-/// the invariants, and the splits, merges and blocks of the run. `AllocError` is returned if there is not enough
+/// The model: the types of the log, the kinds that are asked for, the lists of the graph where coarsening ended with the
+/// labels of the invariants, and the splits, merges and blocks of the run. `AllocError` is returned if there is not enough
 /// memory.
 pub fn model_of(
     alloc: Global,
     kinds: Kinds,
     traces: &TraceSet,
     invs: &[Invariant],
-    graph: &PartGraph,
+    lists: (Seq<Partition>, Seq<Edge>),
     tools: &Tools,
 ) -> Result<Model, AllocError>
     requires list { tools.now.planes.invs ≡ invs.now }
-    requires labels { AreLabelsOf tools.now.planes (G (graph.now).traces) }
+    requires ids { (k : ℕ) (x : Partition) → slice_get lists.0 k ≡ Some x → x.id < MAX_PARTITIONS }
     requires paths { HoldsPaths tools.now.run_log tools.now.spans }
-    ensures { IfOk result
-        (λ m. Tells m kinds traces.now invs.now graph.now tools.now.spans tools.now.run_log) }
+    ensures { (graph : Parts) → AreListsOf graph lists.0 lists.1
+        → AreLabelsOf tools.now.planes (G graph.traces)
+        → IfOk result
+        (λ m. Tells m kinds traces.now invs.now graph tools.now.spans tools.now.run_log) }
 {
-    prove!(graph.ids_used() <= MAX_PARTITIONS);
-    let partitions = graph.partitions(alloc)?;
+    let (partitions, edges) = lists;
     let listing = listed(alloc, &tools.planes, invs, partitions.as_slice());
     let named = both(copy_of(alloc, traces.types()), listing);
-    let shown = both(graph.edges(alloc), named);
     let joins = both(
         merges(alloc, &tools.run_log),
         blocks(alloc, &tools.run_log, &tools.spans),
     );
     let told = both(splits(alloc, &tools.run_log, &tools.spans), joins);
-    let ((edges, (types, invariants)), (splits, (merges, blocks))) = both(shown, told)?;
+    let ((types, invariants), (splits, (merges, blocks))) = both(named, told)?;
     Ok(Model {
         types,
         kinds,

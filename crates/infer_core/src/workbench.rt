@@ -10,7 +10,7 @@ use crate::law::log_is_typed;
 use crate::model::model_of;
 use crate::run::run;
 use crate::tools::{Tools, both};
-use crate::whole::{made_or, spread_shared};
+use crate::whole::whole_lists;
 use count_miner::mine;
 use invariants::{Invariant, Kinds, Seq};
 use partition_graph::PartGraph;
@@ -203,14 +203,13 @@ impl Workbench {
         ensures value { IfOk result (λ m. IsModelOf m (typed_words (self.now).kinds (self.now).log)) }
         ensures within { IfOk result (λ m. KeepsLimits m) }
     {
-        let made = spread_shared(alloc, &self.graph, self.numbers.as_slice())?;
-        let whole = made_or(&made, &self.graph);
+        let lists = whole_lists(alloc, &self.graph, self.numbers.as_slice())?;
         model_of(
             alloc,
             self.kinds,
             &self.traces,
             self.invs.as_slice(),
-            whole,
+            lists,
             &self.tools,
         )
     }
