@@ -1,5 +1,5 @@
 -- The graph of all traces, and the lists of a graph.
-use Rattle.std.proofs.Common.{◌≡◌, ℕ, ◌<◌, ◌≤◌, List, [], length, get_or, Some, Contains, slice_get, slice_index, slice_index_or, sym, ◌∙◌, ap, subst, inl, inr, arith}
+use Rattle.std.proofs.Common.{◌≡◌, ℕ, ◌<◌, ◌≤◌, List, [], length, get_or, Some, Contains, Result, Ok, Err, IfOk, slice_get, slice_index, slice_index_or, sym, ◌∙◌, ap, subst, inl, inr, arith}
 use Rattle.std.proofs.lemmas.Bool.{cases_lt}
 use Rattle.std.proofs.lemmas.List.{ext_get_or, get_or-map, get_or_default, length-map}
 use Rattle.std.proofs.lemmas.List.Elements.{All-get_or}
@@ -58,3 +58,8 @@ lists-of graph partitions edges two limit below ps es =
           let l : x.id < graph.used = listed-below graph.used graph.traces k x (subst (λ (xs : List Partition). slice_get xs k ≡ Some x) ps at) in
           omega (arith, l, limit);
     }
+
+-- what holds of a value for two reasons
+pub ok-both : {T E : Type 0} (r : Result T E) (P Q : T → Type 0) → IfOk r P → IfOk r Q → IfOk r (λ x. P x × Q x)
+ok-both (Ok x) P Q p q = (p, q)
+ok-both (Err e) P Q p q = tt
