@@ -1,8 +1,8 @@
-use Rattle.std.proofs.Common.{◌≡◌, ℕ, ◌≤◌, List, length, ◌∙◌, sym, ap, subst, subst₂}
+use Rattle.std.proofs.Common.{◌≡◌, ℕ, ◌≤◌, List, length, ◌∙◌, sym, ap, subst}
 use Rattle.std.proofs.lemmas.Result.{IfOk-weaker}
 use Rattle.limits.specs.declared.TheConstants.{MAX_EVENTS}
 use Rattle.invariants.specs.declared.Invariant.{Invariant}
-use Rattle.partition_model.specs.Assignments.{events, G}
+use Rattle.partition_model.specs.Assignments.{events}
 use Rattle.models.specs.Models.{TypedWords, typed_words, IsModelOf}
 use Rattle.partition_graph.specs.Spread.{spread, AreAllOf}
 use Rattle.infer_core.specs.Workbenches.{whole_of, WorkbenchView, AreListsOf, IsAtEnd, Tells}
