@@ -1,2 +1,3 @@
 pub mod Rest
 pub mod Placed
+pub mod Kept
