@@ -4,3 +4,4 @@ mod Digits
 mod Rows
 pub mod Numbered
 pub mod Interrupted
+pub mod Answered

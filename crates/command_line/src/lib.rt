@@ -11,6 +11,8 @@ mod table;
 mod task;
 
 pub use crate::given::ParseError;
-pub use crate::law::{interrupted_is_of_three_commands, lines_tell};
+pub use crate::law::{
+    answers_are_one, files_are_few, interrupted_is_of_three_commands, lines_tell,
+};
 pub use crate::table::Command;
 pub use crate::task::{LineForm, Task, parse};
