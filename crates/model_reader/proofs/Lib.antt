@@ -3,3 +3,4 @@ pub mod Listing
 pub mod Escapes
 pub mod Objects
 pub mod Tails
+pub mod Answered

@@ -7,10 +7,12 @@
 
 mod entries;
 mod labels;
+mod law;
 mod lists;
 mod members;
 mod reading;
 mod rest;
 mod texts;
 
+pub use law::{answers_are_one, unshaped_models_are_not_read};
 pub use reading::read_model;
