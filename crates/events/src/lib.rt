@@ -10,7 +10,10 @@ mod undecided;
 mod undecided_reader;
 
 pub use events::Events;
-pub use law::located_events_are_the_log;
+pub use law::{
+    a_small_log_tells, events_stand_on_their_lines, located_events_are_the_log,
+    undecided_lines_are_listed,
+};
 pub use located::Located;
 pub use reading::{read_events, read_undecided};
 pub use undecided::UndecidedLine;
