@@ -7,3 +7,4 @@ pub mod Shown
 pub mod Texts
 pub mod PlainLog
 pub mod PlainWords
+pub mod Twice

@@ -6,3 +6,5 @@ pub mod Messages
 pub mod Causes
 pub mod Steps
 pub mod Laws
+pub mod Runs
+pub mod Samples

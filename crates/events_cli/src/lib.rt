@@ -18,7 +18,7 @@ mod top;
 mod undecided_text;
 
 pub use ending::{Ending, PlainFault};
-pub use law::plain_keeps_the_words;
+pub use law::{arguments_tell, plain_keeps_the_words, runs_are_alike, small_logs_tell};
 pub use message::tell;
 pub use mode::Mode;
 pub use top::run;
