@@ -3,7 +3,6 @@ use Rattle.std.proofs.Common.{◌≡◌, ◌==◌, ℕ, ◌+◌, ◌-◌, ◌*�
 use Rattle.std.specs.Int.{bit_at}
 use Rattle.std.proofs.lemmas.Bool.{and_parts}
 use Rattle.std.proofs.lemmas.Nat.{div-add-mod', mod_below}
-use Rattle.std.proofs.lemmas.Nat.Bits.{bit_at-zero}
 use Rattle.partition_graph.specs.NeighbourWords.{IsWordOf}
 use Rattle.partition_graph.specs.Nexts.{IsNext}
 use Rattle.partition_graph.proofs.NeighbourWords.{word-both, word-without}
@@ -12,10 +11,6 @@ use Rattle.path_finder.proofs.Neighbours.{none-before}
 -- the word of the numbers that have one property and not another
 pub word-less : (a b : ℕ → Bool) (place x y : ℕ) → y < 2 ^ 64 → IsWordOf a place x → IsWordOf b place y → IsWordOf (λ n. a n && not (b n)) place (bit_and x (18446744073709551615 - y))
 word-less a b place x y fits is less = word-both a (λ n. not (b n)) place x (18446744073709551615 - y) is (word-without b place y fits less)
-
--- none of the numbers of a word has the property
-pub word-none : (has : ℕ → Bool) (place : ℕ) → ((n : ℕ) → has n ≡ false) → IsWordOf has place 0
-word-none has place none i below = ap (λ y. eqb y 1) (bit_at-zero i) ∙ sym (none (place * 64 + i))
 
 -- the next one from an earlier place, where there is none between
 pub next-from : (has : ℕ → Bool) (from at n : ℕ) → from ≤ at → ((k : ℕ) → from ≤ k → k < at → has k ≡ false) → IsNext has at n → IsNext has from n
