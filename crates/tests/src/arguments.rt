@@ -1,5 +1,6 @@
 //! Command lines: each line has the arguments of one, as in `cases/basics/arguments.txt`.
 
+use crate::tools::push;
 use command_line::parse;
 use std::alloc::{AllocError, Global};
 use std::fmt::Write;
@@ -9,7 +10,10 @@ fn words_of(alloc: Global, line: &str) -> Result<Vec<String>, AllocError> {
     let mut words = Vec::new(alloc);
     for word in line.split(' ') {
         if !word.is_empty() {
-            words.push(String::from_str(alloc, if word == "%" { "" } else { word })?)?;
+            push(
+                &mut words,
+                String::from_str(alloc, if word == "%" { "" } else { word }),
+            )?;
         }
     }
     Ok(words)

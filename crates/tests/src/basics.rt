@@ -12,8 +12,19 @@ mod streams;
 mod texts;
 mod words;
 
+use crate::tools::halves;
 use std::alloc::{AllocError, Global};
-use words::halves;
+
+/// Appends the result of a case on miners and reports to the text.
+fn tell_reports(alloc: Global, name: &str, rest: &str, out: &mut String) -> Result<(), AllocError> {
+    match name {
+        "mine" => mining::mined(alloc, rest, out),
+        "paths" => texts::paths(alloc, rest, out),
+        "invariants" => texts::invariants(alloc, rest, out),
+        "graph" => texts::graph(alloc, rest, out),
+        _ => out.push_str("no such case"),
+    }
+}
 
 /// Appends the result of a case on lines, invariants, miners and reports to the text.
 fn tell_logs(alloc: Global, name: &str, rest: &str, out: &mut String) -> Result<(), AllocError> {
@@ -26,11 +37,7 @@ fn tell_logs(alloc: Global, name: &str, rest: &str, out: &mut String) -> Result<
         "monitor" => candidates::monitor(rest, out),
         "seq" => candidates::seq(alloc, rest, out),
         "text" => candidates::text(alloc, rest, out),
-        "mine" => mining::mined(alloc, rest, out),
-        "paths" => texts::paths(alloc, rest, out),
-        "invariants" => texts::invariants(alloc, rest, out),
-        "graph" => texts::graph(alloc, rest, out),
-        _ => out.push_str("no such case"),
+        _ => tell_reports(alloc, name, rest, out),
     }
 }
 
@@ -63,8 +70,7 @@ fn tell_case(rt: &HostRuntime, case: &str, out: &mut String) -> Result<(), Alloc
 /// Appends the results of the cases to the text, one per line.
 pub fn tell(rt: &HostRuntime, cases: &str, out: &mut String) -> Result<(), AllocError> {
     for case in cases.lines() {
-        tell_case(rt, case, out)?;
-        out.push('\n')?;
+        tell_case(rt, case, out).and(out.push('\n'))?;
     }
     Ok(())
 }

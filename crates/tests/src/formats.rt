@@ -15,24 +15,19 @@ mod said;
 mod text;
 mod verdict;
 
+use crate::tools::halves;
 use std::alloc::{AllocError, Global};
 use std::fmt::Write;
 
-/// Takes the steps of a case of this kind, and reports the result.
-fn take_steps(
+/// Takes the steps of a case on model files, and reports the result.
+fn take_model_steps(
     alloc: Global,
-    heading: &str,
+    kind: &str,
+    words: &str,
     steps: &str,
     out: &mut String,
 ) -> Result<(), AllocError> {
-    let (kind, words) = heading.split_once(' ').unwrap_or((heading, ""));
     match kind {
-        "keys" => keys::run(alloc, steps, out),
-        "events" => events::run(alloc, steps, out),
-        "rules" => rules::run(alloc, words, steps, out),
-        "lines" => input_lines::run(alloc, words, steps, out),
-        "logs" => logs::run(alloc, words, steps, out),
-        "made" => made::run(alloc, words, out),
         "text" => text::run(alloc, steps, out),
         "old" => text::old(alloc, steps, out),
         "fronts" => text::fronts(alloc, steps, out),
@@ -42,13 +37,31 @@ fn take_steps(
     }
 }
 
+/// Takes the steps of a case of this kind, and reports the result.
+fn take_steps(
+    alloc: Global,
+    heading: &str,
+    steps: &str,
+    out: &mut String,
+) -> Result<(), AllocError> {
+    let (kind, words) = halves(heading, ' ');
+    match kind {
+        "keys" => keys::run(alloc, steps, out),
+        "events" => events::run(alloc, steps, out),
+        "rules" => rules::run(alloc, words, steps, out),
+        "lines" => input_lines::run(alloc, words, steps, out),
+        "logs" => logs::run(alloc, words, steps, out),
+        "made" => made::run(alloc, words, out),
+        _ => take_model_steps(alloc, kind, words, steps, out),
+    }
+}
+
 /// Appends the results of the cases to the text.
 pub fn tell(alloc: Global, cases: &str, out: &mut String) -> Result<(), AllocError> {
     for case in cases.split("\n\n") {
         if !case.is_empty() {
-            let (heading, steps) = case.split_once('\n').unwrap_or((case, ""));
-            writeln!(out, "{heading}")?;
-            take_steps(alloc, heading, steps, out)?;
+            let (heading, steps) = halves(case, '\n');
+            writeln!(out, "{heading}").and(take_steps(alloc, heading, steps, out))?;
         }
     }
     Ok(())

@@ -13,6 +13,7 @@ mod tools;
 
 use std::alloc::{AllocError, Global};
 use std::io;
+use tools::halves;
 
 /// Appends the results of a part without real inputs and sinks to the text.
 fn tell_other(
@@ -32,7 +33,7 @@ fn tell_other(
 
 /// Appends the results of a part to the text. What stands before the first heading has none.
 fn tell(rt: &HostRuntime, part: &str, out: &mut String) -> Result<(), AllocError> {
-    let (heading, cases) = part.split_once('\n').unwrap_or((part, ""));
+    let (heading, cases) = halves(part, '\n');
     match heading {
         "basics" => basics::tell(rt, cases, out),
         _ => tell_other(rt.alloc(), heading, cases, out),

@@ -4,6 +4,16 @@ ghost use Rattle.std.specs.Prelude.{◌≡◌, IfOk, Ok};
 use invariants::{Kind, Kinds};
 use std::alloc::{AllocError, Global};
 
+/// The parts before and after the first such letter; if there is none, all and nothing.
+pub fn halves<'a>(words: &'a str, at: char) -> (&'a str, &'a str) {
+    words.split_once(at).unwrap_or((words, ""))
+}
+
+/// The parts before and after the first such letter; if there is none, nothing.
+pub fn parted<'a>(words: &'a str, at: char) -> (&'a str, &'a str) {
+    words.split_once(at).unwrap_or(("", ""))
+}
+
 /// The number of a text; 0 if it is not a number.
 pub fn number(text: &str) -> u32 {
     text.parse().unwrap_or(0)
@@ -51,4 +61,9 @@ pub fn both<A: Drop, B: Drop>(
 pub fn put<T: Drop>(place: &mut Option<T>, made: Result<T, AllocError>) -> Result<(), AllocError> {
     *place = Some(made?);
     Ok(())
+}
+
+/// Appends what was made to a list.
+pub fn push<T: Drop>(list: &mut Vec<T>, made: Result<T, AllocError>) -> Result<(), AllocError> {
+    Ok(list.push(made?)?)
 }

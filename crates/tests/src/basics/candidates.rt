@@ -1,7 +1,6 @@
 //! Candidates, monitors, lists and texts.
 
-use crate::basics::words::halves;
-use crate::tools::{kind, kinds, number};
+use crate::tools::{halves, kind, kinds, number};
 use invariants::{Invariant, Monitor, Seq, Text, candidate, candidate_count, index_of};
 use limits::MAX_TYPES;
 use std::alloc::{AllocError, Global};

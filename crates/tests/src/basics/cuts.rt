@@ -1,7 +1,7 @@
 //! Bytes cut at line feeds, and the fields of lines.
 
-use crate::basics::words::{halves, plain, text};
-use crate::tools::both;
+use crate::basics::words::{plain, text};
+use crate::tools::{both, halves};
 use lines::{next_piece, plain_fields_ahead, without_return};
 use std::alloc::{AllocError, Global};
 
@@ -21,12 +21,17 @@ pub fn piece(alloc: Global, word: &str, out: &mut String) -> Result<(), AllocErr
     put_cut(out, bytes.as_bytes())
 }
 
+/// The fields of a line, with what follows them as a text.
+fn shown<'a>(ahead: Option<(&'a str, &'a str, &'a [u8])>) -> Option<(&'a str, &'a str, &'a str)> {
+    let (trace, typ, rest) = ahead?;
+    Some((trace, typ, text(rest)))
+}
+
 /// Appends the fields of a line with what follows it to the text.
 fn put_parted(alloc: Global, out: &mut String, line: &str, behind: &str) -> Result<(), AllocError> {
     let mut bytes = String::from_str(alloc, line)?;
     bytes.push_str(behind)?;
-    let ahead = plain_fields_ahead(line, bytes.as_bytes());
-    let ahead = ahead.map(|fields| (fields.0, fields.1, text(fields.2)));
+    let ahead = shown(plain_fields_ahead(line, bytes.as_bytes()));
     write!(out, "{ahead:?}")
 }
 

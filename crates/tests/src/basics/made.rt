@@ -1,7 +1,7 @@
 //! Logs that are made.
 
-use crate::basics::words::{checksum, halves, text};
-use crate::tools::number;
+use crate::basics::words::{checksum, text};
+use crate::tools::{halves, number};
 use limits::MAX_SESSIONS;
 use load_maker::make_log;
 use std::alloc::{AllocError, Global};

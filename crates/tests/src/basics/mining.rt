@@ -1,7 +1,6 @@
 //! Logs of types, and the invariants that are mined from them.
 
-use crate::basics::words::halves;
-use crate::tools::{both, kinds, number};
+use crate::tools::{both, halves, kinds, number};
 use closure_miner::mine_again;
 use count_miner::mine;
 use invariants::Invariant;
@@ -40,8 +39,7 @@ fn add_all(builder: &mut Builder, log: &str) -> Result<(), AllocError> {
 /// The traces of a log, between bars.
 pub fn traces_of(alloc: Global, log: &str) -> Result<TraceSet, AllocError> {
     let mut builder = Builder::new(alloc);
-    add_all(&mut builder, log)?;
-    builder.finish()
+    add_all(&mut builder, log).and(builder.finish())
 }
 
 /// The number after each event of a log.
@@ -52,19 +50,23 @@ pub fn numbers_of(alloc: Global, log: &str) -> Result<Vec<u32>, AllocError> {
         .collect(alloc)
 }
 
+/// Appends an invariant to the text.
+fn put_invariant(out: &mut String, inv: &Invariant) -> Result<(), AllocError> {
+    write!(out, " {:?}({},{})", inv.kind, inv.a, inv.b)
+}
+
 /// Appends how many invariants there are, and the first of them, to the text.
 fn put(out: &mut String, mined: &[Invariant]) -> Result<(), AllocError> {
     write!(out, "{}:", mined.len())?;
     for inv in mined.iter().take(SHOWN) {
-        write!(out, " {:?}({},{})", inv.kind, inv.a, inv.b)?;
+        put_invariant(out, inv)?;
     }
     Ok(())
 }
 
 /// Appends two lists to the text. The second is not shown if it equals the first.
 fn put_two(out: &mut String, first: &[Invariant], second: &[Invariant]) -> Result<(), AllocError> {
-    put(out, first)?;
-    out.push('\n')?;
+    put(out, first).and(out.push('\n'))?;
     if first == second {
         return out.push_str("the same");
     }

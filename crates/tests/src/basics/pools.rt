@@ -39,7 +39,7 @@ pub fn cells(alloc: Global, out: &mut String) -> Result<(), AllocError> {
 }
 
 /// Fills spans with room for five numbers, and appends what each call answers to the text.
-fn put_spans(spans: &mut Spans, out: &mut String) -> Result<(), AllocError>
+fn put_filled(spans: &mut Spans, out: &mut String) -> Result<(), AllocError>
     requires { spans.old ≡ record { numbers = []; room = 5 } }
 {
     let first = spans.push(&[7, 8, 9]);
@@ -49,22 +49,27 @@ fn put_spans(spans: &mut Spans, out: &mut String) -> Result<(), AllocError>
     let full = spans.used();
     let none = spans.push(&[]);
     let over = spans.push(&[6]);
+    write!(
+        out,
+        "{first:?} {refused:?} {used}\n{second:?} {full}\n{none:?} {over:?}\n"
+    )
+}
+
+/// Appends parts of spans with five numbers to the text.
+fn put_parts(spans: &Spans, out: &mut String) -> Result<(), AllocError> {
     if spans.used() != 5 {
         return out.push_str("not full");
     }
     let three = spans.get(Span { from: 0, len: 3 });
     let two = spans.get(Span { from: 3, len: 2 });
     let empty = spans.get(Span { from: 5, len: 0 });
-    write!(
-        out,
-        "{first:?} {refused:?} {used}\n{second:?} {full}\n{none:?} {over:?}\n{three:?} {two:?} {empty:?}"
-    )
+    write!(out, "{three:?} {two:?} {empty:?}")
 }
 
 /// `spans`
 pub fn spans(alloc: Global, out: &mut String) -> Result<(), AllocError> {
     let mut spans = Spans::make(alloc, 5)?;
-    put_spans(&mut spans, out)
+    put_filled(&mut spans, out).and(put_parts(&spans, out))
 }
 
 /// Appends the lists of the log of a run to the text.
@@ -130,9 +135,11 @@ fn put_log(
 ) -> Result<(), AllocError>
     requires { HoldsPaths run_log.now spans.now }
 {
-    put_splits(told, splits(alloc, run_log, spans)?.as_slice())?;
-    put_merges(told, merges(alloc, run_log)?.as_slice())?;
-    put_blocks(told, blocks(alloc, run_log, spans)?.as_slice())
+    let others = both(merges(alloc, run_log), blocks(alloc, run_log, spans));
+    let (splits, (merges, blocks)) = both(splits(alloc, run_log, spans), others)?;
+    put_splits(told, splits.as_slice())
+        .and(put_merges(told, merges.as_slice()))
+        .and(put_blocks(told, blocks.as_slice()))
 }
 
 /// Adds to an empty log, and appends what it has then to the text. Of two paths the second belongs to a split and a block.

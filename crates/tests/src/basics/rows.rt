@@ -1,8 +1,8 @@
 //! Four rows of bits: a step on the first row, and the rows afterwards.
-ghost use Rattle.std.specs.Prelude.{◌≤◌, ◌<◌, IfOk};
+ghost use Rattle.std.specs.Prelude.{◌≤◌, ◌<◌, IfOk, length};
 ghost use Rattle.bit_rows.specs.Tables.{HasShape};
 
-use crate::basics::words::halves;
+use crate::tools::halves;
 use bit_rows::Rows;
 use std::alloc::{AllocError, Global};
 
@@ -88,6 +88,16 @@ fn put_bits(told: &mut String, rows: &Rows, r: usize, bits: usize) -> Result<(),
     Ok(())
 }
 
+/// Appends the next bit of a row that is on, from this place on, to the text.
+fn put_next(told: &mut String, rows: &Rows, r: usize, place: &str) -> Result<(), AllocError>
+    requires { r < length rows.now }
+{
+    match place.parse() {
+        Ok(from) => write!(told, " {:?}", rows.next_set(r, from)),
+        Err(_) => Ok(()),
+    }
+}
+
 /// Appends what is found in a row to the text: whether all bits are off, the first bit that is on, and the next from each
 /// place.
 fn put_found(
@@ -102,9 +112,7 @@ fn put_found(
 {
     write!(told, " {} {:?}", rows.is_zero(r), rows.first_set(r))?;
     for place in places.split(' ') {
-        if let Ok(from) = place.parse() {
-            write!(told, " {:?}", rows.next_set(r, from))?;
-        }
+        put_next(told, rows, r, place)?;
     }
     told.push('\n')
 }
@@ -123,8 +131,7 @@ fn put_all(
     let second = take_step(rows, step, bits);
     write!(told, "{first} {second}\n")?;
     for r in 0..4 {
-        put_bits(told, rows, r, bits)?;
-        put_found(told, rows, r, bits, places)?;
+        put_bits(told, rows, r, bits).and(put_found(told, rows, r, bits, places))?;
     }
     Ok(())
 }

@@ -1,8 +1,8 @@
 //! Sinks in memory and of streams.
 ghost use Rattle.std.specs.Prelude.{◌≤◌};
 
-use crate::basics::words::{halves, plain, text};
-use crate::tools::{listed, number};
+use crate::basics::words::{plain, text};
+use crate::tools::{halves, listed, number};
 use outside::{Failed, MemSink, RealSink, Sink, write_whole};
 use std::alloc::{AllocError, Global};
 

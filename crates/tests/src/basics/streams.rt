@@ -1,8 +1,8 @@
 //! Inputs in memory, of files and of streams.
 ghost use Rattle.std.specs.Prelude.{◌≤◌};
 
-use crate::basics::words::{checksum, halves, plain, put_shown};
-use crate::tools::{both, listed, number};
+use crate::basics::words::{checksum, plain, put_shown};
+use crate::tools::{both, halves, listed, number, push};
 use outside::{Inputs, MemInputs, RealInputs, read_input};
 use std::alloc::{AllocError, Global};
 use std::io::{ErrorKind, Read};
@@ -42,9 +42,26 @@ fn bytes_of(alloc: Global, count: u32) -> Result<Vec<u8>, AllocError> {
 }
 
 /// Makes a file with this many bytes.
-fn make<R: Files>(rt: &R, name: &str, bytes: &[u8], out: &mut String) -> Result<(), AllocError> {
-    let made = fs::write(rt, name, bytes).is_ok();
-    write!(out, "{made} {}", checksum(bytes))
+fn make<R: Files>(
+    rt: &R,
+    alloc: Global,
+    name: &str,
+    count: u32,
+    out: &mut String,
+) -> Result<(), AllocError> {
+    let bytes = bytes_of(alloc, count)?;
+    let made = fs::write(rt, name, bytes.as_slice()).is_ok();
+    write!(out, "{made} {}", checksum(&bytes))
+}
+
+/// Removes a file.
+fn remove<R: Files>(rt: &R, name: &str, out: &mut String) -> Result<(), AllocError> {
+    write!(out, "{}", fs::remove_file(rt, name).is_ok())
+}
+
+/// Opens an input.
+fn open<I: Inputs>(inputs: &mut I, name: &str, out: &mut String) -> Result<(), AllocError> {
+    write!(out, "{:?}", inputs.open(name))
 }
 
 /// The result of a call on a file of this name.
@@ -57,11 +74,11 @@ fn answer<R: Files, I: Inputs>(
 ) -> Result<(), AllocError> {
     let (verb, name, text) = call;
     match verb {
-        "open" => write!(out, "{:?}", inputs.open(name)),
+        "open" => open(inputs, name, out),
         "read" => read(inputs, name, out),
         "whole" => whole(alloc, inputs, name, text, out),
-        "make" => make(rt, name, &bytes_of(alloc, number(text))?, out),
-        _ => write!(out, "{}", fs::remove_file(rt, name).is_ok()),
+        "make" => make(rt, alloc, name, number(text), out),
+        _ => remove(rt, name, out),
     }
 }
 
@@ -88,8 +105,7 @@ fn tell<R: Files, I: Inputs>(
     out: &mut String,
 ) -> Result<(), AllocError> {
     for one in steps.split(' ') {
-        step(rt, alloc, inputs, one, out)?;
-        out.push('\n')?;
+        step(rt, alloc, inputs, one, out).and(out.push('\n'))?;
     }
     Ok(())
 }
@@ -107,7 +123,7 @@ fn file_of(alloc: Global, word: &str) -> Result<(String, Vec<u8>), AllocError> {
 fn files_of(alloc: Global, words: &str) -> Result<Vec<(String, Vec<u8>)>, AllocError> {
     let mut files = Vec::new(alloc);
     for word in words.split(' ') {
-        files.push(file_of(alloc, word)?)?;
+        push(&mut files, file_of(alloc, word))?;
     }
     Ok(files)
 }

@@ -2,8 +2,8 @@
 
 use crate::basics::candidates::invariant;
 use crate::basics::mining::{numbers_of, traces_of};
-use crate::basics::words::{halves, text};
-use crate::tools::{both, number};
+use crate::basics::words::text;
+use crate::tools::{both, halves, number, push};
 use invariants::{Edge, Partition, Seq, Text};
 use reports::{graph_report, invariant_report, path_report};
 use std::alloc::{AllocError, Global};
@@ -13,7 +13,10 @@ use traces::TraceSet;
 fn types_of(alloc: Global, words: &str) -> Result<Seq<Text>, AllocError> {
     let mut types = Vec::new(alloc);
     for word in words.split(' ') {
-        types.push(Text::from_string(String::from_str(alloc, word)?))?;
+        push(
+            &mut types,
+            String::from_str(alloc, word).map(Text::from_string),
+        )?;
     }
     Ok(Seq::from_vec(types))
 }

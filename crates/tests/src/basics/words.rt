@@ -2,11 +2,6 @@
 
 use std::alloc::{AllocError, Global};
 
-/// The parts before and after the first such letter; if there is none, all and nothing.
-pub fn halves<'a>(words: &'a str, at: char) -> (&'a str, &'a str) {
-    words.split_once(at).unwrap_or((words, ""))
-}
-
 /// The letter that a letter of an argument stands for.
 fn meant(letter: char) -> char {
     match letter {

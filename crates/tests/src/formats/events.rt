@@ -1,7 +1,8 @@
 //! Events that are gathered in traces.
 
-use crate::formats::notation::number_of;
+use crate::formats::notation::{number_of, u32_of};
 use crate::formats::said::write_log;
+use crate::tools::parted;
 use limits::{MAX_TRACE_BYTES, MAX_TYPE_BYTES};
 use std::alloc::{AllocError, Global};
 use std::fmt::Write;
@@ -31,14 +32,12 @@ pub fn add(
 
 /// Takes a step `COUNT FILE SECTION TIME TRACE|TYPE`: adds that event `COUNT` times, and reports why one is refused.
 fn take_step(builder: &mut Builder, step: &str, out: &mut String) -> Result<(), AllocError> {
-    let (count, rest) = number_of(step);
-    let (file, rest) = number_of(rest);
-    let (section, rest) = number_of(rest);
+    let (count, rest) = u32_of(step);
+    let (file, rest) = u32_of(rest);
+    let (section, rest) = u32_of(rest);
     let (time, rest) = number_of(rest);
-    let (text, typ) = rest.split_once('|').unwrap_or(("", ""));
-    let file = u32::try_from(file).unwrap_or(0);
-    let section = u32::try_from(section).unwrap_or(0);
-    for _ in 0..u32::try_from(count).unwrap_or(0) {
+    let (text, typ) = parted(rest, '|');
+    for _ in 0..count {
         if let Err(fault) = add(builder, (file, section, text), typ, time) {
             writeln!(out, "{fault:?}")?;
         }
@@ -57,8 +56,7 @@ fn take_steps(builder: &mut Builder, steps: &str, out: &mut String) -> Result<()
 /// The log of the events of these steps.
 fn log_of(alloc: Global, steps: &str, out: &mut String) -> Result<TraceSet, AllocError> {
     let mut builder = Builder::new(alloc);
-    take_steps(&mut builder, steps, out)?;
-    builder.finish()
+    take_steps(&mut builder, steps, out).and(builder.finish())
 }
 
 /// Takes the steps of a case, and reports what is gathered.

@@ -1,8 +1,8 @@
 //! The lines of an input.
-ghost use Rattle.std.specs.Prelude.{◌≡◌, false};
+ghost use Rattle.std.specs.Prelude.{◌≡◌, IsSome, false};
 
-use crate::formats::notation::{bytes_of, number_of, write_bytes};
-use crate::tools::listed;
+use crate::formats::notation::{bytes_of, usize_of, write_bytes};
+use crate::tools::{both, listed, push};
 use log_reader::Lines;
 use outside::{Inputs, MemInputs};
 use std::alloc::{AllocError, Global};
@@ -16,8 +16,18 @@ fn input_of(
     failing: u64,
 ) -> Result<MemInputs, AllocError> {
     let mut files = Vec::new(alloc);
-    files.push((String::new(alloc), bytes))?;
-    Ok(MemInputs::new(files, piece.max(1), listed(alloc, failing)?))
+    let files = push(&mut files, Ok((String::new(alloc), bytes))).and(Ok(files));
+    let (files, calls) = both(files, listed(alloc, failing))?;
+    Ok(MemInputs::new(files, piece.max(1), calls))
+}
+
+/// Reports the line that was read.
+fn write_line(lines: &Lines, out: &mut String) -> Result<(), AllocError>
+    requires { IsSome (lines.now).line }
+{
+    write!(out, "{} {} ", lines.number(), lines.ends_with_feed())
+        .and(write_bytes(out, lines.line()))
+        .and(out.push('\n'))
 }
 
 /// Reports what the lines are, and how they end.
@@ -31,9 +41,7 @@ fn write_lines(
     'lines: for _ in 0..100 {
         match lines.next(inputs) {
             Ok(true) => {
-                write!(out, "{} {} ", lines.number(), lines.ends_with_feed())?;
-                write_bytes(out, lines.line())?;
-                out.push('\n')?;
+                write_line(lines, out)?;
             }
             Ok(false) => return writeln!(out, "end after {}", lines.number()),
             Err(fault) => return writeln!(out, "{fault:?}"),
@@ -52,8 +60,7 @@ fn write_input(alloc: Global, inputs: &mut MemInputs, out: &mut String) -> Resul
 
 /// Reports the lines of the input. The arguments are the maximum number of bytes of a read, and the call that fails.
 pub fn run(alloc: Global, words: &str, input: &str, out: &mut String) -> Result<(), AllocError> {
-    let (piece, failing) = number_of(words);
-    let piece = usize::try_from(piece).unwrap_or(1);
+    let (piece, failing) = usize_of(words);
     let bytes = bytes_of(alloc, input)?;
     let mut inputs = input_of(alloc, bytes, piece, failing.parse().unwrap_or(0))?;
     write_input(alloc, &mut inputs, out)

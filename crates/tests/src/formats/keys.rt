@@ -1,6 +1,6 @@
 //! Keys in a table: where each is put or found, and then all keys.
 
-use crate::formats::notation::{number_of, write_bytes};
+use crate::formats::notation::{u32_of, usize_of, write_bytes};
 use key_table::KeyTable;
 use std::alloc::{AllocError, Global};
 use std::fmt::Write;
@@ -31,6 +31,18 @@ fn place(
     Ok(Some(found))
 }
 
+/// Reports where a key is found by its words alone, if that differs from its place.
+fn write_other(
+    found: Option<usize>,
+    short: Option<usize>,
+    out: &mut String,
+) -> Result<(), AllocError> {
+    if short.is_some() && short != found {
+        return writeln!(out, "but {short:?} by its words");
+    }
+    Ok(())
+}
+
 /// Takes a step `NEAR SECTION TEXT`, and reports the place of the key, and where it is found by its words alone if that
 /// differs.
 fn take_step(
@@ -39,25 +51,20 @@ fn take_step(
     step: &str,
     out: &mut String,
 ) -> Result<(), AllocError> {
-    let (near, section_and_text) = number_of(step);
-    let (section, text) = number_of(section_and_text);
-    let near = usize::try_from(near).unwrap_or(0);
-    let section = u32::try_from(section).unwrap_or(0);
+    let (near, section_and_text) = usize_of(step);
+    let (section, text) = u32_of(section_and_text);
     let found = place(alloc, table, near, section, text)?;
     let short = table.short_place_of(0, section, &PackedText::of(text));
-    if short.is_some() && short != found {
-        writeln!(out, "but {short:?} by its words")?;
-    }
-    writeln!(out, "{found:?}")
+    write_other(found, short, out).and(writeln!(out, "{found:?}"))
 }
 
 /// Reports which keys there are: their files, sections and texts.
 fn write_keys(table: &KeyTable, out: &mut String) -> Result<(), AllocError> {
     for place in 0..table.len() {
         let key = table.key(place);
-        write!(out, "{} {} ", key.file, key.section)?;
-        write_bytes(out, key.text)?;
-        out.push('\n')?;
+        write!(out, "{} {} ", key.file, key.section)
+            .and(write_bytes(out, key.text))
+            .and(out.push('\n'))?;
     }
     Ok(())
 }

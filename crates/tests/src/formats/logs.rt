@@ -1,8 +1,8 @@
 //! Logs of several inputs.
 
-use crate::formats::notation::{bytes_of, number_of, write_bytes};
+use crate::formats::notation::{bytes_of, usize_of, write_bytes};
 use crate::formats::said::write_log;
-use crate::tools::{both, listed};
+use crate::tools::{both, halves, listed, parted, push};
 use line_rules::{LineRules, RegexPatterns};
 use log_reader::{Form, read_log};
 use outside::{Inputs, MemInputs};
@@ -11,7 +11,7 @@ use std::fmt::Write;
 
 /// The file of a step `NAME|TEXT`.
 fn file_of(alloc: Global, step: &str) -> Result<(String, Vec<u8>), AllocError> {
-    let (name, text) = step.split_once('|').unwrap_or(("", ""));
+    let (name, text) = parted(step, '|');
     both(name.to_string(alloc), bytes_of(alloc, text))
 }
 
@@ -19,7 +19,7 @@ fn file_of(alloc: Global, step: &str) -> Result<(String, Vec<u8>), AllocError> {
 fn files_of(alloc: Global, steps: &str) -> Result<Vec<(String, Vec<u8>)>, AllocError> {
     let mut files = Vec::new(alloc);
     for step in steps.split('\n') {
-        files.push(file_of(alloc, step)?)?;
+        push(&mut files, file_of(alloc, step))?;
     }
     Ok(files)
 }
@@ -28,7 +28,7 @@ fn files_of(alloc: Global, steps: &str) -> Result<Vec<(String, Vec<u8>)>, AllocE
 fn names_of(alloc: Global, words: &str) -> Result<Vec<String>, AllocError> {
     let mut names = Vec::new(alloc);
     for name in words.split_whitespace() {
-        names.push(name.to_string(alloc)?)?;
+        push(&mut names, name.to_string(alloc))?;
     }
     Ok(names)
 }
@@ -46,10 +46,13 @@ fn read_named(
         return out.push_str("too many names\n");
     }
     let (ignore, join) = (options.contains('i'), options.contains('j'));
-    match read_log(alloc, inputs, names, form, ignore, join) {
-        Ok(log) => write_log(out, &log),
+    let read = read_log(alloc, inputs, names, form, ignore, join);
+    let end = match &read {
+        Ok(log) => write_log(out, log),
         Err(fault) => writeln!(out, "{fault:?}"),
-    }
+    };
+    drop(read);
+    end
 }
 
 /// The same. The arguments are the options and the names.
@@ -60,7 +63,7 @@ fn read(
     form: Form<'_>,
     out: &mut String,
 ) -> Result<(), AllocError> {
-    let (options, names) = words.split_once('|').unwrap_or(("", ""));
+    let (options, names) = parted(words, '|');
     let names = names_of(alloc, names)?;
     read_named(alloc, inputs, &names, options, form, out)
 }
@@ -76,19 +79,23 @@ fn read_by(
     if file == "plain" {
         return read(alloc, inputs, words, Form::Plain, out);
     }
-    match LineRules::read(alloc, file.as_bytes(), &mut RegexPatterns::new(alloc)) {
-        Ok(rules) => read(alloc, inputs, words, Form::Rules(&rules), out),
+    let rules = LineRules::read(alloc, file.as_bytes(), &mut RegexPatterns::new(alloc));
+    let end = match &rules {
+        Ok(rules) => read(alloc, inputs, words, Form::Rules(rules), out),
         Err(fault) => writeln!(out, "{fault:?}"),
-    }
+    };
+    drop(rules);
+    end
 }
 
 /// Reports what a further read gives.
 fn write_left(inputs: &mut MemInputs, out: &mut String) -> Result<(), AllocError> {
     let mut buf = [0u8; 7];
     let count = inputs.read(&mut buf);
-    write!(out, "then {count:?} ")?;
-    write_bytes(out, buf.get(..count.unwrap_or(0)).unwrap_or(&[]))?;
-    out.push('\n')
+    let read = buf.get(..count.unwrap_or(0)).unwrap_or(&[]);
+    write!(out, "then {count:?} ")
+        .and(write_bytes(out, read))
+        .and(out.push('\n'))
 }
 
 /// Reports what the log of the inputs has. If a call fails, a further read reports what is left.
@@ -110,12 +117,10 @@ fn read_all(
 /// The same. The arguments are the maximum number of bytes of a read, the call that fails, the
 /// options and the names. The first step is the rules file, and the others are the inputs.
 pub fn run(alloc: Global, words: &str, steps: &str, out: &mut String) -> Result<(), AllocError> {
-    let (piece, rest) = number_of(words);
-    let (failing, words) = number_of(rest);
-    let piece = usize::try_from(piece).unwrap_or(1).max(1);
-    let failing = u64::try_from(failing).unwrap_or(0);
-    let (file, inputs) = steps.split_once('\n').unwrap_or((steps, ""));
-    let (files, calls) = both(files_of(alloc, inputs), listed(alloc, failing))?;
-    let mut inputs = MemInputs::new(files, piece, calls);
+    let (piece, rest) = usize_of(words);
+    let (failing, words) = usize_of(rest);
+    let (file, inputs) = halves(steps, '\n');
+    let (files, calls) = both(files_of(alloc, inputs), listed(alloc, failing as u64))?;
+    let mut inputs = MemInputs::new(files, piece.max(1), calls);
     read_all(alloc, &mut inputs, words, file, failing > 0, out)
 }

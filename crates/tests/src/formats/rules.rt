@@ -1,7 +1,7 @@
 //! Files of rules, and what their rules decide of lines.
 
 use crate::formats::notation::{bytes_of, text_of, write_bytes};
-use crate::tools::listed;
+use crate::tools::{halves, listed};
 use line_rules::{Decision, LineRules, ListedPatterns, Named, Patterns, RegexPatterns};
 use std::alloc::{AllocError, Global};
 use std::fmt::Write;
@@ -25,20 +25,36 @@ fn type_of<'t>(rules: &'t LineRules, line: &'t str) -> &'t str {
     }
 }
 
-/// Reports what rules decide of a line: on their own, and if it differs, with what is kept from line to line.
+/// Reports what rules decide of a line on their own.
+fn write_once(rules: &LineRules, line: &str, out: &mut String) -> Result<(), AllocError> {
+    write!(out, "{:?} ", rules.decide(line))
+        .and(write_bytes(out, type_of(rules, line).as_bytes()))
+        .and(out.push('\n'))
+}
+
+/// The same, and if it differs, what they decide with what is kept from line to line.
 fn write_decision(rules: &LineRules, line: &str, out: &mut String) -> Result<(), AllocError> {
     let mut matchers = rules.matchers()?;
     let first = matchers.decide(line);
     let again = matchers.decide(line);
     drop(matchers);
     let once = rules.decide(line);
-    write!(out, "{once:?} ")?;
-    write_bytes(out, type_of(rules, line).as_bytes())?;
-    out.push('\n')?;
+    let head = write_once(rules, line, out);
     if first != once || again != once {
-        writeln!(out, "but {first:?} and {again:?} by what is kept")?;
+        return head.and(writeln!(out, "but {first:?} and {again:?} by what is kept"));
     }
-    Ok(())
+    head
+}
+
+/// The same for a line of a case.
+fn write_line(
+    alloc: Global,
+    rules: &LineRules,
+    line: &str,
+    out: &mut String,
+) -> Result<(), AllocError> {
+    let line = text_of(alloc, line)?;
+    write_decision(rules, &line, out)
 }
 
 /// Reports what rules decide of lines.
@@ -53,8 +69,7 @@ fn write_decisions(
         return Ok(());
     }
     for line in lines.split('\n') {
-        let line = text_of(alloc, line)?;
-        write_decision(rules, &line, out)?;
+        write_line(alloc, rules, line, out)?;
     }
     Ok(())
 }
@@ -66,14 +81,16 @@ fn read<P: Patterns>(
     patterns: &mut P,
     out: &mut String,
 ) -> Result<(), AllocError> {
-    let (file, lines) = steps.split_once('\n').unwrap_or((steps, ""));
+    let (file, lines) = halves(steps, '\n');
     let file = bytes_of(alloc, file)?;
     let rules = LineRules::read(alloc, &file, patterns);
     drop(file);
-    match rules {
-        Ok(rules) => write_decisions(alloc, &rules, lines, out),
+    let end = match &rules {
+        Ok(rules) => write_decisions(alloc, rules, lines, out),
         Err(fault) => writeln!(out, "{fault:?}"),
-    }
+    };
+    drop(rules);
+    end
 }
 
 /// Reads the rules file of the first step, and decides the lines of the others. The argument of the heading is the number of a

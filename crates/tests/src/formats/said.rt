@@ -11,8 +11,8 @@ use traces::TraceSet;
 pub fn write_types(out: &mut String, types: &[Text]) -> Result<(), AllocError> {
     out.push_str("types")?;
     for text in types {
-        out.push('|')?;
-        write_bytes(out, text.as_str().as_bytes())?;
+        out.push('|')
+            .and(write_bytes(out, text.as_str().as_bytes()))?;
     }
     out.push('\n')
 }
@@ -21,23 +21,21 @@ pub fn write_types(out: &mut String, types: &[Text]) -> Result<(), AllocError> {
 fn write_traces(out: &mut String, log: &TraceSet) -> Result<(), AllocError> {
     for t in 0..log.trace_count() {
         let (key, events, times) = (log.key(t), log.events(t), log.times(t));
-        write!(out, "{} {} ", key.file, key.section)?;
-        write_bytes(out, key.text)?;
-        writeln!(out, "|{events:?} {times:?}")?;
+        write!(out, "{} {} ", key.file, key.section)
+            .and(write_bytes(out, key.text))
+            .and(writeln!(out, "|{events:?} {times:?}"))?;
     }
     Ok(())
 }
 
 /// Reports what a log has: of more than 1,000 events only how many there are.
 pub fn write_log(out: &mut String, log: &TraceSet) -> Result<(), AllocError> {
-    write_types(out, log.types().as_slice())?;
-    writeln!(
+    let (traces, events) = (log.trace_count(), log.event_count());
+    write_types(out, log.types().as_slice()).and(writeln!(
         out,
-        "{} traces, {} events",
-        log.trace_count(),
-        log.event_count()
-    )?;
-    if log.event_count() > 1_000 {
+        "{traces} traces, {events} events"
+    ))?;
+    if events > 1_000 {
         return Ok(());
     }
     write_traces(out, log)
@@ -48,8 +46,7 @@ fn write_labels(out: &mut String, labels: &Labels) -> Result<(), AllocError> {
     out.push('[')?;
     let mut before = "";
     for digit in labels.as_digits() {
-        out.push_str(before)?;
-        out.push(char::from(*digit))?;
+        out.push_str(before).and(out.push(char::from(*digit)))?;
         before = ", ";
     }
     out.push_str("]\n")
@@ -57,8 +54,7 @@ fn write_labels(out: &mut String, labels: &Labels) -> Result<(), AllocError> {
 
 fn write_invariants(out: &mut String, invariants: &[Listed]) -> Result<(), AllocError> {
     for listed in invariants {
-        write!(out, "{:?} ", listed.inv)?;
-        write_labels(out, &listed.labels)?;
+        write!(out, "{:?} ", listed.inv).and(write_labels(out, &listed.labels))?;
     }
     Ok(())
 }
@@ -81,21 +77,26 @@ fn write_blocks(out: &mut String, blocks: &[Block]) -> Result<(), AllocError> {
 
 /// Reports what a model contains.
 fn write_model(out: &mut String, model: &Model) -> Result<(), AllocError> {
-    write_types(out, model.types.as_slice())?;
-    writeln!(out, "{:?}", model.kinds)?;
-    writeln!(out, "{:?}", model.partitions.as_slice())?;
-    writeln!(out, "{:?}", model.edges.as_slice())?;
-    writeln!(out, "{:?}", model.merges.as_slice())?;
-    write_invariants(out, model.invariants.as_slice())?;
-    write_splits(out, model.splits.as_slice())?;
-    write_blocks(out, model.blocks.as_slice())
+    let partitions = model.partitions.as_slice();
+    let (edges, merges) = (model.edges.as_slice(), model.merges.as_slice());
+    write_types(out, model.types.as_slice())
+        .and(writeln!(
+            out,
+            "{:?}\n{partitions:?}\n{edges:?}\n{merges:?}",
+            model.kinds
+        ))
+        .and(write_invariants(out, model.invariants.as_slice()))
+        .and(write_splits(out, model.splits.as_slice()))
+        .and(write_blocks(out, model.blocks.as_slice()))
 }
 
 /// Reports what the model in a file contains.
 pub fn run(alloc: Global, file: &str, out: &mut String) -> Result<(), AllocError> {
-    let file = bytes_of(alloc, file)?;
-    match read_model(alloc, file) {
-        Ok(model) => write_model(out, &model),
+    let read = read_model(alloc, bytes_of(alloc, file)?);
+    let end = match &read {
+        Ok(model) => write_model(out, model),
         Err(fault) => writeln!(out, "{fault:?}"),
-    }
+    };
+    drop(read);
+    end
 }

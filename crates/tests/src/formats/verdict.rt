@@ -3,7 +3,8 @@
 use crate::formats::changes::changed;
 use crate::formats::events::add;
 use crate::formats::notation::bytes_of;
-use model_check::check;
+use crate::tools::halves;
+use model_check::{Verdict, check};
 use model_reader::read_model;
 use std::alloc::{AllocError, Global};
 use std::fmt::Write;
@@ -33,24 +34,30 @@ fn add_traces(builder: &mut Builder, traces: &str, out: &mut String) -> Result<(
 /// The log of traces.
 fn log_of(alloc: Global, traces: &str, out: &mut String) -> Result<TraceSet, AllocError> {
     let mut builder = Builder::new(alloc);
-    add_traces(&mut builder, traces, out)?;
-    builder.finish()
+    add_traces(&mut builder, traces, out).and(builder.finish())
 }
 
-/// Reports whether the model of a file is valid for the log.
+/// Reports a verdict.
+fn write_checked(verdict: Result<Verdict, AllocError>, out: &mut String) -> Result<(), AllocError> {
+    let verdict = verdict?;
+    writeln!(out, "{verdict:?}")
+}
+
+/// Reports whether a change of the model of a file is valid for the log.
 fn write_verdict(
     alloc: Global,
-    file: Vec<u8>,
     log: &TraceSet,
+    base: &[u8],
+    change: &str,
     out: &mut String,
 ) -> Result<(), AllocError> {
-    let model = match read_model(alloc, file) {
-        Ok(model) => model,
-        Err(fault) => return writeln!(out, "{fault:?}"),
+    let read = read_model(alloc, changed(alloc, base, change)?);
+    let end = match &read {
+        Ok(model) => write_checked(check(alloc, model, log), out),
+        Err(fault) => writeln!(out, "{fault:?}"),
     };
-    let verdict = check(alloc, &model, log);
-    drop(model);
-    writeln!(out, "{:?}", verdict?)
+    drop(read);
+    end
 }
 
 /// Reports the verdict on each change of the model of the first step.
@@ -60,11 +67,10 @@ fn write_verdicts(
     steps: &str,
     out: &mut String,
 ) -> Result<(), AllocError> {
-    let (base, changes) = steps.split_once('\n').unwrap_or((steps, ""));
+    let (base, changes) = halves(steps, '\n');
     let base = bytes_of(alloc, base)?;
     for change in changes.split('\n') {
-        let file = changed(alloc, &base, change)?;
-        write_verdict(alloc, file, log, out)?;
+        write_verdict(alloc, log, &base, change, out)?;
     }
     Ok(())
 }

@@ -4,9 +4,9 @@ use crate::graphs::logs::log_of;
 use crate::graphs::moves::{put_chain_of, put_moves};
 use crate::graphs::paths::{put_paths, put_places};
 use crate::graphs::runs::put_run;
-use crate::graphs::texts::{put_graph, put_sizes, put_spread};
+use crate::graphs::texts::{put_graph, put_number, put_sizes, put_spread};
 use crate::graphs::views::{put_edges, put_view};
-use crate::tools::{both, put};
+use crate::tools::{both, halves, put};
 use partition_graph::PartGraph;
 use path_finder::Finder;
 use std::alloc::{AllocError, Global};
@@ -26,9 +26,26 @@ pub struct Desk {
 fn put_counts(told: &mut String, graph: &PartGraph, numbers: &[u32]) -> Result<(), AllocError> {
     write!(told, " {} {};", graph.trace_count(), graph.event_count())?;
     for number in numbers {
-        write!(told, " {number}")?;
+        put_number(told, *number)?;
     }
     Ok(())
+}
+
+/// Queries parts of the graph, or splits and merges them.
+fn ask_parts(
+    told: &mut String,
+    graph: &mut PartGraph,
+    numbers: &[u32],
+    word: &str,
+    text: &str,
+) -> Result<(), AllocError> {
+    match word {
+        "take" => put_moves(told, graph, text),
+        "chain" => put_chain_of(told, graph, text),
+        "sizes" => put_sizes(told, graph, text),
+        "edges" => put_edges(told, graph, text),
+        _ => put_counts(told, graph, numbers),
+    }
 }
 
 impl Desk {
@@ -59,10 +76,7 @@ impl Desk {
     /// Makes what a step asks for.
     fn make(&mut self, alloc: Global, word: &str, text: &str) -> Result<(), AllocError> {
         match word {
-            "log" => {
-                put(&mut self.log, log_of(alloc, text))?;
-                self.open(alloc, false)
-            }
+            "log" => { put(&mut self.log, log_of(alloc, text)).and(self.open(alloc, false)) }
             "shared" => self.open(alloc, true),
             "invs" => put(&mut self.labels_and_marks, labels_and_marks_of(alloc, text)),
             "paths" if self.finder.is_none() => put(&mut self.finder, Finder::make(alloc)),
@@ -95,19 +109,9 @@ impl Desk {
         let Some((graph, _)) = &mut self.graph else {
             return Ok(());
         };
-        let Some(labels_and_marks) = &mut self.labels_and_marks else {
-            return Ok(());
-        };
-        match word {
-            "label" => labels_and_marks.put_labels(told, graph, text),
-            "labels" => labels_and_marks.put_states(told),
-            "satisfied" => labels_and_marks.put_satisfied(alloc, told, graph),
-            "clashes" => labels_and_marks.put_clashes(told, graph, text),
-            "marks" => {
-                labels_and_marks.find(graph);
-                Ok(())
-            }
-            _ => write!(told, " {}", labels_and_marks.invs.len()),
+        match &mut self.labels_and_marks {
+            Some(labels_and_marks) => labels_and_marks.ask(alloc, told, graph, word, text),
+            None => Ok(()),
         }
     }
 
@@ -123,15 +127,11 @@ impl Desk {
             return Ok(());
         };
         match word {
-            "take" => put_moves(told, graph, text),
-            "chain" => put_chain_of(told, graph, text),
             "graph" => put_graph(alloc, told, graph),
             "spread" => put_spread(alloc, told, graph, numbers),
-            "sizes" => put_sizes(told, graph, text),
             "view" => put_view(alloc, told, graph, text),
-            "edges" => put_edges(told, graph, text),
             "places" => put_places(alloc, told, graph, text),
-            _ => put_counts(told, graph, numbers),
+            _ => ask_parts(told, graph, numbers, word, text),
         }
     }
 
@@ -170,10 +170,10 @@ impl Desk {
 
     /// Takes a step, and appends its name and its result to the text.
     pub fn step(&mut self, alloc: Global, line: &str, told: &mut String) -> Result<(), AllocError> {
-        let (word, text) = line.split_once(' ').unwrap_or((line, ""));
-        self.make(alloc, word, text)?;
-        write!(told, "{word}:")?;
-        self.ask(alloc, told, word, text)?;
-        told.push('\n')
+        let (word, text) = halves(line, ' ');
+        self.make(alloc, word, text)
+            .and(write!(told, "{word}:"))
+            .and(self.ask(alloc, told, word, text))
+            .and(told.push('\n'))
     }
 }

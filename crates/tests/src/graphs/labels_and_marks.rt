@@ -153,6 +153,14 @@ fn put_row(told: &mut String, planes: &Planes, number: usize) -> Result<(), Allo
     Ok(())
 }
 
+/// Appends flags to the text.
+fn put_flags(told: &mut String, flags: &[bool]) -> Result<(), AllocError> {
+    for flag in flags {
+        told.push_str(if *flag { "1" } else { "0" })?;
+    }
+    Ok(())
+}
+
 /// Appends a number to the text, if there is one.
 fn put_number(told: &mut String, number: Option<usize>) -> Result<(), AllocError> {
     match number {
@@ -176,7 +184,7 @@ impl LabelsAndMarks {
     }
 
     /// The labels, and the first invariant that does not hold.
-    pub fn put_states(&self, told: &mut String) -> Result<(), AllocError> {
+    fn put_states(&self, told: &mut String) -> Result<(), AllocError> {
         for number in 0..self.invs.len() {
             put_row(told, &self.planes, number)?;
         }
@@ -184,7 +192,7 @@ impl LabelsAndMarks {
     }
 
     /// The same after labelling the graph, or the merge of a pair.
-    pub fn put_labels(
+    fn put_labels(
         &mut self,
         told: &mut String,
         graph: &PartGraph,
@@ -197,7 +205,7 @@ impl LabelsAndMarks {
     }
 
     /// Which invariants the graph satisfies.
-    pub fn put_satisfied(
+    fn put_satisfied(
         &mut self,
         alloc: Global,
         told: &mut String,
@@ -205,15 +213,11 @@ impl LabelsAndMarks {
     ) -> Result<(), AllocError> {
         let mut flags = Vec::from_elem(alloc, false, self.invs.len())?;
         tell_counted::<Brand>(&mut self.planes, graph, &mut flags, Blank::new(1));
-        told.push_str(" ")?;
-        for flag in &flags {
-            told.push_str(if *flag { "1" } else { "0" })?;
-        }
-        Ok(())
+        told.push_str(" ").and(put_flags(told, &flags))
     }
 
     /// Finds the marks of the graph.
-    pub fn find(&mut self, graph: &PartGraph) {
+    fn find(&mut self, graph: &PartGraph) {
         find_counted::<Brand>(&mut self.planes, &mut self.clashes, graph, Blank::new(1));
     }
 
@@ -238,8 +242,10 @@ impl LabelsAndMarks {
         if p >= MAX_PARTITIONS || q >= MAX_PARTITIONS {
             return told.push_str(" no");
         }
-        put_number(told, self.planes.first_clash(p, q))?;
-        put_number(told, self.clashes.first_clash(p, q))
+        put_number(told, self.planes.first_clash(p, q)).and(put_number(
+            told,
+            self.clashes.first_clash(p, q),
+        ))
     }
 
     /// Queries two ids, for example `3-7`, or merges them, for example `3+7`.
@@ -261,7 +267,7 @@ impl LabelsAndMarks {
     }
 
     /// The same for all queries of a text, which are separated by spaces.
-    pub fn put_clashes(
+    fn put_clashes(
         &mut self,
         told: &mut String,
         graph: &mut PartGraph,
@@ -271,5 +277,27 @@ impl LabelsAndMarks {
             self.put_ask(told, graph, text)?;
         }
         Ok(())
+    }
+
+    /// Reports the result of a step.
+    pub fn ask(
+        &mut self,
+        alloc: Global,
+        told: &mut String,
+        graph: &mut PartGraph,
+        word: &str,
+        text: &str,
+    ) -> Result<(), AllocError> {
+        match word {
+            "label" => self.put_labels(told, graph, text),
+            "labels" => self.put_states(told),
+            "satisfied" => self.put_satisfied(alloc, told, graph),
+            "clashes" => self.put_clashes(told, graph, text),
+            "marks" => {
+                self.find(graph);
+                Ok(())
+            }
+            _ => write!(told, " {}", self.invs.len()),
+        }
     }
 }

@@ -1,6 +1,6 @@
 //! Splits and merges of a graph.
 use crate::graphs::known::is_pair;
-use crate::tools::number;
+use crate::tools::{halves, number};
 use partition_graph::PartGraph;
 use std::alloc::AllocError;
 
@@ -66,7 +66,7 @@ pub fn put_chain_of(
     graph: &mut PartGraph,
     text: &str,
 ) -> Result<(), AllocError> {
-    let (split, count) = text.split_once(' ').unwrap_or((text, ""));
+    let (split, count) = halves(text, ' ');
     let (p, first) = pair_of(split, '/').unwrap_or((0, 0));
     put_chain(told, graph, p, first, number(count))
 }

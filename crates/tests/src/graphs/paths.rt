@@ -51,6 +51,12 @@ fn put_least<L: Ledger>(
     put_path(told, finder.least_loss(graph, pair, inv, false, &mut steps))
 }
 
+/// The merge of a pair, for example `2+5`, if one is given.
+fn merge_of(pair: &str) -> Option<Merge> {
+    let (p, q) = pair_of(pair, '+')?;
+    Some(Merge { p, q })
+}
+
 /// Appends the shortest counterexample path of each invariant to the text, after the merge of a pair, for example `2+5`, if one
 /// is given.
 pub fn put_paths(
@@ -60,10 +66,11 @@ pub fn put_paths(
     invs: &[Invariant],
     pair: &str,
 ) -> Result<(), AllocError> {
-    let merge = pair_of(pair, '+').map(|(p, q)| Merge { p, q });
+    let merge = merge_of(pair);
     for inv in invs {
-        put_least::<Brand>(told, finder, graph, merge, *inv, Blank::new(1))?;
-        told.push_str(";")?;
+        put_least::<Brand>(told, finder, graph, merge, *inv, Blank::new(1)).and(told.push_str(
+            ";",
+        ))?;
     }
     Ok(())
 }
@@ -79,16 +86,18 @@ fn path_of(alloc: Global, ids: &str) -> Result<Vec<u32>, AllocError> {
 
 /// Appends the place of the path's stitch to the text, if the path begins with INITIAL and there is a trace.
 fn put_place(
+    alloc: Global,
     told: &mut String,
     stitcher: &mut Stitcher,
     graph: &PartGraph,
-    path: &[u32],
+    ids: &str,
 ) -> Result<(), AllocError>
     requires { stitcher.old ≡ length (events (graph.now).traces) }
     ensures { stitcher.new ≡ stitcher.old }
 {
+    let path = path_of(alloc, ids)?;
     if graph.trace_count() > 0 && path.first() == Some(&INITIAL) {
-        let place = stitcher.place(graph, path);
+        let place = stitcher.place(graph, path.as_slice());
         write!(told, " {place}")?;
     }
     Ok(())
@@ -103,8 +112,7 @@ pub fn put_places(
 ) -> Result<(), AllocError> {
     let mut stitcher = Stitcher::make(alloc, graph)?;
     for ids in paths.split_whitespace() {
-        let path = path_of(alloc, ids)?;
-        put_place(told, &mut stitcher, graph, path.as_slice())?;
+        put_place(alloc, told, &mut stitcher, graph, ids)?;
     }
     Ok(())
 }

@@ -13,7 +13,7 @@ use crate::tools::{both, kinds};
 use cell_pool::{RunLog, Spans};
 use coarsener::{EvidenceLimit, blocks, coarsen};
 use count_miner::mine;
-use invariants::{Invariant, Kinds};
+use invariants::{Block, Invariant, Kinds, Merge, Split};
 use labelling::Planes;
 use limits::{MAX_PAIRS, MAX_PARTITIONS, MAX_PATH_NUMBERS, MAX_STEPS};
 use partition_graph::PartGraph;
@@ -150,34 +150,28 @@ fn run<L: Ledger>(
 }
 
 /// Appends the splits to the text, each with its invariant, its place and its path.
-fn put_splits(alloc: Global, told: &mut String, tools: &Tools) -> Result<(), AllocError>
-    requires { HoldsPaths tools.now.run_log tools.now.spans }
-{
-    let splits = run_history::splits(alloc, &tools.run_log, &tools.spans)?;
-    for split in splits.as_slice() {
-        write!(told, "; {}@{}:", split.inv, split.place)?;
-        put_ids(told, split.path.as_slice())?;
+fn put_splits(told: &mut String, splits: &[Split]) -> Result<(), AllocError> {
+    for split in splits {
+        write!(told, "; {}@{}:", split.inv, split.place).and(put_ids(told, split.path.as_slice()))?;
     }
     Ok(())
 }
 
 /// Appends the merges to the text.
-fn put_merges(alloc: Global, told: &mut String, tools: &Tools) -> Result<(), AllocError> {
-    let merges = run_history::merges(alloc, &tools.run_log)?;
-    for merge in merges.as_slice() {
+fn put_merges(told: &mut String, merges: &[Merge]) -> Result<(), AllocError> {
+    for merge in merges {
         write!(told, "; {}+{}", merge.p, merge.q)?;
     }
     Ok(())
 }
 
 /// Appends the blocks to the text, each with its pair, its invariant and its path.
-fn put_blocks(alloc: Global, told: &mut String, tools: &Tools) -> Result<(), AllocError>
-    requires { HoldsPaths tools.now.run_log tools.now.spans }
-{
-    let blocks = run_history::blocks(alloc, &tools.run_log, &tools.spans)?;
-    for block in blocks.as_slice() {
-        write!(told, "; {}-{} {}:", block.p, block.q, block.inv)?;
-        put_ids(told, block.path.as_slice())?;
+fn put_blocks(told: &mut String, blocks: &[Block]) -> Result<(), AllocError> {
+    for block in blocks {
+        write!(told, "; {}-{} {}:", block.p, block.q, block.inv).and(put_ids(
+            told,
+            block.path.as_slice(),
+        ))?;
     }
     Ok(())
 }
@@ -185,8 +179,7 @@ fn put_blocks(alloc: Global, told: &mut String, tools: &Tools) -> Result<(), All
 /// Appends the id of each event to the text.
 fn put_parts(alloc: Global, told: &mut String, graph: &PartGraph) -> Result<(), AllocError> {
     let parts = graph.parts(alloc)?;
-    told.push_str("; ids:")?;
-    put_ids(told, parts.as_slice())
+    told.push_str("; ids:").and(put_ids(told, parts.as_slice()))
 }
 
 /// Appends what a run wrote to the text, and then the ids of the events.
@@ -198,10 +191,17 @@ fn put_written(
 ) -> Result<(), AllocError>
     requires { HoldsPaths tools.now.run_log tools.now.spans }
 {
-    put_splits(alloc, told, tools)?;
-    put_merges(alloc, told, tools)?;
-    put_blocks(alloc, told, tools)?;
-    put_parts(alloc, told, graph)
+    let (run_log, spans) = (&tools.run_log, &tools.spans);
+    let others = both(
+        run_history::merges(alloc, run_log),
+        run_history::blocks(alloc, run_log, spans),
+    );
+    let splits = run_history::splits(alloc, run_log, spans);
+    let (splits, (merges, blocks)) = both(splits, others)?;
+    put_splits(told, splits.as_slice())
+        .and(put_merges(told, merges.as_slice()))
+        .and(put_blocks(told, blocks.as_slice()))
+        .and(put_parts(alloc, told, graph))
 }
 
 /// Runs on the graph, and appends the result to the text: how many invariants were mined, how many ids paths have, what the run
@@ -225,8 +225,7 @@ fn put_run_by(
     let head = write!(told, " {} mined, {numbers} numbers, {end:?}", invs.len());
     let written = put_written(alloc, told, graph, &tools);
     drop(tools);
-    head?;
-    written
+    head.and(written)
 }
 
 /// The same on the first graph of a log, by what is mined from it.

@@ -1,11 +1,16 @@
 //! The reports of a graph.
 use crate::graphs::known::can_be_spread;
-use crate::tools::number;
+use crate::tools::{both, number};
 use partition_graph::PartGraph;
 use std::alloc::{AllocError, Global};
 
 /// The maximum number of ids that are listed one by one.
 const FEW: usize = 40;
+
+/// Appends a number to the text.
+pub fn put_number(told: &mut String, number: u32) -> Result<(), AllocError> {
+    write!(told, " {number}")
+}
 
 /// Appends ids to the text. If there are many, their number and a checksum are appended instead.
 pub fn put_ids(told: &mut String, ids: &[u32]) -> Result<(), AllocError> {
@@ -17,7 +22,7 @@ pub fn put_ids(told: &mut String, ids: &[u32]) -> Result<(), AllocError> {
         return write!(told, " {} ids #{sum}", ids.len());
     }
     for id in ids {
-        write!(told, " {id}")?;
+        put_number(told, *id)?;
     }
     Ok(())
 }
@@ -70,10 +75,10 @@ fn put_firsts(told: &mut String, graph: &PartGraph) -> Result<(), AllocError> {
 /// All reports of the graph: its partitions, its edges, the id of each event, the first event of each trace, and how many ids
 /// are used.
 pub fn put_graph(alloc: Global, told: &mut String, graph: &PartGraph) -> Result<(), AllocError> {
-    put_partitions(alloc, told, graph)?;
-    put_edges(alloc, told, graph)?;
-    put_events(told, graph)?;
-    put_firsts(told, graph)
+    put_partitions(alloc, told, graph)
+        .and(put_edges(alloc, told, graph))
+        .and(put_events(told, graph))
+        .and(put_firsts(told, graph))
 }
 
 /// The reports of a graph whose events have these ids, with a note if they have others.
@@ -84,10 +89,13 @@ fn put_graph_with(
     ids: &[u32],
 ) -> Result<(), AllocError> {
     let parts = graph.parts(alloc)?;
-    if parts.as_slice() != ids {
-        told.push_str(" other ids:")?;
-    }
-    put_graph(alloc, told, graph)
+    let note = if parts.as_slice() == ids {
+        ""
+    } else {
+        " other ids:"
+    };
+    drop(parts);
+    told.push_str(note).and(put_graph(alloc, told, graph))
 }
 
 /// The reports of the graph that is spread over traces with these numbers.
@@ -100,8 +108,10 @@ pub fn put_spread(
     if !can_be_spread(graph, numbers) {
         return told.push_str(" no");
     }
-    let ids = graph.spread_parts(alloc, numbers)?;
-    let whole = graph.spread(alloc, numbers)?;
+    let (ids, whole) = both(
+        graph.spread_parts(alloc, numbers),
+        graph.spread(alloc, numbers),
+    )?;
     let end = put_graph_with(alloc, told, &whole, ids.as_slice());
     drop(whole);
     end
@@ -111,7 +121,7 @@ pub fn put_spread(
 pub fn put_sizes(told: &mut String, graph: &PartGraph, ids: &str) -> Result<(), AllocError> {
     write!(told, " {}:", graph.ids_used())?;
     for id in ids.split_whitespace() {
-        write!(told, " {}", graph.size(number(id)))?;
+        put_number(told, graph.size(number(id)))?;
     }
     Ok(())
 }

@@ -17,24 +17,47 @@ fn put_id(told: &mut String, id: Option<u32>) -> Result<(), AllocError> {
     }
 }
 
+/// Appends to the text for each id that is shown whether there is an edge to it.
+fn put_targets(told: &mut String, view: &View<'_>, id: u32) -> Result<(), AllocError>
+    requires { IsSound view.now }
+{
+    for other in 0..SHOWN {
+        told.push_str(if view.has_edge(id, other) { "1" } else { "0" })?;
+    }
+    Ok(())
+}
+
+/// Appends to the text for each id that is shown the next source from it on.
+fn put_next_sources(told: &mut String, view: &View<'_>, id: u32) -> Result<(), AllocError>
+    requires { IsSound view.now }
+{
+    for from in 0..SHOWN {
+        put_id(told, view.next_source(id, from))?;
+    }
+    Ok(())
+}
+
+/// Appends to the text for each id that is shown the next target from it on.
+fn put_next_targets(told: &mut String, view: &View<'_>, id: u32) -> Result<(), AllocError>
+    requires { IsSound view.now }
+{
+    for from in 0..SHOWN {
+        put_id(told, view.next_target(id, from))?;
+    }
+    Ok(())
+}
+
 /// Appends what a view shows of one id to the text, for each other id: its type, whether there is an edge, and the next source
 /// and the next target from that id on.
 fn put_id_shown(told: &mut String, view: &View<'_>, id: u32) -> Result<(), AllocError>
     requires { IsSound view.now }
 {
-    write!(told, " {}=", view.type_of(id))?;
-    for other in 0..SHOWN {
-        told.push_str(if view.has_edge(id, other) { "1" } else { "0" })?;
-    }
-    told.push_str("<")?;
-    for from in 0..SHOWN {
-        put_id(told, view.next_source(id, from))?;
-    }
-    told.push_str(">")?;
-    for from in 0..SHOWN {
-        put_id(told, view.next_target(id, from))?;
-    }
-    Ok(())
+    write!(told, " {}=", view.type_of(id))
+        .and(put_targets(told, view, id))
+        .and(told.push_str("<"))
+        .and(put_next_sources(told, view, id))
+        .and(told.push_str(">"))
+        .and(put_next_targets(told, view, id))
 }
 
 /// Appends the edges of a view to the text, as they are gathered.

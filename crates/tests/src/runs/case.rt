@@ -1,7 +1,7 @@
 //! The steps of a case. What they write is kept until the step `run`, which runs the program over it.
 
 use crate::runs::inputs::Given;
-use crate::tools::{both, listed};
+use crate::tools::{both, halves, listed, number, parted, push};
 use line_rules::{ListedPatterns, RegexPatterns};
 use outside::{MemInputs, MemSink};
 use std::alloc::{AllocError, Global};
@@ -66,8 +66,8 @@ fn put(to: &mut Vec<u8>, text: &str) -> Result<(), AllocError> {
 
 /// Appends a text to another a number of times.
 fn put_times(to: &mut Vec<u8>, count_and_text: &str) -> Result<(), AllocError> {
-    let (count, text) = count_and_text.split_once(' ').unwrap_or(("", ""));
-    for _ in 0..count.parse().unwrap_or(0u32) {
+    let (count, text) = parted(count_and_text, ' ');
+    for _ in 0..number(count) {
         put(to, text)?;
     }
     Ok(())
@@ -153,6 +153,15 @@ impl Case {
         tell_status(told, &status, &inputs.opened)
     }
 
+    /// Reports the output of the last run, or how often the sought text occurs in it.
+    fn tell_last(&self, told: &mut String, alloc: Global) -> Result<(), AllocError> {
+        told.push_str("out ")?;
+        if self.sought.is_empty() {
+            return tell_bytes(told, alloc, &self.last);
+        }
+        tell_count(told, alloc, &self.last, &self.sought)
+    }
+
     /// Reports the output, which is kept, and the message.
     fn tell_written(
         &mut self,
@@ -162,15 +171,11 @@ impl Case {
         err: &MemSink,
     ) -> Result<(), AllocError> {
         self.last.clear();
-        self.last.extend_from_slice(out.bytes())?;
-        told.push_str("out ")?;
-        if self.sought.is_empty() {
-            tell_bytes(told, alloc, &self.last)?;
-        } else {
-            tell_count(told, alloc, &self.last, &self.sought)?;
-        }
-        told.push_str("err ")?;
-        tell_bytes(told, alloc, err.bytes())
+        self.last
+            .extend_from_slice(out.bytes())
+            .and(self.tell_last(told, alloc))
+            .and(told.push_str("err "))
+            .and(tell_bytes(told, alloc, err.bytes()))
     }
 
     /// Runs the program over these sinks, and reports how it ended and what it wrote.
@@ -181,9 +186,9 @@ impl Case {
         out: &mut MemSink,
         err: &mut MemSink,
     ) -> Result<(), AllocError> {
-        self.run(told, alloc, out, err)?;
-        self.tell_written(told, alloc, out, err)?;
-        told.push('\n')
+        self.run(told, alloc, out, err)
+            .and(self.tell_written(told, alloc, out, err))
+            .and(told.push('\n'))
     }
 
     /// Runs the program, and reports how it ended and what it wrote.
@@ -205,15 +210,16 @@ impl Case {
 
     /// Takes an argument of the command line.
     fn add_word(&mut self, alloc: Global, word: &str) -> Result<(), AllocError> {
-        let word = String::from_str(alloc, word)?;
-        Ok(self.words.push(word)?)
+        push(&mut self.words, String::from_str(alloc, word))
     }
 
     /// Takes the text for the bytes of a file of this name.
     fn add_file(&mut self, alloc: Global, name: &str) -> Result<(), AllocError> {
-        let name = String::from_str(alloc, name)?;
         let bytes = mem::replace(&mut self.text, Vec::new(alloc));
-        Ok(self.files.push((name, bytes))?)
+        push(
+            &mut self.files,
+            both(String::from_str(alloc, name), Ok(bytes)),
+        )
     }
 
     /// Takes a number by its name.
@@ -247,7 +253,7 @@ impl Case {
 
     /// Takes a step, and appends what it reports, if anything, to the text.
     pub fn step(&mut self, alloc: Global, step: &str, told: &mut String) -> Result<(), AllocError> {
-        let (word, text) = step.split_once(' ').unwrap_or((step, ""));
+        let (word, text) = halves(step, ' ');
         match word {
             "name" => writeln!(told, "{text}"),
             "endless" => {
