@@ -1,6 +1,7 @@
 //! The reports of a graph.
 use crate::graphs::known::can_be_spread;
 use crate::tools::{both, number};
+use invariants::{Edge, Partition, Seq};
 use partition_graph::PartGraph;
 use std::alloc::{AllocError, Global};
 
@@ -28,9 +29,8 @@ pub fn put_ids(told: &mut String, ids: &[u32]) -> Result<(), AllocError> {
 }
 
 /// Appends the partitions to the text, each as its id, its type and its count.
-fn put_partitions(alloc: Global, told: &mut String, graph: &PartGraph) -> Result<(), AllocError> {
-    let partitions = graph.partitions(alloc)?;
-    for partition in partitions.as_slice() {
+fn put_partitions(told: &mut String, partitions: &[Partition]) -> Result<(), AllocError> {
+    for partition in partitions {
         write!(
             told,
             " {}:{}*{}",
@@ -41,12 +41,16 @@ fn put_partitions(alloc: Global, told: &mut String, graph: &PartGraph) -> Result
 }
 
 /// Appends the edges to the text, each as its ids and its count.
-fn put_edges(alloc: Global, told: &mut String, graph: &PartGraph) -> Result<(), AllocError> {
-    let edges = graph.edges(alloc)?;
-    for edge in edges.as_slice() {
+fn put_edges(told: &mut String, edges: &[Edge]) -> Result<(), AllocError> {
+    for edge in edges {
         write!(told, " {}>{}*{}", edge.from, edge.to, edge.count)?;
     }
     Ok(())
+}
+
+/// Appends both lists to the text.
+fn put_lists(told: &mut String, lists: &(Seq<Partition>, Seq<Edge>)) -> Result<(), AllocError> {
+    put_partitions(told, lists.0.as_slice()).and(put_edges(told, lists.1.as_slice()))
 }
 
 /// Appends the id of each event to the text, with a bar after each trace.
@@ -75,14 +79,15 @@ fn put_firsts(told: &mut String, graph: &PartGraph) -> Result<(), AllocError> {
 /// All reports of the graph: its partitions, its edges, the id of each event, the first event of each trace, and how many ids
 /// are used.
 pub fn put_graph(alloc: Global, told: &mut String, graph: &PartGraph) -> Result<(), AllocError> {
-    put_partitions(alloc, told, graph)
-        .and(put_edges(alloc, told, graph))
-        .and(put_events(told, graph))
+    let lists = both(graph.partitions(alloc), graph.edges(alloc))?;
+    let end = put_lists(told, &lists);
+    drop(lists);
+    end.and(put_events(told, graph))
         .and(put_firsts(told, graph))
 }
 
-/// The reports of a graph whose events have these ids, with a note if they have others.
-fn put_graph_with(
+/// Appends a note to the text if the events of the graph have other ids than these.
+fn put_note(
     alloc: Global,
     told: &mut String,
     graph: &PartGraph,
@@ -95,10 +100,10 @@ fn put_graph_with(
         " other ids:"
     };
     drop(parts);
-    told.push_str(note).and(put_graph(alloc, told, graph))
+    told.push_str(note)
 }
 
-/// The reports of the graph that is spread over traces with these numbers.
+/// The reports of the graph that is spread over traces with these numbers. Its lists are those that are made without it.
 pub fn put_spread(
     alloc: Global,
     told: &mut String,
@@ -108,11 +113,17 @@ pub fn put_spread(
     if !can_be_spread(graph, numbers) {
         return told.push_str(" no");
     }
-    let (ids, whole) = both(
+    let lists = graph.spread_lists(alloc, numbers);
+    let made = both(
         graph.spread_parts(alloc, numbers),
         graph.spread(alloc, numbers),
-    )?;
-    let end = put_graph_with(alloc, told, &whole, ids.as_slice());
+    );
+    let (lists, (ids, whole)) = both(lists, made)?;
+    let end = put_note(alloc, told, &whole, ids.as_slice())
+        .and(put_lists(told, &lists))
+        .and(put_events(told, &whole))
+        .and(put_firsts(told, &whole));
+    drop(lists);
     drop(whole);
     end
 }
