@@ -10,4 +10,3 @@ pub mod Distinct
 pub mod Spreading
 pub mod FirstPair
 pub mod Windows
-mod LabelBytes

@@ -89,11 +89,6 @@ labels-reached labels h partitions k inv a l at ids =
           subst (λ (n : ℕ). (has_state n s ≡ true) ↔ Reached inv (G h) x.id s) e (l.states k inv x.id s at (ids j x there) low);
     })
 
--- one more element is mapped
-pub mapped-more : {X : Type 0} (f : X → ℕ) (old : List ℕ) (xs : List X) (i : ℕ) (d : X) (n : ℕ) → i < length xs → old ≡ map f (take i xs) → n ≡ f (get_or xs i d) → old ++ n ∷ [] ≡ map f (take (i + 1) xs)
-mapped-more f old xs i d n inside told is =
-    rw (told, is) (sym (ap (map f) (ap (λ k. take k xs) (add-one i) ∙ take-suc xs i d inside) ∙ map-append f (take i xs) (get_or xs i d ∷ [])))
-
 -- one listed invariant more
 pub listing-more : (list : List Listed) (invs : List Invariant) (number : ℕ) (d : Invariant) (labels : List ℕ) → number < length invs → map (λ x. x.inv) list ≡ take number invs
     → map (λ (x : Listed). x.inv) (list ++ record { inv = get_or invs number d; labels = labels } ∷ []) ≡ take (number + 1) invs

@@ -1,13 +1,45 @@
 -- Labels of many invariants, read together.
-use Rattle.std.specs.Prelude.{◌≡◌, ◌<◌, ◌≤◌, ◌+◌, ℕ, List, [], length, slice_get, slice_index_or, Some}
+use Rattle.std.specs.Prelude.{◌≡◌, ◌<◌, ◌≤◌, ◌+◌, ◌*◌, ◌/◌, ◌%◌, ◌^◌, ℕ, zero, suc, List, [], ◌++◌, length, map, take, drop, slice_get, slice_index, slice_index_or, Some}
+use Rattle.std.specs.Int.{bit_at}
+use Rattle.invariants.specs.Labels.{digit_of}
 use Rattle.invariants.specs.declared.records.Partition.{Partition}
 use Rattle.labelling.specs.Labelled.{Labelling, digit}
 use Rattle.infer_core.specs.declared.labels.TheConstants.{TOGETHER}
+use Rattle.infer_core.specs.declared.labels.Bytes.{Bytes}
 use Rattle.infer_core.specs.declared.labels.Window.{Window}
 
--- the window has, at each partition, the labels of its invariants
+-- the label that bit k of each of three numbers makes
+abbrev pub label_at : ℕ → ℕ → ℕ → ℕ → ℕ
+label_at zeroth first second k = bit_at zeroth k + 2 * bit_at first k + 4 * bit_at second k
+
+-- the digits of an invariant, one for each partition; it has bit k of the words
+abbrev pub row_of : List (List ℕ) → ℕ → List ℕ
+row_of found k =
+    map (λ words. digit_of (label_at (slice_index words 0) (slice_index words 1) (slice_index words 2) k)) found
+
+-- the digits of the first k invariants in turn
+abbrev pub rows_before : List (List ℕ) → ℕ → List ℕ
+rows_before found zero = []
+rows_before found (suc k) = rows_before found k ++ row_of found k
+
+-- a byte of each word
+pub record AreBytesOf (found : List (List ℕ)) (number : ℕ) (bytes : Bytes) : Type 0 where
+  pub zeroth_size : length bytes.zeroth.items ≡ length found
+  pub first_size : length bytes.first.items ≡ length found
+  pub second_size : length bytes.second.items ≡ length found
+  pub zeroth : (j : ℕ) → j < length found
+      → slice_index bytes.zeroth.items j ≡ slice_index (slice_index_or found j []) 0 / 2 ^ (8 * number) % 256
+  pub first : (j : ℕ) → j < length found
+      → slice_index bytes.first.items j ≡ slice_index (slice_index_or found j []) 1 / 2 ^ (8 * number) % 256
+  pub second : (j : ℕ) → j < length found
+      → slice_index bytes.second.items j ≡ slice_index (slice_index_or found j []) 2 / 2 ^ (8 * number) % 256
+
+-- the window has, for each of its invariants, the digits of its labels at the partitions
 pub record IsWindowOf (planes : Labelling) (partitions : List Partition) (window : Window) : Type 0 where
-  pub size : length window.digits.items ≡ length partitions
+  pub size : length window.words.items ≡ length partitions
   pub few : window.len ≤ TOGETHER
-  pub labels : (j k : ℕ) (x : Partition) → slice_get partitions j ≡ Some x → k < window.len
-      → slice_index_or (slice_index_or window.digits.items j []) k 0 ≡ digit planes (window.first + k) x.id
+  pub within : (k : ℕ) → k < window.len
+      → k * length partitions + length partitions ≤ length window.text.value.items
+  pub labels : (k : ℕ) → k < window.len
+      → take (length partitions) (drop (k * length partitions) window.text.value.items)
+      ≡ map digit_of (map (λ x. digit planes (window.first + k) x.id) partitions)

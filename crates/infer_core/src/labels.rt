@@ -1,27 +1,33 @@
 //! The labels of the listed invariants.
 //!
 //! In memory the labels of all invariants at one partition lie together, and in the model those of one invariant at all
-//! partitions. So they are read for many invariants at once, one partition after another.
-ghost use Rattle.std.specs.Prelude.{◌≡◌, ◌<◌, ◌+◌, ◌*◌, ◌/◌, ◌%◌, ◌^◌, ℕ, IfOk, Some, length, map, slice_get, slice_index};
+//! partitions. So they are read for many invariants at once, one partition after another. Then they are written down,
+//! one invariant after another.
+ghost use Rattle.std.specs.Prelude.{◌≡◌, ◌<◌, ◌+◌, ◌*◌, ◌/◌, ◌%◌, ◌^◌, ℕ, [], IfOk, OnOk, Some, length, map, slice_get, slice_index, slice_index_or};
 ghost use Rattle.std.specs.Int.{bit_at};
 ghost use Rattle.std.specs.List.{AllByRecursion};
 ghost use Rattle.limits.specs.declared.TheConstants.{MAX_PARTITIONS};
+ghost use Rattle.invariants.specs.Labels.{digit_of};
 ghost use Rattle.invariants.specs.declared.records.Partition.{Partition};
 ghost use Rattle.partition_model.specs.Assignments.{Assignment, G};
 ghost use Rattle.partition_model.specs.Listings.{ArePartitions};
 ghost use Rattle.models.specs.Models.{AreReached};
-ghost use Rattle.labelling.specs.Labelled.{digit, AreLabelsOf, SaysSwapped};
+ghost use Rattle.labelling.specs.Labelled.{digit, AreLabelsOf, AreStatesAt, SaysSwapped};
 ghost use Rattle.infer_core.specs.declared.labels.TheConstants.{AT_ONCE, TOGETHER};
-ghost use Rattle.infer_core.specs.Windows.{IsWindowOf};
+ghost use Rattle.infer_core.specs.Windows.{rows_before, AreBytesOf, IsWindowOf};
 
 use invariants::{Invariant, Labels, Listed, Partition, Seq};
 use labelling::Planes;
 use limits::MAX_PARTITIONS;
 use std::alloc::{AllocError, Global};
+use std::rc::Rc;
 
 /// How many invariants have their labels read at once: a word of memory has a bit for each. The number of the first of
 /// them is a multiple of this.
 pub(crate) const TOGETHER: usize = 64;
+
+/// Of how many of them the labels are written down at once: a byte has a bit for each.
+const AT_ONCE: usize = 8;
 
 /// The labels of some invariants, whose numbers follow one another, at each of some partitions.
 #[derive(Drop)]
@@ -30,115 +36,215 @@ pub struct Window {
     first: usize,
     /// How many they are.
     len: usize,
-    /// Their labels, for each partition in turn.
-    digits: Vec<[u8; TOGETHER]>,
+    /// The digits of their labels: those of each invariant in turn, one for each partition.
+    text: Rc<Vec<u8>>,
+    /// Scratch space: for each partition, the words of the states.
+    words: Vec<[u64; 3]>,
 }
 
-/// How many labels are made at once: each of them takes a byte of a number.
-const AT_ONCE: usize = 4;
-
-/// Four bits, each in a byte of its own.
-fn bytes_of(bits: u32) -> u32
-    requires { bits < 2 ^ AT_ONCE }
-    ensures { result ≡ bit_at bits 0 + 2 ^ 8 * bit_at bits 1 + 2 ^ 16 * bit_at bits 2
-        + 2 ^ 24 * bit_at bits 3 }
-{
-    (bits * 0x20_4081) & 0x0101_0101
+/// Which states `AT_ONCE` invariants have at each of some partitions: for each state a byte for each partition, with a
+/// bit for each invariant.
+#[derive(Drop)]
+struct Bytes {
+    zeroth: Vec<u8>,
+    first: Vec<u8>,
+    second: Vec<u8>,
 }
 
-/// The sets of those states whose words have the bits k, k + 1, k + 2 and k + 3, as labels. That of bit k is in the lowest
-/// byte.
-fn labels_from(zeroth: u64, first: u64, second: u64, k: u32) -> u32
-    requires { k < 64 }
-    ensures { (j : ℕ) → j < AT_ONCE → result / 2 ^ (8 * j) % 2 ^ 8
-        ≡ bit_at zeroth (k + j) + 2 * bit_at first (k + j) + 4 * bit_at second (k + j) }
+/// The byte with this number of the word, counted from the lowest.
+fn byte_of(word: u64, number: u32) -> u8
+    requires { number < 8 }
+    ensures { result ≡ word / 2 ^ (8 * number) % 256 }
 {
-    let low = bytes_of(((zeroth >> k) % 16) as u32);
-    let middle = bytes_of(((first >> k) % 16) as u32);
-    let high = bytes_of(((second >> k) % 16) as u32);
-    low + 2 * middle + 4 * high
+    ((word >> (8 * number)) % 256) as u8
 }
 
-/// The labels at p of the invariants from number `TOGETHER * place` on.
-fn digits_at(planes: &Planes, place: usize, swapped: u64, p: u32) -> [u8; TOGETHER]
-    requires place { place * TOGETHER < length (planes.now).invs }
-    requires swapped { SaysSwapped (planes.now).invs place swapped }
-    requires id { p < MAX_PARTITIONS }
-    ensures { (k : ℕ) → k < TOGETHER → place * TOGETHER + k < length (planes.now).invs
-        → slice_index result k ≡ digit planes.now (place * TOGETHER + k) p }
+/// The digit of the label that bit k of each of these bytes makes.
+fn digit_from(zeroth: u8, first: u8, second: u8, k: u32) -> u8
+    requires { k < AT_ONCE }
+    ensures { result ≡ digit_of (bit_at zeroth k + 2 * bit_at first k + 4 * bit_at second k) }
 {
-    let [zeroth, first, second] = planes.words(place, p, swapped);
-    let mut digits = [0; TOGETHER];
-    for group in 0..TOGETHER / AT_ONCE {
-        let k = group * AT_ONCE;
-        let labels = labels_from(zeroth, first, second, k as u32);
-        digits[k] = (labels % 256) as u8;
-        digits[k + 1] = ((labels >> 8) % 256) as u8;
-        digits[k + 2] = ((labels >> 16) % 256) as u8;
-        digits[k + 3] = ((labels >> 24) % 256) as u8;
+    b'0' + (zeroth >> k) % 2 + 2 * ((first >> k) % 2) + 4 * ((second >> k) % 2)
+}
+
+impl Bytes {
+    /// Bytes for this many partitions.
+    fn make(alloc: Global, partitions: usize) -> Result<Bytes, AllocError>
+        ensures zeroth { IfOk result (λ made. length made.zeroth.items ≡ partitions) }
+        ensures first { IfOk result (λ made. length made.first.items ≡ partitions) }
+        ensures second { IfOk result (λ made. length made.second.items ≡ partitions) }
+    {
+        Ok(Bytes {
+            zeroth: vec![in alloc; 0; partitions]?,
+            first: vec![in alloc; 0; partitions]?,
+            second: vec![in alloc; 0; partitions]?,
+        })
     }
-    digits
+
+    /// Takes the bytes with this number out of the words of all partitions.
+    fn take(&mut self, words: &[[u64; 3]], number: u32)
+        requires number { number < 8 }
+        requires zeroth { length (self.old).zeroth.items ≡ length words.now }
+        requires first { length (self.old).first.items ≡ length words.now }
+        requires second { length (self.old).second.items ≡ length words.now }
+        ensures { AreBytesOf words.now number self.new }
+    {
+        for (j, [zeroth, first, second]) in words.iter().enumerate() {
+            self.zeroth[j] = byte_of(*zeroth, number);
+            self.first[j] = byte_of(*first, number);
+            self.second[j] = byte_of(*second, number);
+        }
+    }
+
+    /// Writes the digits of the labels of the invariant with this bit.
+    fn write(&self, k: u32, row: &mut [u8])
+        requires bit { k < AT_ONCE }
+        requires zeroth { length self.now.zeroth.items ≡ length row.old }
+        requires first { length self.now.first.items ≡ length row.old }
+        requires second { length self.now.second.items ≡ length row.old }
+        ensures { (j : ℕ) → j < length row.old → slice_index row.new j
+            ≡ digit_of (bit_at (slice_index self.now.zeroth.items j) k
+            + 2 * bit_at (slice_index self.now.first.items j) k
+            + 4 * bit_at (slice_index self.now.second.items j) k) }
+    {
+        let zeroth = self.zeroth.as_slice();
+        let first = self.first.as_slice();
+        let second = self.second.as_slice();
+        for j in 0..row.len() {
+            row[j] = digit_from(zeroth[j], first[j], second[j], k);
+        }
+    }
+}
+
+/// Appends the digits of `AT_ONCE` invariants, whose bits are those of the bytes with this number, to those of the
+/// invariants before them.
+fn append_rows(
+    words: &[[u64; 3]],
+    number: u32,
+    bytes: &mut Bytes,
+    row: &mut [u8],
+    text: &mut Vec<u8>,
+) -> Result<(), AllocError>
+    requires number { number < 8 }
+    requires zeroth { length bytes.old.zeroth.items ≡ length words.now }
+    requires first { length bytes.old.first.items ≡ length words.now }
+    requires second { length bytes.old.second.items ≡ length words.now }
+    requires row { length row.old ≡ length words.now }
+    requires before { text.old.items ≡ rows_before words.now (AT_ONCE * number) }
+    ensures rows { OnOk result (text.new.items ≡ rows_before words.now (AT_ONCE * (number + 1))) }
+    ensures zeroth { length bytes.new.zeroth.items ≡ length words.now }
+    ensures first { length bytes.new.first.items ≡ length words.now }
+    ensures second { length bytes.new.second.items ≡ length words.now }
+{
+    bytes.take(words, number);
+    for k in 0..AT_ONCE {
+        bytes.write(k as u32, row);
+        text.extend_from_slice(row)?;
+    }
+    Ok(())
+}
+
+/// The digits of the labels that the words say: those of `TOGETHER` invariants in turn, one for each partition.
+fn text_of(alloc: Global, words: &[[u64; 3]]) -> Result<Vec<u8>, AllocError>
+    ensures { IfOk result (λ text. text.items ≡ rows_before words.now TOGETHER) }
+{
+    let mut bytes = Bytes::make(alloc, words.len())?;
+    let mut row = vec![in alloc; 0; words.len()]?;
+    let mut text = Vec::with_capacity(alloc, words.len().saturating_mul(TOGETHER))?;
+    for number in 0..TOGETHER / AT_ONCE {
+        append_rows(
+            words,
+            number as u32,
+            &mut bytes,
+            row.as_mut_slice(),
+            &mut text,
+        )?;
+    }
+    Ok(text)
+}
+
+/// Reads, at each of the partitions, the words of the invariants from number `TOGETHER * place` on.
+fn gather(planes: &Planes, place: usize, partitions: &[Partition], words: &mut [[u64; 3]])
+    requires place { place * TOGETHER < length (planes.now).invs }
+    requires ids { (k : ℕ) (x : Partition) → slice_get partitions.now k ≡ Some x
+        → x.id < MAX_PARTITIONS }
+    requires size { length words.old ≡ length partitions.now }
+    ensures { (j : ℕ) (x : Partition) → slice_get partitions.now j ≡ Some x
+        → AreStatesAt planes.now place x.id (slice_index_or words.new j []) }
+{
+    let swapped = planes.swapped(place);
+    for (j, partition) in partitions.iter().enumerate() {
+        words[j] = planes.words(place, partition.id, swapped);
+    }
 }
 
 impl Window {
-    /// The labels of no invariants, at this many partitions.
+    /// The labels of no invariants, with scratch space for this many partitions.
     fn make(alloc: Global, partitions: usize) -> Result<Window, AllocError>
         ensures none { IfOk result (λ window. window.len ≡ 0) }
-        ensures size { IfOk result (λ window. length window.digits.items ≡ partitions) }
+        ensures size { IfOk result (λ window. length window.words.items ≡ partitions) }
     {
         Ok(Window {
             first: 0,
             len: 0,
-            digits: vec![in alloc; [0; TOGETHER]; partitions]?,
+            text: Rc::new(alloc, Vec::new(alloc))?,
+            words: vec![in alloc; [0; 3]; partitions]?,
         })
     }
 
     /// Reads the labels at these partitions of the invariants from number `TOGETHER * place` on, as many as there is room
-    /// for.
-    fn read(&mut self, planes: &Planes, place: usize, count: usize, partitions: &[Partition])
+    /// for. `AllocError` is returned if there is not enough memory; then the window stays.
+    fn read(
+        &mut self,
+        alloc: Global,
+        planes: &Planes,
+        place: usize,
+        count: usize,
+        partitions: &[Partition],
+    ) -> Result<(), AllocError>
         requires count { count ≡ length (planes.now).invs }
         requires place { place * TOGETHER < count }
         requires ids { (k : ℕ) (x : Partition) → slice_get partitions.now k ≡ Some x
             → x.id < MAX_PARTITIONS }
-        requires size { length (self.old).digits.items ≡ length partitions.now }
+        requires window { IsWindowOf planes.now partitions.now self.old }
         ensures window { IsWindowOf planes.now partitions.now self.new }
-        ensures first { (self.new).first ≡ place * TOGETHER }
-        ensures full { (k : ℕ) → k < TOGETHER → place * TOGETHER + k < count
-            → k < (self.new).len }
+        ensures first { OnOk result ((self.new).first ≡ place * TOGETHER) }
+        ensures full { OnOk result ((k : ℕ) → k < TOGETHER → place * TOGETHER + k < count
+            → k < (self.new).len) }
     {
-        let swapped = planes.swapped(place);
+        gather(planes, place, partitions, self.words.as_mut_slice());
+        let text = text_of(alloc, self.words.as_slice())?;
         let first = place * TOGETHER;
-        let len = TOGETHER.min(count - first);
+        self.text = Rc::new(alloc, text)?;
         self.first = first;
-        self.len = len;
-        for (j, partition) in partitions.iter().enumerate() {
-            self.digits[j] = digits_at(planes, place, swapped, partition.id);
-        }
+        self.len = TOGETHER.min(count - first);
+        Ok(())
     }
 
     /// The place in the window of the invariant with this number. If the invariant is not in the window, those that
     /// share a word with it are read first.
     fn place_of(
         &mut self,
+        alloc: Global,
         planes: &Planes,
         number: usize,
         count: usize,
         partitions: &[Partition],
-    ) -> usize
+    ) -> Result<usize, AllocError>
         requires count { count ≡ length (planes.now).invs }
         requires number { number < count }
         requires ids { (k : ℕ) (x : Partition) → slice_get partitions.now k ≡ Some x
             → x.id < MAX_PARTITIONS }
         requires window { IsWindowOf planes.now partitions.now self.old }
         ensures window { IsWindowOf planes.now partitions.now self.new }
-        ensures within { result < (self.new).len }
-        ensures place { (self.new).first + result ≡ number }
+        ensures within { IfOk result (λ place. place < (self.new).len) }
+        ensures place { IfOk result (λ place. (self.new).first + place ≡ number) }
     {
         if self.first <= number && number - self.first < self.len {
-            return number - self.first;
+            return Ok(number - self.first);
         }
-        self.read(planes, number / TOGETHER, count, partitions);
-        number % TOGETHER
+        self.read(alloc, planes, number / TOGETHER, count, partitions)?;
+        Ok(number % TOGETHER)
     }
 }
 
@@ -160,12 +266,8 @@ fn labels_of(
         (λ labels. labels ≡ map (λ x. digit planes.now number x.id) partitions.now) }
     ensures window { IsWindowOf planes.now partitions.now window.new }
 {
-    let place = window.place_of(planes, number, count, partitions);
-    let mut labels = Vec::with_capacity(alloc, partitions.len())?;
-    for digits in &window.digits {
-        labels.push_reserved(digits[place]);
-    }
-    Labels::from_numbers(alloc, labels)
+    let place = window.place_of(alloc, planes, number, count, partitions)?;
+    Labels::part_of(&window.text, place * partitions.len(), partitions.len())
 }
 
 /// The invariants, each with its labels at these partitions. `AllocError` is returned if there is not enough memory.

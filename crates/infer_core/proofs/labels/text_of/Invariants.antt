@@ -1,0 +1,14 @@
+use Rattle.std.proofs.Common.{◌≡◌, ◌*◌, length}
+use Rattle.infer_core.specs.declared.labels.TheConstants.{AT_ONCE}
+use Rattle.infer_core.specs.Windows.{rows_before}
+use Rattle.infer_core.proofs.labels.text_of.Given as goal
+
+abbrev pub invariant-loop-number : goal.invariant-loop-number
+invariant-loop-number l =
+    record {
+      zeroth : length l.bytes.zeroth.items ≡ length l.words;
+      first : length l.bytes.first.items ≡ length l.words;
+      second : length l.bytes.second.items ≡ length l.words;
+      row : length l.row.items ≡ length l.words;
+      rows : l.text.items ≡ rows_before l.words (AT_ONCE * l.number);
+    }
