@@ -1,14 +1,16 @@
 -- Steps of the loops that read labels.
-use Rattle.std.proofs.Common.{◌≡◌, ℕ, zero, suc, ◌+◌, ◌*◌, ◌/◌, ◌%◌, ◌^◌, ◌<◌, ◌≤◌, All, Bool, cond, eqb, List, [], ◌∷◌, ◌++◌, length, map, take, drop, get_or, slice_get, Some, refl, sym, ap, ap₂, ◌∙◌, subst, arith, inl, inr}
+use Rattle.std.proofs.Common.{◌≡◌, ℕ, zero, suc, ◌+◌, ◌*◌, ◌/◌, ◌%◌, ◌^◌, ◌<◌, ◌≤◌, All, Bool, cond, eqb, List, [], ◌∷◌, ◌++◌, length, map, take, drop, get_or, slice_get, Some, refl, sym, ap, ap₂, ◌∙◌, subst, subst₂, max, arith, inl, inr}
 use Rattle.std.proofs.lemmas.Nat.{shr-shr}
-use Rattle.std.proofs.lemmas.Nat.Bits.{bit_at-lt}
+use Rattle.std.proofs.lemmas.Nat.Bits.{bit_at-lt, bit_at_or, bit_at_xor}
+use Rattle.std.proofs.lemmas.Grind.{elements}
 use Rattle.std.specs.Int.{bit_at}
+use Rattle.std.specs.Int.Bits.{bit_or, bit_xor}
 use Rattle.invariants.specs.Labels.{IsDigit, digit_of, number_of as number_from}
 use Rattle.invariants.specs.declared.records.Partition.{Partition}
 use Rattle.invariants.proofs.LabelDigits.{digits_are_digits, numbers_back}
 use Rattle.labelling.specs.Labelled.{Labelling, digit, is_found, number_of, AreStatesAt}
 use Rattle.infer_core.specs.declared.labels.Bytes.{Bytes}
-use Rattle.infer_core.specs.Windows.{label_at, row_of, rows_before, AreBytesOf}
+use Rattle.infer_core.specs.Windows.{label_at, row_of, AreBytesOf, HasRows}
 use Rattle.std.proofs.lemmas.List.{drop-append-le, drop_all, get_or_default, length-append, length-drop, length-map, get_or-map, same_lists, take-append-le, take_all}
 use Rattle.std.proofs.lemmas.Bool.{cases_eq}
 
@@ -42,44 +44,83 @@ row-written found number k bytes row l size b h =
     (ap (λ (x : ℕ). 4 * x) (of (get_or bytes.second.items j 0) 2 (omega arith) (b.second j inside))))
     ∙ sym (get_or-map f found j [] d inside))
 
--- the rows in turn have a size
-rows-size : (found : List (List ℕ)) (m : ℕ) → length (rows_before found m) ≡ m * length found
-rows-size found zero = omega arith
-rows-size found (suc m) =
-    let f : List ℕ → ℕ = λ words. digit_of (label_at (get_or words 0 0) (get_or words 1 0) (get_or words 2 0) m) in
-    length-append (rows_before found m) (row_of found m) ∙ ap₂ (λ (x y : ℕ). x + y) (rows-size found m) (length-map found f) ∙ omega arith
+-- a digit more at the end leaves those before it
+read-before : (xs : List ℕ) (x k : ℕ) → k < length xs → get_or (xs ++ x ∷ []) k 0 ≡ get_or xs k 0
+read-before xs x k l = grind (arith, elements)
 
--- a row among those in turn
-pub row-among : (found : List (List ℕ)) (m k n : ℕ) → n ≡ length found → k < m
-    → (k * n + n ≤ length (rows_before found m)) × (take n (drop (k * n) (rows_before found m)) ≡ row_of found k)
-row-among found zero k n e l = absurd (omega (arith, l))
-row-among found (suc m) k n e l = elim (cases_eq k m) [
-  | inl same ↦ subst (λ (j : ℕ). (j * n + n ≤ length (rows ++ row)) × (take n (drop (j * n) (rows ++ row)) ≡ row_of found j)) (sym same) (
-      let at : m * n ≤ length rows = omega (arith, size) in
-      let none : drop (m * n) rows ≡ [] = drop_all (m * n) rows (omega (arith, size)) in
-      (omega (arith, whole, size, row-size), ap (take n) (drop-append-le (m * n) rows row at ∙ ap (λ (xs : List ℕ). xs ++ row) none) ∙ take_all n row (omega (arith, row-size))))
-  | inr other ↦ (
-      let less : k < m = grind arith in
-      let before = row-among found m k n e less in
-      let at : k * n ≤ length rows = omega (arith, before.0) in
-      let left : n ≤ length (drop (k * n) rows) = omega (arith, before.0, length-drop (k * n) rows) in
-      (omega (arith, before.0, whole), ap (take n) (drop-append-le (k * n) rows row at) ∙ take-append-le n (drop (k * n) rows) row left ∙ before.1))
-]
+read-last : (xs : List ℕ) (x k : ℕ) → k ≡ length xs → get_or (xs ++ x ∷ []) k 0 ≡ x
+read-last xs x k e = grind (arith, elements)
+
+-- the next invariant shares the digits of one before it
+pub rows-share : (found : List (List ℕ)) (text starts starts' : List ℕ) (i : ℕ) → HasRows found text starts → i < length starts
+    → row_of found i ≡ row_of found (length starts) → starts' ≡ starts ++ get_or starts i 0 ∷ [] → HasRows found text starts'
+rows-share found text starts starts' i h l e is = subst (λ (ss : List ℕ). HasRows found text ss) (sym is) (λ k m.
+    elim (cases_eq k (length starts)) [
+      | inl same ↦ (
+          let at : get_or (starts ++ get_or starts i 0 ∷ []) k 0 ≡ get_or starts i 0 = read-last starts (get_or starts i 0) k same in
+          subst (λ (s : ℕ). (s + length found ≤ length text) × (take (length found) (drop s text) ≡ row_of found k)) (sym at) ((h i l).0, (h i l).1 ∙ e ∙ ap (row_of found) (sym same)))
+      | inr other ↦ (
+          let less : k < length starts = omega (arith, m, other, length-append starts (get_or starts i 0 ∷ [])) in
+          let at : get_or (starts ++ get_or starts i 0 ∷ []) k 0 ≡ get_or starts k 0 = read-before starts (get_or starts i 0) k less in
+          subst (λ (s : ℕ). (s + length found ≤ length text) × (take (length found) (drop s text) ≡ row_of found k)) (sym at) (h k less))
+    ])
+
+-- the digits of the next invariant are appended
+pub rows-append : (found : List (List ℕ)) (text row text' starts starts' : List ℕ) → HasRows found text starts → row ≡ row_of found (length starts)
+    → text' ≡ text ++ row → starts' ≡ starts ++ length text ∷ [] → HasRows found text' starts'
+rows-append found text row text' starts starts' h e is-text is-starts =
+    subst₂ (λ (t ss : List ℕ). HasRows found t ss) (sym is-text) (sym is-starts) (λ k m.
+    elim (cases_eq k (length starts)) [
+      | inl same ↦ (
+          let at : get_or (starts ++ length text ∷ []) k 0 ≡ length text = read-last starts (length text) k same in
+          subst (λ (s : ℕ). (s + length found ≤ length (text ++ row)) × (take (length found) (drop s (text ++ row)) ≡ row_of found k)) (sym at) (
+            omega (arith, whole, row-size),
+            ap (take (length found)) (drop-append-le (length text) text row (omega arith) ∙ ap (λ (xs : List ℕ). xs ++ row) (drop_all (length text) text (omega arith)))
+                ∙ take_all (length found) row (omega (arith, row-size)) ∙ e ∙ ap (row_of found) (sym same),
+          ))
+      | inr other ↦ (
+          let less : k < length starts = omega (arith, m, other, length-append starts (length text ∷ [])) in
+          let at : get_or (starts ++ length text ∷ []) k 0 ≡ get_or starts k 0 = read-before starts (length text) k less in
+          let before = h k less in
+          let low : get_or starts k 0 ≤ length text = omega (arith, before.0) in
+          let left : length found ≤ length (drop (get_or starts k 0) text) = omega (arith, before.0, length-drop (get_or starts k 0) text) in
+          subst (λ (s : ℕ). (s + length found ≤ length (text ++ row)) × (take (length found) (drop s (text ++ row)) ≡ row_of found k)) (sym at)
+          (omega (arith, before.0, whole), ap (take (length found)) (drop-append-le (get_or starts k 0) text row low) ∙ take-append-le (length found) (drop (get_or starts k 0) text) row left ∙ before.1))
+    ])
   where
-    rows : List ℕ
-    rows = rows_before found m
+    row-size : length row ≡ length found
+    row-size = ap length e ∙ length-map found (λ words. digit_of (label_at (get_or words 0 0) (get_or words 1 0) (get_or words 2 0) (length starts)))
 
-    row : List ℕ
-    row = row_of found m
+    whole : length (text ++ row) ≡ length text + length row
+    whole = length-append text row
 
-    size : length rows ≡ m * n
-    size = rows-size found m ∙ ap (λ (x : ℕ). m * x) (sym e)
+-- bits of a word that are the same
+pub bits-same : (word distance k : ℕ) → bit_at (bit_xor word (word / 2 ^ distance)) k ≡ 0 → bit_at word k ≡ bit_at word (distance + k)
+bits-same word distance k off =
+    let shifted : bit_at (word / 2 ^ distance) k ≡ bit_at word (distance + k) = ap (λ y. y % 2) (shr-shr word distance k) in
+    let sum : bit_at (bit_xor word (word / 2 ^ distance)) k ≡ (bit_at word k + bit_at (word / 2 ^ distance) k) % 2 = bit_at_xor word (word / 2 ^ distance) k in
+    omega (arith, off, sum, shifted, bit_at-lt word k, bit_at-lt (word / 2 ^ distance) k)
 
-    row-size : length row ≡ n
-    row-size = length-map found (λ words. digit_of (label_at (get_or words 0 0) (get_or words 1 0) (get_or words 2 0) m)) ∙ sym e
+-- the bits of two invariants are the same in three words
+pub record AreSame (words : List ℕ) (k l : ℕ) : Type 0 where
+  pub zeroth : bit_at (get_or words 0 0) k ≡ bit_at (get_or words 0 0) l
+  pub first : bit_at (get_or words 1 0) k ≡ bit_at (get_or words 1 0) l
+  pub second : bit_at (get_or words 2 0) k ≡ bit_at (get_or words 2 0) l
 
-    whole : length (rows ++ row) ≡ length rows + length row
-    whole = length-append rows row
+-- a bit is off in a word made of others
+pub off-both : (a b k : ℕ) → bit_at (bit_or a b) k ≡ 0 → (bit_at a k ≡ 0) × (bit_at b k ≡ 0)
+off-both a b k off =
+    let most : max (bit_at a k) (bit_at b k) ≡ 0 = sym (bit_at_or a b k) ∙ off in
+    (omega (arith, most), omega (arith, most))
+
+-- if they are the same in the words of each partition, so are the digits
+pub rows-same : (found : List (List ℕ)) (k l : ℕ) → ((j : ℕ) → j < length found → AreSame (get_or found j []) k l) → row_of found k ≡ row_of found l
+rows-same [] k l h = refl
+rows-same (w ∷ ws) k l h =
+    let one = h 0 (omega arith) in
+    ap₂ (λ (y : ℕ) (ys : List ℕ). y ∷ ys)
+    (ap digit_of (ap₂ (λ (x y : ℕ). x + y) (ap₂ (λ (x y : ℕ). x + 2 * y) one.zeroth one.first) (ap (λ (x : ℕ). 4 * x) one.second)))
+    (rows-same ws k l (λ j m. h (suc j) (omega (arith, m))))
 
 -- a digit that is 0 or 1, times a number
 weighed : (d n : ℕ) → d < 2 → cond (eqb d 1) n 0 ≡ n * d

@@ -1,10 +1,10 @@
 -- Labels of many invariants, read together.
-use Rattle.std.specs.Prelude.{◌≡◌, ◌<◌, ◌≤◌, ◌+◌, ◌*◌, ◌/◌, ◌%◌, ◌^◌, ℕ, zero, suc, List, [], ◌++◌, length, map, take, drop, slice_get, slice_index, slice_index_or, Some}
+use Rattle.std.specs.Prelude.{◌≡◌, ◌<◌, ◌≤◌, ◌+◌, ◌*◌, ◌/◌, ◌%◌, ◌^◌, ℕ, List, [], length, map, take, drop, slice_index, slice_index_or}
 use Rattle.std.specs.Int.{bit_at}
 use Rattle.invariants.specs.Labels.{digit_of}
 use Rattle.invariants.specs.declared.records.Partition.{Partition}
 use Rattle.labelling.specs.Labelled.{Labelling, digit}
-use Rattle.infer_core.specs.declared.labels.TheConstants.{TOGETHER}
+use Rattle.infer_core.specs.declared.labels.TheConstants.{NEAR}
 use Rattle.infer_core.specs.declared.labels.Bytes.{Bytes}
 use Rattle.infer_core.specs.declared.labels.Window.{Window}
 
@@ -17,10 +17,18 @@ abbrev pub row_of : List (List ℕ) → ℕ → List ℕ
 row_of found k =
     map (λ words. digit_of (label_at (slice_index words 0) (slice_index words 1) (slice_index words 2) k)) found
 
--- the digits of the first k invariants in turn
-abbrev pub rows_before : List (List ℕ) → ℕ → List ℕ
-rows_before found zero = []
-rows_before found (suc k) = rows_before found k ++ row_of found k
+-- the text has the digits of as many invariants as there are starts, each from its start on
+abbrev pub HasRows : List (List ℕ) → List ℕ → List ℕ → Type 0
+HasRows found text starts =
+    (k : ℕ) → k < length starts
+    → (slice_index starts k + length found ≤ length text)
+    × (take (length found) (drop (slice_index starts k) text) ≡ row_of found k)
+
+-- for each distance from 1 on a word in which a bit is off only if the invariant with that bit has the same digits as the
+-- one at this distance after it
+abbrev pub SaysApart : List (List ℕ) → List ℕ → Type 0
+SaysApart found apart =
+    (near k : ℕ) → near < NEAR → bit_at (slice_index apart near) k ≡ 0 → row_of found k ≡ row_of found (near + 1 + k)
 
 -- a byte of each word
 pub record AreBytesOf (found : List (List ℕ)) (number : ℕ) (bytes : Bytes) : Type 0 where
@@ -37,9 +45,9 @@ pub record AreBytesOf (found : List (List ℕ)) (number : ℕ) (bytes : Bytes) :
 -- the window has, for each of its invariants, the digits of its labels at the partitions
 pub record IsWindowOf (planes : Labelling) (partitions : List Partition) (window : Window) : Type 0 where
   pub size : length window.words.items ≡ length partitions
-  pub few : window.len ≤ TOGETHER
+  pub few : window.len ≤ length window.from.items
   pub within : (k : ℕ) → k < window.len
-      → k * length partitions + length partitions ≤ length window.text.value.items
+      → slice_index window.from.items k + length partitions ≤ length window.text.value.items
   pub labels : (k : ℕ) → k < window.len
-      → take (length partitions) (drop (k * length partitions) window.text.value.items)
+      → take (length partitions) (drop (slice_index window.from.items k) window.text.value.items)
       ≡ map digit_of (map (λ x. digit planes (window.first + k) x.id) partitions)

@@ -2,8 +2,8 @@
 //!
 //! In memory the labels of all invariants at one partition lie together, and in the model those of one invariant at all
 //! partitions. So they are read for many invariants at once, one partition after another. Then they are written down,
-//! one invariant after another.
-ghost use Rattle.std.specs.Prelude.{◌≡◌, ◌<◌, ◌+◌, ◌*◌, ◌/◌, ◌%◌, ◌^◌, ℕ, [], IfOk, OnOk, Some, length, map, slice_get, slice_index, slice_index_or};
+//! one invariant after another. Invariants of the same types often have the same labels: these are written once.
+ghost use Rattle.std.specs.Prelude.{◌≡◌, ◌<◌, ◌+◌, ◌*◌, ◌/◌, ◌%◌, ◌^◌, ℕ, [], IfOk, IfSome, OnOk, Some, length, map, slice_get, slice_index, slice_index_or};
 ghost use Rattle.std.specs.Int.{bit_at};
 ghost use Rattle.std.specs.List.{AllByRecursion};
 ghost use Rattle.limits.specs.declared.TheConstants.{MAX_PARTITIONS};
@@ -13,8 +13,8 @@ ghost use Rattle.partition_model.specs.Assignments.{Assignment, G};
 ghost use Rattle.partition_model.specs.Listings.{ArePartitions};
 ghost use Rattle.models.specs.Models.{AreReached};
 ghost use Rattle.labelling.specs.Labelled.{digit, AreLabelsOf, AreStatesAt, SaysSwapped};
-ghost use Rattle.infer_core.specs.declared.labels.TheConstants.{AT_ONCE, TOGETHER};
-ghost use Rattle.infer_core.specs.Windows.{rows_before, AreBytesOf, IsWindowOf};
+ghost use Rattle.infer_core.specs.declared.labels.TheConstants.{AT_ONCE, NEAR, TOGETHER};
+ghost use Rattle.infer_core.specs.Windows.{row_of, AreBytesOf, HasRows, IsWindowOf, SaysApart};
 
 use invariants::{Invariant, Labels, Listed, Partition, Seq};
 use labelling::Planes;
@@ -29,6 +29,10 @@ pub(crate) const TOGETHER: usize = 64;
 /// Of how many of them the labels are written down at once: a byte has a bit for each.
 const AT_ONCE: usize = 8;
 
+/// How far apart two invariants may be whose labels are compared. The candidates of two types follow one another, and are
+/// at most this many.
+const NEAR: usize = 4;
+
 /// The labels of some invariants, whose numbers follow one another, at each of some partitions.
 #[derive(Drop)]
 pub struct Window {
@@ -36,8 +40,10 @@ pub struct Window {
     first: usize,
     /// How many they are.
     len: usize,
-    /// The digits of their labels: those of each invariant in turn, one for each partition.
+    /// The digits of their labels, one for each partition. Some invariants with the same labels share them.
     text: Rc<Vec<u8>>,
+    /// Where in the text the digits of each invariant begin.
+    from: Vec<usize>,
     /// Scratch space: for each partition, the words of the states.
     words: Vec<[u64; 3]>,
 }
@@ -116,51 +122,154 @@ impl Bytes {
     }
 }
 
-/// Appends the digits of `AT_ONCE` invariants, whose bits are those of the bytes with this number, to those of the
-/// invariants before them.
-fn append_rows(
-    words: &[[u64; 3]],
-    number: u32,
-    bytes: &mut Bytes,
-    row: &mut [u8],
-    text: &mut Vec<u8>,
-) -> Result<(), AllocError>
-    requires number { number < 8 }
-    requires zeroth { length bytes.old.zeroth.items ≡ length words.now }
-    requires first { length bytes.old.first.items ≡ length words.now }
-    requires second { length bytes.old.second.items ≡ length words.now }
-    requires row { length row.old ≡ length words.now }
-    requires before { text.old.items ≡ rows_before words.now (AT_ONCE * number) }
-    ensures rows { OnOk result (text.new.items ≡ rows_before words.now (AT_ONCE * (number + 1))) }
-    ensures zeroth { length bytes.new.zeroth.items ≡ length words.now }
-    ensures first { length bytes.new.first.items ≡ length words.now }
-    ensures second { length bytes.new.second.items ≡ length words.now }
+/// A word in which a bit is off only if that bit of the given word is the same as the one that is `distance` places above it.
+fn differs(word: u64, distance: u32) -> u64
+    requires { distance < 64 }
+    ensures { (k : ℕ) → bit_at result k ≡ 0 → bit_at word k ≡ bit_at word (distance + k) }
 {
-    bytes.take(words, number);
-    for k in 0..AT_ONCE {
-        bytes.write(k as u32, row);
-        text.extend_from_slice(row)?;
-    }
-    Ok(())
+    word ^ (word >> distance)
 }
 
-/// The digits of the labels that the words say: those of `TOGETHER` invariants in turn, one for each partition.
-fn text_of(alloc: Global, words: &[[u64; 3]]) -> Result<Vec<u8>, AllocError>
-    ensures { IfOk result (λ text. text.items ≡ rows_before words.now TOGETHER) }
+/// A word in which a bit is off only if the invariant with that bit has the same labels as the one `distance` after it.
+fn apart_by(words: &[[u64; 3]], distance: u32) -> u64
+    requires { distance < 64 }
+    ensures { (k : ℕ) → bit_at result k ≡ 0
+        → row_of words.now k ≡ row_of words.now (distance + k) }
 {
+    let mut apart = 0;
+    for word in words {
+        let [zeroth, first, second] = *word;
+        apart = apart | differs(zeroth, distance);
+        apart = apart | differs(first, distance);
+        apart = apart | differs(second, distance);
+    }
+    apart
+}
+
+/// Such a word for each distance from 1 to `NEAR`.
+fn apart_of(words: &[[u64; 3]]) -> [u64; NEAR]
+    ensures size { length result ≡ NEAR }
+    ensures apart { SaysApart words.now result }
+{
+    let mut apart = [0; NEAR];
+    for near in 0..NEAR {
+        apart[near] = apart_by(words, near as u32 + 1);
+    }
+    apart
+}
+
+/// An invariant before the one with bit k, and near it, that has the same labels. `apart` is what `apart_of` returns for
+/// the words.
+fn same_before(words: &[[u64; 3]], apart: &[u64], k: usize) -> Option<usize>
+    requires size { length apart.now ≡ NEAR }
+    requires apart { SaysApart words.now apart.now }
+    requires bit { k < TOGETHER }
+    ensures before { IfSome result (λ same. same < k) }
+    ensures same { IfSome result (λ same. row_of words.now same ≡ row_of words.now k) }
+{
+    for near in 0..NEAR {
+        if near < k && (apart[near] >> (k - near - 1) as u32) % 2 == 0 {
+            return Some(k - near - 1);
+        }
+    }
+    None
+}
+
+/// The digits of the labels of some invariants, one for each partition, and where in the text those of each invariant
+/// begin.
+#[derive(Drop)]
+struct Digits {
+    text: Vec<u8>,
+    from: Vec<usize>,
+}
+
+impl Digits {
+    /// Adds the digits of the next invariant, unless one near it has the same. Its bit is bit k of the bytes with this
+    /// number. `apart` is what `apart_of` returns for the words. `row` is scratch space.
+    fn add(
+        &mut self,
+        words: &[[u64; 3]],
+        apart: &[u64],
+        bytes: &Bytes,
+        number: u32,
+        k: u32,
+        row: &mut [u8],
+    ) -> Result<(), AllocError>
+        requires number { number < 8 }
+        requires bit { k < AT_ONCE }
+        requires next { length (self.old).from.items ≡ AT_ONCE * number + k }
+        requires size { length apart.now ≡ NEAR }
+        requires apart { SaysApart words.now apart.now }
+        requires bytes { AreBytesOf words.now number bytes.now }
+        requires row { length row.old ≡ length words.now }
+        requires rows { HasRows words.now (self.old).text.items (self.old).from.items }
+        ensures rows { OnOk result (HasRows words.now (self.new).text.items (self.new).from.items) }
+        ensures count { OnOk result (length (self.new).from.items
+            ≡ length (self.old).from.items + 1) }
+    {
+        if let Some(same) = same_before(words, apart, self.from.len()) {
+            let start = self.from[same];
+            self.from.push(start)?;
+            return Ok(());
+        }
+        bytes.write(k, row);
+        let start = self.text.len();
+        self.text.extend_from_slice(row)?;
+        self.from.push(start)?;
+        Ok(())
+    }
+
+    /// Adds the digits of `AT_ONCE` invariants, whose bits are those of the bytes with this number. `bytes` and `row` are
+    /// scratch space.
+    fn add_all(
+        &mut self,
+        words: &[[u64; 3]],
+        apart: &[u64],
+        number: u32,
+        bytes: &mut Bytes,
+        row: &mut [u8],
+    ) -> Result<(), AllocError>
+        requires number { number < 8 }
+        requires next { length (self.old).from.items ≡ AT_ONCE * number }
+        requires size { length apart.now ≡ NEAR }
+        requires apart { SaysApart words.now apart.now }
+        requires zeroth { length bytes.old.zeroth.items ≡ length words.now }
+        requires first { length bytes.old.first.items ≡ length words.now }
+        requires second { length bytes.old.second.items ≡ length words.now }
+        requires row { length row.old ≡ length words.now }
+        requires rows { HasRows words.now (self.old).text.items (self.old).from.items }
+        ensures rows { OnOk result (HasRows words.now (self.new).text.items (self.new).from.items) }
+        ensures count { OnOk result (length (self.new).from.items ≡ AT_ONCE * (number + 1)) }
+
+        // The scratch space stays as large as it was.
+        ensures zeroth { length bytes.new.zeroth.items ≡ length words.now }
+        ensures first { length bytes.new.first.items ≡ length words.now }
+        ensures second { length bytes.new.second.items ≡ length words.now }
+    {
+        bytes.take(words, number);
+        for k in 0..AT_ONCE {
+            self.add(words, apart, bytes, number, k as u32, row)?;
+        }
+        Ok(())
+    }
+}
+
+/// The digits of the labels that the words say, of `TOGETHER` invariants.
+fn digits_of(alloc: Global, words: &[[u64; 3]]) -> Result<Digits, AllocError>
+    ensures rows { IfOk result (λ digits. HasRows words.now digits.text.items digits.from.items) }
+    ensures count { IfOk result (λ digits. length digits.from.items ≡ TOGETHER) }
+{
+    let apart = apart_of(words);
     let mut bytes = Bytes::make(alloc, words.len())?;
     let mut row = vec![in alloc; 0; words.len()]?;
-    let mut text = Vec::with_capacity(alloc, words.len().saturating_mul(TOGETHER))?;
+    let mut digits = Digits {
+        text: Vec::new(alloc),
+        from: Vec::with_capacity(alloc, TOGETHER)?,
+    };
     for number in 0..TOGETHER / AT_ONCE {
-        append_rows(
-            words,
-            number as u32,
-            &mut bytes,
-            row.as_mut_slice(),
-            &mut text,
-        )?;
+        digits.add_all(words, &apart, number as u32, &mut bytes, row.as_mut_slice())?;
     }
-    Ok(text)
+    Ok(digits)
 }
 
 /// Reads, at each of the partitions, the words of the invariants from number `TOGETHER * place` on.
@@ -188,6 +297,7 @@ impl Window {
             first: 0,
             len: 0,
             text: Rc::new(alloc, Vec::new(alloc))?,
+            from: Vec::new(alloc),
             words: vec![in alloc; [0; 3]; partitions]?,
         })
     }
@@ -213,9 +323,10 @@ impl Window {
             → k < (self.new).len) }
     {
         gather(planes, place, partitions, self.words.as_mut_slice());
-        let text = text_of(alloc, self.words.as_slice())?;
+        let Digits { text, from } = digits_of(alloc, self.words.as_slice())?;
         let first = place * TOGETHER;
         self.text = Rc::new(alloc, text)?;
+        self.from = from;
         self.first = first;
         self.len = TOGETHER.min(count - first);
         Ok(())
@@ -267,7 +378,7 @@ fn labels_of(
     ensures window { IsWindowOf planes.now partitions.now window.new }
 {
     let place = window.place_of(alloc, planes, number, count, partitions)?;
-    Labels::part_of(&window.text, place * partitions.len(), partitions.len())
+    Labels::part_of(&window.text, window.from[place], partitions.len())
 }
 
 /// The invariants, each with its labels at these partitions. `AllocError` is returned if there is not enough memory.

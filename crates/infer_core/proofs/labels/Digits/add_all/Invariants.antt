@@ -1,12 +1,13 @@
 use Rattle.std.proofs.Common.{◌≡◌, ◌+◌, ◌*◌, length}
 use Rattle.infer_core.specs.declared.labels.TheConstants.{AT_ONCE}
-use Rattle.infer_core.specs.Windows.{rows_before, AreBytesOf}
-use Rattle.infer_core.proofs.labels.append_rows.Given as goal
+use Rattle.infer_core.specs.Windows.{AreBytesOf, HasRows}
+use Rattle.infer_core.proofs.labels.Digits.add_all.Given as goal
 
 abbrev pub invariant-loop-k : goal.invariant-loop-k
 invariant-loop-k l =
     record {
       bytes : AreBytesOf l.words l.number l.bytes;
       row : length l.row ≡ length l.words;
-      rows : l.text.items ≡ rows_before l.words (AT_ONCE * l.number + l.k);
+      rows : HasRows l.words l.self.text.items l.self.from.items;
+      count : length l.self.from.items ≡ AT_ONCE * l.number + l.k;
     }

@@ -1,7 +1,7 @@
 use Rattle.std.proofs.Common.{◌≡◌, ◌*◌, length}
 use Rattle.infer_core.specs.declared.labels.TheConstants.{AT_ONCE}
-use Rattle.infer_core.specs.Windows.{rows_before}
-use Rattle.infer_core.proofs.labels.text_of.Given as goal
+use Rattle.infer_core.specs.Windows.{HasRows}
+use Rattle.infer_core.proofs.labels.digits_of.Given as goal
 
 abbrev pub invariant-loop-number : goal.invariant-loop-number
 invariant-loop-number l =
@@ -10,5 +10,6 @@ invariant-loop-number l =
       first : length l.bytes.first.items ≡ length l.words;
       second : length l.bytes.second.items ≡ length l.words;
       row : length l.row.items ≡ length l.words;
-      rows : l.text.items ≡ rows_before l.words (AT_ONCE * l.number);
+      rows : HasRows l.words l.digits.text.items l.digits.from.items;
+      count : length l.digits.from.items ≡ AT_ONCE * l.number;
     }
