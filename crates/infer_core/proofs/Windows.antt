@@ -1,13 +1,12 @@
 -- Steps of the loops that read labels.
-use Rattle.std.proofs.Common.{◌≡◌, ℕ, zero, suc, ◌+◌, ◌*◌, ◌/◌, ◌%◌, ◌^◌, ◌<◌, ◌≤◌, All, Bool, cond, eqb, List, [], ◌∷◌, ◌++◌, length, map, take, drop, get_or, slice_get, Some, refl, sym, ap, ap₂, ◌∙◌, subst, subst₂, max, arith, inl, inr}
+use Rattle.std.proofs.Common.{◌≡◌, ℕ, zero, suc, ◌+◌, ◌*◌, ◌/◌, ◌%◌, ◌^◌, ◌<◌, ◌≤◌, Bool, cond, eqb, List, [], ◌∷◌, ◌++◌, length, map, take, drop, get_or, slice_get, Some, refl, sym, ap, ap₂, ◌∙◌, subst, subst₂, max, arith, inl, inr}
 use Rattle.std.proofs.lemmas.Nat.{shr-shr}
 use Rattle.std.proofs.lemmas.Nat.Bits.{bit_at-lt, bit_at_or, bit_at_xor}
 use Rattle.std.proofs.lemmas.Grind.{elements}
 use Rattle.std.specs.Int.{bit_at}
 use Rattle.std.specs.Int.Bits.{bit_or, bit_xor}
-use Rattle.invariants.specs.Labels.{IsDigit, digit_of, number_of as number_from}
+use Rattle.invariants.specs.Labels.{digit_of}
 use Rattle.invariants.specs.declared.records.Partition.{Partition}
-use Rattle.invariants.proofs.LabelDigits.{digits_are_digits, numbers_back}
 use Rattle.labelling.specs.Labelled.{Labelling, digit, is_found, number_of, AreStatesAt}
 use Rattle.infer_core.specs.declared.labels.Bytes.{Bytes}
 use Rattle.infer_core.specs.Windows.{label_at, row_of, AreBytesOf, HasRows}

@@ -1,10 +1,11 @@
 -- Labels of many invariants, read together.
-use Rattle.std.specs.Prelude.{◌≡◌, ◌<◌, ◌≤◌, ◌+◌, ◌*◌, ◌/◌, ◌%◌, ◌^◌, ℕ, List, [], length, map, take, drop, slice_index, slice_index_or}
+use Rattle.std.specs.Prelude.{◌≡◌, ◌<◌, ◌≤◌, ◌+◌, ◌-◌, ◌*◌, ◌/◌, ◌%◌, ◌^◌, ℕ, List, [], length, map, take, drop, slice_get, slice_index, slice_index_or, Some}
 use Rattle.std.specs.Int.{bit_at}
 use Rattle.invariants.specs.Labels.{digit_of}
 use Rattle.invariants.specs.declared.records.Partition.{Partition}
-use Rattle.labelling.specs.Labelled.{Labelling, digit}
-use Rattle.infer_core.specs.declared.labels.TheConstants.{NEAR}
+use Rattle.labelling.specs.Labelled.{Labelling, digit, AreStatesAt}
+use Rattle.infer_core.specs.declared.labels.TheConstants.{AHEAD, NEAR, TOGETHER}
+use Rattle.infer_core.specs.declared.labels.Ahead.{Ahead}
 use Rattle.infer_core.specs.declared.labels.Bytes.{Bytes}
 use Rattle.infer_core.specs.declared.labels.Window.{Window}
 
@@ -42,9 +43,21 @@ pub record AreBytesOf (found : List (List ℕ)) (number : ℕ) (bytes : Bytes) :
   pub second : (j : ℕ) → j < length found
       → slice_index bytes.second.items j ≡ slice_index (slice_index_or found j []) 2 / 2 ^ (8 * number) % 256
 
+-- for each partition, the words at the places of a block, up to the last place
+abbrev pub AreReadAt : Labelling → List Partition → ℕ → ℕ → List (List (List ℕ)) → Type 0
+AreReadAt planes partitions last block words =
+    (j b : ℕ) (x : Partition) → slice_get partitions j ≡ Some x → b < AHEAD → block * AHEAD + b ≤ last
+    → AreStatesAt planes (block * AHEAD + b) x.id (slice_index_or (slice_index_or words j []) b [])
+
+-- what is read is that of its block
+pub record IsAheadOf (planes : Labelling) (partitions : List Partition) (last : ℕ) (ahead : Ahead) : Type 0 where
+  pub size : length ahead.words.items ≡ length partitions
+  pub read : (block : ℕ) → ahead.block ≡ Some block → AreReadAt planes partitions last block ahead.words.items
+
 -- the window has, for each of its invariants, the digits of its labels at the partitions
 pub record IsWindowOf (planes : Labelling) (partitions : List Partition) (window : Window) : Type 0 where
   pub size : length window.words.items ≡ length partitions
+  pub ahead : IsAheadOf planes partitions ((length planes.invs - 1) / TOGETHER) window.ahead
   pub few : window.len ≤ length window.from.items
   pub within : (k : ℕ) → k < window.len
       → slice_index window.from.items k + length partitions ≤ length window.text.value.items

@@ -3,7 +3,7 @@
 //! In memory the labels of all invariants at one partition lie together, and in the model those of one invariant at all
 //! partitions. So they are read for many invariants at once, one partition after another. Then they are written down,
 //! one invariant after another. Invariants of the same types often have the same labels: these are written once.
-ghost use Rattle.std.specs.Prelude.{◌≡◌, ◌<◌, ◌+◌, ◌*◌, ◌/◌, ◌%◌, ◌^◌, ℕ, [], IfOk, IfSome, OnOk, Some, length, map, slice_get, slice_index, slice_index_or};
+ghost use Rattle.std.specs.Prelude.{◌≡◌, ◌<◌, ◌≤◌, ◌+◌, ◌*◌, ◌/◌, ◌%◌, ◌^◌, ℕ, [], IfOk, IfSome, None, OnOk, Some, length, map, slice_get, slice_index, slice_index_or};
 ghost use Rattle.std.specs.Int.{bit_at};
 ghost use Rattle.std.specs.List.{AllByRecursion};
 ghost use Rattle.limits.specs.declared.TheConstants.{MAX_PARTITIONS};
@@ -13,8 +13,8 @@ ghost use Rattle.partition_model.specs.Assignments.{Assignment, G};
 ghost use Rattle.partition_model.specs.Listings.{ArePartitions};
 ghost use Rattle.models.specs.Models.{AreReached};
 ghost use Rattle.labelling.specs.Labelled.{digit, AreLabelsOf, AreStatesAt, SaysSwapped};
-ghost use Rattle.infer_core.specs.declared.labels.TheConstants.{AT_ONCE, NEAR, TOGETHER};
-ghost use Rattle.infer_core.specs.Windows.{row_of, AreBytesOf, HasRows, IsWindowOf, SaysApart};
+ghost use Rattle.infer_core.specs.declared.labels.TheConstants.{AHEAD, AT_ONCE, NEAR, TOGETHER};
+ghost use Rattle.infer_core.specs.Windows.{row_of, AreBytesOf, AreReadAt, HasRows, IsAheadOf, IsWindowOf, SaysApart};
 
 use invariants::{Invariant, Labels, Listed, Partition, Seq};
 use labelling::Planes;
@@ -28,6 +28,9 @@ pub(crate) const TOGETHER: usize = 64;
 
 /// Of how many of them the labels are written down at once: a byte has a bit for each.
 const AT_ONCE: usize = 8;
+
+/// At how many places the words of a row are read at once: they lie together in memory, and rows lie far apart.
+const AHEAD: usize = 8;
 
 /// How far apart two invariants may be whose labels are compared. The candidates of two types follow one another, and are
 /// at most this many.
@@ -46,6 +49,17 @@ pub struct Window {
     from: Vec<usize>,
     /// Scratch space: for each partition, the words of the states.
     words: Vec<[u64; 3]>,
+    /// Such words at this place and at others near it.
+    ahead: Ahead,
+}
+
+/// For each of some partitions, the words of the states at the `AHEAD` places from `AHEAD * block` on. Past the last place
+/// they are 0.
+#[derive(Drop)]
+struct Ahead {
+    /// `None` if nothing is read yet.
+    block: Option<usize>,
+    words: Vec<[[u64; 3]; AHEAD]>,
 }
 
 /// Which states `AT_ONCE` invariants have at each of some partitions: for each state a byte for each partition, with a
@@ -272,18 +286,110 @@ fn digits_of(alloc: Global, words: &[[u64; 3]]) -> Result<Digits, AllocError>
     Ok(digits)
 }
 
-/// Reads, at each of the partitions, the words of the invariants from number `TOGETHER * place` on.
-fn gather(planes: &Planes, place: usize, partitions: &[Partition], words: &mut [[u64; 3]])
-    requires place { place * TOGETHER < length (planes.now).invs }
+/// What `Planes::words` needs to know at each of the places.
+fn swapped_at(planes: &Planes, block: usize, last: usize) -> [u64; AHEAD]
+    requires last { last * TOGETHER < length (planes.now).invs }
+    requires block { block * AHEAD ≤ last }
+    ensures size { length result ≡ AHEAD }
+    ensures swapped { (b : ℕ) → b < AHEAD → block * AHEAD + b ≤ last
+        → SaysSwapped (planes.now).invs (block * AHEAD + b) (slice_index result b) }
+{
+    let mut swapped = [0; AHEAD];
+    for b in 0..AHEAD {
+        if b <= last - block * AHEAD {
+            swapped[b] = planes.swapped(block * AHEAD + b);
+        }
+    }
+    swapped
+}
+
+/// The words at p at each of the places.
+fn words_at(
+    planes: &Planes,
+    block: usize,
+    last: usize,
+    swapped: &[u64],
+    p: u32,
+) -> [[u64; 3]; AHEAD]
+    requires last { last * TOGETHER < length (planes.now).invs }
+    requires block { block * AHEAD ≤ last }
+    requires size { length swapped.now ≡ AHEAD }
+    requires swapped { (b : ℕ) → b < AHEAD → block * AHEAD + b ≤ last
+        → SaysSwapped (planes.now).invs (block * AHEAD + b) (slice_index swapped.now b) }
+    requires id { p < MAX_PARTITIONS }
+    ensures { (b : ℕ) → b < AHEAD → block * AHEAD + b ≤ last
+        → AreStatesAt planes.now (block * AHEAD + b) p (slice_index_or result b []) }
+{
+    let mut words = [[0; 3]; AHEAD];
+    for b in 0..AHEAD {
+        if b <= last - block * AHEAD {
+            words[b] = planes.words(block * AHEAD + b, p, swapped[b]);
+        }
+    }
+    words
+}
+
+/// Reads, at each of the partitions, the words at each of the places.
+fn gather(
+    planes: &Planes,
+    block: usize,
+    last: usize,
+    partitions: &[Partition],
+    words: &mut [[[u64; 3]; AHEAD]],
+)
+    requires last { last * TOGETHER < length (planes.now).invs }
+    requires block { block * AHEAD ≤ last }
     requires ids { (k : ℕ) (x : Partition) → slice_get partitions.now k ≡ Some x
         → x.id < MAX_PARTITIONS }
     requires size { length words.old ≡ length partitions.now }
-    ensures { (j : ℕ) (x : Partition) → slice_get partitions.now j ≡ Some x
-        → AreStatesAt planes.now place x.id (slice_index_or words.new j []) }
+    ensures { AreReadAt planes.now partitions.now last block words.new }
 {
-    let swapped = planes.swapped(place);
+    let swapped = swapped_at(planes, block, last);
     for (j, partition) in partitions.iter().enumerate() {
-        words[j] = planes.words(place, partition.id, swapped);
+        words[j] = words_at(planes, block, last, &swapped, partition.id);
+    }
+}
+
+impl Ahead {
+    /// Nothing is read yet, and there is room for this many partitions.
+    fn make(alloc: Global, partitions: usize) -> Result<Ahead, AllocError>
+        ensures none { IfOk result (λ made. made.block ≡ None) }
+        ensures size { IfOk result (λ made. length made.words.items ≡ partitions) }
+    {
+        Ok(Ahead {
+            block: None,
+            words: vec![in alloc; [[0; 3]; AHEAD]; partitions]?,
+        })
+    }
+
+    /// Reads the words of this block, unless they are read already. `last` is the last place.
+    fn read(&mut self, planes: &Planes, block: usize, last: usize, partitions: &[Partition])
+        requires last { last * TOGETHER < length (planes.now).invs }
+        requires block { block * AHEAD ≤ last }
+        requires ids { (k : ℕ) (x : Partition) → slice_get partitions.now k ≡ Some x
+            → x.id < MAX_PARTITIONS }
+        requires ahead { IsAheadOf planes.now partitions.now last self.old }
+        ensures ahead { IsAheadOf planes.now partitions.now last self.new }
+        ensures read { AreReadAt planes.now partitions.now last block (self.new).words.items }
+    {
+        if self.block == Some(block) {
+            return;
+        }
+        gather(planes, block, last, partitions, self.words.as_mut_slice());
+        self.block = Some(block);
+    }
+
+    /// Copies the words at one of the places.
+    fn copy(&self, b: usize, words: &mut [[u64; 3]])
+        requires place { b < AHEAD }
+        requires size { length words.old ≡ length self.now.words.items }
+        ensures { (j : ℕ) → j < length words.old → slice_index_or words.new j []
+            ≡ slice_index_or (slice_index_or self.now.words.items j []) b [] }
+    {
+        let ahead = self.words.as_slice();
+        for j in 0..words.len() {
+            words[j] = ahead[j][b];
+        }
     }
 }
 
@@ -292,6 +398,8 @@ impl Window {
     fn make(alloc: Global, partitions: usize) -> Result<Window, AllocError>
         ensures none { IfOk result (λ window. window.len ≡ 0) }
         ensures size { IfOk result (λ window. length window.words.items ≡ partitions) }
+        ensures unread { IfOk result (λ window. window.ahead.block ≡ None) }
+        ensures ahead { IfOk result (λ window. length window.ahead.words.items ≡ partitions) }
     {
         Ok(Window {
             first: 0,
@@ -299,6 +407,7 @@ impl Window {
             text: Rc::new(alloc, Vec::new(alloc))?,
             from: Vec::new(alloc),
             words: vec![in alloc; [0; 3]; partitions]?,
+            ahead: Ahead::make(alloc, partitions)?,
         })
     }
 
@@ -322,7 +431,9 @@ impl Window {
         ensures full { OnOk result ((k : ℕ) → k < TOGETHER → place * TOGETHER + k < count
             → k < (self.new).len) }
     {
-        gather(planes, place, partitions, self.words.as_mut_slice());
+        let last = (count - 1) / TOGETHER;
+        self.ahead.read(planes, place / AHEAD, last, partitions);
+        self.ahead.copy(place % AHEAD, self.words.as_mut_slice());
         let Digits { text, from } = digits_of(alloc, self.words.as_slice())?;
         let first = place * TOGETHER;
         self.text = Rc::new(alloc, text)?;

@@ -1,4 +1,4 @@
-use Rattle.std.proofs.Common.{◌≡◌, ◌<◌, ◌+◌, ℕ, List, [], get_or, sym, subst, arith, inl, inr}
+use Rattle.std.proofs.Common.{◌<◌, ◌+◌, ℕ, [], get_or, sym, subst, arith, inl, inr}
 use Rattle.std.proofs.lemmas.Bool.{cases_eq}
 use Rattle.std.specs.Int.Bits.{bit_or}
 use Rattle.infer_core.proofs.Windows.{off-both, rows-same, AreSame}

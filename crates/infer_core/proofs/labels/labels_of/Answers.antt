@@ -1,6 +1,6 @@
 use Rattle.std.proofs.Common.{◌≡◌, ◌<◌, ◌+◌, All, IfOk, ℕ, List, drop, get_or, length, map, take, sym, ap, ◌∙◌, subst, arith}
 use Rattle.std.proofs.lemmas.List.{get_or_default}
-use Rattle.invariants.specs.Labels.{IsDigit, digit_of, number_of}
+use Rattle.invariants.specs.Labels.{IsDigit, number_of}
 use Rattle.invariants.specs.declared.records.Partition.{Partition}
 use Rattle.invariants.proofs.LabelDigits.{digits_are_digits, numbers_back}
 use Rattle.labelling.specs.Labelled.{digit}

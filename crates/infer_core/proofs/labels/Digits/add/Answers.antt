@@ -1,4 +1,4 @@
-use Rattle.std.proofs.Common.{rules, ◌≡◌, ◌+◌, ◌*◌, ℕ, List, [], ◌∷◌, ◌++◌, length, sym, ap, ◌∙◌, arith}
+use Rattle.std.proofs.Common.{rules, ◌≡◌, ℕ, List, [], ◌∷◌, ◌++◌, length, sym, ap, ◌∙◌, arith}
 use Rattle.infer_core.specs.Windows.{row_of}
 use Rattle.infer_core.proofs.Windows.{row-written, rows-append}
 use Rattle.infer_core.proofs.labels.Digits.add.Goals as goal
