@@ -1,7 +1,7 @@
 -- Passes over the links of a graph.
-use Rattle.std.proofs.Common.{◌≡◌, ◌≢◌, ℕ, ◌+◌, ◌<◌, ◌≤◌, ◌⊎◌, Bool, true, false, ◌||◌, List, length, get_or, take, refl, sym, ap, ◌∙◌, subst, arith, inl, inr}
+use Rattle.std.proofs.Common.{◌≡◌, ◌≢◌, ◌↔◌, ℕ, ◌+◌, ◌-◌, ◌<◌, ◌≤◌, ◌⊎◌, Bool, true, false, ◌||◌, List, length, get_or, reverse, take, refl, sym, ap, ◌∙◌, subst, arith, inl, inr}
 use Rattle.std.specs.List.{All, Contains}
-use Rattle.std.proofs.lemmas.List.{get_or_default, take_all}
+use Rattle.std.proofs.lemmas.List.{get_or_default, get_or-reverse, length-reverse, reverse-reverse, take_all}
 use Rattle.std.proofs.lemmas.List.Elements.{All-more}
 use Rattle.std.proofs.lemmas.Bool.{cases_Bool, cases_lt, or_parts, both_ways}
 use Rattle.limits.specs.declared.TheConstants.{MAX_PARTITIONS}
@@ -11,12 +11,41 @@ use Rattle.partition_graph.specs.declared.links.Link.{Link}
 use Rattle.partition_graph.specs.Links.{AreLinksOf, HasIds}
 use Rattle.clashes.specs.Marks.{Marks}
 use Rattle.clashes.specs.Changes.{IsEntered, IsFollowed, TellsGrowth, off_in}
-use Rattle.clashes.specs.Growing.{HasEntered, IsClosedAt, IsGrown, IsStill, IsClosedBut, IsFollowedIfNew, IsNoted}
+use Rattle.clashes.specs.Growing.{as_passed, HasEntered, IsClosedAt, IsGrown, IsStill, IsClosedBut, IsFollowedIfNew, IsNoted}
 use Rattle.clashes.proofs.Sound.{get_back, grown_then, grown_none, entered_grown, entered_has, has_stays, followed_grown, followed_closed}
 
+-- the list has each edge of the graph as a link, and no others
+abbrev pub AreEdgesOf : List Link → Graph → Type 0
+AreEdgesOf links g = (link : Link) → Contains links link ↔ (g.edge link.from link.to ≡ true)
+
+-- what is in a list is in the list reversed
+in_reversed : (links : List Link) (x : Link) → Contains links x → Contains (reverse links) x
+in_reversed links x there =
+    let k : ℕ = there.0 in
+    let below : k < length links = there.1 in
+    let back : length links - 1 - k < length links = omega (arith, below) in
+    let again : length links - 1 - (length links - 1 - k) ≡ k = omega (arith, below) in (
+      length links - 1 - k,
+      subst (λ (n : ℕ). length links - 1 - k < n) (sym (length-reverse links)) back,
+      get_or-reverse links (length links - 1 - k) x back ∙ ap (λ (i : ℕ). get_or links i x) again ∙ there.2,
+    )
+
+-- in either order they are the edges
+pub edges_passed : (from_end : Bool) (links : List Link) (g : Graph) → AreLinksOf links g → AreEdgesOf (as_passed from_end links) g
+edges_passed false links g h link = h.edges link
+edges_passed true links g h link = (
+  λ there. (h.edges link).0 (subst (λ (xs : List Link). Contains xs link) (reverse-reverse links) (in_reversed (reverse links) link there)),
+  λ edge. in_reversed links link ((h.edges link).1 edge),
+)
+
+-- and as many
+pub passed_size : (from_end : Bool) (links : List Link) → length (as_passed from_end links) ≡ length links
+passed_size false links = refl
+passed_size true links = length-reverse links
+
 -- a link of the graph is an edge of it
-pub link_edge : (links : List Link) (g : Graph) (k : ℕ) (d : Link) → AreLinksOf links g → k < length links → g.edge (get_or links k d).from (get_or links k d).to ≡ true
-link_edge links g k d h l = (h.edges (get_or links k d)).0 (k, l, get_or_default links k (get_or links k d) d l)
+pub link_edge : (links : List Link) (g : Graph) (k : ℕ) (d : Link) → AreEdgesOf links g → k < length links → g.edge (get_or links k d).from (get_or links k d).to ≡ true
+link_edge links g k d h l = (h (get_or links k d)).0 (k, l, get_or_default links k (get_or links k d) d l)
 
 -- both ends of an edge are ids that can be used
 pub edges_below : (links : List Link) (g : Graph) → AreLinksOf links g → (u v : ℕ) → g.edge u v ≡ true → (u < MAX_PARTITIONS) × (v < MAX_PARTITIONS)
@@ -44,7 +73,7 @@ pub seed_step : (g : Graph) (links : List Link) (i : ℕ) (d : Link) (old now ne
     → IsGrown old now g × AreEnteredSoFar g now (take i links) → IsGrown old new g × AreEnteredSoFar g new (take (i + 1) links)
 seed_step g links i d old now new typ h l f e s =
     let x : Link = get_or links i d in
-    let edge : g.edge x.from x.to ≡ true = link_edge links g i d h l in
+    let edge : g.edge x.from x.to ≡ true = link_edge links g i d h.edges l in
     let f' : IsEntered now new x.from x.to (g.typ x.to) = subst (λ (t : ℕ). IsEntered now new x.from x.to t) e f in
     let step : IsGrown now new g = entered_grown g now new x.from x.to edge f' in
     let P : Link → Type 0 = λ link. HasEntered new g link.from link.to in (
@@ -89,7 +118,7 @@ pub record IsPassing (g : Graph) (old marks : Marks) (changed : Bool) (links : L
   pub still : changed ≡ false → (p : ℕ) → IsStill now p
 
 -- before a pass nothing was changed
-pub pass_begins : (g : Graph) (marks : Marks) (links : List Link) (recent now : List Bool) → AreLinksOf links g → ((p : ℕ) → IsStill now p)
+pub pass_begins : (g : Graph) (marks : Marks) (links : List Link) (recent now : List Bool) → AreEdgesOf links g → ((p : ℕ) → IsStill now p)
     → IsPassing g marks marks false links recent now 0
 pass_begins g marks links recent now h none =
     record {
@@ -174,7 +203,7 @@ noted g old new links recent now now' i e li f n have j d l from to way =
     ]
 
 -- a pass goes on by one link
-pub pass_step : (g : Graph) (links : List Link) (i : ℕ) (d : Link) (old marks new : Marks) (typ : ℕ) (changed more : Bool) (recent now now' : List Bool) → AreLinksOf links g → i < length links
+pub pass_step : (g : Graph) (links : List Link) (i : ℕ) (d : Link) (old marks new : Marks) (typ : ℕ) (changed more : Bool) (recent now now' : List Bool) → AreEdgesOf links g → i < length links
     → IsFollowedIfNew marks new (get_or links i d).from (get_or links i d).to typ recent now → TellsGrowth marks new more → typ ≡ g.typ (get_or links i d).to
     → (more ≡ true → IsNoted now now' (get_or links i d).from (get_or links i d).to) → (more ≡ false → now' ≡ now)
     → IsPassing g old marks changed links recent now i → IsPassing g old new (changed || more) links recent now' (i + 1)
@@ -211,11 +240,20 @@ pass_step g links i d old marks new typ changed more recent now now' h l f t e n
           }
     ]
 
+-- the same for a link that is the one at this place
+pub pass_taken : (g : Graph) (links : List Link) (i : ℕ) (x : Link) (old marks new : Marks) (typ : ℕ) (changed more : Bool) (recent now now' : List Bool) → AreEdgesOf links g → i < length links
+    → x ≡ get_or links i x → IsFollowedIfNew marks new x.from x.to typ recent now → TellsGrowth marks new more → typ ≡ g.typ x.to
+    → (more ≡ true → IsNoted now now' x.from x.to) → (more ≡ false → now' ≡ now)
+    → IsPassing g old marks changed links recent now i → IsPassing g old new (changed || more) links recent now' (i + 1)
+pass_taken g links i x old marks new typ changed more recent now now' h l is f t e note none s =
+    pass_step g links i x old marks new typ changed more recent now now' h l (subst (λ (y : Link). IsFollowedIfNew marks new y.from y.to typ recent now) is f) t
+    (e ∙ ap (λ (y : Link). g.typ y.to) is) (λ hit. subst (λ (y : Link). IsNoted now now' y.from y.to) is (note hit)) none s
+
 -- behind a pass nothing more propagates but where marks are new
-pub pass_closes : (g : Graph) (links : List Link) (n : ℕ) (marks : Marks) (recent now : List Bool) → AreLinksOf links g → length links ≤ n → IsClosedFrom g marks links recent now n → IsClosedBut marks g now
+pub pass_closes : (g : Graph) (links : List Link) (n : ℕ) (marks : Marks) (recent now : List Bool) → AreEdgesOf links g → length links ≤ n → IsClosedFrom g marks links recent now n → IsClosedBut marks g now
 pass_closes g links n marks recent now h l c u v edge from to =
     let link : Link = record { from = u; to = v } in
-    let there : Contains links link = (h.edges link).1 edge in
+    let there : Contains links link = (h link).1 edge in
     let k : link ≡ get_or links there.0 link = sym there.2 in
     let below : there.0 < n = let b : there.0 < length links = there.1 in omega arith in
     subst (λ (x : Link). IsClosedAt marks g x.from x.to) there.2

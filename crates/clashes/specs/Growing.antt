@@ -1,8 +1,9 @@
 -- How marks propagate over a graph.
-use Rattle.std.specs.Prelude.{ℕ, ◌≡◌, ◌≢◌, ◌<◌, ◌⊎◌, Bool, true, false, List, slice_get, Some}
+use Rattle.std.specs.Prelude.{ℕ, ◌≡◌, ◌≢◌, ◌<◌, ◌⊎◌, Bool, true, false, if◌then◌else◌, List, reverse, slice_get, Some}
 use Rattle.limits.specs.declared.TheConstants.{INITIAL, TERMINAL, MAX_PARTITIONS}
 use Rattle.invariants.specs.declared.Invariant.{Invariant}
 use Rattle.partition_model.specs.Graphs.{Graph, Satisfies}
+use Rattle.partition_graph.specs.declared.links.Link.{Link}
 use Rattle.merge_law.specs.Critical.{Fore, Back, IsOnPath}
 use Rattle.clashes.specs.Rules.{enters, stays, falls, starts, is_bad_itself}
 use Rattle.clashes.specs.Marks.{Marks, on}
@@ -83,3 +84,7 @@ pub record IsNoted (old new : List Bool) (u v : ℕ) : Type 0 where
   pub from : is_set new u ≡ true
   pub to : is_set new v ≡ true
   pub others : (p : ℕ) → p ≢ u → p ≢ v → is_set new p ≡ is_set old p
+
+-- the links in the order in which a pass takes them
+abbrev pub as_passed : Bool → List Link → List Link
+as_passed from_end links = if from_end then reverse links else links

@@ -1,11 +1,12 @@
 //! How marks propagate over a graph until nothing changes.
-ghost use Rattle.std.specs.Prelude.{◌≡◌, ◌<◌, ℕ, true, false, length};
+ghost use Rattle.std.specs.Prelude.{◌≡◌, ◌<◌, ℕ, true, false, length, slice_index_or, All};
 ghost use Rattle.bit_rows.specs.Tables.{is_set};
 ghost use Rattle.partition_model.specs.Assignments.{G, IsTyped};
+ghost use Rattle.partition_graph.specs.declared.links.Link.{Link};
 ghost use Rattle.partition_graph.specs.Links.{AreLinksOf, HasIds};
 ghost use Rattle.clashes.specs.Changes.{TellsGrowth};
 ghost use Rattle.clashes.specs.Marks.{AreMarksOf};
-ghost use Rattle.clashes.specs.Growing.{AreSound, AreEntered, HasBegun, IsClosed, IsClosedBeside};
+ghost use Rattle.clashes.specs.Growing.{as_passed, AreSound, AreEntered, HasBegun, IsClosed, IsClosedBeside};
 ghost use Rattle.clashes.specs.Growing.{IsClosedBut, IsFollowedIfNew, IsGrown, IsNoted, IsStill};
 
 use crate::mark_rows::MarkRows;
@@ -51,9 +52,12 @@ fn propagate(mark_rows: &mut MarkRows, links: &[Link], graph: &PartGraph, mut re
         → IsClosed mark_rows.new (G (graph.now).traces) }
 {
     let mut now = nowhere();
-    'passes: while pass(mark_rows, links, graph, &recent, &mut now) {
+    // Marks propagate both ways. Every other pass goes back, so that each way is soon found in its order.
+    let mut from_end = false;
+    'passes: while pass(mark_rows, links, graph, &recent, &mut now, from_end) {
         recent = now;
         now = nowhere();
+        from_end = !from_end;
     }
 }
 
@@ -84,14 +88,30 @@ fn seed(mark_rows: &mut MarkRows, links: &[Link], graph: &PartGraph)
     }
 }
 
+/// The link that a pass takes after `done` others. A pass takes them in their order, or from the last to the first if
+/// `from_end` is true.
+fn link_after(links: &[Link], done: usize, from_end: bool) -> Link
+    requires ids { All HasIds links.now }
+    requires within { done < length links.now }
+    ensures link { (d : Link) → result ≡ slice_index_or (as_passed from_end links.now) done d }
+    ensures ids { HasIds result }
+{
+    if from_end {
+        return links[links.len() - 1 - done];
+    }
+    links[done]
+}
+
 /// Propagates marks once along each link at one of whose ends they are new, and returns whether that changed any.
 /// `recent` flags the ids at which marks were new before this pass, and `now` those at which they are new since.
+/// `from_end` says which link comes first.
 fn pass(
     mark_rows: &mut MarkRows,
     links: &[Link],
     graph: &PartGraph,
     recent: &[bool],
     now: &mut [bool],
+    from_end: bool,
 ) -> bool
     requires links { AreLinksOf links.now (G (graph.now).traces) }
     requires recent_room { length recent.now ≡ MAX_PARTITIONS }
@@ -108,8 +128,9 @@ fn pass(
     ensures still { result ≡ false → (p : ℕ) → IsStill now.new p }
 {
     let mut changed = false;
-    for link in links {
-        let more = follow(mark_rows, *link, graph.type_of(link.to), recent, now);
+    for done in 0..links.len() {
+        let link = link_after(links, done, from_end);
+        let more = follow(mark_rows, link, graph.type_of(link.to), recent, now);
         changed = changed | more;
     }
     changed
