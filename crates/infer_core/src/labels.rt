@@ -286,7 +286,7 @@ fn digits_of(alloc: Global, words: &[[u64; 3]]) -> Result<Digits, AllocError>
     Ok(digits)
 }
 
-/// What `Planes::words` needs to know at each of the places.
+/// What `Planes::words` needs to know at each of the `AHEAD` places from `AHEAD * block` on, up to the last place.
 fn swapped_at(planes: &Planes, block: usize, last: usize) -> [u64; AHEAD]
     requires last { last * TOGETHER < length (planes.now).invs }
     requires block { block * AHEAD ≤ last }
@@ -303,7 +303,7 @@ fn swapped_at(planes: &Planes, block: usize, last: usize) -> [u64; AHEAD]
     swapped
 }
 
-/// The words at p at each of the places.
+/// The words at p at each of these places. `swapped` is what `swapped_at` returns for them.
 fn words_at(
     planes: &Planes,
     block: usize,
@@ -329,7 +329,7 @@ fn words_at(
     words
 }
 
-/// Reads, at each of the partitions, the words at each of the places.
+/// Reads, at each of the partitions, the words at each of these places.
 fn gather(
     planes: &Planes,
     block: usize,
