@@ -27,9 +27,9 @@ fn copy_of(alloc: Global, types: &Seq<Text>) -> Result<Seq<Text>, AllocError>
     Ok(Seq::from_vec(copy))
 }
 
-/// The model: the types of the log, the kinds that are asked for, the lists of the graph where coarsening ended with the
-/// labels of the invariants, and the splits, merges and blocks of the run. `AllocError` is returned if there is not enough
-/// memory.
+/// The model: the types of the log, the kinds that are asked for, the given partitions and edges of the graph where
+/// coarsening ended, the labels of the invariants in that graph, and the splits, merges and blocks of the run. `AllocError`
+/// is returned if there is not enough memory.
 pub fn model_of(
     alloc: Global,
     kinds: Kinds,

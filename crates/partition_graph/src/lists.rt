@@ -1,4 +1,4 @@
-//! The lists of partitions and edges, made of what is counted.
+//! The lists of partitions and edges, read from the tables.
 ghost use Rattle.std.specs.Prelude.{◌≡◌, ◌≤◌, ◌<◌, ◌++◌, ℕ, IfOk, OnOk, length};
 ghost use Rattle.limits.specs.declared.TheConstants.{MAX_PARTITIONS};
 ghost use Rattle.partition_model.specs.Assignments.{Assignment, is_live, IsTyped};
@@ -20,16 +20,16 @@ fn is_live(tables: &Tables, p: u32) -> bool
     p < FIRST_TYPE || tables.size_at(p) > 0
 }
 
-/// The partition with this id in a graph of so many traces.
-fn partition_at(tables: &Tables, traces: u32, p: u32) -> Partition
+/// The partition with this id. The count of each of the two ends is the number of traces.
+fn partition_at(tables: &Tables, trace_count: u32, p: u32) -> Partition
     requires { p < MAX_PARTITIONS }
-    ensures { (h : Assignment) → IsCountedFor tables.now traces h → result ≡ partition_of h p }
+    ensures { (h : Assignment) → IsCountedFor tables.now trace_count h → result ≡ partition_of h p }
 {
     if p < FIRST_TYPE {
         return Partition {
             id: p,
             typ: p as u16,
-            count: traces,
+            count: trace_count,
         };
     }
     Partition {
@@ -44,17 +44,17 @@ fn partition_at(tables: &Tables, traces: u32, p: u32) -> Partition
 pub fn partitions_of(
     alloc: Global,
     tables: &Tables,
-    traces: u32,
+    trace_count: u32,
     used: u32,
 ) -> Result<Seq<Partition>, AllocError>
     requires { used ≤ MAX_PARTITIONS }
-    ensures { (h : Assignment) → IsCountedFor tables.now traces h
+    ensures { (h : Assignment) → IsCountedFor tables.now trace_count h
         → IfOk result (λ list. list ≡ partitions_below used h) }
 {
     let mut list = Vec::new(alloc);
     for p in 0..used {
         if is_live(tables, p) {
-            list.push(partition_at(tables, traces, p))?;
+            list.push(partition_at(tables, trace_count, p))?;
         }
     }
     Ok(Seq::from_vec(list))
@@ -99,27 +99,26 @@ fn push_edges_from(
     Ok(())
 }
 
-/// Both lists. `AllocError` is returned if there is not enough memory.
+/// The partitions and the edges. `AllocError` is returned if there is not enough memory.
 pub fn lists_of(
     alloc: Global,
     tables: &Tables,
-    traces: u32,
+    trace_count: u32,
     used: u32,
 ) -> Result<(Seq<Partition>, Seq<Edge>), AllocError>
     requires { used ≤ MAX_PARTITIONS }
-    ensures partitions { (h : Assignment) → IsCountedFor tables.now traces h
+    ensures partitions { (h : Assignment) → IsCountedFor tables.now trace_count h
         → IfOk result (λ pair. pair.0 ≡ partitions_below used h) }
-    ensures edges { (h : Assignment) → IsCountedFor tables.now traces h
+    ensures edges { (h : Assignment) → IsCountedFor tables.now trace_count h
         → IfOk result (λ pair. pair.1 ≡ edges_below used h) }
 {
-    let partitions = partitions_of(alloc, tables, traces, used)?;
+    let partitions = partitions_of(alloc, tables, trace_count, used)?;
     let edges = edges_of(alloc, tables, used)?;
     Ok((partitions, edges))
 }
 
-/// The partitions and the edges of the graph with one partition for each type, as `PartGraph::open` makes it of these traces
-/// and lists them. Each event is visited once, and no memory is taken for the events. `AllocError` is returned if there is
-/// not enough memory.
+/// The partitions and the edges of the graph that `PartGraph::open` makes of these traces. Each event is visited once, and
+/// no memory is taken for the events. `AllocError` is returned if there is not enough memory.
 pub fn start_lists(
     alloc: Global,
     traces: &TraceSet,

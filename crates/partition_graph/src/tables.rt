@@ -83,7 +83,7 @@ impl Tables {
         ensures below { IfOk result (λ tables.
             AreBelow (start_of traces.now).used (start_of traces.now).traces) }
     {
-        // How many types and events there are at most.
+        // Called for what they ensure: how many types and events there are at most.
         traces.types();
         traces.event_count();
         let mut tables = Tables::make(alloc)?;
@@ -237,7 +237,7 @@ impl Tables {
         })
     }
 
-    /// Counts the cells as well.
+    /// Adds these cells to what is counted.
     fn count(&mut self, cells: &[Cell])
         requires ids { All HasId cells.now }
         requires room { HasRoomFor self.old cells.now }
@@ -251,7 +251,7 @@ impl Tables {
         }
     }
 
-    /// Counts the cells of a word as well, in which each event has the number of its type for its id.
+    /// Adds the events of a word to what is counted. The id of each event is the number of its type.
     fn count_word(&mut self, word: &[u16])
         requires ids { All HasId (cells_of word.now) }
         requires room { HasRoomFor self.old (cells_of word.now) }

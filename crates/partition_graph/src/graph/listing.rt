@@ -38,8 +38,8 @@ impl PartGraph {
         edges_of(alloc, &self.tables, self.used)
     }
 
-    /// The partitions and the edges of the graph that `spread` makes of the traces with these numbers. Each event of these
-    /// is visited once, and no memory is taken for the events. `AllocError` is returned if there is not enough memory.
+    /// The partitions and the edges of the graph that `spread` makes of the traces with these numbers. Each event of that
+    /// graph is counted once, and no memory is taken for the events. `AllocError` is returned if there is not enough memory.
     pub fn spread_lists(
         &self,
         alloc: Global,

@@ -9,8 +9,8 @@ pub loop-p-preserved : goal.loop-p-preserved
 loop-p-preserved c = λ h counted.
     elim c.if-is_live.branch [
       | then-is_live+in_ok-push w ↦
-          live_more h c.loop-p.p (type_of h c.loop-p.p) (size h c.loop-p.p) c.loop-p.list.items c.if-is_live.list.items (sym (c.is_live.ensures h c.args.traces counted) ∙ w.if-is_live.true) refl refl
+          live_more h c.loop-p.p (type_of h c.loop-p.p) (size h c.loop-p.p) c.loop-p.list.items c.if-is_live.list.items (sym (c.is_live.ensures h c.args.trace_count counted) ∙ w.if-is_live.true) refl refl
           (c.loop-p.invariant h counted)
           (rw w.list-is (w.in_ok-push.ensures.items ∙ ap (λ (x : Partition). c.loop-p.list.items ++ x ∷ []) (w.partition_at.ensures h counted)))
-      | else-is_live w ↦ rw w.list-is (dead_more h c.loop-p.p c.loop-p.list.items (sym (c.is_live.ensures h c.args.traces counted) ∙ w.if-is_live.false) (c.loop-p.invariant h counted))
+      | else-is_live w ↦ rw w.list-is (dead_more h c.loop-p.p c.loop-p.list.items (sym (c.is_live.ensures h c.args.trace_count counted) ∙ w.if-is_live.false) (c.loop-p.invariant h counted))
     ]
