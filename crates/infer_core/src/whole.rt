@@ -25,8 +25,8 @@ fn are_in_order(numbers: &[u32]) -> bool
 }
 
 /// The partitions and the edges of the graph of the traces with these numbers, one trace for each number. `numbers` must
-/// have the number of each trace of `graph` at least once, and no other number. `AllocError` is returned if there is not
-/// enough memory.
+/// have the number of each trace of `graph` at least once, and no other number, and the graph at most `MAX_EVENTS` events.
+/// `AllocError` is returned if there is not enough memory.
 pub fn whole_lists(
     alloc: Global,
     graph: &PartGraph,

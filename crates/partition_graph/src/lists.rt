@@ -118,7 +118,8 @@ pub fn lists_of(
 }
 
 /// The partitions and the edges of the graph that `PartGraph::open` makes of these traces. Each event is visited once, and
-/// no memory is taken for the events. `AllocError` is returned if there is not enough memory.
+/// no memory is taken for the events. It allocates for `MAX_PARTITIONS` ids. `AllocError` is returned if there is not enough
+/// memory.
 pub fn start_lists(
     alloc: Global,
     traces: &TraceSet,

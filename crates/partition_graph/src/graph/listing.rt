@@ -39,7 +39,9 @@ impl PartGraph {
     }
 
     /// The partitions and the edges of the graph that `spread` makes of the traces with these numbers. Each event of that
-    /// graph is counted once, and no memory is taken for the events. `AllocError` is returned if there is not enough memory.
+    /// graph is counted once, and no memory is taken for the events. Each number must be that of a trace, and these traces
+    /// must have at most `MAX_EVENTS` events together. It allocates for `MAX_PARTITIONS` ids. `AllocError` is returned if there
+    /// is not enough memory.
     pub fn spread_lists(
         &self,
         alloc: Global,
