@@ -1,10 +1,10 @@
 -- The masks, invariant by invariant.
-use Rattle.std.proofs.Common.{◌≡◌, ◌≢◌, ℕ, ◌+◌, ◌<◌, Bool, List, Some, slice_get, sym, ◌∙◌, subst, arith, inl, inr}
+use Rattle.std.proofs.Common.{◌≡◌, ◌≢◌, ◌⊎◌, ℕ, ◌+◌, ◌<◌, Bool, true, false, List, Some, slice_get, sym, ◌∙◌, subst, arith, inl, inr}
 use Rattle.std.proofs.lemmas.Bool.{cases_eq}
 use Rattle.invariants.specs.declared.Invariant.{Invariant}
 use Rattle.clashes.specs.declared.places.TheConstants.{START, BAD, FIRST_MASK}
 use Rattle.clashes.specs.Marks.{on}
-use Rattle.clashes.specs.Rules.{starts, is_bad_itself}
+use Rattle.clashes.specs.Rules.{enters, stays, falls, starts, is_bad_itself}
 use Rattle.clashes.specs.Layout.{enters_row, stays_row, falls_row, IsIdle, IsColumn, IsMasked, AreColumns}
 use Rattle.clashes.proofs.Laid.{AreMasksOf}
 use Rattle.clashes.proofs.Unnamed.{not_entered, stayed, not_fallen}
@@ -31,6 +31,24 @@ idle_masks T n x k inv idle l not_a not_b =
       stays = idle.stays x l ∙ sym (stayed inv x not_a not_b);
       falls = idle.falls x l ∙ sym (not_fallen inv x not_a not_b);
     }
+
+-- the masks of x say so far that it leaves the invariant as it is, or are right already
+pub record AreUsual (T : List (List Bool)) (x k : ℕ) (inv : Invariant) : Type 0 where
+  pub enters : (on T (enters_row x) k ≡ false) ⊎ (on T (enters_row x) k ≡ enters inv x)
+  pub stays : (on T (stays_row x) k ≡ true) ⊎ (on T (stays_row x) k ≡ stays inv x)
+  pub falls : (on T (falls_row x) k ≡ false) ⊎ (on T (falls_row x) k ≡ falls inv x)
+
+-- the masks of x say so once those of y are written
+pub usual_at : (T new : List (List Bool)) (n x y k : ℕ) (inv : Invariant) → IsIdle T n k → x < n → IsMasked T new y k inv → AreUsual new x k inv
+usual_at T new n x y k inv idle l m =
+    elim (cases_eq x y) [
+      | inl e ↦ subst (λ (z : ℕ). AreUsual new z k inv) (sym e) (record { enters = inr m.enters; stays = inr m.stays; falls = inr m.falls })
+      | inr ne ↦ record {
+        enters = inl (m.rows (enters_row x) k (λ z. absurd (ne (omega (arith, z)))) (λ z. absurd (omega (arith, z))) (λ z. absurd (omega (arith, z))) ∙ idle.enters x l);
+        stays = inl (m.rows (stays_row x) k (λ z. absurd (omega (arith, z))) (λ z. absurd (ne (omega (arith, z)))) (λ z. absurd (omega (arith, z))) ∙ idle.stays x l);
+        falls = inl (m.rows (falls_row x) k (λ z. absurd (omega (arith, z))) (λ z. absurd (omega (arith, z))) (λ z. absurd (ne (omega (arith, z)))) ∙ idle.falls x l);
+      }
+    ]
 
 -- a row before the masks stays where masks are written
 before_masks : (T new : List (List Bool)) (r x k : ℕ) (inv : Invariant) → IsMasked T new x k inv → r < FIRST_MASK → on new r k ≡ on T r k

@@ -1,5 +1,5 @@
 -- The bits of one invariant: the three masks of a type, and what is told of the two ends.
-use Rattle.std.proofs.Common.{◌≡◌, ◌≢◌, ℕ, ◌<◌, ◌≤◌, Bool, false, List, [], length, slice_set, arith, ap, sym, ◌∙◌, subst, inl, inr}
+use Rattle.std.proofs.Common.{◌≡◌, ◌≢◌, ◌⊎◌, ℕ, ◌<◌, ◌≤◌, Bool, false, List, [], length, slice_set, arith, ap, sym, ◌∙◌, subst, inl, inr}
 use Rattle.std.proofs.lemmas.Bool.{cases_eq}
 use Rattle.std.proofs.lemmas.List.{get_or-set_same, get_or-set_other}
 use Rattle.bit_rows.specs.Tables.{row_at, is_set, HasShape}
@@ -27,6 +27,10 @@ one_bit T new rows bits r k bit k_in shape r_in is =
         | inr far ↦ ap (λ (t : List (List Bool)). on t s j) is ∙ ap (λ (xs : List Bool). is_set xs j) (get_or-set_other T r s (slice_set (row_at T r) k bit) [] far)
       ],
     )
+
+-- a bit that is as usual, or what it is to be, is so still where another one is written
+pub so_far_kept : (T new : List (List Bool)) (r k : ℕ) (bit usual : Bool) → on new r k ≡ on T r k → (on T r k ≡ usual) ⊎ (on T r k ≡ bit) → (on new r k ≡ usual) ⊎ (on new r k ≡ bit)
+so_far_kept T new r k bit usual same so_far = elim so_far [ inl e ↦ inl (same ∙ e) | inr e ↦ inr (same ∙ e) ]
 
 -- all three are written
 pub three_bits : (old a b new : List (List Bool)) (others bits x k : ℕ) (inv : Invariant) → x ≤ others → k < bits → HasShape old (row_count others) bits → HasShape a (row_count others) bits → HasShape b (row_count others) bits

@@ -1,10 +1,10 @@
 //! The masks, which say what each type does to each invariant.
-ghost use Rattle.std.specs.Prelude.{◌≡◌, ◌≢◌, ◌+◌, ◌<◌, ◌≤◌, ℕ, true, false, length};
+ghost use Rattle.std.specs.Prelude.{◌≡◌, ◌≢◌, ◌⊎◌, ◌+◌, ◌<◌, ◌≤◌, ℕ, true, false, length, slice_set};
 ghost use Rattle.limits.specs.declared.TheConstants.{LAST_TYPE};
-ghost use Rattle.bit_rows.specs.Tables.{KeepsShape, HasShape};
+ghost use Rattle.bit_rows.specs.Tables.{row_at, KeepsShape, HasShape};
 ghost use Rattle.clashes.specs.declared.places.TheConstants.{START, BAD, FIRST_MASK};
-ghost use Rattle.clashes.specs.Rules.{starts, is_bad_itself, AreNamedBelow, AreNamedUpTo};
-ghost use Rattle.clashes.specs.Layout.{row_count, HasPlace, IsIdle, IsColumn, IsMasked, AreColumns};
+ghost use Rattle.clashes.specs.Rules.{enters, stays, falls, starts, is_bad_itself, AreNamedBelow, AreNamedUpTo};
+ghost use Rattle.clashes.specs.Layout.{enters_row, stays_row, falls_row, row_count, HasPlace, IsIdle, IsColumn, IsMasked, AreColumns};
 ghost use Rattle.clashes.specs.Marks.{on};
 
 use crate::places::{BAD, START, enters_row, falls_row, stays_row};
@@ -57,6 +57,7 @@ fn put_idle(rows: &mut Rows, others: u16, count: usize)
     requires blank { (r k : ℕ) → on rows.old r k ≡ false }
     ensures shape { KeepsShape rows.old rows.new }
     ensures idle { (k : ℕ) → k < count → IsIdle rows.new (others + 1) k }
+    ensures blank { (r k : ℕ) → r < FIRST_MASK → on rows.new r k ≡ false }
 {
     let last = stays_row(others);
     turn_on(rows, last, count);
@@ -78,12 +79,13 @@ fn turn_on(rows: &mut Rows, r: usize, count: usize)
 }
 
 /// Writes what each type does to the invariant with number `k`. So far the table says that each type leaves it as it
-/// is.
+/// is, and says nothing of its ends.
 fn put_column(rows: &mut Rows, others: u16, k: usize, inv: Invariant)
     requires low { others ≤ LAST_TYPE + 1 }
     requires named { (inv.a < others) × (inv.b < others) }
     requires place { HasPlace rows.old others k }
     requires idle { IsIdle rows.old (others + 1) k }
+    requires blank { (r : ℕ) → r < FIRST_MASK → on rows.old r k ≡ false }
     ensures column { IsColumn rows.new (others + 1) k inv }
     ensures places { (r j : ℕ) → j ≢ k → on rows.new r j ≡ on rows.old r j }
     ensures shape { KeepsShape rows.old rows.new }
@@ -95,7 +97,8 @@ fn put_column(rows: &mut Rows, others: u16, k: usize, inv: Invariant)
 
 /// Writes whether INITIAL brings the invariant with number `k` into its critical state, and whether that is the bad one.
 fn put_ends(rows: &mut Rows, others: u16, k: usize, inv: Invariant)
-    requires { HasPlace rows.old others k }
+    requires place { HasPlace rows.old others k }
+    requires blank { (r : ℕ) → r < FIRST_MASK → on rows.old r k ≡ false }
     ensures starts { on rows.new START k ≡ starts inv }
     ensures bad { on rows.new BAD k ≡ is_bad_itself inv }
 
@@ -104,8 +107,8 @@ fn put_ends(rows: &mut Rows, others: u16, k: usize, inv: Invariant)
     ensures places { (r j : ℕ) → j ≢ k → on rows.new r j ≡ on rows.old r j }
     ensures shape { KeepsShape rows.old rows.new }
 {
-    rows.put(START, k, starts(inv));
-    rows.put(BAD, k, is_bad_itself(inv));
+    put_unless(rows, START, k, starts(inv), false);
+    put_unless(rows, BAD, k, is_bad_itself(inv), false);
 }
 
 /// Writes what the type `x` does to the invariant with number `k`.
@@ -113,10 +116,34 @@ fn put_masks(rows: &mut Rows, others: u16, k: usize, inv: Invariant, x: u16)
     requires low { others ≤ LAST_TYPE + 1 }
     requires typ { x ≤ others }
     requires place { HasPlace rows.old others k }
+
+    // Each bit says so far that the type leaves the invariant as it is, or is right already.
+    requires enters { (on rows.old (enters_row x) k ≡ false)
+        ⊎ (on rows.old (enters_row x) k ≡ enters inv x) }
+    requires stays { (on rows.old (stays_row x) k ≡ true)
+        ⊎ (on rows.old (stays_row x) k ≡ stays inv x) }
+    requires falls { (on rows.old (falls_row x) k ≡ false)
+        ⊎ (on rows.old (falls_row x) k ≡ falls inv x) }
+
+    // The three bits are right, and all others stay.
     ensures masks { IsMasked rows.old rows.new x k inv }
     ensures shape { KeepsShape rows.old rows.new }
 {
-    rows.put(enters_row(x), k, enters(inv, x));
-    rows.put(stays_row(x), k, stays(inv, x));
-    rows.put(falls_row(x), k, falls(inv, x));
+    put_unless(rows, enters_row(x), k, enters(inv, x), false);
+    put_unless(rows, stays_row(x), k, stays(inv, x), true);
+    put_unless(rows, falls_row(x), k, falls(inv, x), false);
+}
+
+/// Makes bit `k` of row `r` what `bit` says. So far it is `usual`, or right already.
+#[inline]
+fn put_unless(rows: &mut Rows, r: usize, k: usize, bit: bool, usual: bool)
+    requires row { r < length rows.old }
+    requires place { k < length (row_at rows.old r) }
+    requires so_far { (on rows.old r k ≡ usual) ⊎ (on rows.old r k ≡ bit) }
+    ensures rows { rows.new ≡ slice_set rows.old r (slice_set (row_at rows.old r) k bit) }
+    ensures shape { KeepsShape rows.old rows.new }
+{
+    if bit != usual {
+        rows.put(r, k, bit);
+    }
 }

@@ -1,6 +1,8 @@
-use Rattle.std.proofs.Common.{◌≤◌, ◌<◌, ◌+◌, ℕ, length}
+use Rattle.std.proofs.Common.{◌≡◌, ◌≤◌, ◌<◌, ◌+◌, ℕ, false, length}
 use Rattle.bit_rows.specs.Tables.{HasShape}
+use Rattle.clashes.specs.declared.places.TheConstants.{FIRST_MASK}
 use Rattle.clashes.specs.Layout.{row_count, AreColumns, IsIdle}
+use Rattle.clashes.specs.Marks.{on}
 use Rattle.clashes.proofs.masks.put_columns.Given as goal
 
 abbrev pub invariant-loop-k : goal.invariant-loop-k
@@ -9,4 +11,5 @@ invariant-loop-k l =
       shape : HasShape l.rows (row_count l.others) (length l.invs);
       columns : AreColumns l.rows l.others l.invs l.k;
       idle : (j : ℕ) → l.k ≤ j → j < length l.invs → IsIdle l.rows (l.others + 1) j;
+      blank : (r j : ℕ) → l.k ≤ j → r < FIRST_MASK → on l.rows r j ≡ false;
     }

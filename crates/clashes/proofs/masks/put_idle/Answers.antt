@@ -30,3 +30,6 @@ loop-x-preserved c =
 
 pub returns-clause-idle : goal.returns-clause-idle
 returns-clause-idle c k l = idle_done c.loop-x.rows c.args.others c.loop-x.x c.args.count k (omega (arith, c.loop-x-test.false)) c.loop-x.invariant.1 l
+
+pub returns-clause-blank : goal.returns-clause-blank
+returns-clause-blank c = c.loop-x.invariant.1.blank
