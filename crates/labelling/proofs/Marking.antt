@@ -101,6 +101,16 @@ marked_more bound first one other k inv all bad begins blank a apart_a b apart_b
   ];
 }
 
+-- where only the moves at y are marked, the bit of a move that x does not make is off
+pub moves_off : (first one : List (List Bool)) (x y k m : ℕ) (inv : Invariant) → ((r : ℕ) → MOVE_ROWS ≤ r → is_on first r k ≡ false)
+    → ((i : ℕ) → i < MOVES → is_on one (moves_row y + i) k ≡ is_move inv y i) → ((r j : ℕ) → IsApart y k r j → is_on one r j ≡ is_on first r j)
+    → m < MOVES → is_move inv x m ≡ false → is_on one (moves_row x + m) k ≡ false
+moves_off first one x y k m inv blank marked apart low off =
+    elim (cases_eq x y) [
+      | inl same ↦ subst (λ (z : ℕ). is_on one (moves_row z + m) k ≡ is_move inv z m) (sym same) (marked m low) ∙ off
+      | inr ne ↦ apart (moves_row x + m) k (apart_moves y x m k ne low) ∙ blank (moves_row x + m) (omega arith)
+    ]
+
 -- what rows say of the first moves at a type
 abbrev pub HasMoves : List (List Bool) → ℕ → Invariant → ℕ → ℕ → Type 0
 HasMoves table k inv x bound = (m : ℕ) → m < bound → is_on table (moves_row x + m) k ≡ is_move inv x m

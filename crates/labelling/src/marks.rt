@@ -1,12 +1,12 @@
 //! The rows that are the same for each graph.
-ghost use Rattle.std.specs.Prelude.{◌≡◌, ◌≢◌, ◌≤◌, ◌<◌, ◌+◌, ◌*◌, ℕ, true, false, length, slice_get, Some};
-ghost use Rattle.bit_rows.specs.Tables.{HasShape, KeepsShape};
+ghost use Rattle.std.specs.Prelude.{◌≡◌, ◌≢◌, ◌≤◌, ◌<◌, ◌+◌, ◌*◌, ℕ, Bool, true, false, length, slice_get, slice_index_or, slice_set, Some};
+ghost use Rattle.bit_rows.specs.Tables.{row_at, HasShape, KeepsShape};
 ghost use Rattle.invariants.specs.declared.Invariant.{Invariant};
 ghost use Rattle.labelling.specs.declared.layout.TheConstants.{MOVES, MOVE_ROWS};
 ghost use Rattle.limits.specs.declared.TheConstants.{LAST_TYPE};
 ghost use Rattle.labelling.specs.Layout.{is_on, is_move, moves_row, AreMarked, AreNamedBelow, row_count, IsApart, IsFree, IsMarked};
 
-use crate::layout::{ALL_ROW, bad_row, first_row, moves_row};
+use crate::layout::{ALL_ROW, MOVES, bad_row, first_row, moves_row};
 use crate::phases::{first_phase, turn};
 use bit_rows::Rows;
 use invariants::{Invariant, Monitor};
@@ -56,7 +56,7 @@ fn mark(rows: &mut Rows, bound: usize, count: usize, k: usize, inv: Invariant)
     rows.put(ALL_ROW, k, true);
     rows.put(first_row(first_phase(inv)), k, true);
     for phase in 0..3 {
-        rows.put(bad_row(phase), k, Monitor::bad(inv, phase));
+        turn_on(rows, bad_row(phase), k, Monitor::bad(inv, phase));
     }
     mark_moves(rows, count, k, inv, inv.a);
     mark_moves(rows, count, k, inv, inv.b);
@@ -68,26 +68,43 @@ fn mark_moves(rows: &mut Rows, count: usize, k: usize, inv: Invariant, typ: u16)
     requires shape { (n : ℕ) × (MOVE_ROWS + (typ + 1) * MOVES ≤ n) × HasShape rows.old n count }
     requires number { k < count }
 
+    // The bit of a move that the type does not make is off so far.
+    requires off { (m : ℕ) → m < MOVES → is_move inv typ m ≡ false
+        → is_on rows.old (moves_row typ + m) k ≡ false }
+
     // What the type does to each phase is marked, and all else stays.
     ensures shape { KeepsShape rows.old rows.new }
     ensures moves { (m : ℕ) → m < MOVES
         → is_on rows.new (moves_row typ + m) k ≡ is_move inv typ m }
     ensures others { (r j : ℕ) → IsApart typ k r j → is_on rows.new r j ≡ is_on rows.old r j }
 {
-    for place in 0..4 {
-        let on = is_move(inv, typ, place);
-        rows.put(moves_row(usize::from(typ)) + place, k, on);
+    let moves = moves_at(inv, typ);
+    for place in 0..MOVES {
+        turn_on(rows, moves_row(usize::from(typ)) + place, k, moves[place]);
     }
 }
 
-/// What the row at a place says about the invariant.
-fn is_move(inv: Invariant, typ: u16, place: usize) -> bool
-    ensures { result ≡ is_move inv typ place }
+/// What each row of the moves at a type says about the invariant.
+#[inline]
+fn moves_at(inv: Invariant, typ: u16) -> [bool; MOVES]
+    ensures { (m : ℕ) (d : Bool) → m < MOVES → slice_index_or result m d ≡ is_move inv typ m }
 {
-    match place {
-        0 => turn(inv, 0, typ) == 1,
-        1 => turn(inv, 1, typ) == 0,
-        2 => turn(inv, 1, typ) != 1,
-        _ => turn(inv, 1, typ) == 2,
+    // What the phases 0 and 1 become.
+    let zeroth = turn(inv, 0, typ);
+    let first = turn(inv, 1, typ);
+    [zeroth == 1, first == 0, first != 1, first == 2]
+}
+
+/// Turns bit `k` of row `r` on if `on` is true. Otherwise it is off already.
+#[inline]
+fn turn_on(rows: &mut Rows, r: usize, k: usize, on: bool)
+    requires row { r < length rows.old }
+    requires place { k < length (row_at rows.old r) }
+    requires off { on ≡ false → is_on rows.old r k ≡ false }
+    ensures rows { rows.new ≡ slice_set rows.old r (slice_set (row_at rows.old r) k on) }
+    ensures shape { KeepsShape rows.old rows.new }
+{
+    if on {
+        rows.put(r, k, true);
     }
 }

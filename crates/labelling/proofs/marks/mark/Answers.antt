@@ -5,7 +5,7 @@ use Rattle.bit_rows.specs.Tables.{HasShape}
 use Rattle.labelling.specs.declared.layout.TheConstants.{ALL_ROW}
 use Rattle.labelling.specs.Layout.{is_on, bad_row, first_row, row_count}
 use Rattle.labelling.specs.Phases.{first_phase}
-use Rattle.labelling.proofs.Marking.{put_here, put_row, put_other, marked_more}
+use Rattle.labelling.proofs.Marking.{put_here, put_row, put_other, marked_more, moves_off}
 use Rattle.labelling.proofs.marks.mark.Goals as goal
 
 pub loop-phase-init : goal.loop-phase-init
@@ -24,6 +24,7 @@ loop-phase-init c =
       shape = λ a b s. c.put-2.ensures.shape a b (c.put.ensures.shape a b s);
       all = others ALL_ROW (λ e. absurd (omega (arith, e, c.first_row.ensures.within))) ∙ put_here old mid n c.args.count ALL_ROW k true c.requires.shape (omega arith) c.requires.number c.put.ensures.rows;
       bad = λ s none. absurd (omega (arith, none));
+      off = λ s above low. others (bad_row s) (λ e. absurd (omega (arith, low, e, c.first_row.ensures.within))) ∙ before (bad_row s) (λ e. absurd (omega (arith, low, e)));
       first = λ s low. elim (cases_eq (first_phase c.args.inv) s) [
         | inl same ↦
             ap (λ (x : ℕ). is_on new x k) (sym (at ∙ ap (λ (x : ℕ). first_row x) same))
@@ -45,16 +46,16 @@ pub loop-phase-preserved : goal.loop-phase-preserved
 loop-phase-preserved c =
     let n : ℕ = row_count c.args.bound in
     let old = c.loop-phase.rows in
-    let new = c.put-in-loop-phase.new.self in
+    let new = c.turn_on.new.rows in
     let k = c.args.k in
     let row = c.bad_row.result in
     let on = c.bad.result in
-    let is = c.put-in-loop-phase.ensures.rows in
+    let is = c.turn_on.ensures.rows in
     let i = c.loop-phase.invariant in
     let h : HasShape old n c.args.count = i.shape n c.args.count c.requires.shape in
     let at : row ≡ bad_row c.loop-phase.phase = c.bad_row.ensures.value in
     record {
-      shape = λ a b s. c.put-in-loop-phase.ensures.shape a b (i.shape a b s);
+      shape = λ a b s. c.turn_on.ensures.shape a b (i.shape a b s);
       all = put_row old new row ALL_ROW k k on is (λ e. absurd (omega (arith, e, at))) ∙ i.all;
       bad = λ s below. elim (cases_eq s c.loop-phase.phase) [
         | inl same ↦
@@ -62,6 +63,7 @@ loop-phase-preserved c =
             ∙ put_here old new n c.args.count row k on h (omega (arith, at)) c.requires.number is ∙ c.bad.ensures ∙ ap (λ (x : ℕ). is_bad c.args.inv x) (sym same)
         | inr ne ↦ put_row old new row (bad_row s) k k on is (λ e. absurd (omega (arith, e, at, ne))) ∙ i.bad s (omega (arith, below, ne))
       ];
+      off = λ s above low. put_row old new row (bad_row s) k k on is (λ e. absurd (omega (arith, above, e, at))) ∙ i.off s (omega (arith, above)) low;
       first = λ s below. put_row old new row (first_row s) k k on is (λ e. absurd (omega (arith, e, at))) ∙ i.first s below;
       moves = λ r above. put_row old new row r k k on is (λ e. absurd (omega (arith, above, e, at))) ∙ i.moves r above;
       free = λ r f. put_row old new row r k k on is (λ e. elim f [ inl low ↦ omega (arith, low, e, at) | inr there ↦ omega (arith, there, e, at) ]) ∙ i.free r f;
@@ -73,6 +75,11 @@ mark_moves-requires-clause-shape c = (row_count c.args.bound, omega (arith, c.re
 
 pub mark_moves-requires-2-clause-shape : goal.mark_moves-requires-2-clause-shape
 mark_moves-requires-2-clause-shape c = (row_count c.args.bound, omega (arith, c.requires.named), c.mark_moves.ensures.shape _ _ (c.loop-phase.invariant.shape _ _ c.requires.shape))
+
+pub mark_moves-requires-2-clause-off : goal.mark_moves-requires-2-clause-off
+mark_moves-requires-2-clause-off c m low is_off =
+    let a = c.mark_moves.ensures in
+    moves_off c.loop-phase.rows c.mark_moves.new.rows c.args.inv.b c.args.inv.a c.args.k m c.args.inv c.loop-phase.invariant.moves a.moves a.others low is_off
 
 pub returns : goal.returns
 returns c =
@@ -88,8 +95,12 @@ returns c =
       others = λ r j ne. b.others r j (inl ne) ∙ a.others r j (inl ne) ∙ i.others r j ne;
     }
 
-pub put-requires-in-loop-phase-clause-place : goal.put-requires-in-loop-phase-clause-place
-put-requires-in-loop-phase-clause-place c =
+pub turn_on-requires-clause-off : goal.turn_on-requires-clause-off
+turn_on-requires-clause-off c is_off =
+    ap (λ (r : ℕ). is_on c.loop-phase.rows r c.args.k) c.bad_row.ensures.value ∙ c.loop-phase.invariant.off c.loop-phase.phase (omega arith) (omega arith)
+
+pub turn_on-requires-clause-place : goal.turn_on-requires-clause-place
+turn_on-requires-clause-place c =
     let n : ℕ = row_count c.args.bound in
     let h : HasShape c.loop-phase.rows n c.args.count = c.loop-phase.invariant.shape n c.args.count c.requires.shape in
     omega (arith, h.long c.bad_row.result (omega (arith, c.bad_row.ensures.within)))

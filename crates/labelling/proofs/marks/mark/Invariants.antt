@@ -12,6 +12,7 @@ invariant-loop-phase l =
       shape : KeepsShape l.fn.rows l.rows;
       all : is_on l.rows ALL_ROW l.k ≡ true;
       bad : (s : ℕ) → s < l.phase → is_on l.rows (bad_row s) l.k ≡ is_bad l.inv s;
+      off : (s : ℕ) → l.phase ≤ s → s < STATES → is_on l.rows (bad_row s) l.k ≡ false;
       first : (s : ℕ) → s < STATES → is_on l.rows (first_row s) l.k ≡ (first_phase l.inv == s);
       moves : (r : ℕ) → MOVE_ROWS ≤ r → is_on l.rows r l.k ≡ false;
       free : (r : ℕ) → IsFree l.bound r → is_on l.rows r l.k ≡ false;
