@@ -4,3 +4,6 @@ pub mod MergingTurns
 pub mod Remaining
 pub mod BlockingTurns
 pub mod Ended
+pub mod Visiting
+pub mod Rising
+pub mod BlockSums

@@ -3,3 +3,4 @@ pub mod Deciding
 pub mod Blocking
 pub mod Marking
 pub mod Telling
+pub mod Fitting

@@ -7,9 +7,12 @@
 #![tactic(auto)]
 
 mod blocking;
+mod fitting;
 mod merging;
 mod pairs;
+mod ranks;
 mod telling;
 
 pub use blocking::{Coarsened, EvidenceLimit, blocks, blocks_marked};
+pub use fitting::blocks_fit;
 pub use merging::coarsen;
