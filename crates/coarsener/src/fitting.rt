@@ -55,8 +55,9 @@ fn most_in_all(graph: &PartGraph, known: Known<'_>) -> usize
 }
 
 /// Whether the paths of the blocks of this graph are known to fit beside `held` ids: then the first blocks, with the
-/// paths of `held` ids before them, never have more than `MAX_PATH_NUMBERS` ids in total. `false` says nothing. It
-/// searches for no path, counts no step and allocates nothing.
+/// paths of `held` ids before them, never have more than `MAX_PATH_NUMBERS` ids in total. It is true at least where this
+/// limit allows each path to be as long as any graph can make it. `false` says nothing. It searches for no path, counts
+/// no step and allocates nothing.
 pub fn blocks_fit(graph: &PartGraph, held: usize) -> bool
     ensures fit { OnTrue result ((invs : List Invariant) (blocks : List Block)
         → EndsWithoutRoom invs graph.now blocks (held + block_numbers blocks) → ⊥) }

@@ -9,7 +9,8 @@ use partition_graph::{PartGraph, View};
 /// How many ranks there are: one for each id.
 const IDS: usize = MAX_PARTITIONS as usize;
 
-/// The ranks that are found so far. An id has its rank when all its sources have theirs: the length of a longest path to it.
+/// The ranks that are found so far. An id has its rank once all its sources have theirs: the most edges that lead to it, one
+/// after another.
 #[derive(Drop)]
 struct Ranking {
     /// The rank of each id, as far as its sources have theirs.
@@ -93,7 +94,8 @@ impl Ranking {
     }
 }
 
-/// The length of a longest path to each id, unless the graph has a cycle. Each edge is followed twice at most.
+/// For each id the most edges that lead to it, one after another, if the graph has no cycle. What is found for a graph with a
+/// cycle does not rise along each edge. Each edge is followed twice at most.
 pub(crate) fn rank_all(graph: &PartGraph) -> [u32; IDS] {
     let mut ranking = Ranking::new();
     ranking.begin(graph);
