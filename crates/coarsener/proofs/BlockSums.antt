@@ -1,16 +1,17 @@
 -- The paths of blocks, by bounds on each.
-use Rattle.std.proofs.Common.{◌≡◌, ℕ, ◌+◌, ◌*◌, ◌≤◌, List, [], ◌∷◌, ◌++◌, length, slice_get, Some, sum_by, ◌∙◌, ap, arith}
+use Rattle.std.proofs.Common.{◌≡◌, true, ℕ, ◌+◌, ◌*◌, ◌≤◌, List, [], ◌∷◌, ◌++◌, length, slice_get, Some, sum_by, ◌∙◌, ap, arith}
 use Rattle.std.proofs.lemmas.List.Sums.{sum_by-cons, sum_by-append}
 use Rattle.std.specs.List.{AllByRecursion}
-use Rattle.limits.specs.declared.TheConstants.{MAX_PAIRS, MAX_PATH_NUMBERS}
+use Rattle.limits.specs.declared.TheConstants.{TERMINAL, MAX_PAIRS, MAX_PATH_NUMBERS}
 use Rattle.invariants.specs.declared.Invariant.{Invariant}
 use Rattle.invariants.specs.declared.records.Merge.{Merge}
 use Rattle.invariants.specs.declared.records.Block.{Block}
 use Rattle.partition_model.specs.Graphs.{Graph, Satisfies, IsLeastViolation, IsFormed, Merged}
 use Rattle.partition_model.specs.Assignments.{G}
-use Rattle.partition_model.specs.Coarsening.{IsBlock}
+use Rattle.partition_model.specs.Coarsening.{IsPair, IsBlock}
 use Rattle.partition_model.proofs.Forming.{graphs_are_formed, merged_are_formed}
 use Rattle.partition_model.proofs.Runs.{broken}
+use Rattle.partition_bounds.specs.Laws.{IsBelow}
 use Rattle.partition_bounds.specs.Pairs.{longest_path, pair_of, pairs_of, pairs_below}
 use Rattle.partition_bounds.proofs.Merges.{graphs_are_below, merged_are_below}
 use Rattle.partition_bounds.proofs.Pairing.{pairs_within_limit}
@@ -20,7 +21,7 @@ use Rattle.partition_graph.specs.Parts.{Parts}
 use Rattle.coarsener.specs.declared.fitting.Known.{Known}
 use Rattle.coarsener.specs.declared.fitting.Known.TheVariants.{Nothing, Ranks}
 use Rattle.coarsener.specs.Blocking.{pair_count, EndsWithoutRoom}
-use Rattle.coarsener.specs.Fitting.{rank_of, gap, IsTrueOf, most_ids, most_in_all}
+use Rattle.coarsener.specs.Fitting.{rank_of, gap, falls_of, IsTrueOf, most_ids, most_in_all}
 use Rattle.coarsener.specs.Pairs.{HasIds, HasNoPairBehind, IsNextPair}
 use Rattle.coarsener.proofs.Remaining.{Remain, remain-start, remain-next, remain-none}
 use Rattle.coarsener.proofs.Rising.{least-rising}
@@ -28,7 +29,7 @@ use Rattle.coarsener.proofs.Rising.{least-rising}
 -- the bound of a pair is within that of all graphs
 most-small : (known : Known) (m : Merge) → most_ids known m ≤ longest_path
 most-small Nothing m = omega arith
-most-small (Ranks ranks) m = omega arith
+most-small (Ranks ranks falls) m = omega arith
 
 -- so the bounds of pairs are, together
 sum-small : (known : Known) (ms : List Merge) → sum_by (most_ids known) ms ≤ length ms * longest_path
@@ -81,15 +82,20 @@ sums-few known parts p q most ids c =
     omega (arith, c.sum)
 
 -- a least violation keeps the bound of its pair
-least-short : (known : Known) (g : Graph) (inv : Invariant) (p q : ℕ) (path : List ℕ) → 2 ≤ p → IsTrueOf known g → IsLeastViolation (Merged g p q) inv path → length path ≤ longest_path
-    → length path ≤ most_ids known (pair_of p q)
-least-short Nothing g inv p q path low t v l = l
-least-short (Ranks ranks) g inv p q path low t v l =
-    let r : length path ≤ rank_of ranks.now 1 + 1 + 3 * gap (rank_of ranks.now p) (rank_of ranks.now q) = least-rising ranks.now g inv p q path low t v in
-    omega arith
+least-short : (known : Known) (parts : Parts) (inv : Invariant) (p q : ℕ) (path : List ℕ) → HasIds parts → IsTrueOf known parts → IsPair (G parts.traces) p q
+    → IsLeastViolation (Merged (G parts.traces) p q) inv path → length path ≤ longest_path → length path ≤ most_ids known (pair_of p q)
+least-short Nothing parts inv p q path ids t i v l = l
+least-short (Ranks ranks falls) parts inv p q path ids t i v l =
+    let g : Graph = G parts.traces in
+    let below : IsBelow parts.used g = graphs_are_below parts.traces parts.used ids.two ids.below in
+    let f : IsFormed g = graphs_are_formed parts.traces ids.typed in
+    let r : length path ≤ rank_of ranks.now TERMINAL + 1 + 3 * (gap (rank_of ranks.now p) (rank_of ranks.now q) + falls_of ranks.now parts) =
+    least-rising ranks.now g inv p q parts.used path i.low i.order (below q i.has_q)
+    (λ u v e. let b : (g.listed u ≡ true) × (g.listed v ≡ true) = f.between u v e in (below u b.0, below v b.1)) v in
+    omega (arith, t)
 
 -- so the path of a block does
-block-short : (invs : List Invariant) (known : Known) (parts : Parts) (b : Block) → HasIds parts → IsTrueOf known (G parts.traces) → IsBlock invs (G parts.traces) b
+block-short : (invs : List Invariant) (known : Known) (parts : Parts) (b : Block) → HasIds parts → IsTrueOf known parts → IsBlock invs (G parts.traces) b
     → length b.path ≤ most_ids known (pair_of b.p b.q)
 block-short invs known parts b ids t i =
     let g : Graph = G parts.traces in
@@ -99,10 +105,10 @@ block-short invs known parts b ids t i =
     let l : length b.path ≤ longest_path =
     least_within_limit (Merged g b.p b.q) o.0 b.path parts.used f
     (merged_are_below g b.p b.q parts.used (graphs_are_below parts.traces parts.used ids.two ids.below)) ids.limit v in
-    least-short known g o.0 b.p b.q b.path i.pair.low t v l
+    least-short known parts o.0 b.p b.q b.path ids t i.pair v l
 
 -- and so do the paths of blocks together
-blocks-short : (invs : List Invariant) (known : Known) (parts : Parts) (bs : List Block) → HasIds parts → IsTrueOf known (G parts.traces) → AllByRecursion (IsBlock invs (G parts.traces)) bs
+blocks-short : (invs : List Invariant) (known : Known) (parts : Parts) (bs : List Block) → HasIds parts → IsTrueOf known parts → AllByRecursion (IsBlock invs (G parts.traces)) bs
     → block_numbers bs ≤ sum_by (most_ids known) (pairs_of bs)
 blocks-short invs known parts [] ids t a = omega arith
 blocks-short invs known parts (b ∷ bs) ids t a =
@@ -113,7 +119,7 @@ blocks-short invs known parts (b ∷ bs) ids t a =
     omega arith
 
 -- where the bounds of all pairs fit, so do the paths of all blocks
-pub all-fit : (invs : List Invariant) (known : Known) (parts : Parts) (blocks : List Block) (held : ℕ) → HasIds parts → IsTrueOf known (G parts.traces)
+pub all-fit : (invs : List Invariant) (known : Known) (parts : Parts) (blocks : List Block) (held : ℕ) → HasIds parts → IsTrueOf known parts
     → held + most_in_all known parts ≤ MAX_PATH_NUMBERS → EndsWithoutRoom invs parts blocks (held + block_numbers blocks) → ⊥
 all-fit invs known parts blocks held ids t l w =
     let s : block_numbers blocks ≤ sum_by (most_ids known) (pairs_of blocks) = blocks-short invs known parts blocks ids t w.each in

@@ -57,3 +57,9 @@ no-second g inv p x t xs z e w f i =
     let o : (ys : List ℕ) × (length ys < length xs) × Walk g p ys z × (run inv t (word g ys) ≡ run inv t (word g xs)) = visit-rest g inv p x t xs t z w i in
     let l : length xs ≤ length o.0 = f o.0 (subst (λ (u : ℕ). Walk g u o.0 z) (sym e) o.2) o.3 in
     omega (arith, o.1)
+
+-- where edges go to ids below n, so does the walk
+pub visit-below : (g : Graph) (inv : Invariant) (p x s : ℕ) (xs : List ℕ) (t z n : ℕ) → ((u v : ℕ) → g.edge u v ≡ true → v < n) → Walk g x xs z → IsVisit g inv p s xs t → p < n
+visit-below g inv p x s [] t z n b w i = absurd i
+visit-below g inv p x s (y ∷ xs) t z n b w (inl e) = subst (λ (u : ℕ). u < n) e.0 (b x y w.0)
+visit-below g inv p x s (y ∷ xs) t z n b w (inr i) = visit-below g inv p y (step inv s (g.typ y)) xs t z n b w.1 i

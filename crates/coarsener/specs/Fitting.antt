@@ -1,5 +1,5 @@
 -- How many ids the paths of blocks have at most.
-use Rattle.std.specs.Prelude.{◌≡◌, ℕ, ◌+◌, ◌*◌, ◌-◌, ◌<◌, true, List, min, slice_index, sum_by}
+use Rattle.std.specs.Prelude.{◌≡◌, ℕ, zero, suc, ◌+◌, ◌*◌, ◌-◌, if◌then◌else◌, List, max, min, slice_index, sum_by}
 use Rattle.limits.specs.declared.TheConstants.{TERMINAL}
 use Rattle.invariants.specs.declared.records.Merge.{Merge}
 use Rattle.partition_model.specs.Graphs.{Graph}
@@ -17,25 +17,33 @@ rank_of ranks p = slice_index ranks p
 abbrev pub gap : ℕ → ℕ → ℕ
 gap a b = (a - b) + (b - a)
 
--- each edge from p leads to a higher rank
-abbrev pub RisesFrom : List ℕ → Graph → ℕ → Type 0
-RisesFrom ranks g p = (q : ℕ) → g.edge p q ≡ true → rank_of ranks p < rank_of ranks q
+-- how much has to be added to the rank of p so that it is higher than the rank of each id below n with an edge to p
+abbrev pub fall_to : List ℕ → Graph → ℕ → ℕ → ℕ
+fall_to ranks g p zero = 0
+fall_to ranks g p (suc n) =
+    max (fall_to ranks g p n) (if g.edge n p then rank_of ranks n + 1 - rank_of ranks p else 0)
 
--- each edge leads to a higher rank
-abbrev pub Ascend : List ℕ → Graph → Type 0
-Ascend ranks g = (p : ℕ) → RisesFrom ranks g p
+-- the sum of the values of the numbers below n
+abbrev pub sum_below : (ℕ → ℕ) → ℕ → ℕ
+sum_below f zero = 0
+sum_below f (suc n) = sum_below f n + f n
 
--- what is known of a graph is true: its ranks rise along each edge
-abbrev pub IsTrueOf : Known → Graph → Type 0
-IsTrueOf Nothing g = Unit {0}
-IsTrueOf (Ranks ranks) g = Ascend ranks.now g
+-- how much has to be added to the ranks of all ids, in total, so that each edge leads to a higher number
+abbrev pub falls_of : List ℕ → Parts → ℕ
+falls_of ranks parts = sum_below (λ p. fall_to ranks (G parts.traces) p parts.used) parts.used
 
--- how many ids the path of the block of a pair has at most: along a walk after the merge the ranks rise, and they fall
--- only where it comes to the merged id, at most once for each state of the monitor
+-- what is known of a graph is true
+abbrev pub IsTrueOf : Known → Parts → Type 0
+IsTrueOf Nothing parts = Unit {0}
+IsTrueOf (Ranks ranks falls) parts = falls ≡ falls_of ranks.now parts
+
+-- how many ids the path of the block of a pair has at most: along a walk the ranks rise, except that they fall where it
+-- comes to some ids, and to the id of the merge. It comes to each at most once for each state of the monitor.
 abbrev pub most_ids : Known → Merge → ℕ
 most_ids Nothing m = longest_path
-most_ids (Ranks ranks) m =
-    min longest_path (rank_of ranks.now TERMINAL + 1 + 3 * gap (rank_of ranks.now m.p) (rank_of ranks.now m.q))
+most_ids (Ranks ranks falls) m =
+    min longest_path
+    (rank_of ranks.now TERMINAL + 1 + 3 * (gap (rank_of ranks.now m.p) (rank_of ranks.now m.q) + falls))
 
 -- how many the paths of the blocks of all pairs have together at most
 abbrev pub most_in_all : Known → Parts → ℕ

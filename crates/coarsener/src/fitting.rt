@@ -11,7 +11,7 @@ ghost use Rattle.coarsener.specs.Fitting.{most_ids, most_in_all};
 ghost use Rattle.coarsener.specs.Pairs.{HasIds};
 
 use crate::pairs::{Pair, next_pair};
-use crate::ranks::{ascend, number_at, rank_all};
+use crate::ranks::{falls_of, number_at, rank_all};
 use limits::{MAX_PARTITIONS, MAX_PATH_NUMBERS, TERMINAL};
 use partition_graph::PartGraph;
 
@@ -23,21 +23,22 @@ const LONGEST_PATH: usize = 3 * MAX_PARTITIONS as usize - 5;
 enum Known<'a> {
     /// Nothing.
     Nothing,
-    /// A rank for each id, such that each edge leads to a higher rank.
-    Ranks(&'a [u32]),
+    /// A rank for each id, and how much has to be added to the ranks in total so that each edge leads to a higher number.
+    Ranks(&'a [u32], usize),
 }
 
 /// How many ids the path of the block of a pair has at most.
 fn most_ids(known: Known<'_>, pair: Pair) -> usize
     ensures { result ≡ most_ids known.entry (pair_of pair.p pair.q) }
 {
-    let Known::Ranks(ranks) = known else {
+    let Known::Ranks(ranks, falls) = known else {
         return LONGEST_PATH;
     };
     let p = number_at(ranks, pair.p) as usize;
     let q = number_at(ranks, pair.q) as usize;
     let end = number_at(ranks, TERMINAL) as usize;
-    LONGEST_PATH.min(end + 1 + 3 * (p.max(q) - p.min(q)))
+    let falls = falls.min(LONGEST_PATH) + (p.max(q) - p.min(q));
+    LONGEST_PATH.min(end + 1 + 3 * falls)
 }
 
 /// How many ids the paths of the blocks of all pairs have together at most.
@@ -71,5 +72,6 @@ pub fn blocks_fit(graph: &PartGraph, held: usize) -> bool
         return true;
     }
     let ranks = rank_all(graph);
-    ascend(graph, &ranks) && most_in_all(graph, Known::Ranks(&ranks)) <= room
+    let falls = falls_of(graph, &ranks);
+    most_in_all(graph, Known::Ranks(&ranks, falls)) <= room
 }

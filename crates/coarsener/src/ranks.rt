@@ -1,21 +1,23 @@
-//! Ranks of the ids of a graph: numbers that rise along each edge.
-ghost use Rattle.std.specs.Prelude.{◌≡◌, ◌↔◌, IsTrue, slice_index};
+//! Ranks of the ids of a graph: numbers that rise along most edges, and how far they fall along the others.
+ghost use Rattle.std.specs.Prelude.{◌≡◌, ◌≤◌, ◌^◌, slice_index};
 ghost use Rattle.partition_model.specs.Assignments.{G};
-ghost use Rattle.coarsener.specs.Fitting.{Ascend, RisesFrom};
+ghost use Rattle.coarsener.specs.Fitting.{fall_to, falls_of};
 
-use limits::MAX_PARTITIONS;
+use limits::{FIRST_TYPE, MAX_PARTITIONS};
 use partition_graph::{PartGraph, View};
 
 /// How many ranks there are: one for each id.
 const IDS: usize = MAX_PARTITIONS as usize;
 
-/// The ranks that are found so far. An id has its rank once all its sources have theirs: the most edges that lead to it, one
-/// after another.
+/// What stands for the count of missing sources of an id that has its rank.
+const RANKED: u32 = u32::MAX;
+
+/// The ranks that are found so far. An id gets its rank once all its sources have theirs: one more than the greatest of these.
 #[derive(Drop)]
 struct Ranking {
     /// The rank of each id, as far as its sources have theirs.
     ranks: [u32; IDS],
-    /// How many sources of each id do not have their rank yet.
+    /// How many sources of each id do not have their rank yet, or `RANKED`.
     missing: [u32; IDS],
     /// The ids that have their rank, in the order in which they got it.
     ranked: [u32; IDS],
@@ -55,32 +57,17 @@ impl Ranking {
     fn count_source(&mut self, graph: &PartGraph, p: u32) {
         let mut reached = 0;
         while let Some(to) = View::Plain(graph).next_target(p, reached) {
-            let sources = number_at(&self.missing, to).saturating_add(1);
-            put(&mut self.missing, to, sources);
+            let missing = number_at(&self.missing, to).saturating_add(1);
+            put(&mut self.missing, to, missing);
             reached = to + 1;
         }
     }
 
-    /// Notes that p has its rank, if none of its sources is missing.
+    /// Notes that p has its rank.
     fn note(&mut self, p: u32) {
-        if number_at(&self.missing, p) == 0 {
-            put(&mut self.ranked, self.count, p);
-            self.count = self.count.saturating_add(1);
-        }
-    }
-
-    /// Takes p, which has its rank, from the missing sources of the ids to which it has an edge.
-    fn pass_on(&mut self, graph: &PartGraph, p: u32) {
-        let next = number_at(&self.ranks, p).saturating_add(1);
-        let mut reached = 0;
-        while let Some(to) = View::Plain(graph).next_target(p, reached) {
-            let rank = next.max(number_at(&self.ranks, to));
-            put(&mut self.ranks, to, rank);
-            let sources = number_at(&self.missing, to).saturating_sub(1);
-            put(&mut self.missing, to, sources);
-            self.note(to);
-            reached = to + 1;
-        }
+        put(&mut self.missing, p, RANKED);
+        put(&mut self.ranked, self.count, p);
+        self.count = self.count.saturating_add(1);
     }
 
     /// Counts all sources, and notes the ids that have none.
@@ -89,48 +76,90 @@ impl Ranking {
             self.count_source(graph, p);
         }
         for p in 0..graph.ids_used() {
+            if number_at(&self.missing, p) == 0 {
+                self.note(p);
+            }
+        }
+    }
+
+    /// Raises p to at least this rank, for a source of it that has its rank, and notes p if that was the last one. Nothing
+    /// changes if p has its rank.
+    fn raise(&mut self, p: u32, rank: u32) {
+        let missing = number_at(&self.missing, p);
+        if missing == RANKED {
+            return;
+        }
+        let rank = rank.max(number_at(&self.ranks, p));
+        put(&mut self.ranks, p, rank);
+        put(&mut self.missing, p, missing.saturating_sub(1));
+        if missing <= 1 {
             self.note(p);
+        }
+    }
+
+    /// Raises the ids to which p has an edge. p has its rank.
+    fn pass_on(&mut self, graph: &PartGraph, p: u32) {
+        let next = number_at(&self.ranks, p).saturating_add(1);
+        let mut reached = 0;
+        while let Some(to) = View::Plain(graph).next_target(p, reached) {
+            self.raise(to, next);
+            reached = to + 1;
+        }
+    }
+
+    /// Notes the first id that has no rank yet, but a source that has one. Such an id is on a cycle or behind one.
+    fn open_cycle(&mut self, used: u32) {
+        for p in FIRST_TYPE..used {
+            if number_at(&self.missing, p) < RANKED && number_at(&self.ranks, p) > 0 {
+                self.note(p);
+                return;
+            }
         }
     }
 }
 
-/// For each id the most edges that lead to it, one after another, if the graph has no cycle. What is found for a graph with a
-/// cycle does not rise along each edge. Each edge is followed twice at most.
+/// A rank for each id. If the graph has no cycle, it is the most edges that lead to the id, one after another, and so it rises
+/// along each edge. Each edge is followed twice at most.
 pub(crate) fn rank_all(graph: &PartGraph) -> [u32; IDS] {
+    let used = graph.ids_used();
     let mut ranking = Ranking::new();
     ranking.begin(graph);
-    for place in 0..MAX_PARTITIONS {
+    for place in 0..used {
         if place >= ranking.count {
-            break;
+            ranking.open_cycle(used);
         }
-        let p = number_at(&ranking.ranked, place);
-        ranking.pass_on(graph, p);
+        if place < ranking.count {
+            let p = number_at(&ranking.ranked, place);
+            ranking.pass_on(graph, p);
+        }
     }
     ranking.ranks
 }
 
-/// Whether each edge from p leads to a higher rank.
-fn rises_from(graph: &PartGraph, ranks: &[u32], p: u32) -> bool
-    ensures { IsTrue result ↔ RisesFrom ranks.now (G (graph.now).traces) p }
+/// How much has to be added to the rank of p so that each edge to p leads to a higher number.
+fn fall_to(graph: &PartGraph, ranks: &[u32], p: u32) -> usize
+    ensures value { result ≡ fall_to ranks.now (G (graph.now).traces) p (graph.now).used }
+    ensures within { result ≤ 2 ^ 32 }
 {
+    let own = number_at(ranks, p) as usize;
+    let mut fall = 0usize;
     let mut reached = 0;
-    while let Some(to) = View::Plain(graph).next_target(p, reached) {
-        if number_at(ranks, to) <= number_at(ranks, p) {
-            return false;
-        }
-        reached = to + 1;
+    while let Some(from) = View::Plain(graph).next_source(p, reached) {
+        let rank = number_at(ranks, from) as usize;
+        fall = fall.max((rank + 1).saturating_sub(own));
+        reached = from + 1;
     }
-    true
+    fall
 }
 
-/// Whether each edge leads to a higher rank. There are no such ranks if the graph has a cycle.
-pub(crate) fn ascend(graph: &PartGraph, ranks: &[u32]) -> bool
-    ensures { IsTrue result ↔ Ascend ranks.now (G (graph.now).traces) }
+/// How much has to be added to the ranks of all ids, in total, so that each edge leads to a higher number. It is 0 exactly if
+/// the ranks rise along each edge.
+pub(crate) fn falls_of(graph: &PartGraph, ranks: &[u32]) -> usize
+    ensures { result ≡ falls_of ranks.now graph.now }
 {
+    let mut falls = 0;
     for p in 0..graph.ids_used() {
-        if !rises_from(graph, ranks, p) {
-            return false;
-        }
+        falls += fall_to(graph, ranks, p);
     }
-    true
+    falls
 }

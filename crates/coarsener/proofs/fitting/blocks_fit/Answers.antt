@@ -20,20 +20,15 @@ returns-then-most_in_all-room-clause-fit c invs blocks w =
     let l : c.args.held + most_in_all Nothing c.args.graph.now ≤ MAX_PATH_NUMBERS = omega (arith, c.most_in_all.ensures.value, c.if-most_in_all-room.true, c.if-held.false) in
     all-fit invs Nothing c.args.graph.now blocks c.args.held c.most_in_all.ensures.ids tt l w
 
-pub returns-then-ascend-clause-fit : goal.returns-then-ascend-clause-fit
-returns-then-ascend-clause-fit c =
-    let known : Known = Ranks (record { ref_ptr = c.args.graph.ref_ptr; now = c.rank_all-ranks.result }) in
-    let e : c.most_in_all-then-ascend.result ≡ most_in_all known c.args.graph.now = c.most_in_all-then-ascend.ensures.value in
-    if-true (leb c.most_in_all-then-ascend.result (MAX_PATH_NUMBERS - c.args.held)) _ (λ t invs blocks w.
-    let b : c.most_in_all-then-ascend.result ≤ MAX_PATH_NUMBERS - c.args.held = leb-true c.most_in_all-then-ascend.result (MAX_PATH_NUMBERS - c.args.held) t in
-    all-fit invs known c.args.graph.now blocks c.args.held c.most_in_all.ensures.ids (c.ascend.ensures.0 c.if-ascend.true) (omega (arith, c.if-held.false)) w)
+pub returns-clause-fit : goal.returns-clause-fit
+returns-clause-fit c =
+    let known : Known = Ranks (record { ref_ptr = c.args.graph.ref_ptr; now = c.rank_all-ranks.result }) c.falls_of-falls.result in
+    let e : c.most_in_all-2.result ≡ most_in_all known c.args.graph.now = c.most_in_all-2.ensures.value in
+    if-true (leb c.most_in_all-2.result (MAX_PATH_NUMBERS - c.args.held)) _ (λ t invs blocks w.
+    let b : c.most_in_all-2.result ≤ MAX_PATH_NUMBERS - c.args.held = leb-true c.most_in_all-2.result (MAX_PATH_NUMBERS - c.args.held) t in
+    all-fit invs known c.args.graph.now blocks c.args.held c.most_in_all.ensures.ids c.falls_of-falls.ensures (omega (arith, c.if-held.false)) w)
 
-pub returns-then-ascend-clause-few : goal.returns-then-ascend-clause-few
-returns-then-ascend-clause-few c few =
-    let s : most_in_all Nothing c.args.graph.now ≤ pair_count c.args.graph.now * longest_path = sum-nothing c.args.graph.now in
-    absurd (omega (arith, c.most_in_all.ensures.value, c.if-most_in_all-room.false))
-
-pub returns-else-ascend-clause-few : goal.returns-else-ascend-clause-few
-returns-else-ascend-clause-few c few =
+pub returns-clause-few : goal.returns-clause-few
+returns-clause-few c few =
     let s : most_in_all Nothing c.args.graph.now ≤ pair_count c.args.graph.now * longest_path = sum-nothing c.args.graph.now in
     absurd (omega (arith, c.most_in_all.ensures.value, c.if-most_in_all-room.false))
