@@ -1,5 +1,5 @@
 //! The question that the finder answers.
-ghost use Rattle.std.specs.Prelude.{◌≡◌, ◌≤◌, ◌<◌, true, IfSome, MatchOption};
+ghost use Rattle.std.specs.Prelude.{◌≡◌, ℕ, ◌≤◌, ◌<◌, true, IfSome, MatchOption};
 ghost use Rattle.limits.specs.declared.TheConstants.{FIRST_TYPE, MAX_PARTITIONS};
 ghost use Rattle.partition_graph.specs.Parts.{HasEdgesBelow};
 ghost use Rattle.partition_graph.specs.Seen.{seen};
@@ -112,6 +112,14 @@ impl<'v, 'a> Question<'v, 'a> {
         ensures { result ≡ (asked self.now).graph.typ q }
     {
         self.sight.view.type_of(q)
+    }
+
+    /// Whether the type is none of the two that the invariant names. Then no state changes when it is read.
+    #[inline]
+    pub fn passes_over(&self, typ: u16) -> bool
+        ensures { result ≡ true → (s : ℕ) → step (asked self.now).inv s typ ≡ s }
+    {
+        (typ != self.inv.a) & (typ != self.inv.b)
     }
 
     /// The state after the type is read.

@@ -58,6 +58,32 @@ fn enter_word(
     }
 }
 
+/// Enters the open pairs with this state that lead to the pair whose turn it is, if the type of its id takes the monitor from this
+/// state to its state. `places` are the places of the ids that have an edge to its id.
+fn enter_sources(question: &Question<'_, '_>, table: &mut Table, turn: Turn, places: u64, state: u8)
+    requires step { state_at (asked question.now) state turn.pair.id ≡ turn.pair.state }
+    requires turn { IsTurn (asked question.now) turn table.old }
+    requires looked { looks_at question.now turn.pair.id ≡ true }
+    requires places { ArePlaces (λ id. (asked question.now).graph.edge id turn.pair.id) places }
+    requires state { state < 3 }
+
+    // The turn is still that of the pair, and what leads to it is entered.
+    ensures turn { IsTurn (asked question.now) turn table.new }
+    ensures grows { Grows table.old table.new }
+    ensures entered { (p : Pair) → IsPairOf (asked question.now) p → p.state ≡ state
+        → Leads (asked question.now) p turn.pair → at table.new p < OPEN }
+{
+    let q = turn.pair.id;
+    let ids = question.ids() as usize;
+    let mut at = next_at(places, 0);
+    while at < ids {
+        let place = at / WORD_BITS;
+        let open = question.source_word(q, place) & !table.entered_word(state, place);
+        enter_word(question, table, turn, state, place, open);
+        at = next_at(places, (place + 1) * WORD_BITS);
+    }
+}
+
 /// Enters the open pairs with this state that lead to the pair whose turn it is. `places` are the places of the ids that have an
 /// edge to its id, and `typ` is the type of that.
 fn enter_state(
@@ -80,18 +106,10 @@ fn enter_state(
     ensures entered { (p : Pair) → IsPairOf (asked question.now) p → p.state ≡ state
         → Leads (asked question.now) p turn.pair → at table.new p < OPEN }
 {
-    let q = turn.pair.id;
     if question.state_after(state, typ) != turn.pair.state {
         return;
     }
-    let ids = question.ids() as usize;
-    let mut at = next_at(places, 0);
-    while at < ids {
-        let place = at / WORD_BITS;
-        let open = question.source_word(q, place) & !table.entered_word(state, place);
-        enter_word(question, table, turn, state, place, open);
-        at = next_at(places, (place + 1) * WORD_BITS);
-    }
+    enter_sources(question, table, turn, places, state);
 }
 
 /// Enters the open pairs that lead to the pair whose turn it is.
@@ -105,6 +123,10 @@ fn expand(question: &Question<'_, '_>, table: &mut Table, turn: Turn)
     }
     let typ = question.type_of(turn.pair.id);
     let places = question.source_places(turn.pair.id);
+    if question.passes_over(typ) {
+        enter_sources(question, table, turn, places, turn.pair.state);
+        return;
+    }
     for state in 0..3 {
         enter_state(question, table, turn, typ, places, state);
     }

@@ -1,4 +1,5 @@
-use Rattle.std.proofs.Common.{ℕ, Bool, sym, ◌∙◌, refl, inl, inr, arith}
+use Rattle.std.proofs.Common.{ℕ, Bool, sym, ◌∙◌, refl, ap, inl, inr, arith}
+use Rattle.invariants.specs.Monitors.{step}
 use Rattle.std.proofs.lemmas.Bool.{cases_lt, true≢false}
 use Rattle.partition_graph.specs.Seen.{seen}
 use Rattle.path_finder.specs.Asking.{asked}
@@ -35,3 +36,15 @@ pub returns-clause-searched : goal.returns-clause-searched
 returns-clause-searched c =
     turn_done (asked c.args.question.now) c.args.turn c.loop-state.table c.loop-state.invariant.turn
     (λ p pp d. c.loop-state.invariant.entered p pp (omega (arith, pp.state, c.loop-state-test.false)) d)
+
+pub enter_sources-requires-clause-step : goal.enter_sources-requires-clause-step
+enter_sources-requires-clause-step c =
+    ap (λ (t : ℕ). step c.args.question.now.inv c.args.turn.pair.state t) (sym c.type_of-typ.ensures)
+    ∙ c.if-passes_over.ensures refl c.args.turn.pair.state
+
+pub returns-then-passes_over-clause-searched : goal.returns-then-passes_over-clause-searched
+returns-then-passes_over-clause-searched c =
+    turn_done (asked c.args.question.now) c.args.turn c.enter_sources.new.table c.enter_sources.ensures.turn
+    (λ p pp d.
+    c.enter_sources.ensures.entered p pp
+    (sym (ap (λ (t : ℕ). step c.args.question.now.inv p.state t) (sym c.type_of-typ.ensures) ∙ c.if-passes_over.ensures refl p.state) ∙ d.step) d)

@@ -6,7 +6,7 @@ use Rattle.path_finder.specs.Asking.{asked}
 use Rattle.path_finder.specs.Walks.{IsPairOf, Leads}
 use Rattle.path_finder.specs.Tables.{at, Grows}
 use Rattle.path_finder.specs.Turns.{IsTurn}
-use Rattle.path_finder.proofs.search.enter_state.Given as goal
+use Rattle.path_finder.proofs.search.enter_sources.Given as goal
 
 abbrev pub invariant-loop-at : goal.invariant-loop-at
 invariant-loop-at l =

@@ -7,7 +7,7 @@ use Rattle.path_finder.specs.Tables.{Entries, is_entered}
 use Rattle.path_finder.proofs.OpenPairs.{entered-low, entered-still, grows-on}
 use Rattle.path_finder.proofs.Reaching.{met-else}
 use Rattle.path_finder.proofs.WordSteps.{word-less}
-use Rattle.path_finder.proofs.search.enter_state.Goals as goal
+use Rattle.path_finder.proofs.search.enter_sources.Goals as goal
 
 pub loop-at-init : goal.loop-at-init
 loop-at-init c =
