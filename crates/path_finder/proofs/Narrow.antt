@@ -10,10 +10,9 @@ use Rattle.partition_model.specs.Graphs.{Graph, Walk, IsPath, word, Breaks, Sati
 use Rattle.invariants.specs.Monitors.{run, is_bad}
 use Rattle.invariants.proofs.Agree.{monitor_agrees}
 use Rattle.path_finder.specs.declared.reach.Way.TheVariants.{Ahead, Behind}
-use Rattle.path_finder.specs.Nearness.{narrowed, is_met, is_of_type, key_of, AvoidsGone, IsReachedFrom}
+use Rattle.path_finder.specs.Nearness.{narrowed, is_of_type, key_of, AvoidsGone}
 use Rattle.path_finder.specs.Reaching.{edge_by}
-use Rattle.path_finder.specs.declared.reach.Around.{Around}
-use Rattle.path_finder.specs.Keeping.{is_around}
+use Rattle.path_finder.specs.Keeping.{KeepsAround}
 use Rattle.partition_model.specs.Assignments.{Assignment, G, is_live, members}
 use Rattle.partition_model.specs.Listings.{AreBelow}
 use Rattle.partition_model.proofs.Forming.{merged_paths_avoid}
@@ -87,15 +86,6 @@ other_edge g p q u v a b e =
     from false false false d f h true t m n e = absurd (let z : true ≡ false = m in cc)
     from false false false d f h false true m n e = absurd (let z : true ≡ false = n in cc)
     from false false false d f h false false m n e = absurd (let z : true ≡ false = sym e in cc)
-
--- what walks lead to, and what they lead from, is kept
-pub record KeepsAround (kept : ℕ → Bool) (g : Graph) (starts : ℕ → Bool) : Type 0 where
-  pub ahead : ℕ → Bool
-  pub behind : ℕ → Bool
-  pub reaches : IsReachedFrom ahead starts (edge_by Ahead g)
-  pub comes : IsReachedFrom behind starts (edge_by Behind g)
-  pub keeps_ahead : (u : ℕ) → ahead u ≡ true → kept u ≡ true
-  pub keeps_behind : (u : ℕ) → behind u ≡ true → kept u ≡ true
 
 -- the edges of a walk from an id ahead are looked at
 pub ahead_walk : (kept : ℕ → Bool) (g : Graph) (starts : ℕ → Bool) (k : KeepsAround kept g starts) (xs : List ℕ) (x y : ℕ) → k.ahead x ≡ true → Walk g x xs y → Walk (narrowed kept g) x xs y
@@ -173,23 +163,6 @@ key_keeps kept g ids inv two w k =
     starts_keep kept g (is_of_type g ids (key_of inv.kind inv.a inv.b)) inv k
     (λ x xs a p. lacks_holds inv.kind inv.a inv.b (word g (x ∷ xs)) (avoiding_lacks g ids (key_of inv.kind inv.a inv.b) w xs x TERMINAL (let z : x ≡ 0 = p.0 in omega arith) a p.1))
 
--- what is around an id is kept
-pub around_keeps : (a : Around) (g : Graph) (starts : ℕ → Bool) → IsReachedFrom (is_met a.ahead) starts (edge_by Ahead g) → IsReachedFrom (is_met a.behind) starts (edge_by Behind g)
-    → KeepsAround (is_around a) g starts
-around_keeps a g starts s c =
-    record {
-      ahead = is_met a.ahead;
-      behind = is_met a.behind;
-      reaches = s;
-      comes = c;
-      keeps_ahead = λ u e. ap (λ (x : Bool). x || is_met a.behind u) e;
-      keeps_behind = λ u e. or-right (is_met a.ahead u) (is_met a.behind u) e;
-    }
-  where
-    or-right : (x y : Bool) → y ≡ true → (x || y) ≡ true
-    or-right true y e = refl
-    or-right false y e = e
-
 -- no path of a merged view names the id that is gone
 pub avoids_gone : (v : View) → IsSound v → (path : List ℕ) → IsPath (seen v) path → AvoidsGone v path
 avoids_gone (Plain g) s path w = tt
@@ -208,10 +181,18 @@ live_below h n p two b l =
     ]
 
 -- what breaks the invariant that is asked for has its edges looked at, where ids around those of its key are kept
-pub asked_keeps : (v : View) (a : Around) (inv : Invariant) (ids typ : ℕ) → ids ≡ (parts_seen v).used → 2 ≤ ids → HasEdgesBelow (seen v) ids → typ ≡ key_of inv.kind inv.a inv.b
-    → IsReachedFrom (is_met a.ahead) (is_of_type (seen v) (parts_seen v).used typ) (edge_by Ahead (seen v)) → IsReachedFrom (is_met a.behind) (is_of_type (seen v) (parts_seen v).used typ) (edge_by Behind (seen v))
-    → KeepsViolations (is_around a) (seen v) inv
-asked_keeps v a inv ids typ e two w t s c =
-    let k : KeepsAround (is_around a) (seen v) (is_of_type (seen v) (parts_seen v).used typ) = around_keeps a (seen v) (is_of_type (seen v) (parts_seen v).used typ) s c in
-    key_keeps (is_around a) (seen v) ids inv two w
-    (subst₂ (λ (n x : ℕ). KeepsAround (is_around a) (seen v) (is_of_type (seen v) n x)) (sym e) t k)
+pub asked_keeps : (v : View) (kept : ℕ → Bool) (inv : Invariant) (ids typ : ℕ) → ids ≡ (parts_seen v).used → 2 ≤ ids → HasEdgesBelow (seen v) ids → typ ≡ key_of inv.kind inv.a inv.b
+    → KeepsAround kept (seen v) (is_of_type (seen v) (parts_seen v).used typ) → KeepsViolations kept (seen v) inv
+asked_keeps v kept inv ids typ e two w t k =
+    key_keeps kept (seen v) ids inv two w (subst₂ (λ (n x : ℕ). KeepsAround kept (seen v) (is_of_type (seen v) n x)) (sym e) t k)
+
+-- the edges of a walk are looked at, where all ids below a bound are kept
+all_walk : (kept : ℕ → Bool) (g : Graph) (ids : ℕ) → HasEdgesBelow g ids → ((u : ℕ) → u < ids → kept u ≡ true) → (xs : List ℕ) (x y : ℕ) → Walk g x xs y → Walk (narrowed kept g) x xs y
+all_walk kept g ids w k [] x y p = p
+all_walk kept g ids w k (r ∷ rs) x y p =
+    (kept_edge kept g x r (k x (w x r p.0).0) (k r (w x r p.0).1) p.0, all_walk kept g ids w k rs r y p.1)
+
+-- so what breaks an invariant has its edges looked at there
+pub all_keeps : (kept : ℕ → Bool) (g : Graph) (ids : ℕ) (inv : Invariant) → HasEdgesBelow g ids → ((u : ℕ) → u < ids → kept u ≡ true) → KeepsViolations kept g inv
+all_keeps kept g ids inv w k [] b = absurd b.0
+all_keeps kept g ids inv w k (x ∷ xs) b = (b.0.0, all_walk kept g ids w k xs x TERMINAL b.0.1)

@@ -117,7 +117,7 @@ impl Finder {
         prove!(view.ids_used() <= MAX_PARTITIONS);
         let sight = Sight { view: *view };
         self.around.find_type(&sight, key_of(inv));
-        let question = Question::new(&sight, inv, &self.around);
+        let question = Question::new(&sight, inv, &self.around.near);
         if !search(&question, &mut self.table, &mut self.path, steps) {
             return None;
         }
@@ -161,7 +161,7 @@ impl Finder {
             view: View::Merged(graph, merge.p, merge.q),
         };
         self.around.find(&sight, merge.p);
-        let question = Question::new(&sight, inv, &self.around);
+        let question = Question::new(&sight, inv, &self.around.near);
         if !search(&question, &mut self.table, &mut self.path, steps) {
             return None;
         }

@@ -10,6 +10,7 @@
 #![tactic(auto)]
 
 mod finder;
+mod id_set;
 mod pair;
 mod question;
 mod reach;

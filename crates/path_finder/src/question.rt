@@ -4,10 +4,10 @@ ghost use Rattle.limits.specs.declared.TheConstants.{FIRST_TYPE, MAX_PARTITIONS}
 ghost use Rattle.partition_graph.specs.Parts.{HasEdgesBelow};
 ghost use Rattle.partition_graph.specs.Seen.{seen};
 ghost use Rattle.partition_graph.specs.declared.id_rows.TheConstants.{ID_WORDS};
-ghost use Rattle.path_finder.specs.Keeping.{is_around};
+ghost use Rattle.path_finder.specs.IdSets.{has_id};
 ghost use Rattle.path_finder.specs.Nearness.{narrowed};
 
-use crate::reach::Around;
+use crate::id_set::IdSet;
 use crate::sight::Sight;
 use crate::words::{next_at, next_in_word};
 use invariants::{Invariant, Monitor};
@@ -15,16 +15,16 @@ use limits::{FIRST_TYPE, MAX_PARTITIONS};
 use partition_graph::{ID_WORDS, WORD_BITS};
 
 /// An invariant, and a graph that may break it. Edges go between ids below `ids`. Only those between the ids in
-/// `around` are visited.
+/// `near` are visited.
 #[derive(Drop)]
 pub(crate) struct Question<'v, 'a> {
     sight: &'v Sight<'v>,
     inv: Invariant,
     ids: u32,
-    around: &'a Around,
+    near: &'a IdSet,
     ghost two: { FIRST_TYPE ≤ ids },
     ghost few: { ids ≤ MAX_PARTITIONS },
-    ghost within: { HasEdgesBelow (narrowed (is_around around.now) (seen sight.now.view)) ids },
+    ghost within: { HasEdgesBelow (narrowed (has_id near.now) (seen sight.now.view)) ids },
 }
 
 impl<'v, 'a> Question<'v, 'a> {
@@ -34,16 +34,16 @@ impl<'v, 'a> Question<'v, 'a> {
     ghost use Rattle.path_finder.specs.Asking.{asked, looks_at};
     ghost use Rattle.path_finder.specs.Walks.{state_at};
 
-    /// The question whether the graph breaks the invariant by edges between the ids in `around`.
-    pub fn new(sight: &'v Sight<'v>, inv: Invariant, around: &'a Around) -> Question<'v, 'a>
-        ensures graph { (asked result).graph ≡ narrowed (is_around around.now) (seen sight.now.view) }
+    /// The question whether the graph breaks the invariant by edges between the ids in `near`.
+    pub fn new(sight: &'v Sight<'v>, inv: Invariant, near: &'a IdSet) -> Question<'v, 'a>
+        ensures graph { (asked result).graph ≡ narrowed (has_id near.now) (seen sight.now.view) }
         ensures inv { (asked result).inv ≡ inv }
     {
         Question {
             sight,
             inv,
             ids: sight.view.ids_used(),
-            around,
+            near,
         }
     }
 
@@ -61,7 +61,7 @@ impl<'v, 'a> Question<'v, 'a> {
     pub fn looks_at(&self, id: u32) -> bool
         ensures { result ≡ looks_at self.now id }
     {
-        self.around.has(id)
+        self.near.has(id)
     }
 
     /// The ids from `64 * place` on that have an edge to q, as a word whose lowest bit is the first of them.
@@ -71,7 +71,7 @@ impl<'v, 'a> Question<'v, 'a> {
         requires place { place < ID_WORDS }
         ensures { IsWordOf (λ p. (asked self.now).graph.edge p q) place result }
     {
-        self.sight.view.source_word(q, place) & self.around.word(place)
+        self.sight.view.source_word(q, place) & self.near.word(place)
     }
 
     /// The places of `source_word` at which there may be ids, as the bits of a word: the lowest is place 0.
@@ -89,7 +89,7 @@ impl<'v, 'a> Question<'v, 'a> {
             (λ q. IsNextTarget (asked self.now).graph p from q) }
         ensures within { IfSome result (λ q. q < (asked self.now).ids) }
     {
-        if !self.around.has(p) {
+        if !self.near.has(p) {
             return None;
         }
         let places = self.sight.view.target_places(p);
@@ -97,7 +97,7 @@ impl<'v, 'a> Question<'v, 'a> {
         let mut at = next_at(places, from as usize);
         while at < ids {
             let place = at / WORD_BITS;
-            let targets = self.sight.view.target_word(p, place) & self.around.word(place);
+            let targets = self.sight.view.target_word(p, place) & self.near.word(place);
             if let Some(q) = next_in_word(targets, at) {
                 return Some(q as u32);
             }

@@ -3,14 +3,16 @@ ghost use Rattle.std.specs.Prelude.{◌≡◌, ◌==◌, ◌||◌, ℕ, ◌≤�
 ghost use Rattle.std.specs.Int.{bit_at};
 ghost use Rattle.limits.specs.declared.TheConstants.{MAX_PARTITIONS};
 ghost use Rattle.partition_graph.specs.Seen.{parts_seen, seen};
+ghost use Rattle.path_finder.specs.IdSets.{has_id};
 ghost use Rattle.path_finder.specs.Nearness.{is_met, is_of_type, IsClosed, IsReachedFrom};
 ghost use Rattle.path_finder.specs.declared.reach.Way.TheVariants.{Ahead, Behind};
 ghost use Rattle.path_finder.specs.Reaching.{edge_by, meeting, IsCounted, IsReaching, MeetsMore};
 ghost use Rattle.partition_graph.specs.NeighbourWords.{ArePlaces, IsWordOf};
 ghost use Rattle.partition_graph.specs.declared.id_rows.TheConstants.{ID_WORDS};
 
+use crate::id_set::IdSet;
 use crate::sight::Sight;
-use crate::words::{has_bit, next_at, next_in_word, without_bit};
+use crate::words::{next_at, next_in_word, without_bit};
 use bit_rows::Rows;
 use limits::MAX_PARTITIONS;
 use partition_graph::{ID_WORDS, View, WORD_BITS};
@@ -95,7 +97,8 @@ impl Reach {
     #[inline]
     fn word(&self, place: usize) -> u64
         requires { place < ID_WORDS }
-        ensures { IsWordOf (is_met self.now) place result }
+        ensures word { IsWordOf (is_met self.now) place result }
+        ensures size { length (self.now).flags ≡ MAX_PARTITIONS }
     {
         self.met.word(0, place)
     }
@@ -234,91 +237,59 @@ fn begin_with_type(ahead: &mut Reach, behind: &mut Reach, view: &View<'_>, typ: 
     }
 }
 
-/// Which ids were met in one direction or the other: a word for each 64 ids.
-fn join(ahead: &Reach, behind: &Reach) -> [u64; ID_WORDS]
-    ensures { (place : ℕ) → place < ID_WORDS
-        → IsWordOf (λ p. is_met ahead.now p || is_met behind.now p) place (slice_index result place) }
+/// The ids that were met in one direction or the other.
+fn join(ahead: &Reach, behind: &Reach) -> IdSet
+    ensures ahead { (p : ℕ) → is_met ahead.now p ≡ true → has_id result p ≡ true }
+    ensures behind { (p : ℕ) → is_met behind.now p ≡ true → has_id result p ≡ true }
 {
-    let mut joined = [0; ID_WORDS];
+    let mut words = [0; ID_WORDS];
     for place in 0..ID_WORDS {
-        joined[place] = ahead.word(place) | behind.word(place);
+        words[place] = ahead.word(place) | behind.word(place);
     }
-    joined
+    IdSet { words }
 }
 
-/// The ids that walks from some ids reach, and those from which walks reach one of them.
+/// Finds the ids that walks from some ids reach, and those from which walks reach one of them.
 #[derive(Drop)]
 pub(crate) struct Around {
     ahead: Reach,
     behind: Reach,
-    /// The ids of either kind: a word for each 64 ids.
-    joined: [u64; ID_WORDS],
-    ghost joins: { (place : ℕ) → place < ID_WORDS
-        → IsWordOf (λ p. is_met ahead p || is_met behind p) place (slice_index joined place) },
+    /// The ids of either kind.
+    pub near: IdSet,
 }
 
 impl Around {
-    ghost use Rattle.path_finder.specs.Keeping.{is_around};
+    ghost use Rattle.path_finder.specs.Keeping.{KeepsAround};
 
     /// Room for all ids. `AllocError` is returned if there is not enough memory.
     pub fn make(alloc: Global) -> Result<Around, AllocError> {
         let ahead = Reach::make(alloc)?;
         let behind = Reach::make(alloc)?;
-        let joined = join(&ahead, &behind);
         Ok(Around {
             ahead,
             behind,
-            joined,
+            near: IdSet::all(),
         })
     }
 
-    /// Finds the ids around this id. The id itself is among both kinds.
+    /// Finds the ids around this id, among them the id itself.
     pub fn find(&mut self, sight: &Sight<'_>, id: u32)
         requires { id < MAX_PARTITIONS }
-        ensures ahead { IsReachedFrom (is_met (self.new).ahead) (λ p. p == id)
-            (edge_by Ahead (seen sight.now.view)) }
-        ensures behind { IsReachedFrom (is_met (self.new).behind) (λ p. p == id)
-            (edge_by Behind (seen sight.now.view)) }
+        ensures { KeepsAround (has_id (self.new).near) (seen sight.now.view) (λ p. p == id) }
     {
         self.ahead.reach_from(sight, Way::Ahead, id);
         self.behind.reach_from(sight, Way::Behind, id);
-        self.joined = join(&self.ahead, &self.behind);
+        self.near = join(&self.ahead, &self.behind);
     }
 
-    /// Finds the ids around those of this type.
+    /// Finds the ids around those of this type, among them these.
     pub fn find_type(&mut self, sight: &Sight<'_>, typ: u16)
-        // In each direction, the ids of the type are met, and so is each id that a walk from one of them reaches.
-        ensures ahead { IsReachedFrom (is_met (self.new).ahead)
-            (is_of_type (seen sight.now.view) (parts_seen sight.now.view).used typ)
-            (edge_by Ahead (seen sight.now.view)) }
-        ensures behind { IsReachedFrom (is_met (self.new).behind)
-            (is_of_type (seen sight.now.view) (parts_seen sight.now.view).used typ)
-            (edge_by Behind (seen sight.now.view)) }
+        ensures { KeepsAround (has_id (self.new).near) (seen sight.now.view)
+            (is_of_type (seen sight.now.view) (parts_seen sight.now.view).used typ) }
     {
         begin_with_type(&mut self.ahead, &mut self.behind, &sight.view, typ);
         self.ahead.follow_all(sight, Way::Ahead);
         self.behind.follow_all(sight, Way::Behind);
-        self.joined = join(&self.ahead, &self.behind);
-    }
-
-    /// Whether the id is of either kind.
-    #[inline]
-    pub fn has(&self, id: u32) -> bool
-        ensures { result ≡ is_around self.now id }
-    {
-        let place = id as usize / WORD_BITS;
-        if place >= ID_WORDS {
-            return self.ahead.has(id) || self.behind.has(id);
-        }
-        has_bit(self.joined[place], id % WORD_BITS as u32)
-    }
-
-    /// The ids from `64 * place` on that are of either kind, as a word whose lowest bit is the first of them.
-    #[inline]
-    pub fn word(&self, place: usize) -> u64
-        requires { place < ID_WORDS }
-        ensures { IsWordOf (is_around self.now) place result }
-    {
-        self.joined[place]
+        self.near = join(&self.ahead, &self.behind);
     }
 }

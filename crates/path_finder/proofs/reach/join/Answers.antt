@@ -1,15 +1,17 @@
-use Rattle.std.proofs.Common.{◌≡◌, ◌==◌, ◌||◌, ◌<◌, ◌+◌, ◌*◌, ℕ, List, length, set, slice_index, get_or-set_same, get_or-set_other, sym, ap, subst, ◌∙◌, inl, inr, arith}
-use Rattle.std.proofs.lemmas.Bool.{cases_lt}
+use Rattle.std.proofs.Common.{◌≡◌, ◌==◌, ◌||◌, ◌<◌, ◌+◌, ◌*◌, ◌/◌, ◌%◌, ℕ, zero, suc, Bool, true, false, List, [], ◌∷◌, length, set, slice_index, slice_index_or, get_or-set_same, get_or-set_other, refl, sym, ap, subst, ◌∙◌, inl, inr, arith}
+use Rattle.std.proofs.lemmas.Bool.{cases_lt, true≢false}
 use Rattle.std.proofs.lemmas.List.{length-set}
+use Rattle.std.proofs.lemmas.Nat.{div-add-mod', mod_below}
 use Rattle.std.specs.Int.{bit_at}
 use Rattle.std.specs.Int.Bits.{bit_or}
+use Rattle.partition_graph.specs.NeighbourWords.{IsWordOf}
 use Rattle.partition_graph.proofs.NeighbourWords.{word-either}
 use Rattle.path_finder.specs.Nearness.{is_met}
 use Rattle.path_finder.proofs.reach.join.Goals as goal
 
 pub loop-place-preserved : goal.loop-place-preserved
 loop-place-preserved c =
-    let joined : List ℕ = c.loop-place.joined in
+    let joined : List ℕ = c.loop-place.words in
     let k : ℕ = c.loop-place.place in
     let v : ℕ = bit_or c.word.result c.word-in-loop-place.result in
     let size : length joined ≡ 16 = c.loop-place.invariant.size in
@@ -24,6 +26,42 @@ loop-place-preserved c =
             let same : place ≡ k = omega (arith, below, new) in
             subst (λ (p : ℕ). (bit_at (slice_index (set joined k v) p) i == 1) ≡ (is_met c.args.ahead.now (p * 64 + i) || is_met c.args.behind.now (p * 64 + i))) (sym same)
             (ap (λ (w : ℕ). bit_at w i == 1) (get_or-set_same joined k v 0 inside)
-            ∙ word-either (is_met c.args.ahead.now) (is_met c.args.behind.now) k c.word.result c.word-in-loop-place.result c.word.ensures c.word-in-loop-place.ensures i low)
+            ∙ word-either (is_met c.args.ahead.now) (is_met c.args.behind.now) k c.word.result c.word-in-loop-place.result c.word.ensures.word c.word-in-loop-place.ensures.word i low)
       ];
+      sized = λ some. (c.word.ensures.size, c.word-in-loop-place.ensures.size);
     }
+
+-- an id with the bit of its word on is in the set
+in-word : (kept : ℕ → Bool) (words : List ℕ) (p : ℕ) → IsWordOf kept (p / 64) (slice_index words (p / 64)) → kept p ≡ true → (bit_at (slice_index words (p / 64)) (p % 64) == 1) ≡ true
+in-word kept words p is k =
+    let same : p / 64 * 64 + p % 64 ≡ p = omega (arith, div-add-mod' p 64) in
+    is (p % 64) (mod_below p 64 (omega arith)) ∙ ap (λ (n : ℕ). kept n) same ∙ k
+
+-- a flag that is on is in the list
+on-within : (flags : List Bool) (p : ℕ) → slice_index_or flags p false ≡ true → p < length flags
+on-within [] p e = absurd (true≢false (sym e))
+on-within (x ∷ flags) zero e = omega arith
+on-within (x ∷ flags) (suc p) e = let l : p < length flags = on-within flags p e in omega arith
+
+-- an id that was met in one direction is in the set
+is-in : (ahead behind : List Bool) (words : List ℕ) (p : ℕ) → p < 1024 → ((place : ℕ) → place < 16 → IsWordOf (λ n. slice_index_or ahead n false || slice_index_or behind n false) place (slice_index words place))
+    → (slice_index_or ahead p false || slice_index_or behind p false) ≡ true → (bit_at (slice_index words (p / 64)) (p % 64) == 1) ≡ true
+is-in ahead behind words p l are k = in-word (λ n. slice_index_or ahead n false || slice_index_or behind n false) words p (are (p / 64) (omega (arith, l, div-add-mod' p 64))) k
+
+or-right : (x y : Bool) → y ≡ true → (x || y) ≡ true
+or-right true y e = refl
+or-right false y e = e
+
+pub returns-clause-ahead : goal.returns-clause-ahead
+returns-clause-ahead c p m =
+    let i = c.loop-place.invariant in
+    let low : p < length c.args.ahead.now.flags = on-within c.args.ahead.now.flags p m in
+    is-in c.args.ahead.now.flags c.args.behind.now.flags c.loop-place.words p (omega (arith, low, (i.sized (omega (arith, c.loop-place-test.false))).0))
+    (λ place l. i.words place (omega (arith, l, c.loop-place-test.false))) (ap (λ (x : Bool). x || is_met c.args.behind.now p) m)
+
+pub returns-clause-behind : goal.returns-clause-behind
+returns-clause-behind c p m =
+    let i = c.loop-place.invariant in
+    let low : p < length c.args.behind.now.flags = on-within c.args.behind.now.flags p m in
+    is-in c.args.ahead.now.flags c.args.behind.now.flags c.loop-place.words p (omega (arith, low, (i.sized (omega (arith, c.loop-place-test.false))).1))
+    (λ place l. i.words place (omega (arith, l, c.loop-place-test.false))) (or-right (is_met c.args.ahead.now p) (is_met c.args.behind.now p) m)

@@ -3,7 +3,7 @@ use Rattle.invariants.specs.Monitors.{step}
 use Rattle.std.proofs.lemmas.Bool.{cases_lt, true≢false}
 use Rattle.partition_graph.specs.Seen.{seen}
 use Rattle.path_finder.specs.Asking.{asked}
-use Rattle.path_finder.specs.Keeping.{is_around}
+use Rattle.path_finder.specs.IdSets.{has_id}
 use Rattle.path_finder.proofs.Entering.{turn_done}
 use Rattle.path_finder.proofs.Neighbours.{to-gone}
 use Rattle.path_finder.proofs.OpenPairs.{entered-still, grows-on}
@@ -24,7 +24,7 @@ loop-state-preserved c =
 
 pub returns-then-not-looks_at-clause-searched : goal.returns-then-not-looks_at-clause-searched
 returns-then-not-looks_at-clause-searched c =
-    let around : ℕ → Bool = is_around c.args.question.now.around.now in
+    let around : ℕ → Bool = has_id c.args.question.now.near.now in
     let q : ℕ = c.args.turn.pair.id in
     turn_done (asked c.args.question.now) c.args.turn c.args.table.now c.requires
     (λ p pp d. absurd (true≢false (sym d.edge ∙ to-gone (around p.id) (around q) ((seen c.args.question.now.sight.now.view).edge p.id q) c.if-not-looks_at.ensures)))

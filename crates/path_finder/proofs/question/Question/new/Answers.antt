@@ -1,6 +1,6 @@
 use Rattle.std.proofs.Common.{refl}
 use Rattle.partition_graph.specs.Seen.{seen}
-use Rattle.path_finder.specs.Keeping.{is_around}
+use Rattle.path_finder.specs.IdSets.{has_id}
 use Rattle.path_finder.proofs.Narrow.{narrowed_edge}
 use Rattle.path_finder.proofs.question.Question.new.Goals as goal
 
@@ -8,7 +8,7 @@ pub invariant_of-result : goal.invariant_of-result
 invariant_of-result c = record {
   two = c.ids_used.ensures.two;
   few = c.ids_used.ensures.limit;
-  within = λ p q edge. c.ids_used.ensures.within c.args.sight.now.sound p q (narrowed_edge (is_around c.args.around.now) (seen c.args.sight.now.view) p q edge).2;
+  within = λ p q edge. c.ids_used.ensures.within c.args.sight.now.sound p q (narrowed_edge (has_id c.args.near.now) (seen c.args.sight.now.view) p q edge).2;
 }
 
 pub returns-clause-graph : goal.returns-clause-graph

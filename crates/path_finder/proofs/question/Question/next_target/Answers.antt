@@ -5,7 +5,7 @@ use Rattle.partition_graph.specs.NeighbourWords.{ArePlaces, IsWordOf}
 use Rattle.partition_graph.specs.Seen.{seen}
 use Rattle.partition_graph.proofs.NeighbourWords.{word-both, word-same}
 use Rattle.partition_graph.proofs.Places.{places-fewer}
-use Rattle.path_finder.specs.Keeping.{is_around}
+use Rattle.path_finder.specs.IdSets.{has_id}
 use Rattle.path_finder.proofs.Neighbours.{no-edge, from-gone, none-after}
 use Rattle.path_finder.proofs.WordSteps.{next-from, none-between}
 use Rattle.path_finder.proofs.question.Question.next_target.Goals as goal
@@ -29,7 +29,7 @@ target-places around edge p x are = places-fewer edge (λ q. (around p && around
 
 pub loop-at-init : goal.loop-at-init
 loop-at-init c =
-    let around : ℕ → Bool = is_around c.args.self.now.around.now in
+    let around : ℕ → Bool = has_id c.args.self.now.near.now in
     let edge : ℕ → Bool = λ r. (seen c.args.self.now.sight.now.view).edge c.args.p r in
     record {
       reached = c.next_at-at.ensures.reached;
@@ -38,7 +38,7 @@ loop-at-init c =
 
 pub loop-at-preserved : goal.loop-at-preserved
 loop-at-preserved c =
-    let around : ℕ → Bool = is_around c.args.self.now.around.now in
+    let around : ℕ → Bool = has_id c.args.self.now.near.now in
     let edge : ℕ → Bool = λ r. (seen c.args.self.now.sight.now.view).edge c.args.p r in
     let has : ℕ → Bool = λ r. (around c.args.p && around r) && edge r in
     let end : ℕ = c.loop-at.at / 64 * 64 + 64 in
@@ -51,11 +51,11 @@ loop-at-preserved c =
     }
 
 pub returns-then-not-has-clause-next : goal.returns-then-not-has-clause-next
-returns-then-not-has-clause-next c r l = from-gone (is_around c.args.self.now.around.now c.args.p) (is_around c.args.self.now.around.now r) ((seen c.args.self.now.sight.now.view).edge c.args.p r) c.if-not-has.ensures
+returns-then-not-has-clause-next c r l = from-gone (has_id c.args.self.now.near.now c.args.p) (has_id c.args.self.now.near.now r) ((seen c.args.self.now.sight.now.view).edge c.args.p r) c.if-not-has.ensures
 
 found-below : (c : goal.In-Some) → c.in-Some.q < c.args.self.now.ids
 found-below c =
-    let around : ℕ → Bool = is_around c.args.self.now.around.now in
+    let around : ℕ → Bool = has_id c.args.self.now.near.now in
     let edge : ℕ → Bool = λ r. (seen c.args.self.now.sight.now.view).edge c.args.p r in
     let is = target-word around edge c.args.p (c.loop-at.at / 64) c.target_word.result c.word.result c.if-not-has.ensures c.target_word.ensures c.word.ensures in
     let next = c.in-Some.ensures (λ r. (around c.args.p && around r) && edge r) is in
@@ -63,7 +63,7 @@ found-below c =
 
 pub returns-in-Some-clause-next : goal.returns-in-Some-clause-next
 returns-in-Some-clause-next c =
-    let around : ℕ → Bool = is_around c.args.self.now.around.now in
+    let around : ℕ → Bool = has_id c.args.self.now.near.now in
     let edge : ℕ → Bool = λ r. (seen c.args.self.now.sight.now.view).edge c.args.p r in
     let has : ℕ → Bool = λ r. (around c.args.p && around r) && edge r in
     let is = target-word around edge c.args.p (c.loop-at.at / 64) c.target_word.result c.word.result c.if-not-has.ensures c.target_word.ensures c.word.ensures in
@@ -78,7 +78,7 @@ overflow_cast-result c = record { fits = omega (arith, found-below c, c.args.sel
 
 pub returns-clause-next : goal.returns-clause-next
 returns-clause-next c =
-    let around : ℕ → Bool = is_around c.args.self.now.around.now in
+    let around : ℕ → Bool = has_id c.args.self.now.near.now in
     let edge : ℕ → Bool = λ r. (seen c.args.self.now.sight.now.view).edge c.args.p r in
     none-after (λ r. (around c.args.p && around r) && edge r) c.args.from c.loop-at.at c.loop-at.invariant.none
     (λ r after. gone ((around c.args.p && around r) && edge r) (λ is. omega (arith, after, (c.args.self.now.within c.args.p r is).1, c.loop-at-test.false)))

@@ -28,7 +28,7 @@ pub add_all-requires-clause-unmet : goal.add_all-requires-clause-unmet
 add_all-requires-clause-unmet c i below on =
     let e : ℕ → ℕ → Bool = edge_by c.args.way (seen c.args.sight.now.view) in
     let n : ℕ = c.loop-at.at / 64 * 64 + i in
-    let is = word-less (e c.index-id.result.now) (is_met c.loop-at.self) (c.loop-at.at / 64) c.neighbours.result c.word.result c.word.type_inv c.neighbours.ensures c.word.ensures in
+    let is = word-less (e c.index-id.result.now) (is_met c.loop-at.self) (c.loop-at.at / 64) c.neighbours.result c.word.result c.word.type_inv c.neighbours.ensures c.word.ensures.word in
     new-unmet (e c.index-id.result.now n) (is_met c.loop-at.self n) (sym (is i below) ∙ on)
 
 pub loop-at-preserved : goal.loop-at-preserved
@@ -38,7 +38,7 @@ loop-at-preserved c =
     let i = c.loop-at.invariant in
     let k = c.add_all.ensures in
     let start : ℕ = c.loop-at.at / 64 * 64 in
-    let is = word-less (e id) (is_met c.loop-at.self) (c.loop-at.at / 64) c.neighbours.result c.word.result c.word.type_inv c.neighbours.ensures c.word.ensures in
+    let is = word-less (e id) (is_met c.loop-at.self) (c.loop-at.at / 64) c.neighbours.result c.word.result c.word.type_inv c.neighbours.ensures c.word.ensures.word in
     let low : start ≤ c.loop-at.at = omega (arith, div-add-mod' c.loop-at.at 64) in
     record {
       place = slice_get_within c.add_all.new.self.list c.args.next id (k.more.listed c.args.next id i.there);
