@@ -12,7 +12,7 @@ use Rattle.invariants.proofs.Agree.{monitor_agrees}
 use Rattle.path_finder.specs.declared.reach.Way.TheVariants.{Ahead, Behind}
 use Rattle.path_finder.specs.Nearness.{narrowed, is_of_type, key_of, AvoidsGone}
 use Rattle.path_finder.specs.Reaching.{edge_by}
-use Rattle.path_finder.specs.Keeping.{KeepsAround}
+use Rattle.path_finder.specs.Keeping.{KeepsAround, KeepsViolations}
 use Rattle.partition_model.specs.Assignments.{Assignment, G, is_live, members}
 use Rattle.partition_model.specs.Listings.{AreBelow}
 use Rattle.partition_model.proofs.Forming.{merged_paths_avoid}
@@ -44,10 +44,6 @@ narrowed_walk kept g (r ∷ rs) x y w = ((narrowed_edge kept g x r w.0).2, narro
 pub narrowed_path : (kept : ℕ → Bool) (g : Graph) (path : List ℕ) → IsPath (narrowed kept g) path → IsPath g path
 narrowed_path kept g [] w = w
 narrowed_path kept g (x ∷ xs) w = (w.0, narrowed_walk kept g xs x TERMINAL w.1)
-
--- each path that breaks the invariant has its edges looked at
-abbrev pub KeepsViolations : (ℕ → Bool) → Graph → Invariant → Type 0
-KeepsViolations kept g inv = (path : List ℕ) → Breaks g inv path → IsPath (narrowed kept g) path
 
 -- where each path that breaks the invariant has its edges looked at, the least violation is that of the graph
 pub narrowed_least : (kept : ℕ → Bool) (g : Graph) (inv : Invariant) (path : List ℕ) → KeepsViolations kept g inv → IsLeastViolation (narrowed kept g) inv path → IsLeastViolation g inv path

@@ -6,9 +6,13 @@ ghost use Rattle.partition_model.specs.Assignments.{G};
 ghost use Rattle.partition_model.specs.Coarsening.{IsPair};
 ghost use Rattle.partition_model.specs.Graphs.{IsLeastViolation, Satisfies, Merged as merged_graph};
 ghost use Rattle.path_finder.specs.Asking.{asked};
+ghost use Rattle.path_finder.specs.IdSets.{has_id};
+ghost use Rattle.path_finder.specs.Keeping.{KeepsViolations};
 ghost use Rattle.path_finder.specs.Nearness.{key_of, AvoidsGone};
 ghost use Rattle.path_finder.specs.Walks.{IsLeastOf};
 
+use crate::breadth::Breadth;
+use crate::id_set::IdSet;
 use crate::pair::Pair;
 use crate::question::Question;
 use crate::reach::Around;
@@ -23,11 +27,12 @@ use std::alloc::{AllocError, Global};
 use std::sync::ledger::Ledger;
 use steps::Steps;
 
-/// Finds least violations. It keeps its memory from one call to the next, and nothing else of a call.
+/// Finds least violations. It keeps its memory from one call to the next, and nothing of a call that its answers depend on.
 #[derive(Drop)]
 pub struct Finder {
     table: Table,
     around: Around,
+    breadth: Breadth,
     path: Vec<u32>,
     ghost room: { MAX_ENTRIES < vec_capacity path },
 }
@@ -74,6 +79,21 @@ fn key_of(inv: Invariant) -> u16
     }
 }
 
+/// The ids to look at for the least violation of the invariant: those around its key type, or all ids if most were around that
+/// type not long ago.
+fn find_near(around: &mut Around, breadth: &mut Breadth, sight: &Sight<'_>, inv: Invariant) -> IdSet
+    ensures { KeepsViolations (has_id result) (seen sight.now.view) inv }
+{
+    let typ = key_of(inv);
+    let ids = sight.view.ids_used();
+    if breadth.is_wide(typ) {
+        return IdSet::all();
+    }
+    around.find_type(sight, typ);
+    breadth.note(typ, around.near.count(), ids);
+    around.near
+}
+
 impl Finder {
     /// A finder with all the memory that its searches need. Only this call allocates; `AllocError` is returned if there
     /// is not enough memory.
@@ -84,6 +104,7 @@ impl Finder {
         Ok(Finder {
             table,
             around,
+            breadth: Breadth::unknown(),
             path,
         })
     }
@@ -116,8 +137,8 @@ impl Finder {
     {
         prove!(view.ids_used() <= MAX_PARTITIONS);
         let sight = Sight { view: *view };
-        self.around.find_type(&sight, key_of(inv));
-        let question = Question::new(&sight, inv, &self.around.near);
+        let near = find_near(&mut self.around, &mut self.breadth, &sight, inv);
+        let question = Question::new(&sight, inv, &near);
         if !search(&question, &mut self.table, &mut self.path, steps) {
             return None;
         }

@@ -9,6 +9,7 @@
 //! the graph satisfies, the only key id is the merged one.
 #![tactic(auto)]
 
+mod breadth;
 mod finder;
 mod id_set;
 mod pair;

@@ -3,7 +3,8 @@ use Rattle.invariants.specs.declared.Invariant.{Invariant}
 use Rattle.partition_model.specs.Assignments.{G}
 use Rattle.partition_model.specs.Graphs.{Graph, Satisfies, IsLeastViolation, Merged}
 use Rattle.path_finder.specs.IdSets.{has_id}
-use Rattle.path_finder.proofs.Narrow.{KeepsViolations, loss_keeps, narrowed_least, narrowed_satisfies, live_below}
+use Rattle.path_finder.specs.Keeping.{KeepsViolations}
+use Rattle.path_finder.proofs.Narrow.{loss_keeps, narrowed_least, narrowed_satisfies, live_below}
 use Rattle.path_finder.proofs.finder.Finder.least_loss.Goals as goal
 
 pub find-requires : goal.find-requires
