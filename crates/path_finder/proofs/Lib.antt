@@ -2,8 +2,10 @@ pub mod Entering
 pub mod Measuring
 pub mod Least
 pub mod Reaching
+pub mod Surveying
 pub mod Narrow
 pub mod Neighbours
+pub mod WordSets
 pub mod WordSteps
 pub mod OpenPairs
 pub mod Marked

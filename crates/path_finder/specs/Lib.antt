@@ -4,6 +4,7 @@ pub mod Keeping
 pub mod Nearness
 pub mod Reaching
 pub mod Sound
+pub mod Surveys
 pub mod Walks
 pub mod Tables
 pub mod Turns

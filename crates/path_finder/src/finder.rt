@@ -1,5 +1,5 @@
 //! The finder.
-ghost use Rattle.std.specs.Prelude.{◌≡◌, ◌≤◌, ◌<◌, ◌+◌, ◌*◌, IfSome, MatchOption, true, false, length, vec_capacity};
+ghost use Rattle.std.specs.Prelude.{◌≡◌, ◌≤◌, ◌<◌, ◌+◌, ◌*◌, [], IfSome, MatchOption, true, false, length, vec_capacity};
 ghost use Rattle.path_finder.specs.declared.table.TheConstants.{MAX_ENTRIES};
 ghost use Rattle.partition_graph.specs.Seen.{seen, IsSound};
 ghost use Rattle.partition_model.specs.Assignments.{G};
@@ -9,6 +9,7 @@ ghost use Rattle.path_finder.specs.Asking.{asked};
 ghost use Rattle.path_finder.specs.IdSets.{has_id};
 ghost use Rattle.path_finder.specs.Keeping.{KeepsViolations};
 ghost use Rattle.path_finder.specs.Nearness.{key_of, AvoidsGone};
+ghost use Rattle.path_finder.specs.Surveys.{IsSurveyOf};
 ghost use Rattle.path_finder.specs.Walks.{IsLeastOf};
 
 use crate::breadth::Breadth;
@@ -18,23 +19,38 @@ use crate::question::Question;
 use crate::reach::Around;
 use crate::search::measure;
 use crate::sight::Sight;
+use crate::survey::{Survey, near_merge};
 use crate::table::{MAX_ENTRIES, OPEN, Table};
 use crate::trace::trace;
 use invariants::{Invariant, Kind, Merge, Monitor};
 use limits::{INITIAL, MAX_PARTITIONS};
 use partition_graph::{PartGraph, View};
 use std::alloc::{AllocError, Global};
+use std::marker::Model;
 use std::sync::ledger::Ledger;
 use steps::Steps;
 
-/// Finds least violations. It keeps its memory from one call to the next, and nothing of a call that its answers depend on.
+/// Finds least violations. It keeps its memory from one call to the next. Contracts see what `find_loss` keeps of a graph, and
+/// the path that was written last.
 #[derive(Drop)]
 pub struct Finder {
     table: Table,
     around: Around,
     breadth: Breadth,
+    survey: Survey,
     path: Vec<u32>,
-    ghost room: { MAX_ENTRIES < vec_capacity path },
+}
+
+impl Model for Finder {
+    ghost use Rattle.std.specs.Prelude.{◌<◌, vec_capacity};
+    ghost use Rattle.path_finder.specs.Surveys.{Found};
+    ghost use Rattle.path_finder.specs.declared.table.TheConstants.{MAX_ENTRIES};
+
+    ghost Value = { Found };
+
+    ghost view = { λ f. record { survey = f.survey; path = f.path.items } };
+
+    ghost invariant = { λ f. MAX_ENTRIES < vec_capacity f.path };
 }
 
 /// Writes the least violation to `path`, and returns whether there is one. It counts one step.
@@ -94,6 +110,36 @@ fn find_near(around: &mut Around, breadth: &mut Breadth, sight: &Sight<'_>, inv:
     around.near
 }
 
+/// The ids to look at for what the merge loses of the invariant. `survey` has what was found of the graph before.
+fn near_loss(
+    survey: &mut Survey,
+    around: &mut Around,
+    breadth: &mut Breadth,
+    graph: &PartGraph,
+    merge: Merge,
+    inv: Invariant,
+    satisfied: bool,
+) -> IdSet
+    requires surveyed { IsSurveyOf survey.old (G (graph.now).traces) }
+    requires pair { IsPair (G (graph.now).traces) merge.p merge.q }
+    requires known { satisfied ≡ true → Satisfies (G (graph.now).traces) inv }
+    ensures keeps { KeepsViolations (has_id result)
+        (merged_graph (G (graph.now).traces) merge.p merge.q) inv }
+    ensures surveyed { IsSurveyOf survey.new (G (graph.now).traces) }
+{
+    prove!(graph.ids_used() <= MAX_PARTITIONS);
+    if !satisfied {
+        let sight = Sight {
+            view: View::Merged(graph, merge.p, merge.q),
+        };
+        return find_near(around, breadth, &sight, inv);
+    }
+    let plain = Sight {
+        view: View::Plain(graph),
+    };
+    near_merge(survey, around, &plain, merge)
+}
+
 impl Finder {
     /// A finder with all the memory that its searches need. Only this call allocates; `AllocError` is returned if there
     /// is not enough memory.
@@ -101,10 +147,12 @@ impl Finder {
         let path = Vec::with_capacity(alloc, MAX_ENTRIES + 1)?;
         let table = Table::make(alloc)?;
         let around = Around::make(alloc)?;
+        let survey = Survey::make(alloc)?;
         Ok(Finder {
             table,
             around,
             breadth: Breadth::unknown(),
+            survey,
             path,
         })
     }
@@ -187,5 +235,64 @@ impl Finder {
             return None;
         }
         Some(&self.path)
+    }
+
+    /// Forgets what `find_loss` kept of a graph.
+    pub fn forget(&mut self)
+        ensures { (self.new).survey ≡ [] }
+    {
+        self.survey.forget();
+    }
+
+    /// Finds what `least_loss` returns, and returns whether there is a path. `path` then gives it.
+    ///
+    /// If `satisfied` is true, the ids around the partitions of the merge are kept for the next call. So the next call must be
+    /// about the same graph, unless `forget` is called before.
+    ///
+    /// It counts one step, and allocates nothing.
+    pub fn find_loss<L: Ledger>(
+        &mut self,
+        graph: &PartGraph,
+        merge: Merge,
+        inv: Invariant,
+        satisfied: bool,
+        steps: &mut Steps<L>,
+    ) -> bool
+        requires surveyed { IsSurveyOf (self.old).survey (G (graph.now).traces) }
+        requires pair { IsPair (G (graph.now).traces) merge.p merge.q }
+        requires known { satisfied ≡ true → Satisfies (G (graph.now).traces) inv }
+
+        // What the path is, if there is one.
+        ensures satisfied { result ≡ false
+            → Satisfies (merged_graph (G (graph.now).traces) merge.p merge.q) inv }
+        ensures found { result ≡ true → IsLeastViolation
+            (merged_graph (G (graph.now).traces) merge.p merge.q) inv (self.new).path }
+        ensures short { result ≡ true → length (self.new).path ≤ 3 * MAX_PARTITIONS + 1 }
+
+        // What is kept, and how many steps are counted.
+        ensures surveyed { IsSurveyOf (self.new).survey (G (graph.now).traces) }
+        ensures counted { steps.new ≡ steps.old + 1 }
+    {
+        let near = near_loss(
+            &mut self.survey,
+            &mut self.around,
+            &mut self.breadth,
+            graph,
+            merge,
+            inv,
+            satisfied,
+        );
+        let sight = Sight {
+            view: View::Merged(graph, merge.p, merge.q),
+        };
+        let question = Question::new(&sight, inv, &near);
+        search(&question, &mut self.table, &mut self.path, steps)
+    }
+
+    /// The path that was found last.
+    pub fn path(&self) -> &[u32]
+        ensures { result.now ≡ (self.now).path }
+    {
+        &self.path
     }
 }

@@ -10,7 +10,7 @@ use partition_graph::{ID_WORDS, WORD_BITS};
 
 /// A set of ids: a word for each 64 of them, with a bit for each id.
 #[derive(Clone, Copy)]
-pub(crate) struct IdSet {
+pub struct IdSet {
     pub words: [u64; ID_WORDS],
 }
 
@@ -43,6 +43,18 @@ impl IdSet {
         ensures { IsWordOf (has_id self.now) place result }
     {
         self.words[place]
+    }
+
+    /// The ids that are in this set or in the other.
+    pub fn with(&self, other: &IdSet) -> IdSet
+        ensures own { (p : ℕ) → has_id self.now p ≡ true → has_id result p ≡ true }
+        ensures others { (p : ℕ) → has_id other.now p ≡ true → has_id result p ≡ true }
+    {
+        let mut words = [0; ID_WORDS];
+        for place in 0..ID_WORDS {
+            words[place] = self.word(place) | other.word(place);
+        }
+        IdSet { words }
     }
 
     /// How many ids the set has.

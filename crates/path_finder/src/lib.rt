@@ -17,6 +17,7 @@ mod question;
 mod reach;
 mod search;
 mod sight;
+mod survey;
 mod table;
 mod trace;
 mod words;

@@ -7,6 +7,7 @@ use Rattle.std.specs.Int.Bits.{bit_or}
 use Rattle.partition_graph.specs.NeighbourWords.{IsWordOf}
 use Rattle.partition_graph.proofs.NeighbourWords.{word-either}
 use Rattle.path_finder.specs.Nearness.{is_met}
+use Rattle.path_finder.proofs.WordSets.{on-within, is-in}
 use Rattle.path_finder.proofs.reach.join.Goals as goal
 
 pub loop-place-preserved : goal.loop-place-preserved
@@ -31,23 +32,6 @@ loop-place-preserved c =
       sized = λ some. (c.word.ensures.size, c.word-in-loop-place.ensures.size);
     }
 
--- an id with the bit of its word on is in the set
-in-word : (kept : ℕ → Bool) (words : List ℕ) (p : ℕ) → IsWordOf kept (p / 64) (slice_index words (p / 64)) → kept p ≡ true → (bit_at (slice_index words (p / 64)) (p % 64) == 1) ≡ true
-in-word kept words p is k =
-    let same : p / 64 * 64 + p % 64 ≡ p = omega (arith, div-add-mod' p 64) in
-    is (p % 64) (mod_below p 64 (omega arith)) ∙ ap (λ (n : ℕ). kept n) same ∙ k
-
--- a flag that is on is in the list
-on-within : (flags : List Bool) (p : ℕ) → slice_index_or flags p false ≡ true → p < length flags
-on-within [] p e = absurd (true≢false (sym e))
-on-within (x ∷ flags) zero e = omega arith
-on-within (x ∷ flags) (suc p) e = let l : p < length flags = on-within flags p e in omega arith
-
--- an id that was met in one direction is in the set
-is-in : (ahead behind : List Bool) (words : List ℕ) (p : ℕ) → p < 1024 → ((place : ℕ) → place < 16 → IsWordOf (λ n. slice_index_or ahead n false || slice_index_or behind n false) place (slice_index words place))
-    → (slice_index_or ahead p false || slice_index_or behind p false) ≡ true → (bit_at (slice_index words (p / 64)) (p % 64) == 1) ≡ true
-is-in ahead behind words p l are k = in-word (λ n. slice_index_or ahead n false || slice_index_or behind n false) words p (are (p / 64) (omega (arith, l, div-add-mod' p 64))) k
-
 or-right : (x y : Bool) → y ≡ true → (x || y) ≡ true
 or-right true y e = refl
 or-right false y e = e
@@ -56,12 +40,12 @@ pub returns-clause-ahead : goal.returns-clause-ahead
 returns-clause-ahead c p m =
     let i = c.loop-place.invariant in
     let low : p < length c.args.ahead.now.flags = on-within c.args.ahead.now.flags p m in
-    is-in c.args.ahead.now.flags c.args.behind.now.flags c.loop-place.words p (omega (arith, low, (i.sized (omega (arith, c.loop-place-test.false))).0))
+    is-in (is_met c.args.ahead.now) (is_met c.args.behind.now) c.loop-place.words p (omega (arith, low, (i.sized (omega (arith, c.loop-place-test.false))).0))
     (λ place l. i.words place (omega (arith, l, c.loop-place-test.false))) (ap (λ (x : Bool). x || is_met c.args.behind.now p) m)
 
 pub returns-clause-behind : goal.returns-clause-behind
 returns-clause-behind c p m =
     let i = c.loop-place.invariant in
     let low : p < length c.args.behind.now.flags = on-within c.args.behind.now.flags p m in
-    is-in c.args.ahead.now.flags c.args.behind.now.flags c.loop-place.words p (omega (arith, low, (i.sized (omega (arith, c.loop-place-test.false))).1))
+    is-in (is_met c.args.ahead.now) (is_met c.args.behind.now) c.loop-place.words p (omega (arith, low, (i.sized (omega (arith, c.loop-place-test.false))).1))
     (λ place l. i.words place (omega (arith, l, c.loop-place-test.false))) (or-right (is_met c.args.ahead.now p) (is_met c.args.behind.now p) m)
