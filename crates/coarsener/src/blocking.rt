@@ -100,6 +100,7 @@ fn blocks_told<L: Ledger>(
     if next_pair(apart.graph, at).is_none() {
         return Ok(());
     }
+    finder.forget();
     while let Some(pair) = next_pair(apart.graph, at) {
         let Some(k) = first_lost(planes, apart.told, pair) else {
             unreachable!()
@@ -109,10 +110,10 @@ fn blocks_told<L: Ledger>(
             p: pair.p,
             q: pair.q,
         };
-        let Some(path) = finder.least_loss(apart.graph, merge, apart.invs[k], known, steps) else {
+        if !finder.find_loss(apart.graph, merge, apart.invs[k], known, steps) {
             unreachable!()
-        };
-        let Some(path) = spans.push(path) else {
+        }
+        let Some(path) = spans.push(finder.path()) else {
             return Err(EvidenceLimit);
         };
         run_log.add_block(pair.p, pair.q, k as u32, path);

@@ -5,9 +5,11 @@ use Rattle.invariants.specs.declared.Invariant.{Invariant}
 use Rattle.cell_pool.specs.Numbers.{Numbers}
 use Rattle.cell_pool.specs.RunLists.{RunLists}
 use Rattle.run_history.specs.Records.{blocks_of}
-use Rattle.partition_model.specs.Graphs.{Merged}
+use Rattle.partition_model.specs.Graphs.{IsLeastViolation, Merged}
 use Rattle.partition_model.specs.Assignments.{G}
 use Rattle.partition_model.specs.Refinement.{IsFirstBroken, SatisfiesAll}
+use Rattle.path_finder.specs.declared.survey.Surrounding.{Surrounding}
+use Rattle.path_finder.specs.Surveys.{IsSurveyOf}
 use Rattle.labelling.specs.Labelled.{Labelling}
 use Rattle.coarsener.specs.declared.pairs.Pair.{Pair}
 use Rattle.coarsener.specs.Pairs.{HasNoPairBehind, IsNextPair}
@@ -33,6 +35,7 @@ loop-pair-init g c =
       told = c.requires.told some;
       few = c.requires.few some;
       some = some;
+      surveyed = subst (λ (found : List Surrounding). IsSurveyOf found (G c.args.apart.graph.now.traces)) (sym c.forget.ensures) (λ k s e. absurd (cc e));
       counted = omega (arith, ap length c.requires.begun);
       within = omega (arith, c.used.ensures.value, c.if-prove.false);
       run = subst₂ (λ (p q : ℕ). IsBlocking c.args.apart.invs.now c.args.apart.graph.now c.args.run_log.now c.args.run_log.now c.args.spans.now c.args.spans.now p q)
@@ -59,13 +62,13 @@ offset_bounds-apart-k g c =
     let within : c.in-Some-first_lost.k < length c.args.apart.invs.now = bounds-apart-k g c in
     omega (arith, c.loop-pair.invariant.few)
 
-pub unreachable-requires-in_default-least_loss :
-    goal.unreachable-requires-in_default-least_loss
-unreachable-requires-in_default-least_loss g c =
+pub unreachable-requires-then-not-find_loss :
+    goal.unreachable-requires-then-not-find_loss
+unreachable-requires-then-not-find_loss g c =
     let first : IsFirstBroken (Merged (G c.args.apart.graph.now.traces) c.in-Some.pair.p c.in-Some.pair.q) c.args.apart.invs.now c.in-Some-first_lost.k =
     subst (λ (invs : List Invariant). IsFirstBroken (Merged (G c.args.apart.graph.now.traces) c.in-Some.pair.p c.in-Some.pair.q) invs c.in-Some-first_lost.k) c.loop-pair.invariant.listed
     (c.in-Some-first_lost.ensures.first c.args.apart.graph.now.traces c.in-Some.ensures.ids.typed c.in-Some.ensures.next.pair c.loop-pair.invariant.told) in
-    is-broken (Merged (G c.args.apart.graph.now.traces) c.in-Some.pair.p c.in-Some.pair.q) c.args.apart.invs.now c.in-Some-first_lost.k first c.in_default-least_loss.ensures.found
+    is-broken (Merged (G c.args.apart.graph.now.traces) c.in-Some.pair.p c.in-Some.pair.q) c.args.apart.invs.now c.in-Some-first_lost.k first (c.if-not-find_loss.ensures.satisfied refl)
 
 pub returns-in_default-push-clause-err : goal.returns-in_default-push-clause-err
 returns-in_default-push-clause-err g c =
@@ -75,8 +78,8 @@ returns-in_default-push-clause-err g c =
     let room : c.loop-pair.spans.room ≡ c.args.spans.now.room = ap (λ (x : Numbers). x.room) c.loop-pair.invariant.run.paths in
     subst (λ (x : Numbers). EndsWithoutRoom c.args.apart.invs.now c.args.apart.graph.now (blocks_of c.loop-pair.run_log x) (length x.numbers)) (sym c.in_default-push.ensures.push.1)
     (blocking-full c.args.apart.invs.now c.args.apart.graph.now c.args.run_log.now c.loop-pair.run_log c.args.spans.now c.loop-pair.spans c.loop-pair.at.p c.loop-pair.at.q
-    c.in-Some.pair.p c.in-Some.pair.q c.in-Some-first_lost.k c.in-Some-least_loss.path.now c.loop-pair.invariant.run c.in-Some.ensures.next first
-    c.in-Some-least_loss.ensures.found (omega (arith, c.in_default-push.ensures.push.0, room, c.requires.numbers)))
+    c.in-Some.pair.p c.in-Some.pair.q c.in-Some-first_lost.k c.path.result.now c.loop-pair.invariant.run c.in-Some.ensures.next first
+    (subst (λ (p : List ℕ). IsLeastViolation (Merged (G c.args.apart.graph.now.traces) c.in-Some.pair.p c.in-Some.pair.q) (get_or c.args.apart.invs.now c.in-Some-first_lost.k none) p) (sym c.path.ensures) (c.if-not-find_loss.ensures.found refl)) (omega (arith, c.in_default-push.ensures.push.0, room, c.requires.numbers)))
 
 pub returns-in_default-push-clause-limit : goal.returns-in_default-push-clause-limit
 returns-in_default-push-clause-limit g c =
@@ -101,8 +104,8 @@ loop-pair-preserved g c =
     let run : IsBlocking c.args.apart.invs.now c.args.apart.graph.now c.args.run_log.now (with_block c.in-Some.pair.p c.in-Some.pair.q c.in-Some-first_lost.k c.in-Some-push.path c.loop-pair.run_log)
     c.args.spans.now c.push.new.self c.in-Some.pair.p c.in-Some.pair.q =
     blocking-turn c.args.apart.invs.now c.args.apart.graph.now c.args.run_log.now c.loop-pair.run_log c.args.spans.now c.loop-pair.spans c.push.new.self c.loop-pair.at.p c.loop-pair.at.q
-    c.in-Some.pair.p c.in-Some.pair.q c.in-Some-first_lost.k c.in-Some-least_loss.path.now c.in-Some-push.path c.loop-pair.invariant.run c.in-Some.ensures.next first
-    c.in-Some-least_loss.ensures.found c.in-Some-push.ensures.push c.in-Some-push.ensures.stays in
+    c.in-Some.pair.p c.in-Some.pair.q c.in-Some-first_lost.k c.path.result.now c.in-Some-push.path c.loop-pair.invariant.run c.in-Some.ensures.next first
+    (subst (λ (p : List ℕ). IsLeastViolation (Merged (G c.args.apart.graph.now.traces) c.in-Some.pair.p c.in-Some.pair.q) (get_or c.args.apart.invs.now c.in-Some-first_lost.k none) p) (sym c.path.ensures) (c.if-not-find_loss.ensures.found refl)) c.in-Some-push.ensures.push c.in-Some-push.ensures.stays in
     let blocks : length c.add_block.new.self.blocks ≡ length c.loop-pair.run_log.blocks + 1 =
     ap (λ (x : RunLists). length x.blocks) c.add_block.ensures ∙ length-append c.loop-pair.run_log.blocks _ in
     let room : c.push.new.self.room ≡ c.args.spans.now.room = ap (λ (x : Numbers). x.room) run.paths in
@@ -115,7 +118,8 @@ loop-pair-preserved g c =
       told = subst (λ (planes : Labelling). TellsLosses c.args.apart.told planes (G c.args.apart.graph.now.traces)) (sym c.first_lost.ensures.same) c.loop-pair.invariant.told;
       few = c.loop-pair.invariant.few;
       some = c.loop-pair.invariant.some;
-      counted = omega (arith, c.in-Some-least_loss.ensures.counted, c.loop-pair.invariant.counted);
+      surveyed = c.find_loss.ensures.surveyed;
+      counted = omega (arith, c.find_loss.ensures.counted, c.loop-pair.invariant.counted);
       within = omega (arith, c.in-Some-push.ensures.push.fits, c.requires.numbers);
       run = subst (λ (x : RunLists). IsBlocking c.args.apart.invs.now c.args.apart.graph.now c.args.run_log.now x c.args.spans.now c.push.new.self c.in-Some.pair.p c.in-Some.pair.q)
           (sym c.add_block.ensures) run;
@@ -132,8 +136,8 @@ returns-clause-few g c =
     blocks-few c.args.apart.invs.now c.args.apart.graph.now c.args.run_log.now c.loop-pair.run_log c.args.spans.now c.loop-pair.spans c.loop-pair.at.p c.loop-pair.at.q c.loop-pair.invariant.run in
     omega (arith, c.loop-pair.invariant.counted)
 
-pub least_loss-requires-clause-known : goal.least_loss-requires-clause-known
-least_loss-requires-clause-known g c t =
+pub find_loss-requires-clause-known : goal.find_loss-requires-clause-known
+find_loss-requires-clause-known g c t =
     let lost : IsFirstBroken (Merged (G c.args.apart.graph.now.traces) c.in-Some.pair.p c.in-Some.pair.q) c.args.apart.invs.now c.in-Some-first_lost.k =
     subst (λ (invs : List Invariant). IsFirstBroken (Merged (G c.args.apart.graph.now.traces) c.in-Some.pair.p c.in-Some.pair.q) invs c.in-Some-first_lost.k) c.loop-pair.invariant.listed
     (c.in-Some-first_lost.ensures.first c.args.apart.graph.now.traces c.in-Some.ensures.ids.typed c.in-Some.ensures.next.pair c.loop-pair.invariant.told) in
@@ -142,8 +146,8 @@ least_loss-requires-clause-known g c t =
     c.is_known-known.ensures c.loop-pair.planes (G c.args.apart.graph.now.traces) inv c.loop-pair.invariant.told
     (subst (λ (invs : List Invariant). slice_get invs c.in-Some-first_lost.k ≡ Some inv) (sym c.loop-pair.invariant.listed) (slice_get-get_or c.args.apart.invs.now c.in-Some-first_lost.k none within)) t
 
-pub least_loss-requires-clause-pair : goal.least_loss-requires-clause-pair
-least_loss-requires-clause-pair g c = c.in-Some.ensures.next.pair
+pub find_loss-requires-clause-pair : goal.find_loss-requires-clause-pair
+find_loss-requires-clause-pair g c = c.in-Some.ensures.next.pair
 
 pub add_block-requires : goal.add_block-requires
 add_block-requires g c =
@@ -241,10 +245,10 @@ pub returns-in_default-push-clause-few : goal.returns-in_default-push-clause-few
 returns-in_default-push-clause-few g c =
     let fewer = blocks-fewer c.args.apart.invs.now c.args.apart.graph.now c.args.run_log.now c.loop-pair.run_log c.args.spans.now c.loop-pair.spans c.loop-pair.at.p c.loop-pair.at.q c.in-Some.pair.p c.in-Some.pair.q
     c.loop-pair.invariant.run c.in-Some.ensures.next in
-    omega (arith, c.in-Some-least_loss.ensures.counted, c.loop-pair.invariant.counted, fewer)
+    omega (arith, c.find_loss.ensures.counted, c.loop-pair.invariant.counted, fewer)
 
 pub returns-in_default-push-clause-more : goal.returns-in_default-push-clause-more
-returns-in_default-push-clause-more g c = omega (arith, c.in-Some-least_loss.ensures.counted, c.loop-pair.invariant.counted)
+returns-in_default-push-clause-more g c = omega (arith, c.find_loss.ensures.counted, c.loop-pair.invariant.counted)
 
 pub returns-clause-list : goal.returns-clause-list
 returns-clause-list g c = c.loop-pair.invariant.list

@@ -1,6 +1,7 @@
 use Rattle.std.proofs.Common.{◌≡◌, ◌≤◌, ◌<◌, ◌+◌, ◌-◌, ◌*◌, ◌^◌, length}
 use Rattle.limits.specs.declared.TheConstants.{FIRST_TYPE, MAX_PARTITIONS, MAX_PATH_NUMBERS}
 use Rattle.partition_model.specs.Assignments.{G}
+use Rattle.path_finder.specs.Surveys.{IsSurveyOf}
 use Rattle.coarsener.specs.Blocking.{pair_count}
 use Rattle.coarsener.specs.Telling.{TellsLosses}
 use Rattle.coarsener.proofs.BlockingTurns.{IsBlocking}
@@ -17,6 +18,7 @@ invariant-loop-pair g l =
       told : TellsLosses l.apart.told l.planes (G l.apart.graph.now.traces);
       few : length l.apart.invs.now < 2 ^ 32;
       some : 0 < pair_count l.apart.graph.now;
+      surveyed : IsSurveyOf l.finder.survey (G l.apart.graph.now.traces);
       counted : l.steps ≡ l.fn.steps + length l.run_log.blocks;
       within : length l.spans.numbers ≤ MAX_PATH_NUMBERS;
       run : IsBlocking l.apart.invs.now l.apart.graph.now l.fn.run_log l.run_log l.fn.spans l.spans l.at.p l.at.q;
