@@ -4,7 +4,10 @@ use Rattle.std.specs.List.{AllByRecursion}
 use Rattle.limits.specs.declared.TheConstants.{FIRST_TYPE, MAX_EVENTS}
 use Rattle.invariants.specs.declared.Invariant.{Invariant}
 use Rattle.invariants.specs.declared.Kinds.{Kinds}
+use Rattle.invariants.specs.declared.records.Block.{Block}
+use Rattle.invariants.specs.declared.records.Merge.{Merge}
 use Rattle.invariants.specs.declared.records.Split.{Split}
+use Rattle.model_shape.specs.Numbers.{split_numbers, block_numbers}
 use Rattle.cell_pool.specs.Numbers.{Numbers}
 use Rattle.cell_pool.specs.RunLists.{RunLists}
 use Rattle.run_history.specs.Records.{splits_of, merges_of, blocks_of}
@@ -27,9 +30,21 @@ use Rattle.coarsener.specs.Blocking.{EndsWithoutRoom}
 use Rattle.infer_core.specs.declared.workbench.InferLimit.{InferLimit}
 use Rattle.infer_core.specs.declared.workbench.InferLimit.TheVariants.{Partitions, Evidence}
 use Rattle.infer_core.specs.Runs.{CountsAtMost, PassesNumbers, PassesPartitions}
-use Rattle.infer_core.specs.Ends.{BeginsWith, HasEnded, RunGives}
-use Rattle.infer_core.specs.Workbenches.{whole_of, IsAtStart, IsAtEnd}
+use Rattle.infer_core.specs.Ends.{BeginsWith, HasEnded, IsPlaced, PlaceGives, RunGives}
+use Rattle.infer_core.specs.Workbenches.{whole_of, IsAtStart, IsAtEnd, IsAtPlaces}
 use Rattle.infer_core.proofs.Sharing.{Alike, all-alike, event-over, word-over, words-as, events-count, mined-as, hold-over, graph-over, refines-over, splits-over, next-over, coarsens-over}
+
+-- whether the list of blocks runs out of room depends only on the graph of the assignment
+room-over : (invs invs' : List Invariant) (h h' : Assignment) (n : ℕ) (blocks : List Block) (held : ℕ) → invs ≡ invs' → G h ≡ G h'
+    → EndsWithoutRoom invs (record { traces = h; used = n }) blocks held → EndsWithoutRoom invs' (record { traces = h'; used = n }) blocks held
+room-over invs invs' h h' n blocks held i g w = record {
+  next = w.next;
+  rest = w.rest;
+  pairs = w.pairs ∙ ap (λ (x : Graph). pairs_below n x) g;
+  each = subst₂ (λ (xs : List Invariant) (x : Graph). AllByRecursion (IsBlock xs x) blocks) i g w.each;
+  is_block = subst₂ (λ (xs : List Invariant) (x : Graph). IsBlock xs x w.next) i g w.is_block;
+  too_long = w.too_long;
+}
 
 -- the words of the graph, with the kinds that are asked for and the types of the log
 abbrev pub distinct : Kinds → Log → Parts → TypedWords
@@ -124,7 +139,6 @@ module _ (kinds : Kinds) (log : Log) (graph : Parts) (numbers : List ℕ) (s : S
         let c : Coarsens (mined_of (distinct kinds log graph)) (spread numbers p.refined) p.merges (spread numbers p.end) × AreAllOf numbers p.end × IsTyped p.end =
         coarsens-over (mined_of (distinct kinds log graph)) numbers p.merges p.refined p.end o.1 o.2 p.coarsens in
         let g : G p.end ≡ G (spread numbers p.end) = graph-over p.end (spread numbers p.end) (all-alike numbers p.end c.1) c.2 in
-        let w : EndsWithoutRoom (mined_of (distinct kinds log graph)) (record { traces = p.end; used = n + length p.splits }) p.blocks _ = p.ends in
         record {
           splits = p.splits;
           refined = spread numbers p.refined;
@@ -134,61 +148,76 @@ module _ (kinds : Kinds) (log : Log) (graph : Parts) (numbers : List ℕ) (s : S
           end = spread numbers p.end;
           coarsens = subst (λ (xs : List Invariant). Coarsens xs (spread numbers p.refined) p.merges (spread numbers p.end)) mined-same c.0;
           blocks = p.blocks;
-          ends = record {
-            next = w.next;
-            rest = w.rest;
-            pairs = w.pairs ∙ ap (λ (x : Graph). pairs_below (n + length p.splits) x) g;
-            each = subst₂ (λ (xs : List Invariant) (x : Graph). AllByRecursion (IsBlock xs x) p.blocks) mined-same g w.each;
-            is_block = subst₂ (λ (xs : List Invariant) (x : Graph). IsBlock xs x w.next) mined-same g w.is_block;
-            too_long = w.too_long;
-          };
+          ends = room-over (mined_of (distinct kinds log graph)) (mined_of (typed_words kinds log)) p.end (spread numbers p.end) (n + length p.splits) p.blocks (split_numbers p.splits + block_numbers p.blocks) mined-same g p.ends;
         }
 
-    module _ (end : Parts) (planes : Labelling) (spans : Numbers) (run : RunLists) (e : HasEnded (distinct kinds log graph) end planes spans run) where
-      -- a run that ended
-      refined-end : IsRefined (mined_of (typed_words kinds log)) (length log.types) (inner_words_of log) (splits_of run spans) (spread numbers e.refined) × AreAllOf numbers e.refined × IsTyped e.refined
-      refined-end = refined-whole (splits_of run spans) e.refined e.refines
+    module _ (end : Assignment) (splits : List Split) (refined : Assignment) (merges : List Merge)
+        (r : IsRefined (mined_of (distinct kinds log graph)) (length log.types) (inner_words graph.traces) splits refined) (c : Coarsens (mined_of (distinct kinds log graph)) refined merges end) where
+      -- a run whose refinement and coarsening ended
+      refined-end : IsRefined (mined_of (typed_words kinds log)) (length log.types) (inner_words_of log) splits (spread numbers refined) × AreAllOf numbers refined × IsTyped refined
+      refined-end = refined-whole splits refined r
 
-      coarsened-end : Coarsens (mined_of (distinct kinds log graph)) (spread numbers e.refined) (merges_of run) (spread numbers end.traces) × AreAllOf numbers end.traces × IsTyped end.traces
-      coarsened-end = coarsens-over (mined_of (distinct kinds log graph)) numbers (merges_of run) e.refined end.traces refined-end.1 refined-end.2 e.coarsens
+      coarsened-end : Coarsens (mined_of (distinct kinds log graph)) (spread numbers refined) merges (spread numbers end) × AreAllOf numbers end × IsTyped end
+      coarsened-end = coarsens-over (mined_of (distinct kinds log graph)) numbers merges refined end refined-end.1 refined-end.2 c
 
-      graph-end : G end.traces ≡ G (spread numbers end.traces)
-      graph-end = graph-over end.traces (spread numbers end.traces) (all-alike numbers end.traces coarsened-end.1) coarsened-end.2
+      coarsens-end : Coarsens (mined_of (typed_words kinds log)) (spread numbers refined) merges (spread numbers end)
+      coarsens-end = subst (λ (xs : List Invariant). Coarsens xs (spread numbers refined) merges (spread numbers end)) mined-same coarsened-end.0
 
-      -- the end of the run of the distinct words is that of the log
-      pub ended-whole : HasEnded (typed_words kinds log) (whole_of numbers end) planes spans run
-      ended-whole = record {
-        refined = spread numbers e.refined;
-        refines = refined-end.0;
-        ids = e.ids;
-        coarsens = subst (λ (xs : List Invariant). Coarsens xs (spread numbers e.refined) (merges_of run) (spread numbers end.traces)) mined-same coarsened-end.0;
-        blocks = subst₂ (λ (xs : List Invariant) (x : Graph). AreBlocks xs x (blocks_of run spans)) mined-same graph-end e.blocks;
-        numbers = e.numbers;
-        listed = e.listed ∙ mined-same;
-        labels = subst (λ (x : Graph). AreLabelsOf planes x) graph-end e.labels;
-        paths = e.paths;
-      }
+      graph-end : G end ≡ G (spread numbers end)
+      graph-end = graph-over end (spread numbers end) (all-alike numbers end coarsened-end.1) coarsened-end.2
 
       -- each trace still has its number at the end
-      pub all-end : AreAllOf numbers end.traces
+      pub all-end : AreAllOf numbers end
       all-end = coarsened-end.1
 
       -- it has the words of the log still
-      words-end : inner_words (spread numbers end.traces) ≡ inner_words_of log
+      words-end : inner_words (spread numbers end) ≡ inner_words_of log
       words-end =
           let n : ℕ = length log.types + FIRST_TYPE in
-          let k : Keeps (mined_of (distinct kinds log graph)) (inner_words graph.traces) e.refined =
-          refinement_keeps (mined_of (distinct kinds log graph)) (inner_words graph.traces) n (splits_of run spans) e.refined typed hold e.refines in
-          let l : Keeps (mined_of (distinct kinds log graph)) (inner_words graph.traces) end.traces =
-          (coarsening_keeps (mined_of (distinct kinds log graph)) (inner_words graph.traces) e.refined (merges_of run) end.traces k e.coarsens).0 in
-          words-as numbers end.traces graph.traces l.words_are ∙ words-are
+          let k : Keeps (mined_of (distinct kinds log graph)) (inner_words graph.traces) refined =
+          refinement_keeps (mined_of (distinct kinds log graph)) (inner_words graph.traces) n splits refined typed hold r in
+          let l : Keeps (mined_of (distinct kinds log graph)) (inner_words graph.traces) end =
+          (coarsening_keeps (mined_of (distinct kinds log graph)) (inner_words graph.traces) refined merges end k c).0 in
+          words-as numbers end graph.traces l.words_are ∙ words-are
 
       -- the spread graph has no more events than a log may have
-      pub few-end : sum_by (λ w. length w) (inner_words_of log) ≤ MAX_EVENTS → length (events (spread numbers end.traces)) ≤ MAX_EVENTS
+      pub few-end : sum_by (λ w. length w) (inner_words_of log) ≤ MAX_EVENTS → length (events (spread numbers end)) ≤ MAX_EVENTS
       few-end few =
-          let a : length (events (spread numbers end.traces)) ≡ sum_by (λ (w : List ℕ). length w) (inner_words (spread numbers end.traces)) = events-count (spread numbers end.traces) in
-          let b : sum_by (λ (w : List ℕ). length w) (inner_words (spread numbers end.traces)) ≡ sum_by (λ (w : List ℕ). length w) (inner_words_of log) = ap (λ (ws : List (List ℕ)). sum_by (λ (w : List ℕ). length w) ws) words-end in
+          let a : length (events (spread numbers end)) ≡ sum_by (λ (w : List ℕ). length w) (inner_words (spread numbers end)) = events-count (spread numbers end) in
+          let b : sum_by (λ (w : List ℕ). length w) (inner_words (spread numbers end)) ≡ sum_by (λ (w : List ℕ). length w) (inner_words_of log) = ap (λ (ws : List (List ℕ)). sum_by (λ (w : List ℕ). length w) ws) words-end in
           omega (arith, a, b, few)
+
+    -- the end of the run of the distinct words is that of the log
+    pub ended-whole : (end : Parts) (planes : Labelling) (spans : Numbers) (run : RunLists)
+        → HasEnded (distinct kinds log graph) end planes spans run → HasEnded (typed_words kinds log) (whole_of numbers end) planes spans run
+    ended-whole end planes spans run e =
+        let g : G end.traces ≡ G (spread numbers end.traces) = graph-end end.traces (splits_of run spans) e.refined (merges_of run) e.refines e.coarsens in
+        record {
+          refined = spread numbers e.refined;
+          refines = (refined-end end.traces (splits_of run spans) e.refined (merges_of run) e.refines e.coarsens).0;
+          ids = e.ids;
+          coarsens = coarsens-end end.traces (splits_of run spans) e.refined (merges_of run) e.refines e.coarsens;
+          blocks = subst₂ (λ (xs : List Invariant) (x : Graph). AreBlocks xs x (blocks_of run spans)) mined-same g e.blocks;
+          numbers = e.numbers;
+          listed = e.listed ∙ mined-same;
+          labels = subst (λ (x : Graph). AreLabelsOf planes x) g e.labels;
+          paths = e.paths;
+        }
+
+    -- so it is where the events are placed only
+    pub placed-whole : (end : Parts) → IsPlaced (distinct kinds log graph) end → IsPlaced (typed_words kinds log) (whole_of numbers end)
+    placed-whole end e =
+        let n : ℕ = length log.types + FIRST_TYPE in
+        let g : G end.traces ≡ G (spread numbers end.traces) = graph-end end.traces e.splits e.refined e.merges e.refines e.coarsens in
+        record {
+          splits = e.splits;
+          refined = spread numbers e.refined;
+          refines = (refined-end end.traces e.splits e.refined e.merges e.refines e.coarsens).0;
+          ids = e.ids;
+          merges = e.merges;
+          coarsens = coarsens-end end.traces e.splits e.refined e.merges e.refines e.coarsens;
+          fits = λ blocks w. e.fits blocks (room-over (mined_of (typed_words kinds log)) (mined_of (distinct kinds log graph)) (spread numbers end.traces) end.traces (n + length e.splits) blocks (split_numbers e.splits + block_numbers blocks) (sym mined-same) (sym g) w);
+        }
 
     -- each answer of a run
     pub gives-whole : (r : Result (Unit {0}) InferLimit) (end : Parts) (planes : Labelling) (spans : Numbers) (run : RunLists)
@@ -196,6 +225,11 @@ module _ (kinds : Kinds) (log : Log) (graph : Parts) (numbers : List ℕ) (s : S
     gives-whole (Ok done) end planes spans run e = ended-whole end planes spans run e
     gives-whole (Err Partitions) end planes spans run e = partitions-whole e
     gives-whole (Err Evidence) end planes spans run e = numbers-whole e
+
+    pub places-whole : (r : Result (Unit {0}) InferLimit) (end : Parts) → PlaceGives r (distinct kinds log graph) end → PlaceGives r (typed_words kinds log) (whole_of numbers end)
+    places-whole (Ok done) end e = placed-whole end e
+    places-whole (Err Partitions) end e = partitions-whole e
+    places-whole (Err Evidence) end e = numbers-whole e
 
     -- and its count of steps
     pub counts-whole : (before after : ℕ) → CountsAtMost (distinct kinds log graph) before after → CountsAtMost (typed_words kinds log) before after
@@ -240,12 +274,23 @@ module _ (kinds : Kinds) (log : Log) (invs : List Invariant) (graph : Parts) (nu
   pub start-counts : (before after : ℕ) → CountsAtMost (distinct kinds log graph) before after → CountsAtMost (typed_words kinds log) before after
   start-counts before after c = counts-whole kinds log graph numbers s.shares typed-start hold-start before after c
 
+  pub start-places : (r : Result (Unit {0}) InferLimit) (end : Parts) → PlaceGives r (distinct kinds log graph) end → PlaceGives r (typed_words kinds log) (whole_of numbers end)
+  start-places r end e = places-whole kinds log graph numbers s.shares typed-start hold-start r end e
+
   -- where the run ends, what stands is the end of the run of the log
   pub start-ends : (end : Parts) (planes' : Labelling) (spans' : Numbers) (run' : RunLists)
       → HasEnded (distinct kinds log graph) end planes' spans' run' → IsAtEnd kinds log invs end numbers planes' spans' run'
   start-ends end planes' spans' run' e = record {
     mined = s.mined;
-    all = all-end kinds log graph numbers s.shares typed-start hold-start end planes' spans' run' e;
-    few = few-end kinds log graph numbers s.shares typed-start hold-start end planes' spans' run' e s.within.few_events;
+    all = all-end kinds log graph numbers s.shares typed-start hold-start end.traces (splits_of run' spans') e.refined (merges_of run') e.refines e.coarsens;
+    few = few-end kinds log graph numbers s.shares typed-start hold-start end.traces (splits_of run' spans') e.refined (merges_of run') e.refines e.coarsens s.within.few_events;
     ended = ended-whole kinds log graph numbers s.shares typed-start hold-start end planes' spans' run' e;
+  }
+
+  -- and where the events are placed only
+  pub start-placed : (end : Parts) → IsPlaced (distinct kinds log graph) end → IsAtPlaces kinds log end numbers
+  start-placed end e = record {
+    all = all-end kinds log graph numbers s.shares typed-start hold-start end.traces e.splits e.refined e.merges e.refines e.coarsens;
+    few = few-end kinds log graph numbers s.shares typed-start hold-start end.traces e.splits e.refined e.merges e.refines e.coarsens s.within.few_events;
+    placed = placed-whole kinds log graph numbers s.shares typed-start hold-start end e;
   }

@@ -1,5 +1,5 @@
 -- What a run leaves.
-use Rattle.std.proofs.Common.{◌≡◌, ℕ, ◌+◌, ◌≤◌, List, [], ◌++◌, map, length, min, sym, ◌∙◌, ap, subst, subst₂, arith, length-append}
+use Rattle.std.proofs.Common.{◌≡◌, ℕ, ◌+◌, ◌<◌, ◌≤◌, List, [], ◌++◌, map, length, min, sym, ◌∙◌, ap, subst, subst₂, arith, length-append}
 use Rattle.std.proofs.lemmas.List.Concat.{length-flat_map}
 use Rattle.limits.specs.declared.TheConstants.{MAX_PAIRS, MAX_PARTITIONS, MAX_PATH_NUMBERS}
 use Rattle.invariants.specs.declared.Invariant.{Invariant}
@@ -14,7 +14,7 @@ use Rattle.run_history.proofs.Adding.{splits-stay}
 use Rattle.model_shape.specs.Numbers.{split_numbers, block_numbers}
 use Rattle.partition_model.specs.Assignments.{G, IsTyped}
 use Rattle.partition_model.specs.Refinement.{IsNextSplit, IsRefined, Refines, SatisfiesAll, Splits}
-use Rattle.partition_model.specs.Coarsening.{Coarsens, AreBlocks}
+use Rattle.partition_model.specs.Coarsening.{Coarsens, AreBlocks, NoMerge}
 use Rattle.partition_bounds.specs.Pairs.{pairs_below}
 use Rattle.partition_bounds.proofs.Pairing.{pairs_within_limit}
 use Rattle.models.specs.Models.{TypedWords, mined_of}
@@ -25,9 +25,12 @@ use Rattle.splitter.specs.Refining.{EndsRefined, IsFull, IsStopped}
 use Rattle.splitter.specs.Writing.{AreEmpty, WritesSplits}
 use Rattle.splitter.proofs.WritingTurns.{paths-long}
 use Rattle.coarsener.specs.Blocking.{pair_count, EndsWithoutRoom, paths_of as block_paths}
-use Rattle.coarsener.proofs.Ended.{refined-satisfies}
+use Rattle.coarsener.specs.Marking.{AreMarksNow}
+use Rattle.coarsener.proofs.Ended.{coarsened-none, holds-merged, refined-satisfies}
 use Rattle.infer_core.specs.Runs.{first_parts, CountsAtMost, PassesNumbers, PassesPartitions}
-use Rattle.infer_core.specs.Ends.{BeginsWith, HasEnded}
+use Rattle.infer_core.specs.Ends.{BeginsWith, HasEnded, IsCoarsened, IsPlaced, IsReady}
+use Rattle.infer_core.proofs.Excluding.{blocks-fit}
+use Rattle.infer_core.proofs.FirstPair.{coarsened-satisfies}
 use Rattle.infer_core.proofs.Pairs.{pairs-fewer}
 
 -- after refinement the graph satisfies what the planes were made for
@@ -75,111 +78,185 @@ stopped-passes words invs old new splits counted b f s =
       is_next = subst (λ (xs : List Invariant). IsNextSplit xs new.traces f.next) e f.is_next;
     }
 
--- what is known of a run where blocks were begun: run0 and spans0 stand before it, run1, spans1 and parts1 after refinement,
--- run2 and parts2 after coarsening, run3 and spans3 after the blocks
-pub record IsRun (invs : List Invariant) (old parts1 parts2 : Parts) (run0 run1 run2 run3 : RunLists) (spans0 spans1 spans3 : Numbers) : Type 0 where
-  pub empty : AreEmpty run0 spans0
-  pub writes : WritesSplits run0 run1 spans0 spans1
-  pub refines : EndsRefined invs old (splits_of run1 spans1) parts1
-  pub coarsens : Coarsens invs parts1.traces (merges_of run2) parts2.traces
-  pub used : parts2.used ≡ parts1.used
-  pub merged : run2 ≡ record run1 { merges = run2.merges }
-  pub blocked : run3 ≡ record run2 { blocks = run3.blocks }
-  pub paths : spans3 ≡ record spans1 { numbers = spans1.numbers ++ block_paths (blocks_of run3 spans3) }
-  pub stays : KeepsLists spans1.numbers spans3.numbers
+-- what a run has left where coarsening ended: run1 and parts1 stand after refinement, run2 and parts2 after coarsening
+pub coarsened-is : (invs : List Invariant) (old parts1 parts2 : Parts) (stitcher : ℕ) (planes0 planes1 planes2 : Labelling) (run0 run1 run2 : RunLists) (spans0 spans1 : Numbers) (s0 s1 s2 : ℕ)
+    → IsReady invs old stitcher planes0 spans0 run0 → planes1.invs ≡ invs → WritesSplits run0 run1 spans0 spans1 → EndsRefined invs old (splits_of run1 spans1) parts1 → IsTyped parts1.traces
+    → min 1 (length (splits_of run1 spans1)) ≤ pair_count parts1 → s0 ≤ s1
+    → s1 ≤ s0 + length invs + length (splits_of run1 spans1) + min 1 (length (splits_of run1 spans1))
+    → Coarsens planes1.invs parts1.traces (merges_of run2) parts2.traces → parts2.used ≡ parts1.used → run2 ≡ record run1 { merges = run2.merges }
+    → planes2.invs ≡ planes1.invs → (0 < pair_count parts2 → AreMarksNow planes2 parts2) → s1 ≤ s2 → s2 ≤ s1 + pair_count parts1
+    → IsCoarsened invs old parts2 planes2 spans1 run2 s0 s2
+coarsened-is invs old parts1 parts2 stitcher planes0 planes1 planes2 run0 run1 run2 spans0 spans1 s0 s1 s2 ready same writes refines typed first start few1 merged used others list marks more few2 =
+    let coarsens : Coarsens invs parts1.traces (merges_of run2) parts2.traces = subst (λ (xs : List Invariant). Coarsens xs parts1.traces (merges_of run2) parts2.traces) same merged in
+    let splits : splits_of run1 spans1 ≡ splits_of run2 spans1 = ap (λ (x : RunLists). splits_of x spans1) (sym others) in
+    let fewer : length (pairs_below parts1.used (G parts2.traces)) ≤ length (pairs_below parts1.used (G parts1.traces)) =
+    pairs-fewer invs (merges_of run2) parts1.traces parts2.traces parts1.used typed coarsens in
+    let all : pair_count parts1 ≡ length (pairs_below parts2.used (G parts1.traces)) = ap (λ (u : ℕ). length (pairs_below u (G parts1.traces))) (sym used) in
+    let count : length (splits_of run1 spans1) ≡ length (splits_of run2 spans1) = ap (λ (ss : List Split). length ss) splits in
+    let within : parts2.used ≤ MAX_PARTITIONS = omega (arith, used, refines.within) in
+    record {
+      refined = parts1.traces;
+      refines = subst (λ (ss : List Split). Refines invs old.traces old.used ss parts1.traces) splits refines.run;
+      used = omega (arith, used, refines.used, count);
+      within = within;
+      coarsens = coarsens;
+      fewer = subst (λ (u : ℕ). length (pairs_below u (G parts2.traces)) ≤ length (pairs_below u (G parts1.traces))) (sym used) fewer;
+      listed = list ∙ same;
+      marks = marks;
+      none = ap (λ (x : RunLists). x.blocks) others ∙ blocks-none run0 run1 spans0 spans1 ready.empty writes;
+      room = pairs-room parts2 run2.block_room within (omega (arith, ap (λ (x : RunLists). x.block_room) others, block-room run0 run1 spans0 spans1 writes, ready.blocks));
+      numbers = numbers-room run0 run1 spans0 spans1 writes ∙ ready.numbers;
+      long = ap (λ (x : Numbers). length x.numbers) writes.spans_are ∙ paths-long (splits_of run1 spans1) ∙ ap (λ (ss : List Split). split_numbers ss) splits;
+      paths = holds-merged run1 run2 spans1 others writes.paths;
+      more = omega (arith, start, more);
+      few = omega (arith, first, few1, few2, all, count);
+    }
 
-module _ (words : TypedWords) (invs : List Invariant) (old parts1 parts2 : Parts) (run0 run1 run2 run3 : RunLists) (spans0 spans1 spans3 : Numbers)
-    (b : BeginsWith words invs old) (r : IsRun invs old parts1 parts2 run0 run1 run2 run3 spans0 spans1 spans3) where
-  -- the splits and the merges stay where they are
-  splits-are : splits_of run3 spans3 ≡ splits_of run1 spans1
-  splits-are =
-      let e : run3.splits ≡ run1.splits = ap (λ (x : RunLists). x.splits) r.blocked ∙ ap (λ (x : RunLists). x.splits) r.merged in
-      ap (λ (es : List SplitEntry). map (split_of spans3.numbers) es) e ∙ splits-stay spans1.numbers spans3.numbers run1.splits r.stays r.writes.paths.splits
+-- there the graph still satisfies the invariants
+pub coarsened-keeps : (invs : List Invariant) (old graph : Parts) (planes : Labelling) (spans : Numbers) (run : RunLists) (before after : ℕ) → IsCoarsened invs old graph planes spans run before after
+    → SatisfiesAll (G graph.traces) invs
+coarsened-keeps invs old graph planes spans run before after c =
+    coarsened-satisfies invs (merges_of run) c.refined graph.traces (refined-satisfies invs (splits_of run spans) old.traces old.used c.refined c.refines) c.coarsens
 
-  merges-are : merges_of run3 ≡ merges_of run2
-  merges-are = ap (λ (x : RunLists). merges_of x) r.blocked
+-- and each further merge loses one
+pub coarsened-loses : (invs : List Invariant) (old graph : Parts) (planes : Labelling) (spans : Numbers) (run : RunLists) (before after : ℕ) → IsCoarsened invs old graph planes spans run before after
+    → NoMerge invs graph.traces
+coarsened-loses invs old graph planes spans run before after c = coarsened-none invs (merges_of run) c.refined graph.traces c.coarsens
 
+module _ (words : TypedWords) (invs : List Invariant) (old graph : Parts) (planes : Labelling) (spans : Numbers) (run : RunLists) (before after : ℕ)
+    (b : BeginsWith words invs old) (c : IsCoarsened invs old graph planes spans run before after) where
   used-is : old.used ≡ first_new words
   used-is = ap (λ (x : Parts). x.used) b.first
 
-  ids-are : parts2.used ≡ first_new words + length (splits_of run3 spans3)
-  ids-are = omega (arith, r.used, r.refines.used, used-is, ap (λ (ss : List Split). length ss) splits-are)
+  ids-are : graph.used ≡ first_new words + length (splits_of run spans)
+  ids-are = omega (arith, c.used, used-is)
 
-  ids-few : parts2.used ≤ MAX_PARTITIONS
-  ids-few = omega (arith, r.used, r.refines.within)
+  ids-few : first_new words + length (splits_of run spans) ≤ MAX_PARTITIONS
+  ids-few = omega (arith, ids-are, c.within)
 
-  refined : IsRefined (mined_of words) (length words.types) words.words (splits_of run3 spans3) parts1.traces
-  refined =
-      subst (λ (ss : List Split). IsRefined (mined_of words) (length words.types) words.words ss parts1.traces) (sym splits-are)
-      (subst₂ (λ (xs : List Invariant) (x : Parts). Refines xs x.traces x.used (splits_of run1 spans1) parts1.traces) b.mined b.first r.refines.run)
+  refined : IsRefined (mined_of words) (length words.types) words.words (splits_of run spans) c.refined
+  refined = subst₂ (λ (xs : List Invariant) (x : Parts). Refines xs x.traces x.used (splits_of run spans) c.refined) b.mined b.first c.refines
 
-  coarsened : Coarsens (mined_of words) parts1.traces (merges_of run3) parts2.traces
-  coarsened =
-      subst₂ (λ (xs : List Invariant) (ms : List Merge). Coarsens xs parts1.traces ms parts2.traces) b.mined (sym merges-are) r.coarsens
+  coarsened : Coarsens (mined_of words) c.refined (merges_of run) graph.traces
+  coarsened = subst (λ (xs : List Invariant). Coarsens xs c.refined (merges_of run) graph.traces) b.mined c.coarsens
+
+  -- at most one step more is counted for each pair that is left, and one more
+  pub coarsened-counts : (end : ℕ) → after ≤ end → end ≤ after + pair_count graph + 1 → CountsAtMost words before end
+  coarsened-counts end more few =
+      let all : length (pairs_below graph.used (G c.refined)) ≡ length (pairs_below (first_new words + length (splits_of run spans)) (G c.refined)) =
+      ap (λ (u : ℕ). length (pairs_below u (G c.refined))) ids-are in
+      let m : length invs ≡ length (mined_of words) = ap (λ (xs : List Invariant). length xs) b.mined in
+      record {
+        splits = splits_of run spans;
+        refined = c.refined;
+        refines = refined;
+        more = omega (arith, c.more, more);
+        steps = omega (arith, c.few, c.fewer, few, all, m);
+      }
+
+  -- where the paths are known to fit, the events are placed
+  pub fit-places : (held : ℕ) → held ≡ length spans.numbers → ((xs : List Invariant) (blocks : List Block) → EndsWithoutRoom xs graph blocks (held + block_numbers blocks) → ⊥)
+      → IsPlaced words graph
+  fit-places held same-held fit =
+      let parts : Parts = record { traces = graph.traces; used = first_new words + length (splits_of run spans) } in
+      let same : parts ≡ graph = λ d. record { traces = graph.traces; used = sym ids-are d } in
+      record {
+        splits = splits_of run spans;
+        refined = c.refined;
+        refines = refined;
+        ids = ids-few;
+        merges = merges_of run;
+        coarsens = coarsened;
+        fits = λ blocks w. fit (mined_of words) blocks
+            (subst₂ (λ (x : Parts) (n : ℕ). EndsWithoutRoom (mined_of words) x blocks (n + block_numbers blocks)) same (sym (same-held ∙ c.long)) w);
+      }
+
+-- what is known of a run where blocks were begun: run1 and spans1 stand before them, run2 and spans2 after them
+pub record IsRun (invs : List Invariant) (old graph : Parts) (planes : Labelling) (run1 run2 : RunLists) (spans1 spans2 : Numbers) (before after : ℕ) : Type 0 where
+  pub coarsened : IsCoarsened invs old graph planes spans1 run1 before after
+  pub blocked : run2 ≡ record run1 { blocks = run2.blocks }
+  pub paths : spans2 ≡ record spans1 { numbers = spans1.numbers ++ block_paths (blocks_of run2 spans2) }
+  pub stays : KeepsLists spans1.numbers spans2.numbers
+
+module _ (words : TypedWords) (invs : List Invariant) (old graph : Parts) (planes : Labelling) (run1 run2 : RunLists) (spans1 spans2 : Numbers) (before after : ℕ)
+    (b : BeginsWith words invs old) (r : IsRun invs old graph planes run1 run2 spans1 spans2 before after) where
+  -- the splits and the merges stay where they are
+  splits-are : splits_of run1 spans1 ≡ splits_of run2 spans2
+  splits-are =
+      let e : run2.splits ≡ run1.splits = ap (λ (x : RunLists). x.splits) r.blocked in
+      sym (ap (λ (es : List SplitEntry). map (split_of spans2.numbers) es) e ∙ splits-stay spans1.numbers spans2.numbers run1.splits r.stays r.coarsened.paths.splits)
+
+  merges-are : merges_of run1 ≡ merges_of run2
+  merges-are = ap (λ (x : RunLists). merges_of x) (sym r.blocked)
+
+  refined-still : IsRefined (mined_of words) (length words.types) words.words (splits_of run2 spans2) r.coarsened.refined
+  refined-still =
+      subst (λ (ss : List Split). IsRefined (mined_of words) (length words.types) words.words ss r.coarsened.refined) splits-are
+      (refined words invs old graph planes spans1 run1 before after b r.coarsened)
+
+  coarsened-still : Coarsens (mined_of words) r.coarsened.refined (merges_of run2) graph.traces
+  coarsened-still =
+      subst (λ (ms : List Merge). Coarsens (mined_of words) r.coarsened.refined ms graph.traces) merges-are
+      (coarsened words invs old graph planes spans1 run1 before after b r.coarsened)
+
+  ids-still : graph.used ≡ first_new words + length (splits_of run2 spans2)
+  ids-still = omega (arith, ids-are words invs old graph planes spans1 run1 before after b r.coarsened, ap (λ (ss : List Split). length ss) splits-are)
 
   -- how many numbers the paths have
-  split-numbers : length spans1.numbers ≡ split_numbers (splits_of run1 spans1)
-  split-numbers = ap (λ (x : Numbers). length x.numbers) r.writes.spans_are ∙ paths-long (splits_of run1 spans1)
-
-  numbers-are : length spans3.numbers ≡ split_numbers (splits_of run3 spans3) + block_numbers (blocks_of run3 spans3)
+  numbers-are : length spans2.numbers ≡ split_numbers (splits_of run2 spans2) + block_numbers (blocks_of run2 spans2)
   numbers-are =
-      let e : length spans3.numbers ≡ length (spans1.numbers ++ block_paths (blocks_of run3 spans3)) = ap (λ (x : Numbers). length x.numbers) r.paths in
-      let s : length (spans1.numbers ++ block_paths (blocks_of run3 spans3)) ≡ length spans1.numbers + length (block_paths (blocks_of run3 spans3)) =
-      length-append spans1.numbers (block_paths (blocks_of run3 spans3)) in
-      let p : length (block_paths (blocks_of run3 spans3)) ≡ block_numbers (blocks_of run3 spans3) = length-flat_map (λ (x : Block). x.path) (blocks_of run3 spans3) in
-      let q : split_numbers (splits_of run3 spans3) ≡ split_numbers (splits_of run1 spans1) = ap (λ (ss : List Split). split_numbers ss) splits-are in
-      omega (arith, split-numbers)
+      let e : length spans2.numbers ≡ length (spans1.numbers ++ block_paths (blocks_of run2 spans2)) = ap (λ (x : Numbers). length x.numbers) r.paths in
+      let s : length (spans1.numbers ++ block_paths (blocks_of run2 spans2)) ≡ length spans1.numbers + length (block_paths (blocks_of run2 spans2)) =
+      length-append spans1.numbers (block_paths (blocks_of run2 spans2)) in
+      let p : length (block_paths (blocks_of run2 spans2)) ≡ block_numbers (blocks_of run2 spans2) = length-flat_map (λ (x : Block). x.path) (blocks_of run2 spans2) in
+      let q : split_numbers (splits_of run1 spans1) ≡ split_numbers (splits_of run2 spans2) = ap (λ (ss : List Split). split_numbers ss) splits-are in
+      omega (arith, r.coarsened.long)
 
   -- a run that stopped at a block
-  pub blocked-passes : EndsWithoutRoom invs parts2 (blocks_of run3 spans3) (length spans3.numbers) → PassesNumbers words
+  pub blocked-passes : EndsWithoutRoom invs graph (blocks_of run2 spans2) (length spans2.numbers) → PassesNumbers words
   blocked-passes w =
-      let held : ℕ = split_numbers (splits_of run3 spans3) + block_numbers (blocks_of run3 spans3) in
-      let parts : Parts = record { traces = parts2.traces; used = first_new words + length (splits_of run3 spans3) } in
-      let same : parts2 ≡ parts = λ d. record { traces = parts2.traces; used = ids-are d } in
+      let held : ℕ = split_numbers (splits_of run2 spans2) + block_numbers (blocks_of run2 spans2) in
+      let parts : Parts = record { traces = graph.traces; used = first_new words + length (splits_of run2 spans2) } in
+      let same : graph ≡ parts = λ d. record { traces = graph.traces; used = ids-still d } in
       record {
-        splits = splits_of run3 spans3;
-        refined = parts1.traces;
-        refines = refined;
-        within = omega (arith, ids-are, ids-few);
-        merges = merges_of run3;
-        end = parts2.traces;
-        coarsens = coarsened;
-        blocks = blocks_of run3 spans3;
-        ends = subst₂ (λ (xs : List Invariant) (x : Parts). EndsWithoutRoom xs x (blocks_of run3 spans3) held) b.mined same
-            (subst (λ (n : ℕ). EndsWithoutRoom invs parts2 (blocks_of run3 spans3) n) numbers-are w);
+        splits = splits_of run2 spans2;
+        refined = r.coarsened.refined;
+        refines = refined-still;
+        within = omega (arith, ids-still, r.coarsened.within);
+        merges = merges_of run2;
+        end = graph.traces;
+        coarsens = coarsened-still;
+        blocks = blocks_of run2 spans2;
+        ends = subst₂ (λ (xs : List Invariant) (x : Parts). EndsWithoutRoom xs x (blocks_of run2 spans2) held) b.mined same
+            (subst (λ (n : ℕ). EndsWithoutRoom invs graph (blocks_of run2 spans2) n) numbers-are w);
       }
 
   -- a run that ended
-  pub ended : (planes : Labelling) → AreBlocks invs (G parts2.traces) (blocks_of run3 spans3) → length spans3.numbers ≤ MAX_PATH_NUMBERS
-      → planes.invs ≡ invs → AreLabelsOf planes (G parts2.traces) → HoldsPaths run3 spans3 → HasEnded words parts2 planes spans3 run3
-  ended planes blocks within listed labels paths = record {
-    refined = parts1.traces;
-    refines = refined;
-    ids = omega (arith, ids-are, ids-few);
-    coarsens = coarsened;
-    blocks = subst (λ (xs : List Invariant). AreBlocks xs (G parts2.traces) (blocks_of run3 spans3)) b.mined blocks;
+  pub ended : (planes' : Labelling) → AreBlocks invs (G graph.traces) (blocks_of run2 spans2) → length spans2.numbers ≤ MAX_PATH_NUMBERS
+      → planes'.invs ≡ invs → AreLabelsOf planes' (G graph.traces) → HoldsPaths run2 spans2 → HasEnded words graph planes' spans2 run2
+  ended planes' blocks within listed labels paths = record {
+    refined = r.coarsened.refined;
+    refines = refined-still;
+    ids = omega (arith, ids-still, r.coarsened.within);
+    coarsens = coarsened-still;
+    blocks = subst (λ (xs : List Invariant). AreBlocks xs (G graph.traces) (blocks_of run2 spans2)) b.mined blocks;
     numbers = omega (arith, numbers-are, within);
     listed = listed ∙ b.mined;
     labels = labels;
     paths = paths;
   }
 
-  -- and how many steps it counted
-  pub counted : (s0 s1 s2 s3 s4 : ℕ) → IsTyped parts1.traces → min 1 (length (splits_of run1 spans1)) ≤ pair_count parts1 → s0 ≤ s1
-      → s1 ≤ s0 + length invs + length (splits_of run1 spans1) + min 1 (length (splits_of run1 spans1)) → s1 ≤ s2 → s2 ≤ s1 + pair_count parts1
-      → s2 ≤ s3 → s3 ≤ s2 + pair_count parts2 → s4 ≡ s3 + 1 → CountsAtMost words s0 s4
-  counted s0 s1 s2 s3 s4 typed first start a more k later l n =
-      let few : length (pairs_below parts1.used (G parts2.traces)) ≤ length (pairs_below parts1.used (G parts1.traces)) =
-      pairs-fewer invs (merges_of run2) parts1.traces parts2.traces parts1.used typed r.coarsens in
-      let at : pair_count parts2 ≡ length (pairs_below parts1.used (G parts2.traces)) = ap (λ (u : ℕ). length (pairs_below u (G parts2.traces))) r.used in
-      let u : parts1.used ≡ first_new words + length (splits_of run3 spans3) = sym r.used ∙ ids-are in
-      let all : pair_count parts1 ≡ length (pairs_below (first_new words + length (splits_of run3 spans3)) (G parts1.traces)) = ap (λ (x : ℕ). length (pairs_below x (G parts1.traces))) u in
-      let m : length invs ≡ length (mined_of words) = ap (λ (xs : List Invariant). length xs) b.mined in
-      let s : length (splits_of run3 spans3) ≡ length (splits_of run1 spans1) = ap (λ (ss : List Split). length ss) splits-are in
+  -- and one that ended before the labels
+  pub blocks-place : AreBlocks invs (G graph.traces) (blocks_of run2 spans2) → length spans2.numbers ≤ MAX_PATH_NUMBERS → IsPlaced words graph
+  blocks-place blocks within =
+      let parts : Parts = record { traces = graph.traces; used = first_new words + length (splits_of run2 spans2) } in
       record {
-        splits = splits_of run3 spans3;
-        refined = parts1.traces;
-        refines = refined;
-        more = omega (arith, start, more, later, n);
-        steps = omega (arith, first, few, at, all, m, s, a, k, l, n);
+        splits = splits_of run2 spans2;
+        refined = r.coarsened.refined;
+        refines = refined-still;
+        ids = omega (arith, ids-still, r.coarsened.within);
+        merges = merges_of run2;
+        coarsens = coarsened-still;
+        fits = blocks-fit (mined_of words) parts (splits_of run2 spans2) (blocks_of run2 spans2)
+            (subst (λ (xs : List Invariant). AreBlocks xs (G graph.traces) (blocks_of run2 spans2)) b.mined blocks) (omega (arith, numbers-are, within));
       }

@@ -25,6 +25,7 @@ use Rattle.models.specs.Histories.{first_new}
 use Rattle.partition_graph.specs.Parts.{Parts}
 use Rattle.coarsener.specs.Blocking.{EndsWithoutRoom}
 use Rattle.coarsener.proofs.BlockingTurns.{pairs-more}
+use Rattle.infer_core.specs.Ends.{PathsFit}
 use Rattle.infer_core.specs.Laws.{EndsExclude, OneFinal}
 use Rattle.infer_core.specs.Runs.{PassesNumbers, PassesPartitions}
 use Rattle.infer_core.proofs.Pairs.{pairs-ascend}
@@ -110,6 +111,14 @@ next-within invs parts done bs held w a =
     let t : block_numbers (w.next ∷ []) ≡ length w.next.path + block_numbers [] = sum_by-cons (λ (x : Block). length x.path) w.next [] in
     omega arith
 
+-- where all blocks fit, no list of the first of them runs out of room
+pub blocks-fit : (invs : List Invariant) (parts : Parts) (splits : List Split) (blocks : List Block) → AreBlocks invs (G parts.traces) blocks
+    → split_numbers splits + block_numbers blocks ≤ MAX_PATH_NUMBERS → PathsFit invs parts splits
+blocks-fit invs parts splits blocks a l done w =
+    let n : block_numbers done + length w.next.path ≤ block_numbers blocks = next-within invs parts done blocks (split_numbers splits + block_numbers done) w a in
+    let t : MAX_PATH_NUMBERS < split_numbers splits + block_numbers done + length w.next.path = w.too_long in
+    omega arith
+
 -- a log whose refinement keeps the limit does not pass it
 pub partitions-exclude : (log : TypedWords) (splits : List Split) (end : Assignment) → IsRefined (mined_of log) (length log.types) log.words splits end
     → first_new log + length splits ≤ MAX_PARTITIONS → PassesPartitions log → ⊥
@@ -118,21 +127,16 @@ partitions-exclude log splits end r l p =
     let f : first_new log + length p.splits ≡ MAX_PARTITIONS = p.full in
     omega arith
 
--- nor does one whose paths keep it
-pub numbers-exclude : (log : TypedWords) (splits : List Split) (refined : Assignment) (merges : List Merge) (end : Assignment) (blocks : List Block)
-    → IsRefined (mined_of log) (length log.types) log.words splits refined → Coarsens (mined_of log) refined merges end → AreBlocks (mined_of log) (G end) blocks
-    → split_numbers splits + block_numbers blocks ≤ MAX_PATH_NUMBERS → PassesNumbers log → ⊥
-numbers-exclude log splits refined merges end blocks r c b l p =
+-- nor does one whose paths fit
+pub numbers-exclude : (log : TypedWords) (splits : List Split) (refined : Assignment) (merges : List Merge) (end : Assignment)
+    → IsRefined (mined_of log) (length log.types) log.words splits refined → Coarsens (mined_of log) refined merges end
+    → PathsFit (mined_of log) (record { traces = end; used = first_new log + length splits }) splits → PassesNumbers log → ⊥
+numbers-exclude log splits refined merges end r c f p =
     let s : (splits ≡ p.splits) × (refined ≡ p.refined) = one_refinement (mined_of log) (by_type log.words) (first_new log) splits p.splits refined p.refined r p.refines in
     let m : (merges ≡ p.merges) × (end ≡ p.end) =
     one_coarsening (mined_of log) refined merges p.merges end p.end c (subst (λ (h : Assignment). Coarsens (mined_of log) h p.merges p.end) (sym s.1) p.coarsens) in
-    let bs : AreBlocks (mined_of log) (G p.end) blocks = subst (λ (h : Assignment). AreBlocks (mined_of log) (G h) blocks) m.1 b in
-    let parts : Parts = record { traces = p.end; used = first_new log + length p.splits } in
-    let w : block_numbers p.blocks + length p.ends.next.path ≤ block_numbers blocks =
-    next-within (mined_of log) parts p.blocks blocks (split_numbers p.splits + block_numbers p.blocks) p.ends bs in
-    let e : split_numbers splits ≡ split_numbers p.splits = ap (λ (x : List Split). split_numbers x) s.0 in
-    let t : MAX_PATH_NUMBERS < split_numbers p.splits + block_numbers p.blocks + length p.ends.next.path = p.ends.too_long in
-    omega arith
+    f p.blocks (subst₂ (λ (ss : List Split) (h : Assignment). EndsWithoutRoom (mined_of log) (record { traces = h; used = first_new log + length ss }) p.blocks (split_numbers ss + block_numbers p.blocks))
+    (sym s.0) (sym m.1) p.ends)
 
 -- and none passes both
 pub both-exclude : (log : TypedWords) → PassesPartitions log → PassesNumbers log → ⊥
@@ -145,7 +149,9 @@ ends_exclude = record {
       let e : length m.types ≡ length log.types = ap (λ (x : List (List ℕ)). length x) k.types in
       let l : first_new log + length m.splits ≤ MAX_PARTITIONS = omega (arith, w.ids) in
       partitions-exclude log m.splits k.refined k.splits l p;
-  numbers = λ m log k w p. numbers-exclude log m.splits k.refined m.merges k.end m.blocks k.splits k.merges k.blocks w.numbers p;
+  numbers = λ m log k w p.
+      let parts : Parts = record { traces = k.end; used = first_new log + length m.splits } in
+      numbers-exclude log m.splits k.refined m.merges k.end k.splits k.merges (blocks-fit (mined_of log) parts m.splits m.blocks k.blocks w.numbers) p;
   both = both-exclude;
 }
 

@@ -35,7 +35,7 @@ use Rattle.models.proofs.Listed.{numbers_give_labels}
 use Rattle.partition_graph.specs.Parts.{Parts}
 use Rattle.labelling.specs.Labelled.{Labelling, AreLabelsOf, digit, is_found, number_of}
 use Rattle.infer_core.specs.Runs.{AreFinal}
-use Rattle.infer_core.specs.Ends.{HasEnded}
+use Rattle.infer_core.specs.Ends.{HasEnded, IsPlaced}
 use Rattle.infer_core.specs.Workbenches.{Tells}
 
 -- the ids of the listed partitions are below the bound
@@ -127,13 +127,12 @@ told-keeps m kinds log invs graph planes spans run e t =
     }
 
 -- and these are the final ids
-pub told-final : (kinds : Kinds) (log : Log) (ids : List ℕ) (graph : Parts) (planes : Labelling) (spans : Numbers) (run : RunLists)
-    → HasEnded (typed_words kinds log) graph planes spans run → ids ≡ parts_of graph.traces → AreFinal (typed_words kinds log) ids
-told-final kinds log ids graph planes spans run e is = record {
-  splits = splits_of run spans;
+pub told-final : (kinds : Kinds) (log : Log) (ids : List ℕ) (graph : Parts) → IsPlaced (typed_words kinds log) graph → ids ≡ parts_of graph.traces → AreFinal (typed_words kinds log) ids
+told-final kinds log ids graph e is = record {
+  splits = e.splits;
   refined = e.refined;
   refines = e.refines;
-  merges = merges_of run;
+  merges = e.merges;
   end = graph.traces;
   coarsens = e.coarsens;
   value = is;

@@ -20,8 +20,8 @@ use Rattle.partition_graph.specs.Parts.{Parts}
 use Rattle.partition_graph.specs.Spread.{spread, AreAllOf, SharesWords}
 use Rattle.labelling.specs.Labelled.{Labelling}
 use Rattle.infer_core.specs.declared.workbench.Stage.{Stage}
-use Rattle.infer_core.specs.declared.workbench.Stage.TheVariants.{Opened, Inferred, Refused}
-use Rattle.infer_core.specs.Ends.{IsReady, HasEnded}
+use Rattle.infer_core.specs.declared.workbench.Stage.TheVariants.{Opened, Inferred, Placed, Refused}
+use Rattle.infer_core.specs.Ends.{IsReady, IsPlaced, HasEnded}
 
 -- the kinds of invariants asked for, the log, and the stage of its inference
 pub record WorkbenchView : Type 0 where
@@ -55,6 +55,12 @@ pub record IsAtEnd (kinds : Kinds) (log : Log) (invs : List Invariant) (graph : 
   pub few : length (events (spread numbers graph.traces)) ≤ MAX_EVENTS
   pub ended : HasEnded (typed_words kinds log) (whole_of numbers graph) planes spans run
 
+-- the ended run of the log; spread over all traces, the graph has the final ids of the events
+pub record IsAtPlaces (kinds : Kinds) (log : Log) (graph : Parts) (numbers : List ℕ) : Type 0 where
+  pub all : AreAllOf numbers graph.traces
+  pub few : length (events (spread numbers graph.traces)) ≤ MAX_EVENTS
+  pub placed : IsPlaced (typed_words kinds log) (whole_of numbers graph)
+
 -- the contents at each stage; nothing is known after a refusal
 abbrev pub Stands : Stage → Kinds → Log → List Invariant → Parts → List ℕ → ℕ
     → Labelling → Numbers → RunLists → Type 0
@@ -62,7 +68,15 @@ Stands Opened kinds log invs graph numbers stitcher planes spans run =
     IsAtStart kinds log invs graph numbers stitcher planes spans run
 Stands Inferred kinds log invs graph numbers stitcher planes spans run =
     IsAtEnd kinds log invs graph numbers planes spans run
+Stands Placed kinds log invs graph numbers stitcher planes spans run =
+    IsAtPlaces kinds log graph numbers
 Stands Refused kinds log invs graph numbers stitcher planes spans run = Unit {0}
+
+-- the stages at which the final ids of the events are known
+abbrev pub HasParts : Stage → Type 0
+HasParts Inferred = Unit {0}
+HasParts Placed = Unit {0}
+HasParts stage = ⊥
 
 -- the model has the types of the log, the kinds asked for, the graph, the states reached in it, and the run's records
 pub record Tells (m : Model) (asked : Kinds) (log : Log) (invs : List Invariant) (graph : Parts)

@@ -6,12 +6,12 @@ ghost use Rattle.labelling.specs.Labelled.{SaysSatisfied};
 ghost use Rattle.run_history.specs.Records.{splits_of};
 ghost use Rattle.splitter.specs.Refining.{EndsRefined, IsFull, IsStopped};
 ghost use Rattle.splitter.specs.Writing.{WritesSplits};
-ghost use Rattle.infer_core.specs.Runs.{CountsAtMost};
-ghost use Rattle.infer_core.specs.Ends.{BeginsWith, IsReady, RunGives};
+ghost use Rattle.infer_core.specs.Runs.{CountsAtMost, PassesPartitions};
+ghost use Rattle.infer_core.specs.Ends.{BeginsWith, IsCoarsened, IsReady, PlaceGives, RunGives};
 
 use crate::tools::Tools;
 use crate::workbench::InferLimit;
-use coarsener::{Coarsened, blocks_marked, coarsen};
+use coarsener::{Coarsened, blocks_fit, blocks_marked, coarsen};
 use invariants::Invariant;
 use labelling::Planes;
 use limits::MAX_PARTITIONS;
@@ -85,6 +85,33 @@ fn refine_broken<L: Ledger>(
     )
 }
 
+/// Refines and coarsens the first graph of a log, and writes the splits and the merges. The arguments are those of `run`.
+///
+/// `PartitionLimit` is returned if refinement needs more than `MAX_PARTITIONS` partitions.
+fn refine_and_coarsen<L: Ledger>(
+    graph: &mut PartGraph,
+    tools: &mut Tools,
+    flags: &mut [bool],
+    invs: &[Invariant],
+    steps: &mut Steps<L>,
+) -> Result<(), PartitionLimit>
+    requires ready { IsReady invs.now graph.old
+        tools.old.stitcher tools.old.planes tools.old.spans tools.old.run_log }
+    requires flags { length flags.old ≡ length invs.now }
+    ensures ended { OnOk result (IsCoarsened invs.now graph.old graph.new
+        tools.new.planes tools.new.spans tools.new.run_log steps.old steps.new) }
+    ensures passed { OnErr result ((words : TypedWords) → BeginsWith words invs.now graph.old
+        → PassesPartitions words) }
+{
+    let refined = refine_broken(graph, tools, flags, invs, steps);
+    let Ok(()) = refined else {
+        return Err(PartitionLimit);
+    };
+    prove!(graph.ids_used() <= MAX_PARTITIONS);
+    coarsen(graph, &mut tools.planes, &mut tools.run_log, steps);
+    Ok(())
+}
+
 /// Runs inference on the first graph of a log, with the invariants that are mined from it.
 ///
 /// - `graph`: is refined and coarsened. It must be the first graph of its words.
@@ -118,12 +145,9 @@ pub fn run<L: Ledger>(
     ensures counted { OnOk result ((words : TypedWords) → BeginsWith words invs.now graph.old
         → CountsAtMost words steps.old steps.new) }
 {
-    let refined = refine_broken(graph, tools, flags, invs, steps);
-    let Ok(()) = refined else {
+    let Ok(()) = refine_and_coarsen(graph, tools, flags, invs, steps) else {
         return Err(InferLimit::Partitions);
     };
-    prove!(graph.ids_used() <= MAX_PARTITIONS);
-    coarsen(graph, &mut tools.planes, &mut tools.run_log, steps);
     let Ok(()) = blocks_marked(
         Coarsened { graph, invs },
         &mut tools.finder,
@@ -135,5 +159,47 @@ pub fn run<L: Ledger>(
         return Err(InferLimit::Evidence);
     };
     tools.planes.label_all(&View::Plain(graph), steps);
+    Ok(())
+}
+
+/// Refines and coarsens the first graph of a log as `run` does, and writes blocks only if nothing less shows whether their
+/// paths fit. It makes no labels. The arguments and the errors are those of `run`.
+///
+/// It allocates nothing.
+pub fn place<L: Ledger>(
+    graph: &mut PartGraph,
+    tools: &mut Tools,
+    flags: &mut [bool],
+    invs: &[Invariant],
+    steps: &mut Steps<L>,
+) -> Result<(), InferLimit>
+    requires ready { IsReady invs.now graph.old
+        tools.old.stitcher tools.old.planes tools.old.spans tools.old.run_log }
+    requires flags { length flags.old ≡ length invs.now }
+
+    // What the run gives, if this is the first graph of the words and these are the invariants mined from them.
+    ensures gives { (words : TypedWords) → BeginsWith words invs.now graph.old
+        → PlaceGives result words graph.new }
+
+    // How many steps are counted.
+    ensures counted { OnOk result ((words : TypedWords) → BeginsWith words invs.now graph.old
+        → CountsAtMost words steps.old steps.new) }
+{
+    let Ok(()) = refine_and_coarsen(graph, tools, flags, invs, steps) else {
+        return Err(InferLimit::Partitions);
+    };
+    if blocks_fit(graph, tools.spans.used() as usize) {
+        return Ok(());
+    }
+    let Ok(()) = blocks_marked(
+        Coarsened { graph, invs },
+        &mut tools.finder,
+        &mut tools.planes,
+        &mut tools.spans,
+        &mut tools.run_log,
+        steps,
+    ) else {
+        return Err(InferLimit::Evidence);
+    };
     Ok(())
 }

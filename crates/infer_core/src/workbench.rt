@@ -5,10 +5,11 @@ ghost use Rattle.models.specs.Limits.{KeepsLimits};
 ghost use Rattle.models.specs.Models.{typed_words, IsModelOf};
 ghost use Rattle.partition_model.specs.Assignments.{events};
 ghost use Rattle.infer_core.specs.Runs.{AreFinal, CountsAtMost, PassesNumbers, PassesPartitions};
+ghost use Rattle.infer_core.specs.Workbenches.{HasParts};
 
 use crate::law::log_is_typed;
 use crate::model::model_of;
-use crate::run::run;
+use crate::run::{place, run};
 use crate::tools::{Tools, both};
 use crate::whole::whole_lists;
 use count_miner::mine;
@@ -36,6 +37,8 @@ pub enum Stage {
     Opened,
     /// Inference has ended, and the model can be asked for.
     Inferred,
+    /// The final ids of the events are known, and nothing else of the model.
+    Placed,
     /// A limit was exceeded, and there is no model.
     Refused,
 }
@@ -43,8 +46,8 @@ pub enum Stage {
 /// A log with all that its inference needs. Contracts see the kinds of invariants that are asked for, the log, and how
 /// far its inference is.
 ///
-/// At each stage it gives the traces of the log. `infer` may be called at `Opened`, and `model` and `parts` at
-/// `Inferred`.
+/// At each stage it gives the traces of the log. `infer` or `place` may be called at `Opened`, `model` at `Inferred`, and
+/// `parts` at `Inferred` and `Placed`.
 #[derive(Drop)]
 pub struct Workbench {
     kinds: Kinds,
@@ -159,7 +162,7 @@ impl Workbench {
     /// returned exactly if the paths of splits and blocks have more than `MAX_PATH_NUMBERS` ids in total.
     ///
     /// After either error the stage is `Refused`. The kinds and the log are unchanged, and `traces` still gives the
-    /// log. There is no model: `infer`, `model` and `parts` must not be called.
+    /// log. There is no model: `infer`, `place`, `model` and `parts` must not be called.
     pub fn infer<L: Ledger>(&mut self, steps: &mut Steps<L>) -> Result<(), InferLimit>
         requires { (self.old).stage ≡ Stage.Opened }
         ensures kinds { (self.new).kinds ≡ (self.old).kinds }
@@ -196,6 +199,48 @@ impl Workbench {
         }
     }
 
+    /// Finds the final ids of the events: refines and coarsens the graph as `infer` does, but makes no labels, and no
+    /// blocks unless only they can show whether their paths keep the limit. It must be called at stage `Opened`, so at
+    /// most once. It allocates nothing. Then `parts` can be asked for; there is no model. If it succeeds, it has counted
+    /// at most as many steps as `infer` may.
+    ///
+    /// The errors come exactly as those of `infer`, and leave what they leave there.
+    pub fn place<L: Ledger>(&mut self, steps: &mut Steps<L>) -> Result<(), InferLimit>
+        requires { (self.old).stage ≡ Stage.Opened }
+        ensures kinds { (self.new).kinds ≡ (self.old).kinds }
+        ensures log { (self.new).log ≡ (self.old).log }
+        ensures stage { OnOk result ((self.new).stage ≡ Stage.Placed) }
+        ensures refused { OnErr result ((self.new).stage ≡ Stage.Refused) }
+
+        // Each limit is returned exactly if it is exceeded.
+        ensures partitions { (result ≡ Err InferLimit.Partitions)
+            ↔ PassesPartitions (typed_words (self.old).kinds (self.old).log) }
+        ensures evidence { (result ≡ Err InferLimit.Evidence)
+            ↔ PassesNumbers (typed_words (self.old).kinds (self.old).log) }
+
+        // How many steps are counted.
+        ensures counted { OnOk result
+            (CountsAtMost (typed_words (self.old).kinds (self.old).log) steps.old steps.new) }
+    {
+        let end = place(
+            &mut self.graph,
+            &mut self.tools,
+            self.flags.as_mut_slice(),
+            self.invs.as_slice(),
+            steps,
+        );
+        match end {
+            Ok(()) => {
+                self.stage = Stage::Placed;
+                Ok(())
+            }
+            Err(exceeded) => {
+                self.stage = Stage::Refused;
+                Err(exceeded)
+            }
+        }
+    }
+
     /// The model of the log, in newly allocated memory. It must be called at stage `Inferred`. `AllocError` is returned
     /// if there is not enough memory.
     pub fn model(&self, alloc: Global) -> Result<invariants::Model, AllocError>
@@ -214,10 +259,10 @@ impl Workbench {
         )
     }
 
-    /// The id of the partition of each event in the model, trace after trace. It must be called at stage `Inferred`.
-    /// `AllocError` is returned if there is not enough memory for the list.
+    /// The id of the partition of each event in the model, trace after trace. It must be called at stage `Inferred`
+    /// or `Placed`. `AllocError` is returned if there is not enough memory for the list.
     pub fn parts(&self, alloc: Global) -> Result<Seq<u32>, AllocError>
-        requires { (self.now).stage ≡ Stage.Inferred }
+        requires { HasParts (self.now).stage }
         ensures { IfOk result (λ ids. AreFinal (typed_words (self.now).kinds (self.now).log) ids) }
     {
         self.graph.spread_parts(alloc, self.numbers.as_slice())

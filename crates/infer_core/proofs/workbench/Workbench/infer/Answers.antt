@@ -8,7 +8,7 @@ use Rattle.infer_core.specs.Ends.{BeginsWith, HasEnded, IsReady, RunGives}
 use Rattle.models.specs.Models.{TypedWords, typed_words}
 use Rattle.infer_core.specs.Runs.{CountsAtMost, PassesNumbers, PassesPartitions}
 use Rattle.infer_core.proofs.Distinct.{distinct, start-begins, start-counts, start-ends, start-gives}
-use Rattle.infer_core.proofs.Stages.{stands-opened, partitions-told, evidence-told}
+use Rattle.infer_core.proofs.Stages.{stands-opened, run-places, partitions-told, evidence-told}
 use Rattle.infer_core.proofs.workbench.Workbench.infer.Goals as goal
 
 pub run-end-requires-clause-ready : goal.run-end-requires-clause-ready
@@ -45,7 +45,8 @@ returns-in-Ok-clause-partitions g c =
     let gives : RunGives c.run-end.result (typed_words b.kinds b.traces) (whole_of b.numbers.items c.run-end.new.graph) c.run-end.new.tools.planes c.run-end.new.tools.spans c.run-end.new.tools.run_log =
     start-gives b.kinds b.traces b.invs b.graph b.numbers.items b.tools.stitcher b.tools.planes b.tools.spans b.tools.run_log s c.run-end.result c.run-end.new.graph c.run-end.new.tools.planes c.run-end.new.tools.spans c.run-end.new.tools.run_log few in
     subst₂ (λ (r : Result (Unit {0}) InferLimit) (words : TypedWords). (r ≡ Err Partitions) ↔ PassesPartitions words) c.in-Ok.is same
-    (partitions-told c.run-end.result (typed_words b.kinds b.traces) (whole_of b.numbers.items c.run-end.new.graph) c.run-end.new.tools.planes c.run-end.new.tools.spans c.run-end.new.tools.run_log gives)
+    (partitions-told c.run-end.result (typed_words b.kinds b.traces) (whole_of b.numbers.items c.run-end.new.graph)
+    (run-places c.run-end.result (typed_words b.kinds b.traces) (whole_of b.numbers.items c.run-end.new.graph) c.run-end.new.tools.planes c.run-end.new.tools.spans c.run-end.new.tools.run_log gives))
 
 pub returns-in-Ok-clause-evidence : goal.returns-in-Ok-clause-evidence
 returns-in-Ok-clause-evidence g c =
@@ -58,7 +59,8 @@ returns-in-Ok-clause-evidence g c =
     let gives : RunGives c.run-end.result (typed_words b.kinds b.traces) (whole_of b.numbers.items c.run-end.new.graph) c.run-end.new.tools.planes c.run-end.new.tools.spans c.run-end.new.tools.run_log =
     start-gives b.kinds b.traces b.invs b.graph b.numbers.items b.tools.stitcher b.tools.planes b.tools.spans b.tools.run_log s c.run-end.result c.run-end.new.graph c.run-end.new.tools.planes c.run-end.new.tools.spans c.run-end.new.tools.run_log few in
     subst₂ (λ (r : Result (Unit {0}) InferLimit) (words : TypedWords). (r ≡ Err Evidence) ↔ PassesNumbers words) c.in-Ok.is same
-    (evidence-told c.run-end.result (typed_words b.kinds b.traces) (whole_of b.numbers.items c.run-end.new.graph) c.run-end.new.tools.planes c.run-end.new.tools.spans c.run-end.new.tools.run_log gives)
+    (evidence-told c.run-end.result (typed_words b.kinds b.traces) (whole_of b.numbers.items c.run-end.new.graph)
+    (run-places c.run-end.result (typed_words b.kinds b.traces) (whole_of b.numbers.items c.run-end.new.graph) c.run-end.new.tools.planes c.run-end.new.tools.spans c.run-end.new.tools.run_log gives))
 
 pub returns-in-Err-clause-partitions : goal.returns-in-Err-clause-partitions
 returns-in-Err-clause-partitions g c =
@@ -71,7 +73,8 @@ returns-in-Err-clause-partitions g c =
     let gives : RunGives c.run-end.result (typed_words b.kinds b.traces) (whole_of b.numbers.items c.run-end.new.graph) c.run-end.new.tools.planes c.run-end.new.tools.spans c.run-end.new.tools.run_log =
     start-gives b.kinds b.traces b.invs b.graph b.numbers.items b.tools.stitcher b.tools.planes b.tools.spans b.tools.run_log s c.run-end.result c.run-end.new.graph c.run-end.new.tools.planes c.run-end.new.tools.spans c.run-end.new.tools.run_log few in
     subst₂ (λ (r : Result (Unit {0}) InferLimit) (words : TypedWords). (r ≡ Err Partitions) ↔ PassesPartitions words) c.in-Err.is same
-    (partitions-told c.run-end.result (typed_words b.kinds b.traces) (whole_of b.numbers.items c.run-end.new.graph) c.run-end.new.tools.planes c.run-end.new.tools.spans c.run-end.new.tools.run_log gives)
+    (partitions-told c.run-end.result (typed_words b.kinds b.traces) (whole_of b.numbers.items c.run-end.new.graph)
+    (run-places c.run-end.result (typed_words b.kinds b.traces) (whole_of b.numbers.items c.run-end.new.graph) c.run-end.new.tools.planes c.run-end.new.tools.spans c.run-end.new.tools.run_log gives))
 
 pub returns-in-Err-clause-evidence : goal.returns-in-Err-clause-evidence
 returns-in-Err-clause-evidence g c =
@@ -84,7 +87,8 @@ returns-in-Err-clause-evidence g c =
     let gives : RunGives c.run-end.result (typed_words b.kinds b.traces) (whole_of b.numbers.items c.run-end.new.graph) c.run-end.new.tools.planes c.run-end.new.tools.spans c.run-end.new.tools.run_log =
     start-gives b.kinds b.traces b.invs b.graph b.numbers.items b.tools.stitcher b.tools.planes b.tools.spans b.tools.run_log s c.run-end.result c.run-end.new.graph c.run-end.new.tools.planes c.run-end.new.tools.spans c.run-end.new.tools.run_log few in
     subst₂ (λ (r : Result (Unit {0}) InferLimit) (words : TypedWords). (r ≡ Err Evidence) ↔ PassesNumbers words) c.in-Err.is same
-    (evidence-told c.run-end.result (typed_words b.kinds b.traces) (whole_of b.numbers.items c.run-end.new.graph) c.run-end.new.tools.planes c.run-end.new.tools.spans c.run-end.new.tools.run_log gives)
+    (evidence-told c.run-end.result (typed_words b.kinds b.traces) (whole_of b.numbers.items c.run-end.new.graph)
+    (run-places c.run-end.result (typed_words b.kinds b.traces) (whole_of b.numbers.items c.run-end.new.graph) c.run-end.new.tools.planes c.run-end.new.tools.spans c.run-end.new.tools.run_log gives))
 
 pub returns-in-Ok-clause-counted : goal.returns-in-Ok-clause-counted
 returns-in-Ok-clause-counted g c =
