@@ -15,7 +15,7 @@ use Rattle.invariants.specs.declared.records.Block.{Block}
 use Rattle.invariants.specs.declared.records.Model.{Model}
 use Rattle.cell_pool.specs.Numbers.{Numbers}
 use Rattle.cell_pool.specs.RunLists.{RunLists}
-use Rattle.run_history.specs.Records.{splits_of, merges_of}
+use Rattle.run_history.specs.Records.{splits_of}
 use Rattle.traces.specs.Words.{Log}
 use Rattle.invariants.specs.Labels.{IsLabel}
 use Rattle.model_shape.specs.Numbers.{split_numbers, block_numbers}

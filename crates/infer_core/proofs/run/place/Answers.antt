@@ -5,7 +5,7 @@ use Rattle.infer_core.proofs.run.place.Goals as goal
 pub returns-then-blocks_fit-clause-gives : goal.returns-then-blocks_fit-clause-gives
 returns-then-blocks_fit-clause-gives g c words b =
     fit-places words c.args.invs.now c.args.graph.now c.refine_and_coarsen.new.graph c.refine_and_coarsen.new.tools.planes c.refine_and_coarsen.new.tools.spans c.refine_and_coarsen.new.tools.run_log c.args.steps.now c.refine_and_coarsen.new.steps b c.in-Ok.ensures.ended
-    c.used.result c.used.ensures.value (c.blocks_fit.ensures.fit c.if-blocks_fit.true)
+    _ (omega (arith, c.used.ensures.value)) (c.blocks_fit.ensures.fit c.if-blocks_fit.true)
 
 pub returns-then-blocks_fit-clause-counted : goal.returns-then-blocks_fit-clause-counted
 returns-then-blocks_fit-clause-counted g c words b =
