@@ -4,7 +4,7 @@ ghost use Rattle.synoptic_cli.specs.Commands.PrintPaths.{Answers, TellsPaths};
 ghost use Rattle.synoptic_cli.specs.Halts.{Gives};
 
 use crate::answer::{Answer, NoAnswer};
-use crate::commands::inference::inferred;
+use crate::commands::inference::placed;
 use crate::material::Material;
 use crate::status::Status;
 use infer_core::{Stage, Workbench, log_is_typed};
@@ -13,9 +13,9 @@ use partition_model::{accepts_traces, coarsening_keeps, refinement_keeps};
 use reports::{path_report, paths_tell};
 use std::alloc::{AllocError, Global};
 
-/// The paths through the inferred model. The only error is out of memory.
+/// The paths through the model, by the final ids of the events. The only error is out of memory.
 fn print(alloc: Global, workbench: &Workbench) -> Result<Answer, AllocError>
-    requires { (workbench.now).stage ≡ Stage.Inferred }
+    requires { (workbench.now).stage ≡ Stage.Placed }
     ensures { IfOk result (TellsPaths (workbench.now).kinds (workbench.now).log) }
 {
     refinement_keeps();
@@ -41,7 +41,7 @@ pub fn answer(alloc: Global, kinds: Kinds, material: Material) -> Result<Answer,
 {
     let Material { log, model } = material;
     drop(model);
-    let workbench = inferred(alloc, kinds, log)?;
+    let workbench = placed(alloc, kinds, log)?;
     let printed = print(alloc, &workbench);
     drop(workbench);
     Ok(printed?)
