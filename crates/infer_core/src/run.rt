@@ -185,7 +185,8 @@ pub fn place<L: Ledger>(
     ensures counted { OnOk result ((words : TypedWords) → BeginsWith words invs.now graph.old
         → CountsAtMost words steps.old steps.new) }
 {
-    let Ok(()) = refine_and_coarsen(graph, tools, flags, invs, steps) else {
+    let coarsened = refine_and_coarsen(graph, tools, flags, invs, steps);
+    let Ok(()) = coarsened else {
         return Err(InferLimit::Partitions);
     };
     if blocks_fit(graph, tools.spans.used() as usize) {
