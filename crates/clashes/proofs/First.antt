@@ -1,37 +1,81 @@
--- The row in which clashes are gathered.
-use Rattle.std.proofs.Common.{◌≡◌, ℕ, ◌+◌, ◌*◌, ◌<◌, Bool, ◌&&◌, ◌||◌, List, length, set, drop, Option, Some, None, MatchOption, sym, ap, ap₂, ◌∙◌, arith}
-use Rattle.std.proofs.lemmas.List.{drop-set-lt}
+-- The first invariant for which two ids clash, word by word.
+use Rattle.std.proofs.Common.{◌≡◌, ◌==◌, ℕ, ◌+◌, ◌-◌, ◌*◌, ◌/◌, ◌%◌, ◌^◌, ◌<◌, ◌≤◌, Bool, true, false, ◌&&◌, ◌||◌, List, [], ◌∷◌, zero, suc, refl, length, bit_and, bit_or, sym, ap, ap₂, ◌∙◌, ◌⊎◌, inl, inr, eqb-true, arith}
+use Rattle.std.proofs.lemmas.Bool.{cases_lt, true≢false}
+use Rattle.std.proofs.lemmas.Nat.{div-add-mod'}
+use Rattle.std.specs.Int.{bit_at}
 use Rattle.invariants.specs.declared.Invariant.{Invariant}
-use Rattle.bit_rows.specs.Tables.{is_set, IsBlank, IsFirstSet}
-use Rattle.clashes.specs.declared.places.TheConstants.{SCRATCH}
+use Rattle.partition_graph.specs.NeighbourWords.{IsWordOf}
+use Rattle.partition_graph.proofs.NeighbourWords.{word-both, word-either, word-same}
 use Rattle.clashes.specs.Marks.{Marks, on, has_clash, NoClash, IsFirstClash}
-use Rattle.clashes.specs.Layout.{ids_from, fore_row, back_row, evens, odds, fores_in, backs_in, marks_in}
-use Rattle.clashes.proofs.Bits.{IsPropagated, IsCleared}
+use Rattle.clashes.specs.Layout.{fore_row, back_row, row_count, fores_in, backs_in, marks_in}
+use Rattle.limits.specs.declared.TheConstants.{MAX_PARTITIONS}
+use Rattle.bit_rows.specs.Tables.{row_at, is_set, HasShape}
 use Rattle.clashes.proofs.Laid.{fore_is, back_is}
 
--- the row in which clashes are gathered is no mark
-pub marks_kept : (invs : List Invariant) (others : ℕ) (T new : List (List Bool)) (row : List Bool) → new ≡ set T SCRATCH row → marks_in invs others new ≡ marks_in invs others T
-marks_kept invs others T new row e =
-    let same : drop (ids_from others) new ≡ drop (ids_from others) T = ap (drop (ids_from others)) e ∙ drop-set-lt (ids_from others) T SCRATCH row (omega arith) in
-    ap (λ (rows : List (List Bool)). let m : Marks = record { invs = invs; fores = evens rows; backs = odds rows } in m) same
+-- the words of the four rows say for which invariants the two ids clash
+pub clash-word : (invs : List Invariant) (others : ℕ) (T : List (List Bool)) (p q place a b c d : ℕ) → IsWordOf (λ k. on T (fore_row others p) k) place a → IsWordOf (λ k. on T (back_row others q) k) place b
+    → IsWordOf (λ k. on T (fore_row others q) k) place c → IsWordOf (λ k. on T (back_row others p) k) place d
+    → IsWordOf (λ k. has_clash (marks_in invs others T) k p q) place (bit_or (bit_and a b) (bit_and c d))
+clash-word invs others T p q place a b c d ia ib ic id =
+    word-same (λ k. (on T (fore_row others p) k && on T (back_row others q) k) || (on T (fore_row others q) k && on T (back_row others p) k)) (λ k. has_clash (marks_in invs others T) k p q) place
+    (bit_or (bit_and a b) (bit_and c d))
+    (λ k. ap₂ (λ (x y : Bool). x || y) (ap₂ (λ (x y : Bool). x && y) (sym (fore_is others T p k)) (sym (back_is others T q k))) (ap₂ (λ (x y : Bool). x && y) (sym (fore_is others T q k)) (sym (back_is others T p k))))
+    (word-either (λ k. on T (fore_row others p) k && on T (back_row others q) k) (λ k. on T (fore_row others q) k && on T (back_row others p) k) place (bit_and a b) (bit_and c d)
+    (word-both (λ k. on T (fore_row others p) k) (λ k. on T (back_row others q) k) place a b ia ib) (word-both (λ k. on T (fore_row others q) k) (λ k. on T (back_row others p) k) place c d ic id))
 
--- the row in which clashes are gathered says of each invariant whether the two ids clash for it
-pub gathered : (invs : List Invariant) (others : ℕ) (T one two new : List (List Bool)) (p q : ℕ) → IsCleared T one SCRATCH
-    → IsPropagated one two SCRATCH (λ k. on one (fore_row others p) k && on one (back_row others q) k) → IsPropagated two new SCRATCH (λ k. on two (fore_row others q) k && on two (back_row others p) k)
-    → (k : ℕ) → on new SCRATCH k ≡ has_clash (marks_in invs others T) k p q
-gathered invs others T one two new p q a b c k =
-    let early : (r : ℕ) → on one (ids_from others + r) k ≡ on T (ids_from others + r) k = λ r. a.others (ids_from others + r) k (λ z. absurd (omega arith)) in
-    let late : (r : ℕ) → on two (ids_from others + r) k ≡ on T (ids_from others + r) k = λ r. b.others (ids_from others + r) k (λ z. absurd (omega arith)) ∙ early r in
-    let fp : on one (fore_row others p) k ≡ on (fores_in others T) p k = early (p * 2) ∙ sym (fore_is others T p k) in
-    let bq : on one (back_row others q) k ≡ on (backs_in others T) q k = a.others (back_row others q) k (λ z. absurd (omega arith)) ∙ sym (back_is others T q k) in
-    let fq : on two (fore_row others q) k ≡ on (fores_in others T) q k = late (q * 2) ∙ sym (fore_is others T q k) in
-    let bp : on two (back_row others p) k ≡ on (backs_in others T) p k = b.others (back_row others p) k (λ z. absurd (omega arith)) ∙ a.others (back_row others p) k (λ z. absurd (omega arith)) ∙ sym (back_is others T p k) in
-    let first : on two SCRATCH k ≡ (on (fores_in others T) p k && on (backs_in others T) q k) = b.here k ∙ ap₂ (λ (x y : Bool). x || y) (a.here k) (ap₂ (λ (x y : Bool). x && y) fp bq) in
-    c.here k ∙ ap₂ (λ (x y : Bool). x || y) first (ap₂ (λ (x y : Bool). x && y) fq bp)
+-- a truth value that is true is in its row
+set-within : (row : List Bool) (k : ℕ) → is_set row k ≡ true → k < length row
+set-within [] k e = absurd (true≢false (sym e))
+set-within (x ∷ row) zero e = omega arith
+set-within (x ∷ row) (suc k) e = let l : k < length row = set-within row k e in omega arith
 
--- where a row says of each invariant whether the ids clash, its first bit is that of the first clash
-pub clash_found : (marks : Marks) (row : List Bool) (p q : ℕ) (found : Option ℕ) → length row ≡ length marks.invs → ((k : ℕ) → is_set row k ≡ has_clash marks k p q)
-    → MatchOption found (IsBlank row) (IsFirstSet row) → MatchOption found (NoClash marks p q) (IsFirstClash marks p q)
-clash_found marks row p q None long h m = λ k l. sym (h k) ∙ m k
-clash_found marks row p q (Some k) long h m =
-    record { within = (let l : k < length row = m.within in omega arith); clash = sym (h k) ∙ m.set; first = λ j l. sym (h j) ∙ m.first j l }
+one-of : (a b c d : Bool) → ((a && b) || (c && d)) ≡ true → (a ≡ true) ⊎ (c ≡ true)
+one-of true b c d e = inl refl
+one-of false b true d e = inr refl
+one-of false b false d e = absurd (true≢false (sym e))
+
+-- ids clash for invariants of the list alone
+pub clash-within : (invs : List Invariant) (others : ℕ) (T : List (List Bool)) (p q k : ℕ) → HasShape T (row_count others) (length invs) → p < MAX_PARTITIONS → q < MAX_PARTITIONS
+    → has_clash (marks_in invs others T) k p q ≡ true → k < length invs
+clash-within invs others T p q k h lp lq e =
+    elim (one-of (on (fores_in others T) p k) (on (backs_in others T) q k) (on (fores_in others T) q k) (on (backs_in others T) p k) e) [
+      | inl m ↦
+          let l : k < length (row_at T (fore_row others p)) = set-within (row_at T (fore_row others p)) k (sym (fore_is others T p k) ∙ m) in
+          let s : length (row_at T (fore_row others p)) ≡ length invs = h.long (fore_row others p) (omega (arith, lp)) in
+          omega arith
+      | inr m ↦
+          let l : k < length (row_at T (fore_row others q)) = set-within (row_at T (fore_row others q)) k (sym (fore_is others T q k) ∙ m) in
+          let s : length (row_at T (fore_row others q)) ≡ length invs = h.long (fore_row others q) (omega (arith, lq)) in
+          omega arith
+    ]
+
+-- where no bit of the word is on, no invariant of its 64 has a clash
+pub none-in-word : (has : ℕ → Bool) (first w : ℕ) → first % 64 ≡ 0 → IsWordOf has (first / 64) w → ((i : ℕ) → i < 64 → bit_at w i ≡ 0) → ((k : ℕ) → k < first → has k ≡ false)
+    → (k : ℕ) → k < first + 64 → has k ≡ false
+none-in-word has first w whole is off before k l =
+    elim (cases_lt k first) [
+      | inl old ↦ before k old
+      | inr new ↦
+          let i : ℕ = k - first in
+          let at : first / 64 * 64 + i ≡ k = omega (arith, new, whole, div-add-mod' first 64) in
+          let low : i < 64 = omega (arith, l, at, new) in
+          sym (ap (λ (n : ℕ). has n) at) ∙ sym (is i low) ∙ ap (λ (b : ℕ). b == 1) (off i low)
+    ]
+
+-- the lowest bit that is on is that of the first clash
+pub first-in-word : (marks : Marks) (p q first w t : ℕ) → first % 64 ≡ 0 → IsWordOf (λ k. has_clash marks k p q) (first / 64) w → t < 64 → bit_at w t ≡ 1 → ((i : ℕ) → i < t → bit_at w i ≡ 0)
+    → ((k : ℕ) → has_clash marks k p q ≡ true → k < length marks.invs) → ((k : ℕ) → k < first → has_clash marks k p q ≡ false) → IsFirstClash marks p q (first + t)
+first-in-word marks p q first w t whole is low on-t off within before =
+    let at : (i : ℕ) → first / 64 * 64 + i ≡ first + i = λ i. omega (arith, whole, div-add-mod' first 64) in
+    let here : has_clash marks (first + t) p q ≡ true = sym (ap (λ (n : ℕ). has_clash marks n p q) (at t)) ∙ sym (is t low) ∙ ap (λ (b : ℕ). b == 1) on-t in
+    record {
+      within = within (first + t) here;
+      clash = here;
+      first = λ j l. elim (cases_lt j first) [
+        | inl old ↦ before j old
+        | inr new ↦
+            let i : ℕ = j - first in
+            let same : first / 64 * 64 + i ≡ j = omega (arith, at i, new) in
+            sym (ap (λ (n : ℕ). has_clash marks n p q) same) ∙ sym (is i (omega (arith, l, low, new))) ∙ ap (λ (b : ℕ). b == 1) (off i (omega (arith, l, new)))
+      ];
+    }

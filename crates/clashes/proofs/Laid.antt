@@ -8,7 +8,7 @@ use Rattle.invariants.specs.declared.Invariant.{Invariant}
 use Rattle.invariants.specs.Monitors.{step, is_bad}
 use Rattle.merge_law.specs.Critical.{critical, calm_of}
 use Rattle.bit_rows.specs.Tables.{row_at, is_set, KeepsShape}
-use Rattle.clashes.specs.declared.places.TheConstants.{START, BAD, SCRATCH}
+use Rattle.clashes.specs.declared.places.TheConstants.{START, BAD}
 use Rattle.clashes.specs.Marks.{on}
 use Rattle.clashes.specs.Rules.{enters, stays, falls, AreNamedBelow}
 use Rattle.clashes.specs.Layout.{ids_from, fore_row, back_row, evens, odds, enters_row, stays_row, falls_row, row_count, fores_in, backs_in, marks_in, IsColumn, IsLaid}
@@ -48,43 +48,35 @@ same_fore others T new p k h = fore_is others new p k ∙ h ∙ sym (fore_is oth
 pub same_back : (others : ℕ) (T new : List (List Bool)) (p k : ℕ) → on new (back_row others p) k ≡ on T (back_row others p) k → on (backs_in others new) p k ≡ on (backs_in others T) p k
 same_back others T new p k h = back_is others new p k ∙ h ∙ sym (back_is others T p k)
 
--- the form stays, and each row before those of ids but the one to write into
+-- the form stays, and each row before those of ids
 pub record KeepsMasks (others : ℕ) (T new : List (List Bool)) : Type 0 where
   pub shape : KeepsShape T new
-  pub rows : (r k : ℕ) → r < ids_from others → r ≢ SCRATCH → on new r k ≡ on T r k
+  pub rows : (r k : ℕ) → r < ids_from others → on new r k ≡ on T r k
 
 -- two changes that each keep the masks keep them
 pub keeps_then : (others : ℕ) (a b c : List (List Bool)) → KeepsMasks others a b → KeepsMasks others b c → KeepsMasks others a c
 keeps_then others a b c h m =
     record {
       shape = λ n bits s. m.shape n bits (h.shape n bits s);
-      rows = λ r k l ne. m.rows r k l ne ∙ h.rows r k l ne;
+      rows = λ r k l. m.rows r k l ∙ h.rows r k l;
     }
 
 -- bits that are added to the row of an id keep the masks
 pub propagated_keeps : (others : ℕ) (T new : List (List Bool)) (to : ℕ) (given : ℕ → Bool) → KeepsShape T new → IsPropagated T new to given → ids_from others ≤ to → KeepsMasks others T new
-propagated_keeps others T new to given s h l = record { shape = s; rows = λ r k m ne. h.others r k (λ e. absurd (omega arith)) }
-
--- bits that are added to the row to write into keep the masks
-pub scratch_keeps : (others : ℕ) (T new : List (List Bool)) (given : ℕ → Bool) → KeepsShape T new → IsPropagated T new SCRATCH given → KeepsMasks others T new
-scratch_keeps others T new given s h = record { shape = s; rows = λ r k m ne. h.others r k ne }
+propagated_keeps others T new to given s h l = record { shape = s; rows = λ r k m. h.others r k (λ e. absurd (omega arith)) }
 
 -- the masks stay where the row of an id is cleared
 pub cleared_keeps : (others : ℕ) (T new : List (List Bool)) (r : ℕ) → KeepsShape T new → IsCleared T new r → ids_from others ≤ r → KeepsMasks others T new
-cleared_keeps others T new r s h l = record { shape = s; rows = λ q k m ne. h.others q k (λ e. absurd (omega arith)) }
-
--- the masks stay where the row to write into is cleared
-pub scratch_cleared_keeps : (others : ℕ) (T new : List (List Bool)) → KeepsShape T new → IsCleared T new SCRATCH → KeepsMasks others T new
-scratch_cleared_keeps others T new s h = record { shape = s; rows = λ q k m ne. h.others q k ne }
+cleared_keeps others T new r s h l = record { shape = s; rows = λ q k m. h.others q k (λ e. absurd (omega arith)) }
 
 column_kept : (T new : List (List Bool)) (others k : ℕ) (inv : Invariant) → KeepsMasks others T new → IsColumn T (others + 1) k inv → IsColumn new (others + 1) k inv
 column_kept T new others k inv h c =
     record {
-      enters = λ x l. h.rows (enters_row x) k (omega arith) (λ e. absurd (omega arith)) ∙ c.enters x l;
-      stays = λ x l. h.rows (stays_row x) k (omega arith) (λ e. absurd (omega arith)) ∙ c.stays x l;
-      falls = λ x l. h.rows (falls_row x) k (omega arith) (λ e. absurd (omega arith)) ∙ c.falls x l;
-      starts = h.rows START k (omega arith) (λ e. absurd (omega arith)) ∙ c.starts;
-      bad = h.rows BAD k (omega arith) (λ e. absurd (omega arith)) ∙ c.bad;
+      enters = λ x l. h.rows (enters_row x) k (omega arith) ∙ c.enters x l;
+      stays = λ x l. h.rows (stays_row x) k (omega arith) ∙ c.stays x l;
+      falls = λ x l. h.rows (falls_row x) k (omega arith) ∙ c.falls x l;
+      starts = h.rows START k (omega arith) ∙ c.starts;
+      bad = h.rows BAD k (omega arith) ∙ c.bad;
     }
 
 -- where the masks stay, the table is still laid out for the invariants

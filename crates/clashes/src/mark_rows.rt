@@ -1,17 +1,19 @@
 //! Two rows of marks for each id, and the masks by which they propagate.
-ghost use Rattle.std.specs.Prelude.{◌≡◌, ◌≢◌, ◌<◌, ◌≤◌, length, IfOk, MatchOption};
+ghost use Rattle.std.specs.Prelude.{◌≡◌, ◌≢◌, ◌*◌, ◌<◌, ◌≤◌, length, IfOk, MatchOption};
 ghost use Rattle.limits.specs.declared.TheConstants.{LAST_TYPE, MAX_INVARIANTS};
+ghost use Rattle.partition_graph.specs.NeighbourWords.{IsWordOf};
 ghost use Rattle.clashes.specs.Rules.{AreNamedUpTo};
 
 use crate::masks::{first_unnamed, put_columns};
-use crate::places::{
-    BAD, SCRATCH, START, back_row, enters_row, falls_row, fore_row, row_count, stays_row,
-};
+use crate::places::{BAD, START, back_row, enters_row, falls_row, fore_row, row_count, stays_row};
 use bit_rows::Rows;
 use invariants::Invariant;
 use limits::{INITIAL, MAX_PARTITIONS, TERMINAL};
 use std::alloc::{AllocError, Global};
 use std::marker::Model;
+
+/// How many bits a word has: one for each of as many invariants.
+const WORD_BITS: usize = 64;
 
 /// Invariants, and for each id two rows of bits, with a bit for each of them. Contracts see the list and these rows.
 #[derive(Drop)]
@@ -34,7 +36,7 @@ impl Model for MarkRows {
 }
 
 impl MarkRows {
-    ghost use Rattle.clashes.specs.Marks.{NoClash, IsFirstClash};
+    ghost use Rattle.clashes.specs.Marks.{has_clash, NoClash, IsFirstClash};
     ghost use Rattle.clashes.specs.Changes.{IsBegun, IsBlankBelow, IsEntered, IsFollowed, IsJoined};
     ghost use Rattle.clashes.specs.Changes.{IsTakenUp, IsUnmarked, TellsGrowth};
 
@@ -143,17 +145,36 @@ impl MarkRows {
         met | ahead
     }
 
-    /// The number of the first invariant for which the two ids clash; `None` if they clash for none. No mark changes.
-    pub fn first_clash(&mut self, p: u32, q: u32) -> Option<usize>
+    /// For which of the 64 invariants from number `64 * place` on the two ids clash, as the bits of a word, the first as the
+    /// lowest.
+    #[inline]
+    fn clashes_at(&self, p: u32, q: u32, place: usize) -> u64
         requires one { p < MAX_PARTITIONS }
         requires other { q < MAX_PARTITIONS }
-        ensures same { self.new ≡ self.old }
-        ensures first { MatchOption result
-            (NoClash self.old p q) (IsFirstClash self.old p q) }
+        requires place { place * WORD_BITS < length (self.now).invs }
+        ensures { IsWordOf (λ k. has_clash self.now k p q) place result }
     {
-        self.rows.clear(SCRATCH);
-        self.rows.or_and_into(SCRATCH, fore_row(self.others, p), back_row(self.others, q));
-        self.rows.or_and_into(SCRATCH, fore_row(self.others, q), back_row(self.others, p));
-        self.rows.first_set(SCRATCH)
+        let met_p = self.rows.word(fore_row(self.others, p), place);
+        let ahead_q = self.rows.word(back_row(self.others, q), place);
+        let met_q = self.rows.word(fore_row(self.others, q), place);
+        let ahead_p = self.rows.word(back_row(self.others, p), place);
+        (met_p & ahead_q) | (met_q & ahead_p)
+    }
+
+    /// The number of the first invariant for which the two ids clash; `None` if they clash for none. No mark changes.
+    pub fn first_clash(&self, p: u32, q: u32) -> Option<usize>
+        requires one { p < MAX_PARTITIONS }
+        requires other { q < MAX_PARTITIONS }
+        ensures { MatchOption result (NoClash self.now p q) (IsFirstClash self.now p q) }
+    {
+        let mut first = 0;
+        while first < self.invs.len() {
+            let clashes = self.clashes_at(p, q, first / WORD_BITS);
+            if clashes != 0 {
+                return Some(first + clashes.trailing_zeros() as usize);
+            }
+            first += WORD_BITS;
+        }
+        None
     }
 }

@@ -15,11 +15,8 @@ pub(crate) const START: usize = 0;
 /// The row of the invariants whose critical state is the bad one.
 pub(crate) const BAD: usize = 1;
 
-/// A row to write into.
-pub(crate) const SCRATCH: usize = 2;
-
 /// The first mask of the first type.
-pub(crate) const FIRST_MASK: usize = 3;
+pub(crate) const FIRST_MASK: usize = 2;
 
 /// How many masks a type has.
 pub(crate) const MASKS: usize = 3;
