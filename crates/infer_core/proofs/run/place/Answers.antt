@@ -5,7 +5,7 @@ use Rattle.infer_core.proofs.run.place.Goals as goal
 pub returns-then-blocks_fit-clause-gives : goal.returns-then-blocks_fit-clause-gives
 returns-then-blocks_fit-clause-gives g c words b =
     fit-places words _ _ _ _ _ _ _ _ b c.in-Ok.ensures.ended
-    _ (omega (arith, c.used.ensures.value)) (c.blocks_fit.ensures.fit c.if-blocks_fit.true)
+    _ (omega (arith, c.used.ensures.value)) c.if-blocks_fit.ensures.fit
 
 pub returns-then-blocks_fit-clause-counted : goal.returns-then-blocks_fit-clause-counted
 returns-then-blocks_fit-clause-counted g c words b =
