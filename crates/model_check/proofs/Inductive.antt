@@ -19,7 +19,7 @@ AreLabelsOf m l labels = (p : ℕ) → get_or labels p 0 ≡ label_at p m.partit
 
 module _ (m : Model) (l : Listed) (labels : List ℕ) (g : Graph) (same : g ≡ graph_of m) (laid : AreLabelsOf m l labels) where
   -- where labels are inductive, those of the two ends are right
-  pub labelled-ends : IsLabelled m l → AreRightEnds l.inv g labels
+  pub labelled-ends : IsLabelled m l → AreRightEnds l.inv g (get_or labels INITIAL 0) (get_or labels TERMINAL 0)
   labelled-ends i =
       record {
         start = subst₂ (λ (n : ℕ) (h : Graph). has_state n (step l.inv 0 (h.typ INITIAL)) ≡ true) (sym (laid INITIAL)) (sym same) i.start;
@@ -38,7 +38,7 @@ module _ (m : Model) (l : Listed) (labels : List ℕ) (g : Graph) (same : g ≡ 
   labelled-leads i = All-from_recursion (LeadsWithin l.inv g labels) m.edges (all_from (LeadsWithin l.inv g labels) m.edges (leads i))
 
   -- where the two ends and all edges are right, the labels are inductive
-  pub labelled-from : AreRightEnds l.inv g labels → All (LeadsWithin l.inv g labels) m.edges → IsLabelled m l
+  pub labelled-from : AreRightEnds l.inv g (get_or labels INITIAL 0) (get_or labels TERMINAL 0) → All (LeadsWithin l.inv g labels) m.edges → IsLabelled m l
   labelled-from ends along =
       record {
         start = subst₂ (λ (n : ℕ) (h : Graph). has_state n (step l.inv 0 (h.typ INITIAL)) ≡ true) (laid INITIAL) same ends.start;

@@ -1,8 +1,9 @@
 -- Columns: what is put into them, and what edges between them tell of labels.
-use Rattle.std.proofs.Common.{◌≡◌, ◌≢◌, ℕ, ◌+◌, ◌-◌, ◌<◌, ◌≤◌, ◌==◌, ◌&&◌, if◌then◌else◌, true, List, length, get_or, slice_get, Some, refl, sym, ◌∙◌, ap, subst, subst₂, inl, inr, arith, eq-eqb, ne_eqb}
+use Rattle.std.proofs.Common.{◌≡◌, ◌≢◌, ℕ, ◌+◌, ◌-◌, ◌<◌, ◌≤◌, ◌==◌, ◌&&◌, if◌then◌else◌, true, false, true≢false, List, ◌∷◌, length, drop, slice_get, Some, refl, sym, ◌∙◌, ap, subst, subst₂, inl, inr, arith, eq-eqb, ne_eqb}
 use Rattle.std.specs.List.{All}
 use Rattle.std.proofs.lemmas.Bool.{cases_eq, cases_lt}
-use Rattle.std.proofs.lemmas.Option.{slice_get_within, get_or_from_slice_get}
+use Rattle.std.proofs.lemmas.Option.{slice_get_within}
+use Rattle.std.proofs.lemmas.List.{drop_all}
 use Rattle.std.proofs.lemmas.List.Elements.{recursion_from_All}
 use Rattle.limits.specs.declared.TheConstants.{INITIAL, TERMINAL}
 use Rattle.invariants.specs.declared.Invariant.{Invariant}
@@ -13,37 +14,63 @@ use Rattle.invariants.specs.declared.records.Model.{Model}
 use Rattle.invariants.specs.Monitors.{step}
 use Rattle.partition_model.specs.Graphs.{Graph}
 use Rattle.partition_model.proofs.Lists.{In, all_in}
-use Rattle.model_shape.specs.Shapes.{is_listed, listed_type, IsShapedEdge, IsWellShaped}
+use Rattle.model_shape.specs.Shapes.{is_listed, listed_type, AreShapedPartitions, IsShapedEdge, IsWellShaped}
 use Rattle.models.specs.Models.{graph_of, has_state, label_at, IsLabelled}
 use Rattle.models.proofs.Agreeing.{edge-in}
 use Rattle.models.proofs.Valid.{three-states}
+use Rattle.model_check.specs.Rows.{AreApart}
 use Rattle.model_check.specs.States.{IsSource, AreRightEnds}
-use Rattle.model_check.specs.Columns.{at, AreLabelledBefore, AreWithin, IsInColumn, IsColumnOf, AreColumnsOf, SameOthers}
+use Rattle.model_check.specs.Columns.{at, AreLabelledBefore, AreWithin, AreInColumn, IsColumnOf, AreColumnsOf, SameOthers}
 use Rattle.model_check.specs.declared.columns.TheConstants.{TOGETHER}
-use Rattle.model_check.proofs.Opening.{place-of}
 
--- a partition that is in a column stays there while another is put with what belongs to its id
-pub filled-more : (inv : Invariant) (g : Graph) (given old-labels old-sources labels sources : List ℕ) (k id label source : ℕ) (x : Partition) → k < TOGETHER
-    → ((c q : ℕ) → c < TOGETHER → at labels c q ≡ (if c == k && q == id then label else at old-labels c q))
-    → ((c q : ℕ) → c < TOGETHER → at sources c q ≡ (if c == k && q == id then source else at old-sources c q))
-    → label ≡ get_or given id 0 → IsSource inv (g.typ id) label source
-    → (x.id ≢ id → IsInColumn inv g given old-labels old-sources k x) → IsInColumn inv g given labels sources k x
-filled-more inv g given old-labels old-sources labels sources k id label source x l put put-sources is right before =
-    elim (cases_eq x.id id) [
-      | inl e ↦ (
-        put k x.id l ∙ rw (eq-eqb k k refl, eq-eqb x.id id e) (is ∙ ap (λ q. get_or given q 0) (sym e)),
-        (let there : at sources k x.id ≡ source = put-sources k x.id l ∙ rw (eq-eqb k k refl, eq-eqb x.id id e) refl in
-            let from : IsSource inv (g.typ id) (get_or given id 0) source = subst (λ (n : ℕ). IsSource inv (g.typ id) n source) is right in
-            let here : IsSource inv (g.typ x.id) (get_or given x.id 0) source = subst (λ q. IsSource inv (g.typ q) (get_or given q 0) source) (sym e) from in
-            subst (λ (n : ℕ). IsSource inv (g.typ x.id) (get_or given x.id 0) n) (sym there) here),
-      )
-      | inr n ↦
-          let b : IsInColumn inv g given old-labels old-sources k x = before n in
-          let there : at sources k x.id ≡ at old-sources k x.id = put-sources k x.id l ∙ rw (eq-eqb k k refl, ne_eqb x.id id n) refl in (
-            put k x.id l ∙ rw (eq-eqb k k refl, ne_eqb x.id id n) b.0,
-            subst (λ (m : ℕ). IsSource inv (g.typ x.id) (get_or given x.id 0) m) (sym there) b.1,
-          )
-    ]
+-- a column into which all partitions are put, but for the rest
+pub record IsFilledUpTo (inv : Invariant) (partitions rest : List Partition) (given rest-given labels sources : List ℕ) (k : ℕ) : Type 0 where
+  pub apart : AreApart rest
+  pub ahead : (p : ℕ) → is_listed p rest ≡ true → (label_at p rest rest-given ≡ label_at p partitions given) × (listed_type p rest ≡ listed_type p partitions)
+  pub filled : (p : ℕ) → is_listed p partitions ≡ true → is_listed p rest ≡ false
+      → (at labels k p ≡ label_at p partitions given) × IsSource inv (listed_type p partitions) (label_at p partitions given) (at sources k p)
+
+-- at first all partitions are the rest
+pub filled-none : (inv : Invariant) (partitions : List Partition) (given labels sources : List ℕ) (k : ℕ) → AreApart partitions → IsFilledUpTo inv partitions partitions given given labels sources k
+filled-none inv partitions given labels sources k apart =
+    record { apart = apart; ahead = λ p h. (refl, refl); filled = λ p h n. absurd (true≢false (sym h ∙ n)) }
+
+-- one partition more is put into the column
+pub filled-more : (inv : Invariant) (partitions rest : List Partition) (given rest-given old-labels old-sources labels sources : List ℕ) (k label source : ℕ) (x : Partition) → k < TOGETHER
+    → ((c q : ℕ) → c < TOGETHER → at labels c q ≡ (if c == k && q == x.id then label else at old-labels c q))
+    → ((c q : ℕ) → c < TOGETHER → at sources c q ≡ (if c == k && q == x.id then source else at old-sources c q))
+    → IsSource inv x.typ label source
+    → IsFilledUpTo inv partitions (x ∷ rest) given (label ∷ rest-given) old-labels old-sources k → IsFilledUpTo inv partitions rest given rest-given labels sources k
+filled-more inv partitions rest given rest-given old-labels old-sources labels sources k label source x l put put-sources right before =
+    record { apart = before.apart.1; ahead = ahead; filled = filled }
+  where
+    ahead : (p : ℕ) → is_listed p rest ≡ true → (label_at p rest rest-given ≡ label_at p partitions given) × (listed_type p rest ≡ listed_type p partitions)
+    ahead p h =
+        let n : x.id ≢ p = λ e. true≢false (sym h ∙ sym (ap (λ q. is_listed q rest) e) ∙ before.apart.0) in
+        rw (ne_eqb x.id p n) at (before.ahead p) h
+
+    filled : (p : ℕ) → is_listed p partitions ≡ true → is_listed p rest ≡ false
+        → (at labels k p ≡ label_at p partitions given) × IsSource inv (listed_type p partitions) (label_at p partitions given) (at sources k p)
+    filled p h u =
+        elim (cases_eq p x.id) [
+          | inl e ↦
+              let b : (label ≡ label_at p partitions given) × (x.typ ≡ listed_type p partitions) = rw (eq-eqb x.id p (sym e)) at (before.ahead p) refl in
+              let here : at labels k p ≡ label = put k p l ∙ rw (eq-eqb k k refl, eq-eqb p x.id e) refl in
+              let there : at sources k p ≡ source = put-sources k p l ∙ rw (eq-eqb k k refl, eq-eqb p x.id e) refl in
+              let from : IsSource inv (listed_type p partitions) (label_at p partitions given) source = subst₂ (λ (t n : ℕ). IsSource inv t n source) b.1 b.0 right in
+              (here ∙ b.0, subst (λ (n : ℕ). IsSource inv (listed_type p partitions) (label_at p partitions given) n) (sym there) from)
+          | inr n ↦
+              let b : (at old-labels k p ≡ label_at p partitions given) × IsSource inv (listed_type p partitions) (label_at p partitions given) (at old-sources k p) =
+              rw (ne_eqb x.id p (λ e. n (sym e))) at (before.filled p h) u in
+              let here : at labels k p ≡ at old-labels k p = put k p l ∙ rw (eq-eqb k k refl, ne_eqb p x.id n) refl in
+              let there : at sources k p ≡ at old-sources k p = put-sources k p l ∙ rw (eq-eqb k k refl, ne_eqb p x.id n) refl in
+              (here ∙ b.0, subst (λ (m : ℕ). IsSource inv (listed_type p partitions) (label_at p partitions given) m) (sym there) b.1)
+        ]
+
+-- with no rest, all partitions are in the column
+pub filled-all : (inv : Invariant) (partitions : List Partition) (given rest-given labels sources : List ℕ) (k i : ℕ) → length partitions ≤ i
+    → IsFilledUpTo inv partitions (drop i partitions) given rest-given labels sources k → AreInColumn inv partitions given labels sources k
+filled-all inv partitions given rest-given labels sources k i l before p h = before.filled p h (ap (λ (xs : List Partition). is_listed p xs) (drop_all i partitions l))
 
 -- the other columns stay through two writes
 pub others-more : (a b c : List ℕ) (k : ℕ) → SameOthers a b k → SameOthers b c k → SameOthers a c k
@@ -53,26 +80,21 @@ others-more a b c k x y d p l n = y d p l n ∙ x d p l n
 pub put-others : (old new : List ℕ) (k id value : ℕ) → ((c q : ℕ) → c < TOGETHER → at new c q ≡ (if c == k && q == id then value else at old c q)) → SameOthers old new k
 put-others old new k id value put c p l n = put c p l ∙ rw (ne_eqb c k n) refl
 
+-- INITIAL and TERMINAL are listed
+ends-listed : (types : ℕ) (xs : List Partition) → AreShapedPartitions types xs → (is_listed INITIAL xs ≡ true) × (is_listed TERMINAL xs ≡ true)
+ends-listed types xs w = rw w.ends (refl, refl)
+
 -- a column that has what belongs to each partition, with the right ends, is that of the invariant
-pub column-of : (m : Model) (l : Listed) (g : Graph) (given labels sources : List ℕ) (k : ℕ) → g ≡ graph_of m
-    → ((p : ℕ) → get_or given p 0 ≡ label_at p m.partitions l.labels)
-    → All (IsInColumn l.inv g given labels sources k) m.partitions → AreRightEnds l.inv g given → IsColumnOf m l labels sources k
-column-of m l g given labels sources k same laid all ends =
+pub column-of : (m : Model) (l : Listed) (g : Graph) (labels sources : List ℕ) (k : ℕ) → IsWellShaped m → g ≡ graph_of m
+    → AreInColumn l.inv m.partitions l.labels labels sources k → AreRightEnds l.inv g (at labels k INITIAL) (at labels k TERMINAL) → IsColumnOf m l labels sources k
+column-of m l g labels sources k w same all ends =
+    let listed : (is_listed INITIAL m.partitions ≡ true) × (is_listed TERMINAL m.partitions ≡ true) = ends-listed (length m.types) m.partitions w.partitions in
     record {
-      start = subst₂ (λ (n : ℕ) (h : Graph). has_state n (step l.inv 0 (h.typ INITIAL)) ≡ true) (laid INITIAL) same ends.start;
-      end = λ s h. ends.end s (subst (λ (n : ℕ). has_state n s ≡ true) (sym (laid TERMINAL)) h);
-      has_labels = λ p h. (let o = there p h in sym (ap (λ q. at labels k q) o.1) ∙ o.2.0 ∙ ap (λ q. get_or given q 0) o.1 ∙ laid p);
-      has_sources = λ p h s u.
-          let o = there p h in
-          sym (ap (λ q. has_state (at sources k q) s) o.1) ∙ o.2.1 s u ∙ ap (λ q. has_state (get_or given q 0) (step l.inv s (g.typ q))) o.1
-          ∙ ap (λ n. has_state n (step l.inv s (g.typ p))) (laid p) ∙ ap (λ (f : Graph). has_state (label_at p m.partitions l.labels) (step l.inv s (f.typ p))) same;
+      start = subst₂ (λ (n : ℕ) (h : Graph). has_state n (step l.inv 0 (h.typ INITIAL)) ≡ true) (all INITIAL listed.0).0 same ends.start;
+      end = λ s h. ends.end s (subst (λ (n : ℕ). has_state n s ≡ true) (sym (all TERMINAL listed.1).0) h);
+      has_labels = λ p h. (all p h).0;
+      has_sources = λ p h. (all p h).1;
     }
-  where
-    there : (p : ℕ) → is_listed p m.partitions ≡ true → (x : Partition) × (x.id ≡ p) × IsInColumn l.inv g given labels sources k x
-    there p h =
-        let o : (j : ℕ) × (x : Partition) × (slice_get m.partitions j ≡ Some x) × (x.id ≡ p) × (x.typ ≡ listed_type p m.partitions) = place-of p m.partitions h in
-        let e : get_or m.partitions o.0 o.1 ≡ o.1 = get_or_from_slice_get m.partitions o.0 o.1 o.1 o.2 in
-        (o.1, o.3, subst (λ (x : Partition). IsInColumn l.inv g given labels sources k x) e (all o.0 o.1 (slice_get_within m.partitions o.0 o.1 o.2)))
 
 -- a column stays that of its invariant while another is laid
 pub column-stays : (m : Model) (l : Listed) (old new old-sources sources : List ℕ) (k c : ℕ) → SameOthers old new k → SameOthers old-sources sources k → c < TOGETHER → c ≢ k

@@ -6,8 +6,7 @@ use Rattle.invariants.specs.declared.records.Partition.{Partition}
 use Rattle.invariants.specs.declared.records.Listed.{Listed}
 use Rattle.invariants.specs.declared.records.Model.{Model}
 use Rattle.invariants.specs.Monitors.{step, is_bad}
-use Rattle.partition_model.specs.Graphs.{Graph}
-use Rattle.model_shape.specs.Shapes.{is_listed}
+use Rattle.model_shape.specs.Shapes.{is_listed, listed_type}
 use Rattle.models.specs.Models.{graph_of, has_state, label_at, IsLabelled}
 use Rattle.model_check.specs.States.{IsSource}
 use Rattle.model_check.specs.declared.columns.TheConstants.{TOGETHER}
@@ -21,11 +20,12 @@ abbrev pub AreWithin : List ℕ → List ℕ → ℕ → ℕ → ℕ → Type 0
 AreWithin labels sources count from to =
     (k s : ℕ) → k < count → has_state (at labels k from) s ≡ true → has_state (at sources k to) s ≡ true
 
--- the column has the label of the partition's id, and the source of this label by its type
-abbrev pub IsInColumn : Invariant → Graph → List ℕ → List ℕ → List ℕ → ℕ → Partition → Type 0
-IsInColumn inv g given labels sources k x =
-    (at labels k x.id ≡ slice_index given x.id)
-    × IsSource inv (g.typ x.id) (slice_index given x.id) (at sources k x.id)
+-- the column has the label of each partition's id, and the source of this label by its type
+abbrev pub AreInColumn : Invariant → List Partition → List ℕ → List ℕ → List ℕ → ℕ → Type 0
+AreInColumn inv partitions given labels sources k =
+    (p : ℕ) → is_listed p partitions ≡ true
+    → (at labels k p ≡ label_at p partitions given)
+    × IsSource inv (listed_type p partitions) (label_at p partitions given) (at sources k p)
 
 -- the column has the labels of a listed invariant and their sources, and the labels of the two ends are right
 pub record IsColumnOf (m : Model) (l : Listed) (labels sources : List ℕ) (k : ℕ) : Type 0 where

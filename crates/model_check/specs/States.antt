@@ -2,7 +2,7 @@
 use Rattle.std.specs.Prelude.{ℕ, ◌≡◌, ◌<◌, true, false, List, length, slice_index}
 use Rattle.invariants.specs.declared.Invariant.{Invariant}
 use Rattle.invariants.specs.declared.records.Edge.{Edge}
-use Rattle.limits.specs.declared.TheConstants.{INITIAL, TERMINAL}
+use Rattle.limits.specs.declared.TheConstants.{INITIAL}
 use Rattle.invariants.specs.Monitors.{step, is_bad}
 use Rattle.partition_model.specs.Graphs.{Graph}
 use Rattle.models.specs.Models.{has_state}
@@ -26,7 +26,7 @@ abbrev pub LeadsWithin : Invariant → Graph → List ℕ → Edge → Type 0
 LeadsWithin inv g labels e =
     StaysWithin inv (g.typ e.to) (slice_index labels e.from) (slice_index labels e.to)
 
--- the label of INITIAL has the first state, and the label of TERMINAL has no bad one; labels are looked up by id
-pub record AreRightEnds (inv : Invariant) (g : Graph) (labels : List ℕ) : Type 0 where
-  pub start : has_state (slice_index labels INITIAL) (step inv 0 (g.typ INITIAL)) ≡ true
-  pub end : (s : ℕ) → has_state (slice_index labels TERMINAL) s ≡ true → is_bad inv s ≡ false
+-- the label of INITIAL has the first state, and the label of TERMINAL has no bad one
+pub record AreRightEnds (inv : Invariant) (g : Graph) (initial terminal : ℕ) : Type 0 where
+  pub start : has_state initial (step inv 0 (g.typ INITIAL)) ≡ true
+  pub end : (s : ℕ) → has_state terminal s ≡ true → is_bad inv s ≡ false

@@ -1,18 +1,19 @@
 //! Labels in columns, one column for each of many invariants, so that an edge is tested for all of them at once.
-ghost use Rattle.std.specs.Prelude.{◌≡◌, ◌↔◌, ◌<◌, ◌≤◌, ◌*◌, ◌==◌, ◌&&◌, ℕ, length, if◌then◌else◌, IfOk, IsTrue, All};
+ghost use Rattle.std.specs.Prelude.{◌≡◌, ◌↔◌, ◌<◌, ◌≤◌, ◌*◌, ◌==◌, ◌&&◌, ℕ, length, if◌then◌else◌, map, IfOk, IsTrue, All};
 ghost use Rattle.limits.specs.declared.TheConstants.{MAX_PARTITIONS};
+ghost use Rattle.invariants.specs.Labels.{IsDigit, number_of};
 ghost use Rattle.model_shape.specs.Shapes.{IsShapedListed, IsWellShaped};
 ghost use Rattle.models.specs.Models.{graph_of};
 ghost use Rattle.model_check.specs.declared.columns.TheConstants.{TOGETHER};
-ghost use Rattle.model_check.specs.Rows.{shown, IsEdgeWithin, IsMarkable};
-ghost use Rattle.model_check.specs.Columns.{at, AreColumnsOf, AreLabelledBefore, AreWithin, IsColumnOf, IsInColumn, SameOthers};
+ghost use Rattle.model_check.specs.Rows.{shown, AreApart, IsEdgeWithin, IsMarkable};
+ghost use Rattle.model_check.specs.Columns.{at, AreColumnsOf, AreLabelledBefore, AreWithin, IsColumnOf, AreInColumn, SameOthers};
 
 use crate::graph::ModelGraph;
-use crate::label_table::LabelTable;
 use crate::labels::has_right_ends;
 use crate::sets::IDS;
 use crate::states::{Sources, StateSet};
 use invariants::{Edge, Invariant, Listed, Model, Partition};
+use limits::{INITIAL, TERMINAL};
 use std::alloc::{AllocError, Global};
 
 /// The number of columns.
@@ -51,6 +52,15 @@ impl Columns {
         self.sources[p * TOGETHER + k] = source;
     }
 
+    /// The label of an id in a column.
+    pub fn label(&self, k: usize, p: usize) -> StateSet
+        requires column { k < TOGETHER }
+        requires id { p < MAX_PARTITIONS }
+        ensures { result ≡ at (self.now).labels.items k p }
+    {
+        self.labels[p * TOGETHER + k]
+    }
+
     /// Whether, in each column, each state in the label of `from` is in the source of `to`.
     pub fn lead_within(&self, from: usize, to: usize) -> bool
         requires from { from < MAX_PARTITIONS }
@@ -66,41 +76,41 @@ impl Columns {
     }
 }
 
-/// Puts the labels of an invariant into a column.
+/// Puts the label of each partition, given as its digit, into a column.
 fn fill_column(
     columns: &mut Columns,
     k: usize,
     inv: Invariant,
-    graph: &ModelGraph,
     partitions: &[Partition],
-    labels: &LabelTable,
+    given: &[u8],
 )
     requires column { k < TOGETHER }
     requires markable { All IsMarkable partitions.now }
+    requires apart { AreApart partitions.now }
+    requires count { length given.now ≡ length partitions.now }
+    requires given { All IsDigit given.now }
 
     // The column has the sets of the partitions, and all others stay.
-    ensures column { All (IsInColumn inv (shown graph.now) labels.now (columns.new).labels.items
-        (columns.new).sources.items k) partitions.now }
+    ensures column { AreInColumn inv partitions.now (map number_of given.now) (columns.new).labels.items
+        (columns.new).sources.items k }
     ensures other_labels { SameOthers (columns.old).labels.items (columns.new).labels.items k }
     ensures other_sources { SameOthers (columns.old).sources.items (columns.new).sources.items k }
 {
     let sources = Sources::of(inv);
-    for partition in partitions {
-        let label = labels.get(partition.id);
-        let source = sources.leading_into(label, graph.type_of(partition.id));
+    for (i, partition) in partitions.iter().enumerate() {
+        let label = StateSet::of(given[i] - b'0');
+        let source = sources.leading_into(label, partition.typ);
         columns.put(k, partition.id as usize, label, source);
     }
 }
 
-/// Puts the labels of the listed invariant into a column. Returns whether those of the two ends are right. `labels` is
-/// overwritten.
+/// Puts the labels of the listed invariant into a column. Returns whether those of the two ends are right.
 fn lay_column(
     columns: &mut Columns,
     k: usize,
     model: &Model,
     graph: &ModelGraph,
     listed: &Listed,
-    labels: &mut LabelTable,
 ) -> bool
     requires column { k < TOGETHER }
     requires shaped { IsWellShaped model.now }
@@ -114,27 +124,21 @@ fn lay_column(
     ensures other_labels { SameOthers (columns.old).labels.items (columns.new).labels.items k }
     ensures other_sources { SameOthers (columns.old).sources.items (columns.new).sources.items k }
 {
-    labels.lay(model, listed);
     fill_column(
         columns,
         k,
         listed.inv,
-        graph,
         model.partitions.as_slice(),
-        labels,
+        listed.labels.as_digits(),
     );
-    has_right_ends(listed.inv, graph, labels)
+    let initial = columns.label(k, INITIAL as usize);
+    let terminal = columns.label(k, TERMINAL as usize);
+    has_right_ends(listed.inv, graph, initial, terminal)
 }
 
 /// Puts the labels of the listed invariants from `from` on into the columns, at most one for each column. Returns whether those
-/// of their ends are all right. `labels` is overwritten.
-fn lay_columns(
-    columns: &mut Columns,
-    model: &Model,
-    graph: &ModelGraph,
-    from: usize,
-    labels: &mut LabelTable,
-) -> bool
+/// of their ends are all right.
+fn lay_columns(columns: &mut Columns, model: &Model, graph: &ModelGraph, from: usize) -> bool
     requires shaped { IsWellShaped model.now }
     requires graph { shown graph.now ≡ graph_of model.now }
     requires from { from ≤ length (model.now).invariants }
@@ -149,7 +153,7 @@ fn lay_columns(
         if k >= invariants.len() - from {
             return true;
         }
-        if !lay_column(columns, k, model, graph, &invariants[from + k], labels) {
+        if !lay_column(columns, k, model, graph, &invariants[from + k]) {
             return false;
         }
     }
@@ -172,13 +176,8 @@ fn keep_all_along(columns: &Columns, edges: &[Edge]) -> bool
 }
 
 /// The number of listed invariants, from the first on, whose labels the columns show to be inductive. More may have inductive
-/// labels. `labels` is overwritten.
-pub fn count_labelled(
-    columns: &mut Columns,
-    model: &Model,
-    graph: &ModelGraph,
-    labels: &mut LabelTable,
-) -> usize
+/// labels.
+pub fn count_labelled(columns: &mut Columns, model: &Model, graph: &ModelGraph) -> usize
     requires shaped { IsWellShaped model.now }
     requires graph { shown graph.now ≡ graph_of model.now }
     ensures within { result ≤ length (model.now).invariants }
@@ -186,7 +185,7 @@ pub fn count_labelled(
 {
     let mut count = 0;
     while count < model.invariants.as_slice().len() {
-        if !lay_columns(columns, model, graph, count, labels) {
+        if !lay_columns(columns, model, graph, count) {
             return count;
         }
         if !keep_all_along(columns, model.edges.as_slice()) {

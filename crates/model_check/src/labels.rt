@@ -45,14 +45,19 @@ fn is_good(inv: Invariant, set: StateSet) -> bool
 }
 
 /// Whether the first state of the invariant's monitor is in the label of INITIAL, and no bad one in that of TERMINAL.
-pub fn has_right_ends(inv: Invariant, graph: &ModelGraph, labels: &LabelTable) -> bool
-    ensures { IsTrue result ↔ AreRightEnds inv (shown graph.now) labels.now }
+pub fn has_right_ends(
+    inv: Invariant,
+    graph: &ModelGraph,
+    initial: StateSet,
+    terminal: StateSet,
+) -> bool
+    ensures { IsTrue result ↔ AreRightEnds inv (shown graph.now) initial terminal }
 {
     let start = Monitor::step(inv, Monitor::start(), graph.type_of(INITIAL));
-    if !labels.get(INITIAL).has(start) {
+    if !initial.has(start) {
         return false;
     }
-    is_good(inv, labels.get(TERMINAL))
+    is_good(inv, terminal)
 }
 
 /// Whether the labels of the listed invariant are inductive. `labels` is overwritten.
@@ -64,7 +69,9 @@ fn is_labelled(model: &Model, graph: &ModelGraph, listed: &Listed, labels: &mut 
     ensures { IsTrue result ↔ IsLabelled model.now listed.now }
 {
     labels.lay(model, listed);
-    if !has_right_ends(listed.inv, graph, labels) {
+    let initial = labels.get(INITIAL);
+    let terminal = labels.get(TERMINAL);
+    if !has_right_ends(listed.inv, graph, initial, terminal) {
         return false;
     }
     keep_along(
@@ -92,7 +99,7 @@ pub fn first_unlabelled(
     let mut labels = LabelTable::make(alloc)?;
     let mut columns = Columns::make(alloc)?;
     let invariants = model.invariants.as_slice();
-    let count = count_labelled(&mut columns, model, graph, &mut labels);
+    let count = count_labelled(&mut columns, model, graph);
     for i in count..invariants.len() {
         if !is_labelled(model, graph, &invariants[i], &mut labels) {
             return Ok(Some(i as u32));
