@@ -12,3 +12,4 @@ pub mod Reading
 pub mod Numbers
 pub mod Stepping
 pub mod Together
+pub mod Typed

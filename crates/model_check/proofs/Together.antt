@@ -5,72 +5,134 @@ use Rattle.std.proofs.lemmas.Bool.{cases_eq, cases_lt}
 use Rattle.std.proofs.lemmas.Option.{slice_get_within}
 use Rattle.std.proofs.lemmas.List.{drop_all}
 use Rattle.std.proofs.lemmas.List.Elements.{recursion_from_All}
-use Rattle.limits.specs.declared.TheConstants.{INITIAL, TERMINAL}
+use Rattle.limits.specs.declared.TheConstants.{INITIAL, TERMINAL, MAX_PARTITIONS}
 use Rattle.invariants.specs.declared.Invariant.{Invariant}
+use Rattle.invariants.specs.declared.Kind.{Kind}
+use Rattle.invariants.specs.declared.Kind.TheVariants.{AF, NF, AP, IB}
 use Rattle.invariants.specs.declared.records.Partition.{Partition}
 use Rattle.invariants.specs.declared.records.Edge.{Edge}
 use Rattle.invariants.specs.declared.records.Listed.{Listed}
 use Rattle.invariants.specs.declared.records.Model.{Model}
-use Rattle.invariants.specs.Monitors.{step}
+use Rattle.invariants.specs.Monitors.{step, step_of}
 use Rattle.partition_model.specs.Graphs.{Graph}
 use Rattle.partition_model.proofs.Lists.{In, all_in}
-use Rattle.model_shape.specs.Shapes.{is_listed, listed_type, AreShapedPartitions, IsShapedEdge, IsWellShaped}
+use Rattle.model_shape.specs.Shapes.{is_listed, AreShapedPartitions, IsShapedEdge, IsWellShaped}
 use Rattle.models.specs.Models.{graph_of, has_state, label_at, IsLabelled}
 use Rattle.models.proofs.Agreeing.{edge-in}
+use Rattle.models.proofs.Formed.{shaped_are_formed}
 use Rattle.models.proofs.Valid.{three-states}
-use Rattle.model_check.specs.Rows.{AreApart}
+use Rattle.model_check.specs.Rows.{AreApart, IsNextOfType}
 use Rattle.model_check.specs.States.{IsSource, AreRightEnds}
-use Rattle.model_check.specs.Columns.{at, AreLabelledBefore, AreWithin, AreInColumn, IsColumnOf, AreColumnsOf, SameOthers}
+use Rattle.model_check.specs.Columns.{at, AreLabelledBefore, AreWithin, AreInColumn, HasSources, IsColumnOf, AreColumnsOf, SameOthers}
 use Rattle.model_check.specs.declared.columns.TheConstants.{TOGETHER}
 
 -- a column into which all partitions are put, but for the rest
-pub record IsFilledUpTo (inv : Invariant) (partitions rest : List Partition) (given rest-given labels sources : List ℕ) (k : ℕ) : Type 0 where
+pub record IsFilledUpTo (partitions rest : List Partition) (given rest-given labels sources : List ℕ) (k : ℕ) : Type 0 where
   pub apart : AreApart rest
-  pub ahead : (p : ℕ) → is_listed p rest ≡ true → (label_at p rest rest-given ≡ label_at p partitions given) × (listed_type p rest ≡ listed_type p partitions)
+  pub ahead : (p : ℕ) → is_listed p rest ≡ true → label_at p rest rest-given ≡ label_at p partitions given
   pub filled : (p : ℕ) → is_listed p partitions ≡ true → is_listed p rest ≡ false
-      → (at labels k p ≡ label_at p partitions given) × IsSource inv (listed_type p partitions) (label_at p partitions given) (at sources k p)
+      → (at labels k p ≡ label_at p partitions given) × (at sources k p ≡ label_at p partitions given)
 
 -- at first all partitions are the rest
-pub filled-none : (inv : Invariant) (partitions : List Partition) (given labels sources : List ℕ) (k : ℕ) → AreApart partitions → IsFilledUpTo inv partitions partitions given given labels sources k
-filled-none inv partitions given labels sources k apart =
-    record { apart = apart; ahead = λ p h. (refl, refl); filled = λ p h n. absurd (true≢false (sym h ∙ n)) }
+pub filled-none : (partitions : List Partition) (given labels sources : List ℕ) (k : ℕ) → AreApart partitions → IsFilledUpTo partitions partitions given given labels sources k
+filled-none partitions given labels sources k apart = record { apart = apart; ahead = λ p h. refl; filled = λ p h n. absurd (true≢false (sym h ∙ n)) }
 
 -- one partition more is put into the column
-pub filled-more : (inv : Invariant) (partitions rest : List Partition) (given rest-given old-labels old-sources labels sources : List ℕ) (k label source : ℕ) (x : Partition) → k < TOGETHER
+pub filled-more : (partitions rest : List Partition) (given rest-given old-labels old-sources labels sources : List ℕ) (k label : ℕ) (x : Partition) → k < TOGETHER
     → ((c q : ℕ) → c < TOGETHER → at labels c q ≡ (if c == k && q == x.id then label else at old-labels c q))
-    → ((c q : ℕ) → c < TOGETHER → at sources c q ≡ (if c == k && q == x.id then source else at old-sources c q))
-    → IsSource inv x.typ label source
-    → IsFilledUpTo inv partitions (x ∷ rest) given (label ∷ rest-given) old-labels old-sources k → IsFilledUpTo inv partitions rest given rest-given labels sources k
-filled-more inv partitions rest given rest-given old-labels old-sources labels sources k label source x l put put-sources right before =
+    → ((c q : ℕ) → c < TOGETHER → at sources c q ≡ (if c == k && q == x.id then label else at old-sources c q))
+    → IsFilledUpTo partitions (x ∷ rest) given (label ∷ rest-given) old-labels old-sources k → IsFilledUpTo partitions rest given rest-given labels sources k
+filled-more partitions rest given rest-given old-labels old-sources labels sources k label x l put put-sources before =
     record { apart = before.apart.1; ahead = ahead; filled = filled }
   where
-    ahead : (p : ℕ) → is_listed p rest ≡ true → (label_at p rest rest-given ≡ label_at p partitions given) × (listed_type p rest ≡ listed_type p partitions)
+    ahead : (p : ℕ) → is_listed p rest ≡ true → label_at p rest rest-given ≡ label_at p partitions given
     ahead p h =
         let n : x.id ≢ p = λ e. true≢false (sym h ∙ sym (ap (λ q. is_listed q rest) e) ∙ before.apart.0) in
         rw (ne_eqb x.id p n) at (before.ahead p) h
 
-    filled : (p : ℕ) → is_listed p partitions ≡ true → is_listed p rest ≡ false
-        → (at labels k p ≡ label_at p partitions given) × IsSource inv (listed_type p partitions) (label_at p partitions given) (at sources k p)
+    filled : (p : ℕ) → is_listed p partitions ≡ true → is_listed p rest ≡ false → (at labels k p ≡ label_at p partitions given) × (at sources k p ≡ label_at p partitions given)
     filled p h u =
         elim (cases_eq p x.id) [
           | inl e ↦
-              let b : (label ≡ label_at p partitions given) × (x.typ ≡ listed_type p partitions) = rw (eq-eqb x.id p (sym e)) at (before.ahead p) refl in
+              let b : label ≡ label_at p partitions given = rw (eq-eqb x.id p (sym e)) at (before.ahead p) refl in
               let here : at labels k p ≡ label = put k p l ∙ rw (eq-eqb k k refl, eq-eqb p x.id e) refl in
-              let there : at sources k p ≡ source = put-sources k p l ∙ rw (eq-eqb k k refl, eq-eqb p x.id e) refl in
-              let from : IsSource inv (listed_type p partitions) (label_at p partitions given) source = subst₂ (λ (t n : ℕ). IsSource inv t n source) b.1 b.0 right in
-              (here ∙ b.0, subst (λ (n : ℕ). IsSource inv (listed_type p partitions) (label_at p partitions given) n) (sym there) from)
+              let there : at sources k p ≡ label = put-sources k p l ∙ rw (eq-eqb k k refl, eq-eqb p x.id e) refl in
+              (here ∙ b, there ∙ b)
           | inr n ↦
-              let b : (at old-labels k p ≡ label_at p partitions given) × IsSource inv (listed_type p partitions) (label_at p partitions given) (at old-sources k p) =
-              rw (ne_eqb x.id p (λ e. n (sym e))) at (before.filled p h) u in
+              let b : (at old-labels k p ≡ label_at p partitions given) × (at old-sources k p ≡ label_at p partitions given) = rw (ne_eqb x.id p (λ e. n (sym e))) at (before.filled p h) u in
               let here : at labels k p ≡ at old-labels k p = put k p l ∙ rw (eq-eqb k k refl, ne_eqb p x.id n) refl in
               let there : at sources k p ≡ at old-sources k p = put-sources k p l ∙ rw (eq-eqb k k refl, ne_eqb p x.id n) refl in
-              (here ∙ b.0, subst (λ (m : ℕ). IsSource inv (listed_type p partitions) (label_at p partitions given) m) (sym there) b.1)
+              (here ∙ b.0, there ∙ b.1)
         ]
 
 -- with no rest, all partitions are in the column
-pub filled-all : (inv : Invariant) (partitions : List Partition) (given rest-given labels sources : List ℕ) (k i : ℕ) → length partitions ≤ i
-    → IsFilledUpTo inv partitions (drop i partitions) given rest-given labels sources k → AreInColumn inv partitions given labels sources k
-filled-all inv partitions given rest-given labels sources k i l before p h = before.filled p h (ap (λ (xs : List Partition). is_listed p xs) (drop_all i partitions l))
+pub filled-all : (partitions : List Partition) (given rest-given labels sources : List ℕ) (k i : ℕ) → length partitions ≤ i
+    → IsFilledUpTo partitions (drop i partitions) given rest-given labels sources k → AreInColumn partitions given labels sources k
+filled-all partitions given rest-given labels sources k i l before p h = before.filled p h (ap (λ (xs : List Partition). is_listed p xs) (drop_all i partitions l))
+
+-- the sources of the ids of a type are put into a column, up to a bound
+pub record ArePutBelow (inv : Invariant) (g : Graph) (typ : ℕ) (labels old sources : List ℕ) (k bound : ℕ) : Type 0 where
+  pub changed : (p : ℕ) → p < bound → g.typ p ≡ typ → IsSource inv typ (at labels k p) (at sources k p)
+  pub kept : (p : ℕ) → g.typ p ≢ typ → at sources k p ≡ at old k p
+
+-- one source more is put
+pub put-more : (inv : Invariant) (g : Graph) (typ : ℕ) (labels old before sources : List ℕ) (k bound p source : ℕ) → k < TOGETHER → IsNextOfType g.typ typ bound p
+    → ((c q : ℕ) → c < TOGETHER → at sources c q ≡ (if c == k && q == p then source else at before c q))
+    → IsSource inv typ (at labels k p) source → ArePutBelow inv g typ labels old before k bound → ArePutBelow inv g typ labels old sources k (p + 1)
+put-more inv g typ labels old before sources k bound p source l next put right b = record { changed = changed; kept = kept }
+  where
+    other : (q : ℕ) → q ≢ p → at sources k q ≡ at before k q
+    other q n = put k q l ∙ rw (eq-eqb k k refl, ne_eqb q p n) refl
+
+    changed : (q : ℕ) → q < p + 1 → g.typ q ≡ typ → IsSource inv typ (at labels k q) (at sources k q)
+    changed q w t =
+        elim (cases_eq q p) [
+          | inl e ↦
+              let here : at sources k q ≡ source = put k q l ∙ rw (eq-eqb k k refl, eq-eqb q p e) refl in
+              subst₂ (λ (n m : ℕ). IsSource inv typ n m) (ap (λ z. at labels k z) (sym e)) (sym here) right
+          | inr n ↦ elim (cases_lt q bound) [
+            | inl m ↦ subst (λ (z : ℕ). IsSource inv typ (at labels k q) z) (sym (other q n)) (b.changed q m t)
+            | inr m ↦ absurd (next.first q m (omega (arith, w, n)) t)
+          ]
+        ]
+
+    kept : (q : ℕ) → g.typ q ≢ typ → at sources k q ≡ at old k q
+    kept q n = other q (λ e. n (ap g.typ e ∙ next.there)) ∙ b.kept q n
+
+-- where no further id has the type, all its sources are put
+pub put-all : (inv : Invariant) (g : Graph) (typ : ℕ) (labels old sources : List ℕ) (k bound : ℕ) → ((q : ℕ) → bound ≤ q → q < MAX_PARTITIONS → g.typ q ≢ typ)
+    → ArePutBelow inv g typ labels old sources k bound → HasSources inv g typ labels old sources k
+put-all inv g typ labels old sources k bound none b =
+    record {
+      changed = λ q w t. elim (cases_lt q bound) [
+        | inl m ↦ b.changed q m t
+        | inr m ↦ absurd (none q m w t)
+      ];
+      kept = b.kept;
+    }
+
+-- a type that an invariant does not name leaves each state as it is
+step-same : (inv : Invariant) (s typ : ℕ) → typ ≢ inv.a → typ ≢ inv.b → step inv s typ ≡ s
+step-same inv s typ a b = again inv.kind
+  where
+    again : (kind : Kind) → step_of kind inv.a inv.b s typ ≡ s
+    again AF = rw (ne_eqb typ inv.a a, ne_eqb typ inv.b b) refl
+    again NF = rw (ne_eqb typ inv.a a, ne_eqb typ inv.b b) refl
+    again AP = rw (ne_eqb typ inv.a a, ne_eqb typ inv.b b) refl
+    again IB = rw (ne_eqb typ inv.a a, ne_eqb typ inv.b b) refl
+
+-- where the sources of both types that an invariant names are put, all are right
+sources-right : (inv : Invariant) (g : Graph) (labels first second third : List ℕ) (k p : ℕ) → p < MAX_PARTITIONS → at first k p ≡ at labels k p
+    → HasSources inv g inv.a labels first second k → HasSources inv g inv.b labels second third k → IsSource inv (g.typ p) (at labels k p) (at third k p)
+sources-right inv g labels first second third k p w same a b =
+    elim (cases_eq (g.typ p) inv.b) [
+      | inl e ↦ subst (λ (t : ℕ). IsSource inv t (at labels k p) (at third k p)) (sym e) (b.changed p w e)
+      | inr n ↦ elim (cases_eq (g.typ p) inv.a) [
+        | inl e ↦
+            subst₂ (λ (t m : ℕ). IsSource inv t (at labels k p) m) (sym e) (sym (b.kept p n)) (a.changed p w e)
+        | inr m ↦ λ s u. ap (λ z. has_state z s) (b.kept p n ∙ a.kept p m ∙ same) ∙ ap (λ z. has_state (at labels k p) z) (sym (step-same inv s (g.typ p) m n))
+      ]
+    ]
 
 -- the other columns stay through two writes
 pub others-more : (a b c : List ℕ) (k : ℕ) → SameOthers a b k → SameOthers b c k → SameOthers a c k
@@ -85,15 +147,19 @@ ends-listed : (types : ℕ) (xs : List Partition) → AreShapedPartitions types 
 ends-listed types xs w = rw w.ends (refl, refl)
 
 -- a column that has what belongs to each partition, with the right ends, is that of the invariant
-pub column-of : (m : Model) (l : Listed) (g : Graph) (labels sources : List ℕ) (k : ℕ) → IsWellShaped m → g ≡ graph_of m
-    → AreInColumn l.inv m.partitions l.labels labels sources k → AreRightEnds l.inv g (at labels k INITIAL) (at labels k TERMINAL) → IsColumnOf m l labels sources k
-column-of m l g labels sources k w same all ends =
+pub column-of : (m : Model) (l : Listed) (g : Graph) (labels first second third : List ℕ) (k : ℕ) → IsWellShaped m → g ≡ graph_of m
+    → AreInColumn m.partitions l.labels labels first k → HasSources l.inv g l.inv.a labels first second k → HasSources l.inv g l.inv.b labels second third k
+    → AreRightEnds l.inv g (at labels k INITIAL) (at labels k TERMINAL) → IsColumnOf m l labels third k
+column-of m l g labels first second third k w same all a b ends =
     let listed : (is_listed INITIAL m.partitions ≡ true) × (is_listed TERMINAL m.partitions ≡ true) = ends-listed (length m.types) m.partitions w.partitions in
+    let below : (p : ℕ) → is_listed p m.partitions ≡ true → p < MAX_PARTITIONS = (shaped_are_formed m w).1 in
     record {
       start = subst₂ (λ (n : ℕ) (h : Graph). has_state n (step l.inv 0 (h.typ INITIAL)) ≡ true) (all INITIAL listed.0).0 same ends.start;
       end = λ s h. ends.end s (subst (λ (n : ℕ). has_state n s ≡ true) (sym (all TERMINAL listed.1).0) h);
       has_labels = λ p h. (all p h).0;
-      has_sources = λ p h. (all p h).1;
+      has_sources = λ p h.
+          let o : IsSource l.inv (g.typ p) (at labels k p) (at third k p) = sources-right l.inv g labels first second third k p (below p h) ((all p h).1 ∙ sym (all p h).0) a b in
+          subst₂ (λ (n : ℕ) (f : Graph). IsSource l.inv (f.typ p) n (at third k p)) (all p h).0 same o;
     }
 
 -- a column stays that of its invariant while another is laid

@@ -1,12 +1,13 @@
 -- Labels of many invariants, in columns.
 use Rattle.std.specs.Prelude.{ℕ, ◌≡◌, ◌≢◌, ◌+◌, ◌*◌, ◌<◌, true, false, List, slice_index, slice_get, Some}
-use Rattle.limits.specs.declared.TheConstants.{INITIAL, TERMINAL}
+use Rattle.limits.specs.declared.TheConstants.{INITIAL, TERMINAL, MAX_PARTITIONS}
 use Rattle.invariants.specs.declared.Invariant.{Invariant}
 use Rattle.invariants.specs.declared.records.Partition.{Partition}
 use Rattle.invariants.specs.declared.records.Listed.{Listed}
 use Rattle.invariants.specs.declared.records.Model.{Model}
 use Rattle.invariants.specs.Monitors.{step, is_bad}
-use Rattle.model_shape.specs.Shapes.{is_listed, listed_type}
+use Rattle.partition_model.specs.Graphs.{Graph}
+use Rattle.model_shape.specs.Shapes.{is_listed}
 use Rattle.models.specs.Models.{graph_of, has_state, label_at, IsLabelled}
 use Rattle.model_check.specs.States.{IsSource}
 use Rattle.model_check.specs.declared.columns.TheConstants.{TOGETHER}
@@ -20,12 +21,16 @@ abbrev pub AreWithin : List ℕ → List ℕ → ℕ → ℕ → ℕ → Type 0
 AreWithin labels sources count from to =
     (k s : ℕ) → k < count → has_state (at labels k from) s ≡ true → has_state (at sources k to) s ≡ true
 
--- the column has the label of each partition's id, and the source of this label by its type
-abbrev pub AreInColumn : Invariant → List Partition → List ℕ → List ℕ → List ℕ → ℕ → Type 0
-AreInColumn inv partitions given labels sources k =
+-- the column has the label of each partition's id, both as label and as source
+abbrev pub AreInColumn : List Partition → List ℕ → List ℕ → List ℕ → ℕ → Type 0
+AreInColumn partitions given labels sources k =
     (p : ℕ) → is_listed p partitions ≡ true
-    → (at labels k p ≡ label_at p partitions given)
-    × IsSource inv (listed_type p partitions) (label_at p partitions given) (at sources k p)
+    → (at labels k p ≡ label_at p partitions given) × (at sources k p ≡ label_at p partitions given)
+
+-- the column has the sources of the ids of a type, and the former ones of the other ids
+pub record HasSources (inv : Invariant) (g : Graph) (typ : ℕ) (labels old sources : List ℕ) (k : ℕ) : Type 0 where
+  pub changed : (p : ℕ) → p < MAX_PARTITIONS → g.typ p ≡ typ → IsSource inv typ (at labels k p) (at sources k p)
+  pub kept : (p : ℕ) → g.typ p ≢ typ → at sources k p ≡ at old k p
 
 -- the column has the labels of a listed invariant and their sources, and the labels of the two ends are right
 pub record IsColumnOf (m : Model) (l : Listed) (labels sources : List ℕ) (k : ℕ) : Type 0 where

@@ -1,5 +1,5 @@
 -- The rows of ids, and the graph that they represent.
-use Rattle.std.specs.Prelude.{ℕ, ◌≡◌, ◌+◌, ◌<◌, ◌≤◌, ◌==◌, ◌&&◌, ◌||◌, nat_lt, Bool, true, false, List, [], ◌∷◌, length, slice_index}
+use Rattle.std.specs.Prelude.{ℕ, ◌≡◌, ◌≢◌, ◌+◌, ◌<◌, ◌≤◌, ◌==◌, ◌&&◌, ◌||◌, nat_lt, Bool, true, false, List, [], ◌∷◌, length, slice_index}
 use Rattle.limits.specs.declared.TheConstants.{INITIAL, MAX_PARTITIONS}
 use Rattle.invariants.specs.declared.records.Partition.{Partition}
 use Rattle.invariants.specs.declared.records.Edge.{Edge}
@@ -23,6 +23,13 @@ pub record IsNextIn (rows : IdRows) (r from p : ℕ) : Type 0 where
   pub within : p < MAX_PARTITIONS
   pub set : bit rows r p ≡ true
   pub first : (k : ℕ) → from ≤ k → k < p → bit rows r k ≡ false
+
+-- p is the least id of a type that is not below a number
+pub record IsNextOfType (typ_of : ℕ → ℕ) (typ from p : ℕ) : Type 0 where
+  pub behind : from ≤ p
+  pub within : p < MAX_PARTITIONS
+  pub there : typ_of p ≡ typ
+  pub first : (q : ℕ) → from ≤ q → q < p → typ_of q ≢ typ
 
 -- the partition has a place in the rows
 abbrev pub IsMarkable : Partition → Type 0

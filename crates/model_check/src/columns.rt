@@ -6,13 +6,13 @@ ghost use Rattle.model_shape.specs.Shapes.{IsShapedListed, IsWellShaped};
 ghost use Rattle.models.specs.Models.{graph_of};
 ghost use Rattle.model_check.specs.declared.columns.TheConstants.{TOGETHER};
 ghost use Rattle.model_check.specs.Rows.{shown, AreApart, IsEdgeWithin, IsMarkable};
-ghost use Rattle.model_check.specs.Columns.{at, AreColumnsOf, AreLabelledBefore, AreWithin, IsColumnOf, AreInColumn, SameOthers};
+ghost use Rattle.model_check.specs.Columns.{at, AreColumnsOf, AreLabelledBefore, AreWithin, IsColumnOf, AreInColumn, HasSources, SameOthers};
 
 use crate::graph::ModelGraph;
 use crate::labels::has_right_ends;
 use crate::sets::IDS;
 use crate::states::{Sources, StateSet};
-use invariants::{Edge, Invariant, Listed, Model, Partition};
+use invariants::{Edge, Listed, Model, Partition};
 use limits::{INITIAL, TERMINAL};
 use std::alloc::{AllocError, Global};
 
@@ -52,6 +52,19 @@ impl Columns {
         self.sources[p * TOGETHER + k] = source;
     }
 
+    /// Puts another source of an id into a column.
+    pub fn put_source(&mut self, k: usize, p: usize, source: StateSet)
+        requires column { k < TOGETHER }
+        requires id { p < MAX_PARTITIONS }
+
+        // The source of the id is in the column, and all else stays.
+        ensures labels { (self.new).labels.items ≡ (self.old).labels.items }
+        ensures sources { (c q : ℕ) → c < TOGETHER → at (self.new).sources.items c q
+            ≡ (if c == k && q == p then source else at (self.old).sources.items c q) }
+    {
+        self.sources[p * TOGETHER + k] = source;
+    }
+
     /// The label of an id in a column.
     pub fn label(&self, k: usize, p: usize) -> StateSet
         requires column { k < TOGETHER }
@@ -76,31 +89,41 @@ impl Columns {
     }
 }
 
-/// Puts the label of each partition, given as its digit, into a column.
-fn fill_column(
-    columns: &mut Columns,
-    k: usize,
-    inv: Invariant,
-    partitions: &[Partition],
-    given: &[u8],
-)
+/// Puts the label of each partition, given as its digit, into a column, both as label and as source.
+fn fill_column(columns: &mut Columns, k: usize, partitions: &[Partition], given: &[u8])
     requires column { k < TOGETHER }
     requires markable { All IsMarkable partitions.now }
     requires apart { AreApart partitions.now }
     requires count { length given.now ≡ length partitions.now }
     requires given { All IsDigit given.now }
 
-    // The column has the sets of the partitions, and all others stay.
-    ensures column { AreInColumn inv partitions.now (map number_of given.now) (columns.new).labels.items
+    // The column has the labels of the partitions, and all others stay.
+    ensures column { AreInColumn partitions.now (map number_of given.now) (columns.new).labels.items
         (columns.new).sources.items k }
     ensures other_labels { SameOthers (columns.old).labels.items (columns.new).labels.items k }
     ensures other_sources { SameOthers (columns.old).sources.items (columns.new).sources.items k }
 {
-    let sources = Sources::of(inv);
     for (i, partition) in partitions.iter().enumerate() {
         let label = StateSet::of(given[i] - b'0');
-        let source = sources.leading_into(label, partition.typ);
-        columns.put(k, partition.id as usize, label, source);
+        columns.put(k, partition.id as usize, label, label);
+    }
+}
+
+/// Puts the sources of the ids of a type into a column. The labels are there.
+fn put_sources(columns: &mut Columns, k: usize, sources: &Sources, graph: &ModelGraph, typ: u16)
+    requires column { k < TOGETHER }
+
+    // The sources of these ids are right, and all else stays.
+    ensures labels { (columns.new).labels.items ≡ (columns.old).labels.items }
+    ensures sources { HasSources (sources.now).inv (shown graph.now) typ (columns.new).labels.items
+        (columns.old).sources.items (columns.new).sources.items k }
+    ensures other_sources { SameOthers (columns.old).sources.items (columns.new).sources.items k }
+{
+    let mut from = 0;
+    while let Some(p) = graph.next_of_type(typ, from) {
+        let source = sources.leading_into(columns.label(k, p), typ);
+        columns.put_source(k, p, source);
+        from = p + 1;
     }
 }
 
@@ -127,10 +150,13 @@ fn lay_column(
     fill_column(
         columns,
         k,
-        listed.inv,
         model.partitions.as_slice(),
         listed.labels.as_digits(),
     );
+    // A type that the invariant does not name leads from each state to itself.
+    let sources = Sources::of(listed.inv);
+    put_sources(columns, k, &sources, graph, listed.inv.a);
+    put_sources(columns, k, &sources, graph, listed.inv.b);
     let initial = columns.label(k, INITIAL as usize);
     let terminal = columns.label(k, TERMINAL as usize);
     has_right_ends(listed.inv, graph, initial, terminal)

@@ -1,15 +1,15 @@
 //! The graph of a model, in tables that are made once.
-ghost use Rattle.std.specs.Prelude.{◌≡◌, ◌↔◌, ◌<◌, ◌≤◌, ◌+◌, ℕ, length, slice_index, IfOk, IsTrue, All};
+ghost use Rattle.std.specs.Prelude.{◌≡◌, ◌≢◌, ◌↔◌, ◌<◌, ◌≤◌, ◌+◌, ℕ, length, slice_index, IfOk, IsTrue, MatchOption, All};
 ghost use Rattle.limits.specs.declared.TheConstants.{INITIAL, MAX_PARTITIONS, MAX_TYPES};
 ghost use Rattle.model_shape.specs.Shapes.{listed_type, IsWellShaped};
 ghost use Rattle.models.specs.Models.{graph_of};
 ghost use Rattle.partition_model.specs.Assignments.{with_ends};
 ghost use Rattle.partition_model.specs.Graphs.{Accepts, merged_edge};
 ghost use Rattle.traces.specs.Kept.{IsTypeNumber};
-ghost use Rattle.model_check.specs.Rows.{shown, IsMarkable, AreApart};
+ghost use Rattle.model_check.specs.Rows.{shown, IsMarkable, AreApart, IsNextOfType};
 
 use crate::rows::IdRows;
-use crate::sets::{IDS, mark_edges, mark_partitions};
+use crate::sets::{IDS, MEMBERS, TYPES, mark_edges, mark_partitions};
 use crate::steps::{is_in_set, step};
 use crate::successors::Successors;
 use invariants::Partition;
@@ -30,6 +30,21 @@ fn types_of(alloc: Global, partitions: &[Partition]) -> Result<Vec<u16>, AllocEr
         types[partition.id as usize] = partition.typ;
     }
     Ok(types)
+}
+
+/// The least place from `from` on that has this type; `None` if there is none.
+fn next_place(types: &[u16], typ: u16, from: usize) -> Option<usize>
+    requires { length types.now ≡ MAX_PARTITIONS }
+    ensures { MatchOption result
+        ((q : ℕ) → from ≤ q → q < MAX_PARTITIONS → slice_index types.now q ≢ typ)
+        (IsNextOfType (λ q. slice_index types.now q) typ from) }
+{
+    for p in from..types.len() {
+        if types[p] == typ {
+            return Some(p);
+        }
+    }
+    None
 }
 
 /// The graph of a model. Contracts see its tables; `shown` is the graph in them.
@@ -100,6 +115,19 @@ impl ModelGraph {
             return 0;
         }
         self.types[p as usize]
+    }
+
+    /// The least id from `from` on that has this type; `None` if there is none. An id that is not listed has the type 0.
+    pub fn next_of_type(&self, typ: u16, from: usize) -> Option<usize>
+        ensures { MatchOption result
+            ((q : ℕ) → from ≤ q → q < MAX_PARTITIONS → (shown self.now).typ q ≢ typ)
+            (IsNextOfType (shown self.now).typ typ from) }
+    {
+        let row = usize::from(typ);
+        if row == 0 || row >= TYPES {
+            return next_place(self.types.as_slice(), typ, from);
+        }
+        self.rows.next(MEMBERS + row, from)
     }
 
     /// Whether some path has the word of these events, which are the numbers of their types without the two ends. The graph
