@@ -12,7 +12,9 @@ const IDS: usize = MAX_PARTITIONS as usize;
 /// What stands for the count of missing sources of an id that has its rank.
 const RANKED: u32 = u32::MAX;
 
-/// The ranks that are found so far. An id gets its rank once all its sources have theirs: one more than the greatest of these.
+/// The ranks that are found so far. An id without sources has rank 0. Another id gets its rank once all its sources have theirs:
+/// one more than the greatest of these. If only ids on cycles and behind them are left, one of them gets its rank earlier, from
+/// the sources that have theirs.
 #[derive(Drop)]
 struct Ranking {
     /// The rank of each id, as far as its sources have theirs.
@@ -107,7 +109,8 @@ impl Ranking {
         }
     }
 
-    /// Notes the first id that has no rank yet, but a source that has one. Such an id is on a cycle or behind one.
+    /// Notes the first id, other than TERMINAL, that has no rank yet, but a source that has one. Such an id is on a cycle or behind
+    /// one.
     fn open_cycle(&mut self, used: u32) {
         for p in FIRST_TYPE..used {
             if number_at(&self.missing, p) < RANKED && number_at(&self.ranks, p) > 0 {

@@ -237,9 +237,10 @@ impl Finder {
         Some(&self.path)
     }
 
-    /// Forgets what `find_loss` kept of a graph.
+    /// Forgets what `find_loss` kept of a graph. The path stays.
     pub fn forget(&mut self)
-        ensures { (self.new).survey ≡ [] }
+        ensures survey { (self.new).survey ≡ [] }
+        ensures path { (self.new).path ≡ (self.old).path }
     {
         self.survey.forget();
     }

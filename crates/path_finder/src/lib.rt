@@ -4,9 +4,10 @@
 //! The search runs backwards over pairs of an id and a state of the invariant's monitor, starting from TERMINAL in the
 //! bad state. Then the path is followed forwards from INITIAL by least ids.
 //!
-//! Only ids around the key ids are visited: those that walks from a key id reach, and those from which walks reach a
+//! A search visits only ids around the key ids: those that walks from a key id reach, and those from which walks reach a
 //! key id. The key ids are those of the invariant's key type. If the question is about a merge and an invariant that
-//! the graph satisfies, the only key id is the merged one.
+//! the graph satisfies, the only key id is the merged one. If nearly all ids are around a key type, some searches visit
+//! all ids, and do not find out which are around it.
 #![tactic(auto)]
 
 mod breadth;
