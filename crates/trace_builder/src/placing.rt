@@ -107,8 +107,8 @@ pub fn put_typed_event(
     Ok(Placed { trace, number })
 }
 
-/// Puts an event without a time at the end of its trace, if its type's text is short and a slot leads to it. Returns where it was
-/// put, or None if nothing was done.
+/// Puts an event without a time at the end of its trace, if a slot leads to its type's text. Returns where it was put, or None if
+/// nothing was done.
 #[inline(always)]
 pub fn put_packed(
     alloc: Global,
@@ -120,6 +120,7 @@ pub fn put_packed(
     requires few { length types.now ≤ MAX_TYPES }
     requires few_traces { length traces.old < 2 ^ 32 - 1 }
     requires short { length key.text.now < 2 ^ 32 }
+    requires short_type { length type_text.now ≤ MAX_TYPE_BYTES }
     ensures placed { IfOk result (λ put. IfSome put (λ placed. placed
         ≡ placed_in (record { types = types.now; traces = traces.old })
         (key_packed key.entry) type_text.now)) }
@@ -134,7 +135,7 @@ pub fn put_packed(
     ensures err { OnErr result (traces.new ≡ traces.old) }
     ensures err_type { OnErr result (list_any (bytes_eq type_text.now) types.now ≡ true) }
 {
-    match types.short_place_of(type_text) {
+    match types.slotted_place_of(type_text) {
         Some(place) => {
             let number = (place + FIRST_TYPE as usize) as u16;
             let trace = traces.put_packed(alloc, key, number)?;

@@ -1,5 +1,5 @@
 //! Slots that contain the places of types' texts, so that a known type is found by its fingerprint.
-ghost use Rattle.std.specs.Prelude.{◌≡◌, ◌<◌, ◌^◌, ℕ, List, true, false, length, slice_get, slice_index, Some, IfSome};
+ghost use Rattle.std.specs.Prelude.{◌≡◌, ◌<◌, ◌≤◌, ◌+◌, ◌^◌, ℕ, List, true, false, length, slice_get, slice_index, Some, IfSome};
 ghost use Rattle.std.specs.List.{All};
 ghost use Rattle.std.specs.Option.{option_map_or};
 ghost use Rattle.std.specs.Str.{bytes_eq};
@@ -20,7 +20,13 @@ const SHIFT: u32 = 52;
 const WINDOW: usize = 4;
 
 /// How many bytes a text has at most if its fingerprint determines it.
-const MAX_TOLD: u32 = 16;
+pub const MAX_TOLD: u32 = 16;
+
+/// How many bytes a word has.
+const WORD: usize = 8;
+
+/// The multiplier of the hash of a long text.
+const FACTOR: u64 = 0x9e37_79b9_7f4a_7c15;
 
 /// The fingerprint of a type's text, and the place of that text.
 #[derive(Clone, Copy)]
@@ -58,12 +64,45 @@ fn is_text_at(texts: &[Text], place: usize, text: &str) -> bool
     }
 }
 
-/// The fingerprint of a type's text.
+/// The bytes as a number, eight at a time: a hash that depends on each of them. There are at least eight.
+#[inline]
+fn hash_of_words(bytes: &[u8]) -> u64
+    requires { 8 ≤ length bytes.now }
+{
+    let mut hash = word_at(bytes, bytes.len() - WORD);
+    for place in 0..bytes.len() / WORD {
+        hash = (hash ^ word_at(bytes, place * WORD)).wrapping_mul(FACTOR);
+    }
+    hash
+}
+
+/// Eight bytes as a number.
+#[inline(always)]
+fn word_at(bytes: &[u8], at: usize) -> u64
+    requires { at + 8 ≤ length bytes.now }
+{
+    let b = &bytes[at..at + WORD];
+    u64::from_le_bytes([b[0], b[1], b[2], b[3], b[4], b[5], b[6], b[7]])
+}
+
+/// The fingerprint of a type's text. If the text has more than 16 bytes, it has a hash of them that is made faster than that of a
+/// key.
 #[inline(always)]
 fn fingerprint_of_text(text: &str) -> Fingerprint
     requires { length text.now < 2 ^ 32 }
-    ensures { result ≡ fingerprint_of (type_key text.now) }
+    ensures short { length text.now ≤ 16 → result ≡ fingerprint_of (type_key text.now) }
+    ensures length { result.length ≡ length text.now }
 {
+    let length = text.len() as u32;
+    if length > MAX_TOLD {
+        return Fingerprint {
+            low: hash_of_words(text.as_bytes()),
+            high: 0,
+            file: 0,
+            section: 0,
+            length,
+        };
+    }
     Fingerprint::of(&KeyParts {
         file: 0,
         section: 0,
@@ -82,7 +121,8 @@ fn home_of(fingerprint: &Fingerprint) -> usize
 /// Whether a slot leads to the text with this fingerprint.
 #[inline(always)]
 fn leads_to(slot: &Slot, fingerprint: &Fingerprint, texts: &[Text], text: &str) -> bool
-    requires fingerprint { fingerprint.now ≡ fingerprint_of (type_key text.now) }
+    requires short { length text.now ≤ 16 → fingerprint.now ≡ fingerprint_of (type_key text.now) }
+    requires length { fingerprint.now.length ≡ length text.now }
     requires told { TellsText texts.now slot.now }
     ensures { result ≡ true → slice_get texts.now slot.now.place ≡ Some text.now }
 {

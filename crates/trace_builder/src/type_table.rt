@@ -7,7 +7,7 @@ ghost use Rattle.limits.specs.declared.TheConstants.{MAX_TYPE_BYTES};
 ghost use Rattle.trace_builder.specs.Limits.{IsNewType};
 ghost use Rattle.traces.specs.Words.{AreApart};
 
-use crate::slots::{Slot, find, find_short, note};
+use crate::slots::{MAX_TOLD, Slot, find, find_short, note};
 use invariants::Text;
 use std::alloc::{AllocError, Global};
 use std::collections::BTreeMap;
@@ -68,9 +68,32 @@ impl TypeTable {
         }
     }
 
-    /// The place of a short text, if a slot leads to it.
+    /// The place of a text of more than 16 bytes, if a slot leads to it. It stays a call, so that the path of a short text is short.
+    #[inline(never)]
+    fn long_place_of(&self, text: &str) -> Option<usize>
+        requires { length text.now ≤ MAX_TYPE_BYTES }
+        ensures place { IfSome result (λ place. place ≡ position_or_len (bytes_eq text.now) self.now) }
+        ensures known { IfSome result (λ _. list_any (bytes_eq text.now) self.now ≡ true) }
+    {
+        find(&self.slots, &self.texts, text)
+    }
+
+    /// The place of a text, if a slot leads to it.
     #[inline(always)]
-    pub fn short_place_of(&self, text: &PackedText<'_>) -> Option<usize>
+    pub fn slotted_place_of(&self, text: &PackedText<'_>) -> Option<usize>
+        requires { length text.now ≤ MAX_TYPE_BYTES }
+        ensures place { IfSome result (λ place. place ≡ position_or_len (bytes_eq text.now) self.now) }
+        ensures known { IfSome result (λ _. list_any (bytes_eq text.now) self.now ≡ true) }
+    {
+        if text.text().len() > MAX_TOLD as usize {
+            return self.long_place_of(text.text());
+        }
+        self.short_place_of(text)
+    }
+
+    /// The place of a text of at most 16 bytes, if a slot leads to it.
+    #[inline(always)]
+    fn short_place_of(&self, text: &PackedText<'_>) -> Option<usize>
         ensures place { IfSome result (λ place. place ≡ position_or_len (bytes_eq text.now) self.now) }
         ensures known { IfSome result (λ _. list_any (bytes_eq text.now) self.now ≡ true) }
     {
