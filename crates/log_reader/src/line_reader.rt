@@ -226,8 +226,9 @@ impl Lines {
         self.find_end(inputs)
     }
 
-    /// How long the first piece to come is, if more than `LANES` bytes are buffered and a line feed among the first `LANES` of
-    /// them ends it. Then it is within the limits, since at most one byte past the limit on all input is ever buffered.
+    /// How long the first piece to come is, if it is short, so that a line feed among the first 2 * `LANES` buffered bytes ends it,
+    /// and more bytes are buffered. Then it is within the limits, since at most one byte past the limit on all input is ever
+    /// buffered.
     #[inline(always)]
     fn near_end(&self) -> Option<usize>
         ensures first { IfSome result (λ n. n ≡ position_or_len is_feed (self.now).buffered) }

@@ -59,12 +59,32 @@ pub fn first_feed(bytes: &[u8], searched: usize) -> Option<usize>
     search_feed(bytes, searched + LANES)
 }
 
-/// The place of the first line feed, if it is among the first `LANES` bytes and more bytes follow these. Otherwise None is
-/// returned. These bytes are looked at together.
+/// The place of the first line feed, if it is among the second `LANES` bytes and more bytes follow these. Otherwise None is
+/// returned. There is none among the first `LANES` bytes.
+#[inline(always)]
+fn next_feed(bytes: &[u8]) -> Option<usize>
+    requires inside { LANES ≤ length bytes.now }
+    requires before { LANES ≤ position_or_len is_feed bytes.now }
+    ensures some { IfSome result (λ n. n ≡ position_or_len is_feed bytes.now) }
+    ensures near { IfSome result (λ n. n < LANES + LANES) }
+    ensures more { IfSome result (λ n. n + 1 < length bytes.now) }
+{
+    if bytes.len() <= LANES + LANES {
+        return None;
+    }
+    let before = before_feed(bytes, LANES);
+    if before < LANES {
+        return Some(LANES + before);
+    }
+    None
+}
+
+/// The place of the first line feed, if it is among the first 2 * `LANES` bytes and more bytes follow. It may be missed if fewer
+/// bytes than that follow. `LANES` bytes are looked at together.
 #[inline(always)]
 pub fn near_feed(bytes: &[u8]) -> Option<usize>
     ensures some { IfSome result (λ n. n ≡ position_or_len is_feed bytes.now) }
-    ensures near { IfSome result (λ n. n < LANES) }
+    ensures near { IfSome result (λ n. n < LANES + LANES) }
     ensures more { IfSome result (λ n. n + 1 < length bytes.now) }
     ensures none { IfNone result (LANES < length bytes.now
         → LANES ≤ position_or_len is_feed bytes.now) }
@@ -73,5 +93,8 @@ pub fn near_feed(bytes: &[u8]) -> Option<usize>
         return None;
     }
     let before = before_feed(bytes, 0);
-    if before < LANES { Some(before) } else { None }
+    if before < LANES {
+        return Some(before);
+    }
+    next_feed(bytes)
 }
