@@ -3,6 +3,7 @@ use Rattle.std.specs.Prelude.{◌≡◌, Result, Ok}
 use Rattle.invariants.specs.declared.Kinds.{Kinds}
 use Rattle.invariants.specs.declared.records.Model.{Model}
 use Rattle.models.specs.Models.{typed_words, TypedWords, IsModelOf}
+use Rattle.model_shape.specs.Shapes.{IsWellShaped}
 use Rattle.models.specs.Limits.{KeepsLimits}
 use Rattle.models.specs.Checks.{IsValid, Promises}
 use Rattle.models.specs.Histories.{IsJustified}
@@ -13,6 +14,16 @@ use Rattle.synoptic_cli.specs.declared.material.Material.{Material}
 use Rattle.synoptic_cli.specs.declared.status.LimitKind.{LimitKind}
 use Rattle.synoptic_cli.specs.Commands.Answered.{done}
 use Rattle.synoptic_cli.specs.Commands.Inference.{AnswersInferred}
+
+-- the model is that of the log, within the limits and well shaped. It keeps all that a valid model promises, is valid, and has
+-- a justified history.
+pub record IsInferredFrom (log : TypedWords) (m : Model) : Type 0 where
+  pub inferred : IsModelOf m log
+  pub within : KeepsLimits m
+  pub shaped : IsWellShaped m
+  pub promises : Promises m log
+  pub valid : IsValid m log
+  pub justified : IsJustified m log
 
 -- the text is the file of the log's model, within the limits. It reads back as the same model, which keeps all that a
 -- valid model promises, is valid, and has a justified history.
