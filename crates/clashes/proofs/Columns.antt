@@ -1,11 +1,11 @@
 -- The masks, invariant by invariant.
-use Rattle.std.proofs.Common.{◌≡◌, ◌≢◌, ◌⊎◌, ℕ, ◌+◌, ◌<◌, Bool, true, false, List, Some, slice_get, sym, ◌∙◌, subst, arith, inl, inr}
+use Rattle.std.proofs.Common.{◌≡◌, ◌≢◌, ◌⊎◌, ℕ, ◌+◌, ◌<◌, ◌≤◌, Bool, true, false, List, Some, slice_get, sym, ◌∙◌, subst, arith, inl, inr}
 use Rattle.std.proofs.lemmas.Bool.{cases_eq}
 use Rattle.invariants.specs.declared.Invariant.{Invariant}
 use Rattle.clashes.specs.declared.places.TheConstants.{START, BAD, FIRST_MASK}
 use Rattle.clashes.specs.Marks.{on}
 use Rattle.clashes.specs.Rules.{enters, stays, falls, starts, is_bad_itself}
-use Rattle.clashes.specs.Layout.{enters_row, stays_row, falls_row, IsIdle, IsColumn, IsMasked, AreColumns}
+use Rattle.clashes.specs.Layout.{enters_row, stays_row, falls_row, ids_from, IsIdle, IsColumn, IsMasked, AreColumns}
 use Rattle.clashes.proofs.Laid.{AreMasksOf}
 use Rattle.clashes.proofs.Unnamed.{not_entered, stayed, not_fallen}
 
@@ -53,6 +53,10 @@ usual_at T new n x y k inv idle l m =
 -- a row before the masks stays where masks are written
 before_masks : (T new : List (List Bool)) (r x k : ℕ) (inv : Invariant) → IsMasked T new x k inv → r < FIRST_MASK → on new r k ≡ on T r k
 before_masks T new r x k inv m l = m.rows r k (λ z. absurd (omega (arith, z, l))) (λ z. absurd (omega (arith, z, l))) (λ z. absurd (omega (arith, z, l)))
+
+-- and so does a row of ids
+pub behind_masks : (T new : List (List Bool)) (r others x k j : ℕ) (inv : Invariant) → IsMasked T new x k inv → x ≤ others → ids_from others ≤ r → on new r j ≡ on T r j
+behind_masks T new r others x k j inv m low l = m.rows r j (λ z. absurd (omega (arith, z, l, low))) (λ z. absurd (omega (arith, z, l, low))) (λ z. absurd (omega (arith, z, l, low)))
 
 -- where each type leaves an invariant as it is, it has its column once the masks of the two types that it names are written
 pub column_named : (T one new : List (List Bool)) (n k : ℕ) (inv : Invariant) → IsIdle T n k → on T START k ≡ starts inv → on T BAD k ≡ is_bad_itself inv

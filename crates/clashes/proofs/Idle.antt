@@ -4,16 +4,18 @@ use Rattle.std.proofs.lemmas.Bool.{cases_eq}
 use Rattle.bit_rows.specs.Tables.{row_at, is_set, HasShape}
 use Rattle.clashes.specs.declared.places.TheConstants.{FIRST_MASK}
 use Rattle.clashes.specs.Marks.{on}
-use Rattle.clashes.specs.Layout.{enters_row, stays_row, falls_row, row_count, IsIdle}
+use Rattle.clashes.specs.Layout.{enters_row, stays_row, falls_row, ids_from, row_count, IsIdle}
 use Rattle.clashes.proofs.Bits.{set_here, set_other}
 
 -- the rows say so far that the last type, and those below n, leave the first invariants as they are, and nothing of ends
+-- or ids
 pub record AreIdleBelow (rows : List (List Bool)) (others n count : ℕ) : Type 0 where
   pub last : (k : ℕ) → k < count → on rows (stays_row others) k ≡ true
   pub stays : (x k : ℕ) → x < n → k < count → on rows (stays_row x) k ≡ true
   pub enters : (x k : ℕ) → on rows (enters_row x) k ≡ false
   pub falls : (x k : ℕ) → on rows (falls_row x) k ≡ false
   pub blank : (r k : ℕ) → r < FIRST_MASK → on rows r k ≡ false
+  pub ids : (r k : ℕ) → ids_from others ≤ r → on rows r k ≡ false
 
 -- where nothing was on, and then one row is turned on, the rows say so of the last type
 pub idle_begun : (T new : List (List Bool)) (others count last : ℕ) → last ≡ stays_row others → ((r k : ℕ) → on T r k ≡ false) → ((k : ℕ) → k < count → on new last k ≡ true)
@@ -25,6 +27,7 @@ idle_begun T new others count last at blank here rest =
       enters = λ x k. rest (enters_row x) k (λ z. absurd (omega (arith, z, at))) ∙ blank (enters_row x) k;
       falls = λ x k. rest (falls_row x) k (λ z. absurd (omega (arith, z, at))) ∙ blank (falls_row x) k;
       blank = λ r k before. rest r k (λ z. absurd (omega (arith, z, at, before))) ∙ blank r k;
+      ids = λ r k behind. rest r k (λ z. absurd (omega (arith, z, at, behind))) ∙ blank r k;
     }
 
 -- where the row of the last type is copied, the rows say so of one more type
@@ -42,6 +45,7 @@ idle_more T new others bits n count to from shape low there at is h =
       enters = λ x k. rest (enters_row x) k (λ z. absurd (omega (arith, z, there))) ∙ h.enters x k;
       falls = λ x k. rest (falls_row x) k (λ z. absurd (omega (arith, z, there))) ∙ h.falls x k;
       blank = λ r k before. rest r k (λ z. absurd (omega (arith, z, there, before))) ∙ h.blank r k before;
+      ids = λ r k behind. rest r k (λ z. absurd (omega (arith, z, there, behind, low))) ∙ h.ids r k behind;
     }
 
 -- with all types below the last, the rows say so of each type

@@ -12,3 +12,4 @@ pub mod Noting
 pub mod Masking
 pub mod Unnamed
 pub mod Idle
+pub mod Kept

@@ -90,6 +90,15 @@ abbrev pub AreColumns : List (List Bool) → ℕ → List Invariant → ℕ → 
 AreColumns rows others invs n =
     (k : ℕ) (inv : Invariant) → k < n → slice_get invs k ≡ Some inv → IsColumn rows (others + 1) k inv
 
+-- a table of this layout, with the masks of these invariants if they are written; else nothing is on in it so far
+pub record IsKept (invs : List Invariant) (others : ℕ) (masked : Bool) (rows : List (List Bool)) : Type 0 where
+  pub shape : HasShape rows (row_count others) (length invs)
+  pub few : length invs ≤ MAX_INVARIANTS
+  pub low : others ≤ LAST_TYPE + 1
+  pub named : AreNamedBelow others invs
+  pub columns : masked ≡ true → AreColumns rows others invs (length invs)
+  pub blank : masked ≡ false → (r k : ℕ) → on rows r k ≡ false
+
 -- a table of this layout with the masks of these invariants
 pub record IsLaid (invs : List Invariant) (others : ℕ) (rows : List (List Bool)) : Type 0 where
   pub shape : HasShape rows (row_count others) (length invs)

@@ -88,9 +88,9 @@ fn seed(mark_rows: &mut MarkRows, links: &[Link], graph: &PartGraph)
     }
 }
 
-/// The link that a pass takes after `done` others. A pass takes them in their order, or from the last to the first if
-/// `from_end` is true.
-fn link_after(links: &[Link], done: usize, from_end: bool) -> Link
+/// The link that a pass takes after `done` others, which are fewer than there are links. A pass takes them in their order,
+/// or from the last to the first if `from_end` is true.
+pub fn link_after(links: &[Link], done: usize, from_end: bool) -> Link
     requires ids { All HasIds links.now }
     requires within { done < length links.now }
     ensures link { (d : Link) → result ≡ slice_index_or (as_passed from_end links.now) done d }

@@ -14,4 +14,5 @@ mod places;
 mod rules;
 
 pub use clashes::Clashes;
+pub use growing::link_after;
 pub use law::clashes_tell;

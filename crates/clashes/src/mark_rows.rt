@@ -4,7 +4,7 @@ ghost use Rattle.limits.specs.declared.TheConstants.{LAST_TYPE, MAX_INVARIANTS};
 ghost use Rattle.partition_graph.specs.NeighbourWords.{IsWordOf};
 ghost use Rattle.clashes.specs.Rules.{AreNamedUpTo};
 
-use crate::masks::{first_unnamed, put_columns};
+use crate::masks::{complete_masks, first_unnamed};
 use crate::places::{BAD, START, back_row, enters_row, falls_row, fore_row, row_count, stays_row};
 use bit_rows::Rows;
 use invariants::Invariant;
@@ -22,17 +22,20 @@ pub(crate) struct MarkRows {
     /// The first number above all that the invariants name: its masks stand for each type from it on.
     others: u16,
     rows: Rows,
+    /// Whether the masks are written. They are written when marks are first to be found: until then nothing is on in the
+    /// rows.
+    masked: bool,
 }
 
 impl Model for MarkRows {
     ghost use Rattle.clashes.specs.Marks.{Marks};
-    ghost use Rattle.clashes.specs.Layout.{marks_in, IsLaid};
+    ghost use Rattle.clashes.specs.Layout.{marks_in, IsKept};
 
     ghost Value = { Marks };
 
     ghost view = { λ s. marks_in s.invs.items s.others s.rows };
 
-    ghost invariant = { λ s. IsLaid s.invs.items s.others s.rows };
+    ghost invariant = { λ s. IsKept s.invs.items s.others s.masked s.rows };
 }
 
 impl MarkRows {
@@ -49,12 +52,12 @@ impl MarkRows {
     {
         let others = first_unnamed(invs);
         let list = Vec::from_slice(alloc, invs)?;
-        let mut rows = Rows::make(alloc, row_count(others), invs.len())?;
-        put_columns(&mut rows, others, invs);
+        let rows = Rows::make(alloc, row_count(others), invs.len())?;
         Ok(MarkRows {
             invs: list,
             others,
             rows,
+            masked: false,
         })
     }
 
@@ -106,6 +109,8 @@ impl MarkRows {
     pub fn begin(&mut self)
         ensures { IsBegun self.old self.new }
     {
+        let invs = self.invs.as_slice();
+        complete_masks(&mut self.rows, &mut self.masked, self.others, invs);
         self.rows.or_into(fore_row(self.others, INITIAL), START);
         self.rows.or_into(back_row(self.others, TERMINAL), BAD);
     }
@@ -116,6 +121,8 @@ impl MarkRows {
         requires to_id { to < MAX_PARTITIONS }
         ensures { IsEntered self.old self.new from to typ }
     {
+        let invs = self.invs.as_slice();
+        complete_masks(&mut self.rows, &mut self.masked, self.others, invs);
         let x = typ.min(self.others);
         self.rows.or_into(fore_row(self.others, to), enters_row(x));
         self.rows.or_into(back_row(self.others, from), falls_row(x));
@@ -131,6 +138,8 @@ impl MarkRows {
         if from == to {
             return false;
         }
+        let invs = self.invs.as_slice();
+        complete_masks(&mut self.rows, &mut self.masked, self.others, invs);
         let x = typ.min(self.others);
         let met = self.rows.or_and_into(
             fore_row(self.others, to),

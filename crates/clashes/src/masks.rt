@@ -1,10 +1,10 @@
 //! The masks, which say what each type does to each invariant.
-ghost use Rattle.std.specs.Prelude.{◌≡◌, ◌≢◌, ◌⊎◌, ◌+◌, ◌<◌, ◌≤◌, ℕ, true, false, length, slice_set};
+ghost use Rattle.std.specs.Prelude.{◌≡◌, ◌≢◌, ◌⊎◌, ◌+◌, ◌<◌, ◌≤◌, ℕ, true, false, drop, length, slice_set};
 ghost use Rattle.limits.specs.declared.TheConstants.{LAST_TYPE};
 ghost use Rattle.bit_rows.specs.Tables.{row_at, KeepsShape, HasShape};
 ghost use Rattle.clashes.specs.declared.places.TheConstants.{START, BAD, FIRST_MASK};
 ghost use Rattle.clashes.specs.Rules.{enters, stays, falls, starts, is_bad_itself, AreNamedBelow, AreNamedUpTo};
-ghost use Rattle.clashes.specs.Layout.{enters_row, stays_row, falls_row, row_count, HasPlace, IsIdle, IsColumn, IsMasked, AreColumns};
+ghost use Rattle.clashes.specs.Layout.{enters_row, stays_row, falls_row, ids_from, row_count, HasPlace, IsIdle, IsColumn, IsMasked, AreColumns, IsKept, IsLaid};
 ghost use Rattle.clashes.specs.Marks.{on};
 
 use crate::places::{BAD, START, enters_row, falls_row, stays_row};
@@ -35,14 +35,30 @@ fn above(unnamed: u16, number: u16) -> u16
     unnamed.max(number + 1)
 }
 
+/// Writes the masks of all invariants, unless they are written already. The rows of ids stay.
+#[inline]
+pub(crate) fn complete_masks(rows: &mut Rows, masked: &mut bool, others: u16, invs: &[Invariant])
+    requires { IsKept invs.now others masked.old rows.old }
+    ensures masked { masked.new ≡ true }
+    ensures laid { IsLaid invs.now others rows.new }
+    ensures ids { drop (ids_from others) rows.new ≡ drop (ids_from others) rows.old }
+{
+    if *masked {
+        return;
+    }
+    put_columns(rows, others, invs);
+    *masked = true;
+}
+
 /// Writes the masks of all invariants into a table in which nothing is on.
-pub(crate) fn put_columns(rows: &mut Rows, others: u16, invs: &[Invariant])
+fn put_columns(rows: &mut Rows, others: u16, invs: &[Invariant])
     requires low { others ≤ LAST_TYPE + 1 }
     requires named { AreNamedBelow others invs.now }
     requires shape { HasShape rows.old (row_count others) (length invs.now) }
     requires blank { (r k : ℕ) → on rows.old r k ≡ false }
     ensures shape { HasShape rows.new (row_count others) (length invs.now) }
     ensures columns { AreColumns rows.new others invs.now (length invs.now) }
+    ensures ids { (r k : ℕ) → ids_from others ≤ r → on rows.new r k ≡ false }
 {
     put_idle(rows, others, invs.len());
     for (k, inv) in invs.iter().enumerate() {
@@ -58,6 +74,7 @@ fn put_idle(rows: &mut Rows, others: u16, count: usize)
     ensures shape { KeepsShape rows.old rows.new }
     ensures idle { (k : ℕ) → k < count → IsIdle rows.new (others + 1) k }
     ensures blank { (r k : ℕ) → r < FIRST_MASK → on rows.new r k ≡ false }
+    ensures ids { (r k : ℕ) → ids_from others ≤ r → on rows.new r k ≡ false }
 {
     let last = stays_row(others);
     turn_on(rows, last, count);
@@ -87,6 +104,7 @@ fn put_column(rows: &mut Rows, others: u16, k: usize, inv: Invariant)
     requires idle { IsIdle rows.old (others + 1) k }
     requires blank { (r : ℕ) → r < FIRST_MASK → on rows.old r k ≡ false }
     ensures column { IsColumn rows.new (others + 1) k inv }
+    ensures ids { (r j : ℕ) → ids_from others ≤ r → on rows.new r j ≡ on rows.old r j }
     ensures places { (r j : ℕ) → j ≢ k → on rows.new r j ≡ on rows.old r j }
     ensures shape { KeepsShape rows.old rows.new }
 {
@@ -112,6 +130,7 @@ fn put_ends(rows: &mut Rows, others: u16, k: usize, inv: Invariant)
 }
 
 /// Writes what the type `x` does to the invariant with number `k`.
+#[inline]
 fn put_masks(rows: &mut Rows, others: u16, k: usize, inv: Invariant, x: u16)
     requires low { others ≤ LAST_TYPE + 1 }
     requires typ { x ≤ others }

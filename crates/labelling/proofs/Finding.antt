@@ -10,7 +10,7 @@ use Rattle.partition_model.specs.Graphs.{Graph}
 use Rattle.partition_model.specs.Labels.{Reached}
 use Rattle.partition_model.proofs.Labelling.{walk_more, run_more}
 use Rattle.bit_rows.specs.Tables.{row_at, is_set, KeepsShape}
-use Rattle.labelling.specs.declared.layout.TheConstants.{STATES, LAST_PHASE, BROKEN_ROW, ALL_ROW}
+use Rattle.labelling.specs.declared.layout.TheConstants.{STATES, LAST_PHASE, BROKEN_ROW}
 use Rattle.labelling.specs.PhaseRows.{found_in}
 use Rattle.labelling.specs.Carried.{passes, IsPassed}
 use Rattle.labelling.specs.Found.{Found, Grows, StartsAt, FollowsAlong, HasStart, IsCarried, IsNothing, IsSameBut, AreNoted}
@@ -113,17 +113,17 @@ reached_turn inv g p s q r e =
 abbrev pub lets : List (List Bool) → ℕ → Bool → ℕ → Bool
 lets table mask back k = cond back (not (is_on table mask k)) (is_on table mask k)
 
--- of what is reached in the phase s the mask lets through what the type turns into t, and all of that
-pub record LetsThrough (invs : List Invariant) (table : List (List Bool)) (mask : ℕ) (back : Bool) (typ s t : ℕ) : Type 0 where
+-- of what is reached in the phase s the mask lets through what the type turns into t, and all of that, if row `from` has it
+pub record LetsThrough (invs : List Invariant) (table : List (List Bool)) (from mask : ℕ) (back : Bool) (typ s t : ℕ) : Type 0 where
   pub only : (k : ℕ) (inv : Invariant) (g : Graph) (p : ℕ) → slice_get invs k ≡ Some inv → ReachedIn inv g p s → lets table mask back k ≡ true → turn inv s typ ≡ t
-  pub all : (k : ℕ) (inv : Invariant) → slice_get invs k ≡ Some inv → turn inv s typ ≡ t → lets table mask back k ≡ true
+  pub all : (k : ℕ) (inv : Invariant) → slice_get invs k ≡ Some inv → turn inv s typ ≡ t → is_on table from k ≡ true → lets table mask back k ≡ true
 
 -- the mask of a move lets through those that make it
-pub move_lets : (bound : ℕ) (invs : List Invariant) (table : List (List Bool)) (x typ s t : ℕ) → AreMarked bound invs table → x ≤ bound
-    → ((k : ℕ) (inv : Invariant) (z : ℕ) → slice_get invs k ≡ Some inv → step inv z x ≡ step inv z typ) → s ≤ 1 → t ≤ s + 1 → LetsThrough invs table (move_row x s t) (s == t) typ s t
-move_lets bound invs table x typ s t h le acts low near = record {
+pub move_lets : (bound : ℕ) (invs : List Invariant) (table : List (List Bool)) (from x typ s t : ℕ) → AreMarked bound invs table → x ≤ bound
+    → ((k : ℕ) (inv : Invariant) (z : ℕ) → slice_get invs k ≡ Some inv → step inv z x ≡ step inv z typ) → s ≤ 1 → t ≤ s + 1 → LetsThrough invs table from (move_row x s t) (s == t) typ s t
+move_lets bound invs table from x typ s t h le acts low near = record {
   only = λ k inv g p at r on. eqb-true (turn inv s typ) t (sym (made k inv at) ∙ on);
-  all = λ k inv at is. made k inv at ∙ eq-eqb (turn inv s typ) t is;
+  all = λ k inv at is on. made k inv at ∙ eq-eqb (turn inv s typ) t is;
 }
   where
     made : (k : ℕ) (inv : Invariant) → slice_get invs k ≡ Some inv → lets table (move_row x s t) (s == t) k ≡ (turn inv s typ == t)
@@ -132,13 +132,13 @@ move_lets bound invs table x typ s t h le acts low near = record {
         ∙ ap (λ (z : ℕ). z == t) (turn_acts inv s x typ (acts k inv (phase_of inv.kind s) at))
 
 -- nothing leaves the last phase
-pub last_lets : (bound : ℕ) (invs : List Invariant) (table : List (List Bool)) (typ : ℕ) → AreMarked bound invs table → LetsThrough invs table ALL_ROW false typ LAST_PHASE LAST_PHASE
-last_lets bound invs table typ h = record {
+pub last_lets : (invs : List Invariant) (table : List (List Bool)) (from typ : ℕ) → LetsThrough invs table from from false typ LAST_PHASE LAST_PHASE
+last_lets invs table from typ = record {
   only = λ k inv g p at r on. last_stays inv g p LAST_PHASE typ r refl;
-  all = λ k inv at is. (h.marked k inv at).all;
+  all = λ k inv at is on. on;
 }
 
-module _ (bound : ℕ) (invs : List Invariant) (old new : List (List Bool)) (p q typ s t mask : ℕ) (back changed : Bool) (through : LetsThrough invs old mask back typ s t)
+module _ (bound : ℕ) (invs : List Invariant) (old new : List (List Bool)) (p q typ s t mask : ℕ) (back changed : Bool) (through : LetsThrough invs old (label_row bound p s) mask back typ s t)
     (in_p : p < MAX_PARTITIONS) (in_q : q < MAX_PARTITIONS) (low : s < STATES) (next : t < STATES) (h : IsPassed old new (label_row bound p s) (label_row bound q t) mask back changed) where
   -- what a move finds at the end of an edge is reached
   pub carried_follows : FollowsAlong p q typ (found_in bound invs old) (found_in bound invs new)
@@ -162,20 +162,20 @@ module _ (bound : ℕ) (invs : List Invariant) (old new : List (List Bool)) (p q
   carried_over k inv at on made =
       h.here k
       ∙ or_right (is_on old (label_row bound q t) k) (passes old (label_row bound p s) mask back k)
-      (and_from (is_on old (label_row bound p s) k) (lets old mask back k) on (through.all k inv at made))
+      (and_from (is_on old (label_row bound p s) k) (lets old mask back k) on (through.all k inv at made on))
 
 module _ (bound : ℕ) (invs : List Invariant) (old new : List (List Bool)) (t : ℕ) (changed : Bool)
-    (marked : AreMarked bound invs old) (next : t < STATES) (h : IsPassed old new (first_row t) (label_row bound INITIAL t) ALL_ROW false changed) where
+    (marked : AreMarked bound invs old) (next : t < STATES) (h : IsPassed old new (first_row t) (label_row bound INITIAL t) (first_row t) false changed) where
   -- what INITIAL begins with is reached there
   pub started_at : StartsAt (found_in bound invs old) (found_in bound invs new)
   started_at g is_typ before k inv r z at in_r in_z on = elim (cases_eq (label_row bound r z) (label_row bound INITIAL t)) [
     | inr ne ↦ before k inv r z at in_r in_z (ap (λ (y : List Bool). is_set y k) (sym (h.others (label_row bound r z) ne)) ∙ on)
     | inl same ↦
         let e = same_label bound r z INITIAL t in_z next same in
-        elim (or_cases (is_on old (label_row bound INITIAL t) k) (passes old (first_row t) ALL_ROW false k) (sym (h.here k) ∙ ap (λ (y : ℕ). is_on new y k) (sym same) ∙ on)) [
+        elim (or_cases (is_on old (label_row bound INITIAL t) k) (passes old (first_row t) (first_row t) false k) (sym (h.here k) ∙ ap (λ (y : ℕ). is_on new y k) (sym same) ∙ on)) [
           | inl was ↦ before k inv r z at in_r in_z (ap (λ (y : ℕ). is_on old y k) same ∙ was)
           | inr now ↦
-              let b = and_parts (is_on old (first_row t) k) (is_on old ALL_ROW k) now in
+              let b = and_parts (is_on old (first_row t) k) (is_on old (first_row t) k) now in
               let first : first_phase inv ≡ t = eqb-true (first_phase inv) t (sym ((marked.marked k inv at).first t next) ∙ b.0) in
               let begin : Reached inv g INITIAL (step inv 0 (g.typ INITIAL)) = ([], refl, refl) in
               let is : step inv 0 (g.typ INITIAL) ≡ phase_of inv.kind z =
@@ -188,8 +188,9 @@ module _ (bound : ℕ) (invs : List Invariant) (old new : List (List Bool)) (t :
   pub started : HasStart t (found_in bound invs new)
   started k inv at made =
       h.here k
-      ∙ or_right (is_on old (label_row bound INITIAL t) k) (passes old (first_row t) ALL_ROW false k)
-      (and_from (is_on old (first_row t) k) (is_on old ALL_ROW k) ((marked.marked k inv at).first t next ∙ eq-eqb (first_phase inv) t made) (marked.marked k inv at).all)
+      ∙ or_right (is_on old (label_row bound INITIAL t) k) (passes old (first_row t) (first_row t) false k)
+      (let begins : is_on old (first_row t) k ≡ true = (marked.marked k inv at).first t next ∙ eq-eqb (first_phase inv) t made in
+      and_from (is_on old (first_row t) k) (is_on old (first_row t) k) begins begins)
 
 -- a move that no monitor makes is carried by itself
 pub far_carried : (p s typ q t : ℕ) (found : Found) → s ≡ 0 → 1 < t → IsCarried p s typ q t found found

@@ -1,5 +1,5 @@
 -- Marks of invariants.
-use Rattle.std.proofs.Common.{◌≡◌, ◌≢◌, ℕ, zero, suc, ◌+◌, ◌*◌, ◌<◌, ◌≤◌, ◌==◌, Bool, true, false, not, eqb, List, [], set, refl, sym, ap, ◌∙◌, subst, arith, inl, inr}
+use Rattle.std.proofs.Common.{◌≡◌, ◌≢◌, ℕ, zero, suc, ◌+◌, ◌*◌, ◌<◌, ◌≤◌, ◌==◌, Bool, false, not, eqb, List, [], set, refl, sym, ap, ◌∙◌, subst, arith, inl, inr}
 use Rattle.std.proofs.lemmas.List.{get_or-set_same, get_or-set_other}
 use Rattle.std.proofs.lemmas.Bool.{cases_eq, cases_lt, ne_eqb}
 use Rattle.invariants.specs.declared.Kind.{Kind}
@@ -7,7 +7,7 @@ use Rattle.invariants.specs.declared.Kind.TheVariants.{AF, NF, AP, IB}
 use Rattle.invariants.specs.declared.Invariant.{Invariant}
 use Rattle.invariants.specs.Monitors.{step, step_of, is_bad}
 use Rattle.bit_rows.specs.Tables.{row_at, is_set, HasShape}
-use Rattle.labelling.specs.declared.layout.TheConstants.{STATES, BROKEN_ROW, ALL_ROW, MOVE_ROWS, MOVES}
+use Rattle.labelling.specs.declared.layout.TheConstants.{STATES, BROKEN_ROW, MOVE_ROWS, MOVES}
 use Rattle.labelling.specs.Layout.{is_on, bad_row, first_row, moves_row, labels_from, is_move, IsApart, IsMarked}
 use Rattle.labelling.specs.Phases.{phase_of, first_phase, turn}
 use Rattle.labelling.proofs.Turning.{phase_phase}
@@ -69,7 +69,6 @@ apart_moves x y m k ne low = elim (cases_lt y x) [
 pub marked_same : (bound : ℕ) (old new : List (List Bool)) (k : ℕ) (inv : Invariant) → ((r : ℕ) → r < labels_from bound → r ≢ BROKEN_ROW → is_on new r k ≡ is_on old r k)
     → IsMarked bound old k inv → IsMarked bound new k inv
 marked_same bound old new k inv same h = record {
-  all = same ALL_ROW (omega arith) (λ e. absurd (omega (arith, e))) ∙ h.all;
   bad = λ s low. same (bad_row s) (omega (arith, low)) (λ e. absurd (omega (arith, e, low))) ∙ h.bad s low;
   first = λ s low. same (first_row s) (omega (arith, low)) (λ e. absurd (omega (arith, e))) ∙ h.first s low;
   moves = λ x m le low. same (moves_row x + m) (omega (arith, le, low)) (λ e. absurd (omega (arith, e))) ∙ h.moves x m le low;
@@ -77,15 +76,14 @@ marked_same bound old new k inv same h = record {
 
 -- an invariant is marked once its bad phases, its first phase and the moves at both its types are
 pub marked_more : (bound : ℕ) (first one other : List (List Bool)) (k : ℕ) (inv : Invariant)
-    → is_on first ALL_ROW k ≡ true → ((s : ℕ) → s < STATES → is_on first (bad_row s) k ≡ is_bad inv s)
+    → ((s : ℕ) → s < STATES → is_on first (bad_row s) k ≡ is_bad inv s)
     → ((s : ℕ) → s < STATES → is_on first (first_row s) k ≡ (first_phase inv == s))
     → ((r : ℕ) → MOVE_ROWS ≤ r → is_on first r k ≡ false)
     → ((m : ℕ) → m < MOVES → is_on one (moves_row inv.a + m) k ≡ is_move inv inv.a m)
     → ((r j : ℕ) → IsApart inv.a k r j → is_on one r j ≡ is_on first r j)
     → ((m : ℕ) → m < MOVES → is_on other (moves_row inv.b + m) k ≡ is_move inv inv.b m)
     → ((r j : ℕ) → IsApart inv.b k r j → is_on other r j ≡ is_on one r j) → IsMarked bound other k inv
-marked_more bound first one other k inv all bad begins blank a apart_a b apart_b = record {
-  all = apart_b ALL_ROW k (inr (inl (omega arith))) ∙ apart_a ALL_ROW k (inr (inl (omega arith))) ∙ all;
+marked_more bound first one other k inv bad begins blank a apart_a b apart_b = record {
   bad = λ s low. apart_b (bad_row s) k (inr (inl (omega (arith, low)))) ∙ apart_a (bad_row s) k (inr (inl (omega (arith, low)))) ∙ bad s low;
   first = λ s low. apart_b (first_row s) k (inr (inl (omega (arith, low)))) ∙ apart_a (first_row s) k (inr (inl (omega (arith, low)))) ∙ begins s low;
   moves = λ x m le low. elim (cases_eq x inv.b) [

@@ -104,6 +104,20 @@ passed old new from to mask back changed shape in_from in_to in_mask is keeps st
       ];
     }
 
+-- what a row has in common with itself is the row
+both_same : (xs : List Bool) → both xs xs ≡ xs
+both_same [] = refl
+both_same (true ∷ xs) = ap (λ (t : List Bool). true ∷ t) (both_same xs)
+both_same (false ∷ xs) = ap (λ (t : List Bool). false ∷ t) (both_same xs)
+
+-- a row that takes up another one has got what that one passes through itself
+pub taken_up : (old new : List (List Bool)) (from to : ℕ) (changed : Bool)
+    → HasShape old (length old) (length (row_at old to)) → from < length old → to < length old → new ≡ set old to (either (row_at old to) (row_at old from))
+    → KeepsShape old new → OnFalse changed (new ≡ old) → OnTrue changed (new ≢ old) → IsPassed old new from to from false changed
+taken_up old new from to changed shape in_from in_to is keeps stays changes =
+    passed old new from to from false changed shape in_from in_to in_from
+    (is ∙ ap (λ (row : List Bool). set old to (either (row_at old to) row)) (sym (both_same (row_at old from)))) keeps stays changes
+
 -- a row of nothing but false has nothing on
 pub blank : (n k : ℕ) → is_set (replicate n false) k ≡ false
 blank n k = elim (cases_lt k n) [

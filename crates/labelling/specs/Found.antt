@@ -39,6 +39,13 @@ pub record Grows (old new : Found) (changed : Bool) : Type 0 where
   pub still : changed ≡ false → new ≡ old
   pub falls : changed ≡ true → new.off < old.off
 
+-- all phases found stay found; if the flag is true, bits were added
+pub record GrowsIf (old new : Found) (more : Bool) : Type 0 where
+  pub same : new.invs ≡ old.invs
+  pub keeps : (k p s : ℕ) → old.has k p s ≡ true → new.has k p s ≡ true
+  pub fewer : new.off ≤ old.off
+  pub falls : more ≡ true → new.off < old.off
+
 -- every phase newly found is reached, in any graph whose INITIAL has its own type
 abbrev pub StartsAt : Found → Found → Type 0
 StartsAt old new = (g : Graph) → g.typ INITIAL ≡ INITIAL → IsReachedIn g old → IsReachedIn g new
@@ -72,11 +79,6 @@ IsSameBut q old new = (k p s : ℕ) → p ≢ q → s < STATES → new.has k p s
 -- the id is not marked
 abbrev pub IsStill : List Bool → ℕ → Type 0
 IsStill marks p = slice_index_or marks p false ≡ false
-
--- an id that is not marked was not marked before, and what was propagated from it still is
-abbrev pub KeepsPropagated : List Bool → List Bool → Found → Found → Type 0
-KeepsPropagated was marks old new =
-    (p x q : ℕ) → IsStill marks p → IsStill was p × (IsPropagated p x q old old → IsPropagated p x q new new)
 
 -- if all found at p was propagated to q unless p was marked, it now is unless p is marked now
 abbrev pub IsFollowed : ℕ → ℕ → ℕ → List Bool → List Bool → List Bool → Found → Found → Type 0

@@ -1,10 +1,10 @@
 -- A table of rows with a bit for each invariant: which row means what.
-use Rattle.std.specs.Prelude.{◌≡◌, ◌≢◌, ◌⊎◌, ℕ, ◌+◌, ◌*◌, ◌<◌, ◌≤◌, ◌==◌, Bool, true, false, not, if◌then◌else◌, List, length, slice_get, Some}
+use Rattle.std.specs.Prelude.{◌≡◌, ◌≢◌, ◌⊎◌, ℕ, ◌+◌, ◌*◌, ◌<◌, ◌≤◌, ◌==◌, Bool, false, not, if◌then◌else◌, List, length, slice_get, Some}
 use Rattle.limits.specs.declared.TheConstants.{LAST_TYPE}
 use Rattle.invariants.specs.declared.Invariant.{Invariant}
 use Rattle.invariants.specs.Monitors.{is_bad}
 use Rattle.bit_rows.specs.Tables.{row_at, is_set, HasShape}
-use Rattle.labelling.specs.declared.layout.TheConstants.{STATES, LABEL_ROWS, BROKEN_ROW, FIRST_ROWS, ALL_ROW, MOVE_ROWS, MOVES}
+use Rattle.labelling.specs.declared.layout.TheConstants.{STATES, LABEL_ROWS, BROKEN_ROW, FIRST_ROWS, MOVE_ROWS, MOVES}
 use Rattle.labelling.specs.Phases.{first_phase, turn}
 
 -- the row for a bad phase
@@ -61,7 +61,6 @@ AreNamedBelow bound invs =
 -- the bits of invariant k in the rows that do not depend on the graph; all types from the bound on share the rows of
 -- the bound
 pub record IsMarked (bound : ℕ) (table : List (List Bool)) (k : ℕ) (inv : Invariant) : Type 0 where
-  pub all : is_on table ALL_ROW k ≡ true
   pub bad : (s : ℕ) → s < STATES → is_on table (bad_row s) k ≡ is_bad inv s
   pub first : (s : ℕ) → s < STATES → is_on table (first_row s) k ≡ (first_phase inv == s)
   pub moves : (x m : ℕ) → x ≤ bound → m < MOVES → is_on table (moves_row x + m) k ≡ is_move inv x m

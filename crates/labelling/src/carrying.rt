@@ -28,6 +28,19 @@ pub(crate) fn pass(rows: &mut Rows, from: usize, to: usize, mask: usize, back: b
     rows.or_and_into(to, from, mask)
 }
 
+/// Turns on in row `to` what is on in row `from`, and returns whether that changed row `to`.
+pub(crate) fn take_up(rows: &mut Rows, from: usize, to: usize) -> bool
+    requires shape { HasShape rows.old (length rows.old) (length (row_at rows.old to)) }
+    requires from_row { from < length rows.old }
+    requires to_row { to < length rows.old }
+    ensures { IsPassed rows.old rows.new from to from false result }
+{
+    if from == to {
+        return false;
+    }
+    rows.or_into(to, from)
+}
+
 /// Turns all bits off in the rows from `first` on and below `end`.
 pub(crate) fn clear_between(rows: &mut Rows, first: usize, end: usize)
     requires order { first ≤ end }

@@ -25,11 +25,8 @@ pub(crate) const BROKEN_ROW: usize = STATES;
 /// The first of the rows that say in which phase monitors are at INITIAL.
 pub(crate) const FIRST_ROWS: usize = BROKEN_ROW + 1;
 
-/// The row of all invariants.
-pub(crate) const ALL_ROW: usize = FIRST_ROWS + STATES;
-
 /// The first of the rows that say what a type does to a phase.
-pub(crate) const MOVE_ROWS: usize = ALL_ROW + 1;
+pub(crate) const MOVE_ROWS: usize = FIRST_ROWS + STATES;
 
 /// How many of these rows a type has: one for phase 0, which stays or becomes 1, and one for each phase that 1 becomes.
 /// Nothing leaves phase 2.
@@ -75,7 +72,7 @@ pub(crate) fn bad_row(phase: u8) -> usize
 pub(crate) fn first_row(phase: u8) -> usize
     requires { phase < STATES }
     ensures value { result ≡ first_row phase }
-    ensures within { (FIRST_ROWS ≤ result) × (result < ALL_ROW) }
+    ensures within { (FIRST_ROWS ≤ result) × (result < MOVE_ROWS) }
 {
     FIRST_ROWS + phase as usize
 }

@@ -6,7 +6,7 @@ ghost use Rattle.labelling.specs.declared.layout.TheConstants.{MOVES, MOVE_ROWS}
 ghost use Rattle.limits.specs.declared.TheConstants.{LAST_TYPE};
 ghost use Rattle.labelling.specs.Layout.{is_on, is_move, moves_row, AreMarked, AreNamedBelow, row_count, IsApart, IsFree, IsMarked};
 
-use crate::layout::{ALL_ROW, MOVES, bad_row, first_row, moves_row};
+use crate::layout::{MOVES, bad_row, first_row, moves_row};
 use crate::phases::{first_phase, turn};
 use bit_rows::Rows;
 use invariants::{Invariant, Monitor};
@@ -53,7 +53,6 @@ fn mark(rows: &mut Rows, bound: usize, count: usize, k: usize, inv: Invariant)
     ensures free { (r : ℕ) → IsFree bound r → is_on rows.new r k ≡ false }
     ensures others { (r j : ℕ) → j ≢ k → is_on rows.new r j ≡ is_on rows.old r j }
 {
-    rows.put(ALL_ROW, k, true);
     rows.put(first_row(first_phase(inv)), k, true);
     for phase in 0..3 {
         turn_on(rows, bad_row(phase), k, Monitor::bad(inv, phase));

@@ -7,10 +7,10 @@ ghost use Rattle.labelling.specs.declared.layout.TheConstants.{LAST_PHASE, STATE
 ghost use Rattle.labelling.specs.Layout.{AreMarked, IsBlankFrom};
 ghost use Rattle.labelling.specs.Labelled.{SaysSwapped};
 
-use crate::carrying::{clear_between, note_broken, pass};
+use crate::carrying::{clear_between, note_broken, pass, take_up};
 use crate::layout::{
-    ALL_ROW, BROKEN_ROW, LAST_PHASE, STATES, WORD_BITS, first_row, label_row, labels_from,
-    move_row, row_count,
+    BROKEN_ROW, LAST_PHASE, STATES, WORD_BITS, first_row, label_row, labels_from, move_row,
+    row_count,
 };
 use crate::marks::{bound_of, mark_all};
 use crate::phases::phase_of;
@@ -134,7 +134,7 @@ impl PhaseRows {
     {
         let to = label_row(self.bound, INITIAL, phase);
         self.used = self.used.max(to + 1);
-        pass(&mut self.rows, first_row(phase), to, ALL_ROW, false);
+        take_up(&mut self.rows, first_row(phase), to);
     }
 
     /// Finds the phase `next` at q for those invariants that have `phase` at p, if the type of q brings them from there
@@ -179,13 +179,7 @@ impl PhaseRows {
     {
         let to = label_row(self.bound, q, LAST_PHASE);
         self.used = self.used.max(to + 1);
-        pass(
-            &mut self.rows,
-            label_row(self.bound, p, LAST_PHASE),
-            to,
-            ALL_ROW,
-            false,
-        )
+        take_up(&mut self.rows, label_row(self.bound, p, LAST_PHASE), to)
     }
 
     /// The type whose rows say what this one does.
@@ -224,9 +218,22 @@ impl PhaseRows {
         ensures { (k : ℕ) → k < length (found self.now).invs
             → slice_index_or flags.new k false ≡ not ((found self.now).broken k) }
     {
-        for k in 0..flags.len() {
-            flags[k] = !self.rows.get(BROKEN_ROW, k);
+        for place in 0..flags.len().div_ceil(WORD_BITS) {
+            tell_off(flags, place * WORD_BITS, self.rows.word(BROKEN_ROW, place));
         }
+    }
+}
+
+/// Sets the flags from number `first` on, at most 64, to whether the bits of the word are off, beginning with the lowest.
+/// The other flags stay.
+fn tell_off(flags: &mut [bool], first: usize, word: u64)
+    requires { first < length flags.old }
+    ensures told { (k : ℕ) → k < 64 → first + k < length flags.old
+        → slice_index_or flags.new (first + k) false ≡ not (bit_at word k == 1) }
+    ensures others { (k : ℕ) → k < first → slice_index_or flags.new k false ≡ slice_index_or flags.old k false }
+{
+    for k in 0..WORD_BITS.min(flags.len() - first) {
+        flags[first + k] = (word >> k) & 1 == 0;
     }
 }
 

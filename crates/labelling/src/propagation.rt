@@ -6,11 +6,12 @@ ghost use Rattle.partition_graph.specs.Seen.{seen};
 ghost use Rattle.labelling.specs.declared.layout.TheConstants.{STATES};
 ghost use Rattle.partition_graph.specs.declared.links.Link.{Link};
 ghost use Rattle.labelling.specs.PhaseRows.{found};
-ghost use Rattle.labelling.specs.Found.{AreNoted, FollowsAlong, Grows, HasStart, IsExact, IsNothing, IsFollowed, IsReachedIn, IsSameBut, IsPropagated, IsStill, KeepsPropagated};
-ghost use Rattle.labelling.specs.Rounds.{ArePropagated};
+ghost use Rattle.labelling.specs.Found.{AreNoted, FollowsAlong, Grows, GrowsIf, HasStart, IsExact, IsNothing, IsFollowed, IsReachedIn, IsSameBut, IsPropagated, IsStill};
+ghost use Rattle.labelling.specs.Rounds.{ArePropagated, IsAhead, KeepsAhead, KeepsBehind};
 ghost use Rattle.partition_graph.specs.Links.{AreLinksOf, HasIds};
 
 use crate::phase_rows::PhaseRows;
+use clashes::link_after;
 use limits::{INITIAL, MAX_PARTITIONS};
 use partition_graph::{Link, View};
 
@@ -55,57 +56,80 @@ fn propagate(phase_rows: &mut PhaseRows, link: Link, typ: u16) -> bool
     changed
 }
 
-/// Propagates along a link if something new was found at its beginning, and returns whether anything new was found at
-/// its end. `recent` marks the ids at which something new was found in the round before, and `now` those in this round.
+/// Whether a pass comes to the links that begin at the end of this link after it has passed this link. A pass goes up the
+/// ids, or down if `from_end` is true.
+fn leads_ahead(link: Link, from_end: bool) -> bool
+    ensures { result ≡ true → IsAhead from_end link.from link.to }
+{
+    if from_end {
+        return link.to < link.from;
+    }
+    link.from < link.to
+}
+
+/// Propagates along a link if something new was found at its beginning. Marks the end of the link if something new is
+/// found there: in `recent` if the pass comes to the links that begin there later, and else in `now`, for the next pass.
+/// Returns whether it marked the end in `now`.
 fn follow(
     phase_rows: &mut PhaseRows,
     link: Link,
     typ: u16,
-    recent: &[bool],
+    from_end: bool,
+    recent: &mut [bool],
     now: &mut [bool],
 ) -> bool
     requires ids { HasIds link }
-    requires recent_room { length recent.now ≡ MAX_PARTITIONS }
+    requires recent_room { length recent.old ≡ MAX_PARTITIONS }
     requires now_room { length now.old ≡ MAX_PARTITIONS }
 
     // What is found at the end of the link.
-    ensures grows { Grows (found phase_rows.old) (found phase_rows.new) result }
+    ensures grows { GrowsIf (found phase_rows.old) (found phase_rows.new) result }
     ensures sound { FollowsAlong link.from link.to typ (found phase_rows.old) (found phase_rows.new) }
     ensures followed { IsFollowed
-        link.from typ link.to recent.now now.old now.new (found phase_rows.old) (found phase_rows.new) }
+        link.from typ link.to recent.old now.old now.new (found phase_rows.old) (found phase_rows.new) }
 
     // Elsewhere nothing is lost, and a mark is set only with something new.
-    ensures others { KeepsPropagated now.old now.new (found phase_rows.old) (found phase_rows.new) }
+    ensures ahead { KeepsAhead
+        recent.old recent.new now.old now.new (found phase_rows.old) (found phase_rows.new) }
+    ensures behind { KeepsBehind
+        from_end link.from now.old now.new (found phase_rows.old) (found phase_rows.new) }
     ensures quiet { result ≡ false → now.new ≡ now.old }
 {
-    let from = link.from as usize;
-    if !(recent[from] | now[from]) {
+    let (from, to) = (link.from as usize, link.to as usize);
+    if !recent[from] {
         return false;
     }
     if !propagate(phase_rows, link, typ) {
         return false;
     }
-    now[link.to as usize] = true;
+    if leads_ahead(link, from_end) {
+        recent[to] = true;
+        return false;
+    }
+    now[to] = true;
     true
 }
 
-/// Propagates once along each link at whose beginning something new was found, and returns whether anything new was
-/// found.
+/// Propagates once along each link at whose beginning something new was found, and returns whether something new was
+/// found that is left for the next pass. `recent` marks the ids at which something new is to be followed in this pass,
+/// and `now` those for the next pass. The links are passed in their order, or from the last to the first if `from_end`
+/// is true.
 fn follow_all(
     phase_rows: &mut PhaseRows,
     view: &View<'_>,
     links: &[Link],
-    recent: &[bool],
+    from_end: bool,
+    recent: &mut [bool],
     now: &mut [bool],
 ) -> bool
     requires links { AreLinksOf links.now (seen view.now) }
-    requires recent_room { length recent.now ≡ MAX_PARTITIONS }
+    requires recent_room { length recent.old ≡ MAX_PARTITIONS }
     requires now_room { length now.old ≡ MAX_PARTITIONS }
     requires none { (p : ℕ) → IsStill now.old p }
-    requires before { ArePropagated links.now (seen view.now) recent.now (found phase_rows.old) }
+    requires before { ArePropagated links.now (seen view.now) recent.old (found phase_rows.old) }
 
     // What is found grows, and is reached.
-    ensures grows { Grows (found phase_rows.old) (found phase_rows.new) result }
+    ensures grows { GrowsIf (found phase_rows.old) (found phase_rows.new) result }
     ensures sound { IsReachedIn (seen view.now) (found phase_rows.old)
         → IsReachedIn (seen view.now) (found phase_rows.new) }
 
@@ -113,12 +137,20 @@ fn follow_all(
     ensures after { ArePropagated links.now (seen view.now) now.new (found phase_rows.new) }
     ensures quiet { result ≡ false → (p : ℕ) → IsStill now.new p }
 {
-    let mut changed = false;
-    for link in links {
-        let more = follow(phase_rows, *link, view.type_of(link.to), recent, now);
-        changed = changed | more;
+    let mut again = false;
+    for done in 0..links.len() {
+        let link = link_after(links, done, from_end);
+        let more = follow(
+            phase_rows,
+            link,
+            view.type_of(link.to),
+            from_end,
+            recent,
+            now,
+        );
+        again = again | more;
     }
-    changed
+    again
 }
 
 /// Finds what is reached in the view. `links` are the links of the view.
@@ -133,9 +165,12 @@ pub(crate) fn label(phase_rows: &mut PhaseRows, view: &View<'_>, links: &[Link])
     let mut recent = no_marks();
     recent[INITIAL as usize] = true;
     let mut now = no_marks();
-    'labels: while follow_all(phase_rows, view, links, &recent, &mut now) {
+    // Every other pass goes down the ids, so that what leads back is soon found too.
+    let mut from_end = false;
+    'labels: while follow_all(phase_rows, view, links, from_end, &mut recent, &mut now) {
         recent = now;
         now = no_marks();
+        from_end = !from_end;
     }
     phase_rows.note();
 }

@@ -1,6 +1,6 @@
 use Rattle.std.proofs.Common.{◌+◌, ◌∙◌, arith, inl}
 use Rattle.clashes.specs.Layout.{enters_row, stays_row, falls_row}
-use Rattle.clashes.proofs.Columns.{column_named, usual_at}
+use Rattle.clashes.proofs.Columns.{column_named, usual_at, behind_masks}
 use Rattle.clashes.proofs.Idle.{idle_same}
 use Rattle.clashes.proofs.masks.put_column.Goals as goal
 
@@ -37,6 +37,9 @@ returns c =
     record {
       column = column_named c.put_ends.new.rows c.put_masks.new.rows c.put_masks-2.new.rows (c.args.others + 1) c.args.k c.args.inv
           (idle_same c.args.rows.now c.put_ends.new.rows (c.args.others + 1) c.args.k (λ r l. ends.masks r c.args.k l) c.requires.idle) ends.starts ends.bad a.masks b.masks;
+      ids = λ r j behind. behind_masks c.put_masks.new.rows c.put_masks-2.new.rows r c.args.others c.args.inv.b c.args.k j c.args.inv b.masks (omega (arith, c.requires.named)) behind
+          ∙ behind_masks c.put_ends.new.rows c.put_masks.new.rows r c.args.others c.args.inv.a c.args.k j c.args.inv a.masks (omega (arith, c.requires.named)) behind
+          ∙ ends.masks r j (omega (arith, behind));
       places = λ r j ne. b.masks.places r j ne ∙ a.masks.places r j ne ∙ ends.places r j ne;
       shape = λ n bits h. b.shape n bits (a.shape n bits (ends.shape n bits h));
     }

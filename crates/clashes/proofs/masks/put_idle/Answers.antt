@@ -33,3 +33,6 @@ returns-clause-idle c k l = idle_done c.loop-x.rows c.args.others c.loop-x.x c.a
 
 pub returns-clause-blank : goal.returns-clause-blank
 returns-clause-blank c = c.loop-x.invariant.1.blank
+
+pub returns-clause-ids : goal.returns-clause-ids
+returns-clause-ids c = c.loop-x.invariant.1.ids

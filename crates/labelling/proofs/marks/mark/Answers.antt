@@ -2,7 +2,6 @@ use Rattle.std.proofs.Common.{◌≡◌, ◌≢◌, ℕ, true, false, sym, ap, �
 use Rattle.std.proofs.lemmas.Bool.{cases_eq, eq-eqb, ne_eqb}
 use Rattle.invariants.specs.Monitors.{is_bad}
 use Rattle.bit_rows.specs.Tables.{HasShape}
-use Rattle.labelling.specs.declared.layout.TheConstants.{ALL_ROW}
 use Rattle.labelling.specs.Layout.{is_on, bad_row, first_row, row_count}
 use Rattle.labelling.specs.Phases.{first_phase}
 use Rattle.labelling.proofs.Marking.{put_here, put_row, put_other, marked_more, moves_off}
@@ -12,34 +11,26 @@ pub loop-phase-init : goal.loop-phase-init
 loop-phase-init c =
     let n : ℕ = row_count c.args.bound in
     let old = c.args.rows.now in
-    let mid = c.put.new.self in
-    let new = c.put-2.new.self in
+    let new = c.put.new.self in
     let k = c.args.k in
     let row = c.first_row.result in
-    let h : HasShape mid n c.args.count = c.put.ensures.shape n c.args.count c.requires.shape in
     let at : row ≡ first_row (first_phase c.args.inv) = c.first_row.ensures.value ∙ ap (λ (x : ℕ). first_row x) c.first_phase.ensures.value in
-    let before : (r : ℕ) → r ≢ ALL_ROW → is_on mid r k ≡ false = λ r ne. put_row old mid ALL_ROW r k k true c.put.ensures.rows ne ∙ c.requires.blank r in
-    let others : (r : ℕ) → r ≢ row → is_on new r k ≡ is_on mid r k = λ r ne. put_row mid new row r k k true c.put-2.ensures.rows ne in
+    let others : (r : ℕ) → r ≢ row → is_on new r k ≡ false = λ r ne. put_row old new row r k k true c.put.ensures.rows ne ∙ c.requires.blank r in
     record {
-      shape = λ a b s. c.put-2.ensures.shape a b (c.put.ensures.shape a b s);
-      all = others ALL_ROW (λ e. absurd (omega (arith, e, c.first_row.ensures.within))) ∙ put_here old mid n c.args.count ALL_ROW k true c.requires.shape (omega arith) c.requires.number c.put.ensures.rows;
+      shape = λ a b s. c.put.ensures.shape a b s;
       bad = λ s none. absurd (omega (arith, none));
-      off = λ s above low. others (bad_row s) (λ e. absurd (omega (arith, low, e, c.first_row.ensures.within))) ∙ before (bad_row s) (λ e. absurd (omega (arith, low, e)));
+      off = λ s above low. others (bad_row s) (λ e. absurd (omega (arith, low, e, c.first_row.ensures.within)));
       first = λ s low. elim (cases_eq (first_phase c.args.inv) s) [
         | inl same ↦
             ap (λ (x : ℕ). is_on new x k) (sym (at ∙ ap (λ (x : ℕ). first_row x) same))
-            ∙ put_here mid new n c.args.count row k true h (omega (arith, c.first_row.ensures.within)) c.requires.number c.put-2.ensures.rows
+            ∙ put_here old new n c.args.count row k true c.requires.shape (omega (arith, c.first_row.ensures.within)) c.requires.number c.put.ensures.rows
             ∙ sym (eq-eqb (first_phase c.args.inv) s same)
-        | inr ne ↦
-            others (first_row s) (λ e. absurd (omega (arith, e, at, ne))) ∙ before (first_row s) (λ e. absurd (omega (arith, e, low))) ∙ sym (ne_eqb (first_phase c.args.inv) s ne)
+        | inr ne ↦ others (first_row s) (λ e. absurd (omega (arith, e, at, ne))) ∙ sym (ne_eqb (first_phase c.args.inv) s ne)
       ];
-      moves = λ r above. others r (λ e. absurd (omega (arith, above, e, c.first_row.ensures.within))) ∙ before r (λ e. absurd (omega (arith, above, e)));
+      moves = λ r above. others r (λ e. absurd (omega (arith, above, e, c.first_row.ensures.within)));
       free = λ r f.
-          others r (λ e. elim f [ inl low ↦ omega (arith, low, e, c.first_row.ensures.within) | inr there ↦ omega (arith, there, e, c.first_row.ensures.within) ])
-          ∙ before r (λ e. elim f [ inl low ↦ omega (arith, low, e) | inr there ↦ omega (arith, there, e) ]);
-      others = λ r j ne.
-          put_other mid new n c.args.count row r j k true h (omega (arith, c.first_row.ensures.within)) c.requires.number c.put-2.ensures.rows ne
-          ∙ put_other old mid n c.args.count ALL_ROW r j k true c.requires.shape (omega arith) c.requires.number c.put.ensures.rows ne;
+          others r (λ e. elim f [ inl low ↦ omega (arith, low, e, c.first_row.ensures.within) | inr there ↦ omega (arith, there, e, c.first_row.ensures.within) ]);
+      others = λ r j ne. put_other old new n c.args.count row r j k true c.requires.shape (omega (arith, c.first_row.ensures.within)) c.requires.number c.put.ensures.rows ne;
     }
 
 pub loop-phase-preserved : goal.loop-phase-preserved
@@ -56,7 +47,6 @@ loop-phase-preserved c =
     let at : row ≡ bad_row c.loop-phase.phase = c.bad_row.ensures.value in
     record {
       shape = λ a b s. c.turn_on.ensures.shape a b (i.shape a b s);
-      all = put_row old new row ALL_ROW k k on is (λ e. absurd (omega (arith, e, at))) ∙ i.all;
       bad = λ s below. elim (cases_eq s c.loop-phase.phase) [
         | inl same ↦
             ap (λ (x : ℕ). is_on new (bad_row x) k) same ∙ ap (λ (x : ℕ). is_on new x k) (sym at)
@@ -88,7 +78,7 @@ returns c =
     let b = c.mark_moves-2.ensures in
     record {
       shape = λ x y s. b.shape x y (a.shape x y (i.shape x y s));
-      marked = marked_more c.args.bound c.loop-phase.rows c.mark_moves.new.rows c.mark_moves-2.new.rows c.args.k c.args.inv i.all (λ s low. i.bad s (omega arith)) i.first i.moves a.moves a.others b.moves b.others;
+      marked = marked_more c.args.bound c.loop-phase.rows c.mark_moves.new.rows c.mark_moves-2.new.rows c.args.k c.args.inv (λ s low. i.bad s (omega arith)) i.first i.moves a.moves a.others b.moves b.others;
       free = λ r f.
           (elim f [ inl low ↦ b.others r c.args.k (inr (inr (omega (arith, low, c.requires.named)))) ∙ a.others r c.args.k (inr (inr (omega (arith, low, c.requires.named)))) | inr at ↦ b.others r c.args.k (inr (inl (omega (arith, at)))) ∙ a.others r c.args.k (inr (inl (omega (arith, at)))) ])
           ∙ i.free r f;
@@ -104,3 +94,8 @@ turn_on-requires-clause-place c =
     let n : ℕ = row_count c.args.bound in
     let h : HasShape c.loop-phase.rows n c.args.count = c.loop-phase.invariant.shape n c.args.count c.requires.shape in
     omega (arith, h.long c.bad_row.result (omega (arith, c.bad_row.ensures.within)))
+
+pub turn_on-requires-clause-row : goal.turn_on-requires-clause-row
+turn_on-requires-clause-row c =
+    let h : HasShape c.loop-phase.rows (row_count c.args.bound) c.args.count = c.loop-phase.invariant.shape _ _ c.requires.shape in
+    omega (arith, h.count, c.bad_row.ensures.within)

@@ -1,7 +1,7 @@
-use Rattle.std.proofs.Common.{◌≡◌, ◌≢◌, ◌≤◌, ◌<◌, ◌==◌, ℕ, true, false}
+use Rattle.std.proofs.Common.{◌≡◌, ◌≢◌, ◌≤◌, ◌<◌, ◌==◌, ℕ, false}
 use Rattle.invariants.specs.Monitors.{is_bad}
 use Rattle.bit_rows.specs.Tables.{KeepsShape}
-use Rattle.labelling.specs.declared.layout.TheConstants.{STATES, MOVE_ROWS, ALL_ROW}
+use Rattle.labelling.specs.declared.layout.TheConstants.{STATES, MOVE_ROWS}
 use Rattle.labelling.specs.Layout.{is_on, bad_row, first_row, IsFree}
 use Rattle.labelling.specs.Phases.{first_phase}
 use Rattle.labelling.proofs.marks.mark.Given as goal
@@ -10,7 +10,6 @@ abbrev pub invariant-loop-phase : goal.invariant-loop-phase
 invariant-loop-phase l =
     record {
       shape : KeepsShape l.fn.rows l.rows;
-      all : is_on l.rows ALL_ROW l.k ≡ true;
       bad : (s : ℕ) → s < l.phase → is_on l.rows (bad_row s) l.k ≡ is_bad l.inv s;
       off : (s : ℕ) → l.phase ≤ s → s < STATES → is_on l.rows (bad_row s) l.k ≡ false;
       first : (s : ℕ) → s < STATES → is_on l.rows (first_row s) l.k ≡ (first_phase l.inv == s);

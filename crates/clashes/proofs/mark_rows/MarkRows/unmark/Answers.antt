@@ -4,7 +4,8 @@ use Rattle.clashes.specs.Marks.{Marks}
 use Rattle.clashes.specs.Layout.{fore_row, back_row, row_count, marks_in}
 use Rattle.clashes.specs.Changes.{IsUnmarked}
 use Rattle.clashes.proofs.Bits.{IsCleared, clear_done}
-use Rattle.clashes.proofs.Laid.{KeepsMasks, cleared_keeps, keeps_then, laid_kept, unmarked}
+use Rattle.clashes.proofs.Laid.{KeepsMasks, cleared_keeps, keeps_then, unmarked}
+use Rattle.clashes.proofs.Kept.{cleared_blank, kept_more}
 use Rattle.clashes.proofs.mark_rows.MarkRows.unmark.Goals as goal
 
 fore-cleared : (c : goal.After-clear-2) → IsCleared c.self.inside.rows c.clear.new.self (fore_row c.self.inside.others c.args.p)
@@ -22,7 +23,8 @@ pub invariant_of-self : goal.invariant_of-self
 invariant_of-self c =
     let one : KeepsMasks c.self.inside.others c.self.inside.rows c.clear.new.self = cleared_keeps c.self.inside.others c.self.inside.rows c.clear.new.self (fore_row c.self.inside.others c.args.p) c.clear.ensures.shape (fore-cleared c) (omega (arith, c.requires)) in
     let two : KeepsMasks c.self.inside.others c.clear.new.self c.clear-2.new.self = cleared_keeps c.self.inside.others c.clear.new.self c.clear-2.new.self (back_row c.self.inside.others c.args.p) c.clear-2.ensures.shape (back-cleared c) (omega (arith, c.requires)) in
-    laid_kept c.self.inside.invs.items c.self.inside.others c.self.inside.rows c.clear-2.new.self (keeps_then c.self.inside.others c.self.inside.rows c.clear.new.self c.clear-2.new.self one two) c.self.invariant
+    kept_more c.self.inside.invs.items c.self.inside.others c.self.inside.masked c.self.inside.rows c.clear-2.new.self (keeps_then c.self.inside.others c.self.inside.rows c.clear.new.self c.clear-2.new.self one two)
+    (λ off. cleared_blank c.clear.new.self c.clear-2.new.self (back_row c.self.inside.others c.args.p) (back-cleared c) (cleared_blank c.self.inside.rows c.clear.new.self (fore_row c.self.inside.others c.args.p) (fore-cleared c) off)) c.self.invariant
 
 pub returns : goal.returns
 returns c =

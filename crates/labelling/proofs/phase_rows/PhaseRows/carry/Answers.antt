@@ -21,8 +21,8 @@ pub returns : goal.returns
 returns c =
     let h = at-rows (goal.at.returns c).After-pass in
     let b = c.args.self.now in
-    let lets : LetsThrough b.invs.items b.rows (move_row c.row_type.result c.args.phase c.args.next) (c.args.phase == c.args.next) c.args.typ c.args.phase c.args.next =
-    move_lets b.bound b.invs.items b.rows c.row_type.result c.args.typ c.args.phase c.args.next b.marked c.row_type.ensures.within (λ k inv z at. c.row_type.ensures.acts k inv z at) (omega arith) (omega arith) in
+    let lets : LetsThrough b.invs.items b.rows (label_row b.bound c.args.p c.args.phase) (move_row c.row_type.result c.args.phase c.args.next) (c.args.phase == c.args.next) c.args.typ c.args.phase c.args.next =
+    move_lets b.bound b.invs.items b.rows (label_row b.bound c.args.p c.args.phase) c.row_type.result c.args.typ c.args.phase c.args.next b.marked c.row_type.ensures.within (λ k inv z at. c.row_type.ensures.acts k inv z at) (omega arith) (omega arith) in
     record {
       grows = passed_grows b.bound b.invs.items b.rows c.pass.new.rows _ _ _ (c.args.phase == c.args.next) c.pass.result h;
       sound = carried_follows b.bound b.invs.items b.rows c.pass.new.rows c.args.p c.args.q c.args.typ c.args.phase c.args.next _ _ c.pass.result lets c.requires.from c.requires.to (omega (arith, c.requires.phase)) c.requires.next h;
