@@ -1,5 +1,5 @@
 -- The times of events.
-use Rattle.std.specs.Prelude.{ℕ, ◌+◌, ◌*◌, ◌-◌, ◌^◌, ◌==◌, ◌&&◌, Bool, List, length, nat_lt, nat_le, Option, Some, None, if◌then◌else◌}
+use Rattle.std.specs.Prelude.{◌≡◌, ℕ, ◌+◌, ◌*◌, ◌-◌, ◌^◌, ◌<◌, ◌≤◌, ◌==◌, ◌&&◌, Bool, true, false, List, length, take, slice_index, nat_lt, nat_le, Option, Some, None, if◌then◌else◌}
 use Rattle.std.specs.List.{list_any, list_all, before_first, after_first}
 use Rattle.std.specs.Str.Parse.{digits_value}
 
@@ -31,3 +31,15 @@ abbrev pub time_of : List ℕ → Option ℕ
 time_of text =
     if list_any is_point text then fractional_time (before_first is_point text) (after_first is_point text)
     else whole_time text
+
+-- the billionths of a fraction of 1 to 9 digits
+abbrev pub billionths : List ℕ → Option ℕ
+billionths fraction = if are_digits 9 fraction then Some (digits_value 10 fraction * 10 ^ (9 - length fraction)) else None
+
+-- the digits at the head of a text, at most so many: the number that they write, and how many they are
+pub record IsHead (most : ℕ) (text : List ℕ) (number count : ℕ) : Type 0 where
+  pub within : count ≤ length text
+  pub few : count ≤ most
+  pub digits : list_all is_digit (take count text) ≡ true
+  pub value : number ≡ digits_value 10 (take count text)
+  pub ends : count < most → count < length text → is_digit (slice_index text count) ≡ false
