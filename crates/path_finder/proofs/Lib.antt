@@ -9,3 +9,7 @@ pub mod WordSets
 pub mod WordSteps
 pub mod OpenPairs
 pub mod Marked
+pub mod PairSets
+pub mod Levels
+pub mod Parts
+pub mod Ends

@@ -1,5 +1,5 @@
 -- What is kept when an id is met.
-use Rattle.std.proofs.Common.{◌≡◌, ◌≢◌, ◌==◌, nat_lt, ℕ, zero, suc, ◌+◌, ◌<◌, ◌≤◌, true, false, not, ◌&&◌, refl, Bool, List, [], ◌∷◌, ◌++◌, length, replicate, slice_get, set, get_or, count_by, Some, sym, ◌∙◌, ap, subst, inl, inr, arith, get_or-set_same, get_or-set_other, length-append, if◌then◌else◌, sum_by}
+use Rattle.std.proofs.Common.{◌≡◌, ◌≢◌, ◌⊎◌, ◌==◌, nat_lt, ℕ, zero, suc, ◌+◌, ◌<◌, ◌≤◌, true, false, not, ◌&&◌, refl, Bool, List, [], ◌∷◌, ◌++◌, length, replicate, slice_get, set, get_or, count_by, Some, sym, ◌∙◌, ap, subst, inl, inr, arith, get_or-set_same, get_or-set_other, length-append, if◌then◌else◌, sum_by}
 use Rattle.std.proofs.lemmas.Bool.{cases_eq, cases_lt, cases_Bool, and_parts, ltb-true, eqb-true, true≢false}
 use Rattle.std.proofs.lemmas.List.{length-set, length-replicate}
 use Rattle.std.proofs.lemmas.List.Sums.{sum_by-set, count_by-le-length}
@@ -11,7 +11,24 @@ use Rattle.partition_graph.specs.Parts.{HasEdgesBelow}
 use Rattle.path_finder.specs.declared.reach.Way.{Way}
 use Rattle.path_finder.specs.declared.reach.Way.TheVariants.{Ahead, Behind}
 use Rattle.path_finder.specs.Reaching.{edge_by, meeting, IsCounted, IsReaching, MeetsMore}
-use Rattle.path_finder.proofs.Entering.{slice_get_kept, slice_get_last, slice_get_push}
+
+-- elements of a list with one more at its end
+slice_get_kept : {X : Type 0} (xs ys : List X) (i : ℕ) (x : X) → slice_get xs i ≡ Some x → slice_get (xs ++ ys) i ≡ Some x
+slice_get_kept [] ys i x e = absurd (cc e)
+slice_get_kept (y ∷ xs) ys zero x e = e
+slice_get_kept (y ∷ xs) ys (suc i) x e = slice_get_kept xs ys i x e
+
+-- the element that was put at the end
+slice_get_last : {X : Type 0} (xs : List X) (y : X) → slice_get (xs ++ y ∷ []) (length xs) ≡ Some y
+slice_get_last [] y = refl
+slice_get_last (x ∷ xs) y = slice_get_last xs y
+
+-- an element of a longer list is an earlier one or the last
+slice_get_push : {X : Type 0} (xs : List X) (y : X) (i : ℕ) (x : X) → slice_get (xs ++ y ∷ []) i ≡ Some x → (slice_get xs i ≡ Some x) ⊎ ((i ≡ length xs) × (y ≡ x))
+slice_get_push [] y zero x e = inr (refl, same_Some y x e)
+slice_get_push [] y (suc i) x e = absurd (cc e)
+slice_get_push (z ∷ xs) y zero x e = inl e
+slice_get_push (z ∷ xs) y (suc i) x e = elim (slice_get_push xs y i x e) [ inl a ↦ inl a | inr b ↦ inr (ap suc b.0, b.1) ]
 
 -- the id is put behind those that are met
 abbrev pub with_id : Met → ℕ → Met

@@ -27,7 +27,7 @@ pub is-in : (one other : ℕ → Bool) (words : List ℕ) (p : ℕ) → p < 1024
 is-in one other words p l are k = in-word (λ n. one n || other n) words p (are (p / 64) (omega (arith, l, div-add-mod' p 64))) k
 
 -- what is past the end of a list of words
-past-end : (words : List ℕ) (k : ℕ) → length words ≤ k → slice_index words k ≡ 0
+pub past-end : (words : List ℕ) (k : ℕ) → length words ≤ k → slice_index words k ≡ 0
 past-end [] k l = refl
 past-end (w ∷ words) zero l = absurd (omega arith)
 past-end (w ∷ words) (suc k) l = past-end words k (omega arith)

@@ -7,4 +7,6 @@ pub mod Sound
 pub mod Surveys
 pub mod Walks
 pub mod Tables
-pub mod Turns
+pub mod PairSets
+pub mod Gathering
+pub mod Levels

@@ -12,8 +12,11 @@
 
 mod breadth;
 mod finder;
+mod gather;
 mod id_set;
+mod level;
 mod pair;
+mod pair_set;
 mod question;
 mod reach;
 mod search;

@@ -1,8 +1,8 @@
 //! The table of distances.
-ghost use Rattle.std.specs.Prelude.{◌≡◌, ◌≤◌, ◌<◌, ◌+◌, [], length, replicate, slice_get, IfOk};
+ghost use Rattle.std.specs.Prelude.{◌≡◌, ◌≤◌, ◌<◌, [], length, replicate, IfOk};
 ghost use Rattle.partition_graph.specs.NeighbourWords.{IsWordOf};
 ghost use Rattle.partition_graph.specs.declared.id_rows.TheConstants.{ID_WORDS};
-ghost use Rattle.path_finder.specs.Tables.{at, is_entered, open_count, place, with_pair};
+ghost use Rattle.path_finder.specs.Tables.{at, is_entered, place, with_pair};
 
 use crate::pair::{Pair, STATES};
 use bit_rows::Rows;
@@ -20,13 +20,12 @@ pub(crate) const MAX_ENTRIES: usize = IDS * STATES;
 /// The distance of a pair that was not entered.
 pub(crate) const OPEN: u16 = 65535;
 
-/// A distance for each pair, and the pairs in the order in which they were entered.
+/// A distance for each pair.
 ///
 /// The distance of a pair is the number of edges of the shortest walk from it to TERMINAL that ends in the bad state.
 #[derive(Drop)]
 pub(crate) struct Table {
     distances: Vec<u16>,
-    entered: Vec<Pair>,
     /// One row, with the bits of all ids for each state: whether the pair was entered.
     marks: Rows,
 }
@@ -38,35 +37,27 @@ impl Model for Table {
 
     ghost Value = { Entries };
 
-    ghost view = { λ t. record { distances = t.distances.items; entered = t.entered.items } };
+    ghost view = { λ t. record { distances = t.distances.items } };
 
     ghost invariant = { λ t.
-        (MAX_ENTRIES ≤ vec_capacity t.distances) × (MAX_ENTRIES ≤ vec_capacity t.entered)
-        × AreMarked t.marks t.distances.items };
+        (MAX_ENTRIES ≤ vec_capacity t.distances) × AreMarked t.marks t.distances.items };
 }
 
 impl Table {
     /// An empty table with the memory for all pairs.
     pub fn make(alloc: Global) -> Result<Table, AllocError>
-        ensures { IfOk result (λ table. table.entered ≡ []) }
+        ensures { IfOk result (λ table. table.distances ≡ []) }
     {
         let distances = Vec::with_capacity(alloc, MAX_ENTRIES)?;
-        let entered = Vec::with_capacity(alloc, MAX_ENTRIES)?;
         let marks = Rows::make(alloc, 1, MAX_ENTRIES)?;
-        Ok(Table {
-            distances,
-            entered,
-            marks,
-        })
+        Ok(Table { distances, marks })
     }
 
     /// Leaves this many pairs, all of them open.
     pub fn clear(&mut self, pairs: usize)
         requires { pairs ≤ MAX_ENTRIES }
         ensures distances { (self.new).distances ≡ replicate pairs OPEN }
-        ensures entered { (self.new).entered ≡ [] }
     {
-        self.entered.clear();
         self.marks.clear(0);
         self.distances.clear();
         if self.distances.resize(pairs, OPEN).is_err() {
@@ -92,25 +83,16 @@ impl Table {
         self.marks.word(0, state as usize * ID_WORDS + place)
     }
 
-    /// The pair that was entered as number `index`, counted from 0; `None` if fewer pairs were entered.
-    pub fn entered(&self, index: usize) -> Option<Pair>
-        ensures { result ≡ slice_get (self.now).entered index }
-    {
-        self.entered.get(index).copied()
-    }
-
     /// Enters an open pair with this distance.
     pub fn enter(&mut self, pair: Pair, distance: u16)
         requires state { pair.state < 3 }
         requires within { place pair < length (self.old).distances }
         requires stands_open { at self.old pair ≡ OPEN }
         requires closes { distance < OPEN }
-        requires room { length (self.old).entered + open_count self.old ≤ MAX_ENTRIES }
         ensures { self.new ≡ with_pair self.old pair distance }
     {
         self.distances[pair.id as usize * STATES + pair.state as usize] = distance;
         self.marks
             .put(0, pair.state as usize * IDS + pair.id as usize, true);
-        self.entered.push_reserved(pair);
     }
 }

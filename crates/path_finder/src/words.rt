@@ -55,6 +55,7 @@ pub(crate) fn without_bit(word: u64, place: u32) -> u64
     requires { place < 64 }
     ensures there { bit_at result place ≡ 0 }
     ensures others { (i : ℕ) → i < 64 → i ≢ place → bit_at result i ≡ bit_at word i }
+    ensures fewer { bit_at word place ≡ 1 → result < word }
 {
     word & !(1 << place)
 }

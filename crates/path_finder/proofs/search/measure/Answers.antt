@@ -1,50 +1,36 @@
-use Rattle.std.proofs.Common.{◌≡◌, ◌≢◌, ◌≤◌, ◌<◌, ◌*◌, ◌∙◌, sym, length, arith}
-use Rattle.limits.specs.declared.TheConstants.{MAX_PARTITIONS}
+use Rattle.std.proofs.Common.{◌≢◌, ◌*◌, ◌∙◌, ℕ, ap, replicate, arith}
 use Rattle.path_finder.specs.declared.pair.TheConstants.{STATES}
 use Rattle.path_finder.specs.declared.table.TheConstants.{OPEN}
 use Rattle.path_finder.specs.Asking.{asked}
-use Rattle.path_finder.specs.Walks.{IsPairOf}
-use Rattle.path_finder.specs.Tables.{at, place}
+use Rattle.path_finder.proofs.Ends.{begins}
 use Rattle.path_finder.proofs.Entering.{place_within}
-use Rattle.path_finder.proofs.Measuring.{all_measured, start_measured, turn_pair}
+use Rattle.path_finder.proofs.Levels.{all-measured, next-due, start-measured}
 use Rattle.path_finder.proofs.search.measure.Goals as goal
 
-pub returns-in_default : goal.returns-in_default
-returns-in_default c =
-    all_measured (asked c.args.question.now) c.loop-start.next c.loop-start.table c.args.start c.args.question.now.few c.args.question.now.within c.loop-start.invariant.searched c.loop-start.invariant.ends
-    (sym c.distance.ensures ∙ c.loop-start-test.true) (sym c.entered.ensures ∙ c.in_default.is)
+pub levels-init : goal.levels-init
+levels-init c = begins (asked c.args.question.now) c.clear.new.self c.ends-found.result c.none-level.result c.args.question.now.two c.args.question.now.few (c.clear.ensures.distances ∙ ap (λ (n : ℕ). replicate (n * STATES) OPEN) c.ids.ensures.value) c.ends-found.ensures c.none-level.ensures
 
-pub distance-distance-requires : goal.distance-distance-requires
-distance-distance-requires c =
-    let t : IsPairOf (asked c.args.question.now) c.in-Some.pair × (at c.loop-start.table c.in-Some.pair ≤ c.loop-start.next) × (c.loop-start.next < (asked c.args.question.now).ids * STATES) =
-    turn_pair (asked c.args.question.now) c.loop-start.next c.loop-start.table c.in-Some.pair c.loop-start.invariant.searched (sym c.entered.ensures ∙ c.in-Some.is) in
-    let l : place c.in-Some.pair < (asked c.args.question.now).ids * STATES = place_within (asked c.args.question.now) c.in-Some.pair t.0 in
-    let z : length c.loop-start.table.distances ≡ (asked c.args.question.now).ids * STATES = c.loop-start.invariant.searched.size in
-    omega arith
+pub distance-requires : goal.distance-requires
+distance-requires c = omega (arith, place_within (asked c.args.question.now) c.args.start c.requires, c.enter_level.ensures.reached.known.size)
+
+pub returns-then-distance : goal.returns-then-distance
+returns-then-distance c =
+    let n : c.distance.result ≢ OPEN = c.if-distance.true in
+    start-measured (asked c.args.question.now) c.levels.distance c.enter_level.new.table c.enter_level.new.level c.args.start c.enter_level.ensures.reached c.requires (omega (arith, n, c.distance.ensures, c.distance.type_inv))
 
 pub overflow_add-distance : goal.overflow_add-distance
-overflow_add-distance c =
-    let t : IsPairOf (asked c.args.question.now) c.in-Some.pair × (at c.loop-start.table c.in-Some.pair ≤ c.loop-start.next) × (c.loop-start.next < (asked c.args.question.now).ids * STATES) =
-    turn_pair (asked c.args.question.now) c.loop-start.next c.loop-start.table c.in-Some.pair c.loop-start.invariant.searched (sym c.entered.ensures ∙ c.in-Some.is) in
-    let few : (asked c.args.question.now).ids ≤ MAX_PARTITIONS = c.args.question.now.few in
-    omega (arith, t.1, t.2)
+overflow_add-distance c = omega (arith, c.enter_level.ensures.reached.room, c.args.question.now.few)
 
-pub overflow_add-next : goal.overflow_add-next
-overflow_add-next c =
-    let t : IsPairOf (asked c.args.question.now) c.in-Some.pair × (at c.loop-start.table c.in-Some.pair ≤ c.loop-start.next) × (c.loop-start.next < (asked c.args.question.now).ids * STATES) =
-    turn_pair (asked c.args.question.now) c.loop-start.next c.loop-start.table c.in-Some.pair c.loop-start.invariant.searched (sym c.entered.ensures ∙ c.in-Some.is) in
-    let few : (asked c.args.question.now).ids ≤ MAX_PARTITIONS = c.args.question.now.few in
-    omega (arith, t.1, t.2)
+pub levels-preserved : goal.levels-preserved
+levels-preserved c =
+    let o = c.enter_level.ensures in
+    next-due (asked c.args.question.now) c.levels.distance c.enter_level.new.table c.enter_level.new.level c.enter_level.new.found c.gather.new.found c.gather.new.level
+    c.args.question.now.within c.args.question.now.few o.reached (o.some c.levels-test.true) o.emptied c.gather.ensures.marked c.gather.ensures.gathered c.gather.ensures.emptied
 
-pub loop-start-smaller : goal.loop-start-smaller
-loop-start-smaller c =
-    let t : IsPairOf (asked c.args.question.now) c.in-Some.pair × (at c.loop-start.table c.in-Some.pair ≤ c.loop-start.next) × (c.loop-start.next < (asked c.args.question.now).ids * STATES) =
-    turn_pair (asked c.args.question.now) c.loop-start.next c.loop-start.table c.in-Some.pair c.loop-start.invariant.searched (sym c.entered.ensures ∙ c.in-Some.is) in
-    let l : c.loop-start.next < c.args.question.now.ids * STATES = t.2 in
-    omega arith
+pub levels-smaller : goal.levels-smaller
+levels-smaller c = omega (arith, c.enter_level.ensures.some c.levels-test.true)
 
 pub returns : goal.returns
 returns c =
-    let n : c.distance.result ≢ OPEN = c.loop-start-test.false in
-    start_measured (asked c.args.question.now) c.loop-start.next c.loop-start.table c.args.start c.args.question.now.few c.args.question.now.within c.loop-start.invariant.searched c.loop-start.invariant.ends c.requires
-    (omega (arith, c.distance.ensures, c.distance.type_inv))
+    all-measured (asked c.args.question.now) c.levels.distance c.enter_level.new.table c.enter_level.new.level c.args.start c.args.question.now.within c.enter_level.ensures.reached
+    (c.enter_level.ensures.none c.levels-test.false)

@@ -1,15 +1,11 @@
-use Rattle.std.proofs.Common.{◌*◌, ◌-◌}
+use Rattle.std.proofs.Common.{◌-◌, ◌*◌}
 use Rattle.path_finder.specs.declared.pair.TheConstants.{STATES}
 use Rattle.path_finder.specs.Asking.{asked}
-use Rattle.path_finder.specs.Tables.{IsSearched, HasEnds}
+use Rattle.path_finder.specs.Levels.{IsDue}
 use Rattle.path_finder.proofs.search.measure.Given as goal
 
-abbrev pub invariant-loop-start : goal.invariant-loop-start
-invariant-loop-start l =
-    record {
-      searched : IsSearched (asked l.question) l.next l.table;
-      ends : HasEnds (asked l.question) l.table;
-    }
+abbrev pub invariant-levels : goal.invariant-levels
+invariant-levels l = IsDue (asked l.question) l.distance l.table l.found l.level
 
-abbrev pub decreases-loop-start : goal.decreases-loop-start
-decreases-loop-start l = l.question.ids * STATES - l.next
+abbrev pub decreases-levels : goal.decreases-levels
+decreases-levels l = l.question.ids * STATES - l.distance

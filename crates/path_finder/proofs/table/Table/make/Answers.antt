@@ -8,6 +8,5 @@ pub invariant_of-result : goal.invariant_of-result
 invariant_of-result c =
     let none : length c.in_ok-distances.distances.items ≡ 0 = ap (λ (xs : List ℕ). length xs) c.in_ok-distances.ensures.items in (
       c.in_ok-distances.ensures.capacity,
-      c.in_ok-entered.ensures.capacity,
       blank-marked c.in_ok-marks.marks c.in_ok-distances.distances.items c.in_ok-marks.ensures.shape (omega (arith, none)) (λ i. blank_rows c.in_ok-marks.marks 1 MAX_ENTRIES 0 i c.in_ok-marks.ensures.rows (omega arith)) (λ k inside. absurd (omega (arith, none, inside))),
     )

@@ -1,0 +1,71 @@
+-- The pairs of TERMINAL, from which the search begins.
+use Rattle.std.proofs.Common.{◌≡◌, ◌==◌, ◌≤◌, ◌+◌, ◌*◌, ◌/◌, ◌%◌, ℕ, true, false, List, length, replicate, sym, ap, ◌∙◌, inl, inr, get_or, arith}
+use Rattle.std.proofs.lemmas.Bool.{cases_eq, cases_lt, true≢false}
+use Rattle.std.proofs.lemmas.List.{get_or-replicate, length-replicate}
+use Rattle.std.proofs.lemmas.List.Sums.{count_by-le-length}
+use Rattle.std.proofs.lemmas.Nat.{div-add-mod'}
+use Rattle.std.proofs.lemmas.Nat.Bits.{bit_at-pow_other}
+use Rattle.invariants.specs.Monitors.{is_bad}
+use Rattle.limits.specs.declared.TheConstants.{MAX_PARTITIONS}
+use Rattle.path_finder.specs.declared.pair.TheConstants.{STATES}
+use Rattle.path_finder.specs.declared.table.TheConstants.{OPEN}
+use Rattle.path_finder.specs.declared.pair_set.PairSet.{PairSet}
+use Rattle.path_finder.specs.Levels.{HasEndsBelow, IsDue}
+use Rattle.path_finder.specs.PairSets.{IsAdded, IsEmptySet, IsMarked}
+use Rattle.path_finder.specs.Tables.{Entries}
+use Rattle.path_finder.specs.Walks.{Asked}
+use Rattle.path_finder.proofs.Entering.{place_within}
+use Rattle.path_finder.proofs.Levels.{first-due, no-pair}
+use Rattle.path_finder.proofs.PairSets.{on}
+
+-- the bit of TERMINAL is the only one that is on
+only-bit : (i : ℕ) → on 2 i ≡ true → i ≡ 1
+only-bit i e = elim (cases_eq i 1) [
+  | inl same ↦ same
+  | inr other ↦ absurd (true≢false (sym e ∙ ap (λ (b : ℕ). b == 1) (bit_at-pow_other 1 i other)))
+]
+
+-- TERMINAL in one bad state more
+pub ends-more : (a : Asked) (state : ℕ) (old new : PairSet) → HasEndsBelow a state old → IsMarked new → IsAdded old new (record { state = state; place = 0; word = 2 }) → is_bad a.inv state ≡ true → HasEndsBelow a (state + 1) new
+ends-more a state old new ends marked added bad =
+    record {
+      marked = marked;
+      ends = λ r is. elim (added.others r is.id is.has) [
+        | inl was ↦ ends.ends r (record { state = is.state; id = is.id; has = was })
+        | inr among ↦ (
+          omega (arith, among.place, only-bit (r.id % 64) among.bit, div-add-mod' r.id 64),
+          ap (λ (s : ℕ). is_bad a.inv s) among.state ∙ bad,
+        )
+      ];
+      all = λ r id low b. elim (cases_lt r.state state) [
+        | inl before ↦ added.kept r (ends.all r id before b)
+        | inr here ↦ added.added r (record { state = omega (arith, low, here); place = ap (λ (n : ℕ). n / 64) id; bit = ap (λ (n : ℕ). on 2 (n % 64)) id })
+      ];
+    }
+
+-- a state that is not bad
+pub ends-same : (a : Asked) (state : ℕ) (s : PairSet) → HasEndsBelow a state s → is_bad a.inv state ≡ false → HasEndsBelow a (state + 1) s
+ends-same a state s ends good =
+    record {
+      marked = ends.marked;
+      ends = ends.ends;
+      all = λ r id low b. elim (cases_lt r.state state) [
+        | inl before ↦ ends.all r id before b
+        | inr here ↦
+            let same : r.state ≡ state = omega (arith, low, here) in
+            absurd (true≢false (sym b ∙ ap (λ (n : ℕ). is_bad a.inv n) same ∙ good))
+      ];
+    }
+
+-- no end was found yet
+pub no-ends : (a : Asked) (s : PairSet) → IsEmptySet s → HasEndsBelow a 0 s
+no-ends a s empty = record { marked = empty.marked; ends = λ r is. absurd (no-pair s r empty is); all = λ r id low b. absurd (omega (arith, low)) }
+
+-- the first level is due over a table in which all pairs are open
+pub begins : (a : Asked) (e : Entries) (f s : PairSet) → 2 ≤ a.ids → a.ids ≤ MAX_PARTITIONS → e.distances ≡ replicate (a.ids * STATES) OPEN → HasEndsBelow a 3 f → IsEmptySet s → IsDue a 0 e f s
+begins a e f s two few is ends empty =
+    let long : length e.distances ≡ a.ids * STATES = ap (λ (xs : List ℕ). length xs) is ∙ length-replicate (a.ids * STATES) OPEN in
+    first-due a e f s two few long
+    (λ r p. ap (λ (xs : List ℕ). get_or xs (r.id * STATES + r.state) 0) is ∙ get_or-replicate (a.ids * STATES) (r.id * STATES + r.state) OPEN 0 (place_within a r p))
+    (omega (arith, count_by-le-length (λ x. x == OPEN) e.distances, long))
+    ends empty

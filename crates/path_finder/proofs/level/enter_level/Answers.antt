@@ -1,0 +1,26 @@
+use Rattle.std.proofs.Common.{sym, ap, ◌∙◌, inl, inr, arith}
+use Rattle.path_finder.specs.Asking.{asked}
+use Rattle.path_finder.specs.Tables.{Entries, at}
+use Rattle.path_finder.proofs.Levels.{enters, level-reached}
+use Rattle.path_finder.proofs.PairSets.{either, neither-left, neither-right}
+use Rattle.path_finder.proofs.level.enter_level.Goals as goal
+
+pub loop-part-preserved : goal.loop-part-preserved
+loop-part-preserved c =
+    let i = c.loop-part.invariant in
+    let o = c.enter_open-any.ensures in
+    record {
+      entering = enters (asked c.args.question.now) c.in-Some.part c.args.distance c.loop-part.table c.enter_open-any.new.table c.loop-part.found c.take.new.self c.loop-part.level c.enter_open-any.new.level
+          c.args.question.now.few i.entering c.in-Some.ensures.taken c.in-Some.ensures.marked o.marked o.opened;
+      some = λ e. elim (either c.loop-part.any c.enter_open-any.result e) [
+        | inl was ↦ omega (arith, i.some was, o.opened.count)
+        | inr more ↦ omega (arith, o.some more, i.entering.room)
+      ];
+      none = λ e r p k.
+          i.none (neither-left c.loop-part.any c.enter_open-any.result e) r p
+          (ap (λ (x : Entries). at x r) (sym (o.none (neither-right c.loop-part.any c.enter_open-any.result e))) ∙ k);
+    }
+
+pub returns-clause-reached : goal.returns-clause-reached
+returns-clause-reached c =
+    level-reached (asked c.args.question.now) c.args.distance c.loop-part.table c.loop-part.found c.loop-part.level c.args.question.now.few c.loop-part.invariant.entering c.in_default.ensures.taken

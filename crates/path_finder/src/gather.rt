@@ -1,0 +1,128 @@
+//! The pairs that lead to those of a level.
+ghost use Rattle.std.specs.Prelude.{◌≡◌, ℕ, ◌<◌, true};
+ghost use Rattle.partition_graph.specs.NeighbourWords.{ArePlaces};
+ghost use Rattle.partition_graph.specs.declared.id_rows.TheConstants.{ID_WORDS};
+ghost use Rattle.path_finder.specs.Asking.{asked, looks_at};
+ghost use Rattle.path_finder.specs.Gathering.{HasSourcesIn, HasSourcesOf, IsPairIn};
+ghost use Rattle.path_finder.specs.PairSets.{IsAmong, IsEmptySet, IsMarked};
+ghost use Rattle.path_finder.specs.Walks.{state_at};
+
+use crate::pair::Pair;
+use crate::pair_set::{PairSet, Part};
+use crate::question::Question;
+use crate::words::{next_at, next_in_word, without_bit};
+use partition_graph::WORD_BITS;
+
+/// Adds the pairs with this state whose ids have an edge to the id of the pair. `places` are the places of these ids.
+#[inline]
+fn gather_sources(
+    question: &Question<'_, '_>,
+    found: &mut PairSet,
+    pair: Pair,
+    places: u64,
+    state: u8,
+)
+    requires step { state_at (asked question.now) state pair.id ≡ pair.state }
+    requires looked { looks_at question.now pair.id ≡ true }
+    requires places { ArePlaces (λ id. (asked question.now).graph.edge id pair.id) places }
+    requires state { state < 3 }
+    requires marked { IsMarked found.old }
+
+    // What leads to the pair in this state was added, and nothing that does not lead to it.
+    ensures marked { IsMarked found.new }
+    ensures gathered { HasSourcesIn (asked question.now) (λ s. s ≡ state) pair found.old found.new }
+{
+    let q = pair.id;
+    let ids = question.ids() as usize;
+    let mut at = next_at(places, 0);
+    while at < ids {
+        let place = at / WORD_BITS;
+        let word = question.source_word(q, place);
+        found.add(Part { state, place, word });
+        at = next_at(places, (place + 1) * WORD_BITS);
+    }
+}
+
+/// Adds the pairs with this state that lead to the pair. `typ` is the type of its id, and `places` are the places of the ids that
+/// have an edge to its id.
+fn gather_state(
+    question: &Question<'_, '_>,
+    found: &mut PairSet,
+    pair: Pair,
+    typ: u16,
+    places: u64,
+    state: u8,
+)
+    requires typ { typ ≡ (asked question.now).graph.typ pair.id }
+    requires looked { looks_at question.now pair.id ≡ true }
+    requires places { ArePlaces (λ id. (asked question.now).graph.edge id pair.id) places }
+    requires state { state < 3 }
+    requires marked { IsMarked found.old }
+
+    // What leads to the pair in this state was added, and nothing that does not lead to it.
+    ensures marked { IsMarked found.new }
+    ensures gathered { HasSourcesIn (asked question.now) (λ s. s ≡ state) pair found.old found.new }
+{
+    if question.state_after(state, typ) != pair.state {
+        return;
+    }
+    gather_sources(question, found, pair, places, state);
+}
+
+/// Adds the pairs that lead to the pair.
+fn gather_pair(question: &Question<'_, '_>, found: &mut PairSet, pair: Pair)
+    requires state { pair.state < 3 }
+    requires marked { IsMarked found.old }
+
+    // What leads to the pair was added, and nothing that does not lead to it.
+    ensures marked { IsMarked found.new }
+    ensures gathered { HasSourcesIn (asked question.now) (λ s. s < 3) pair found.old found.new }
+{
+    if !question.looks_at(pair.id) {
+        return;
+    }
+    let typ = question.type_of(pair.id);
+    let places = question.source_places(pair.id);
+    if question.passes_over(typ) {
+        gather_sources(question, found, pair, places, pair.state);
+        return;
+    }
+    for state in 0..3 {
+        gather_state(question, found, pair, typ, places, state);
+    }
+}
+
+/// Adds the pairs that lead to those of a part of a level.
+fn gather_part(question: &Question<'_, '_>, found: &mut PairSet, part: Part)
+    requires state { part.state < 3 }
+    requires place { part.place < ID_WORDS }
+    requires marked { IsMarked found.old }
+
+    // What leads to a pair of the part was added, and nothing that leads to none of them.
+    ensures marked { IsMarked found.new }
+    ensures gathered { HasSourcesOf (asked question.now) (IsAmong part) found.old found.new }
+{
+    let from = part.place * WORD_BITS;
+    let mut rest = part.word;
+    while let Some(id) = next_in_word(rest, from) {
+        let pair = Pair {
+            id: id as u32,
+            state: part.state,
+        };
+        gather_pair(question, found, pair);
+        rest = without_bit(rest, (id % WORD_BITS) as u32);
+    }
+}
+
+/// Gathers the pairs that lead to those of the level, and takes all pairs out of the level.
+pub(crate) fn gather(question: &Question<'_, '_>, level: &mut PairSet, found: &mut PairSet)
+    requires level { IsMarked level.old }
+    requires empty { IsEmptySet found.old }
+    ensures emptied { IsEmptySet level.new }
+    ensures marked { IsMarked found.new }
+    ensures gathered { HasSourcesOf (asked question.now) (IsPairIn level.old) found.old found.new }
+{
+    while let Some(part) = level.take() {
+        gather_part(question, found, part);
+    }
+}
