@@ -8,6 +8,7 @@ mod law;
 mod line_rules;
 mod listed_patterns;
 mod matchers;
+mod misses;
 mod needle;
 mod patterns;
 mod regex_patterns;

@@ -1,15 +1,16 @@
 //! Matchers that search lines for the rules.
-ghost use Rattle.std.specs.Prelude.{◌≡◌, ◌≤◌, ◌+◌, ◌++◌, ◌∷◌, [], List, Some, None, Ok, false, IfOk, IfSome, OnOk, vec_len, slice_get};
+ghost use Rattle.std.specs.Prelude.{◌≡◌, ◌≤◌, ◌+◌, ◌++◌, ◌∷◌, [], List, Some, None, Ok, true, false, IfOk, IfSome, OnOk, option_map, vec_len, slice_get};
 ghost use Rattle.limits.specs.declared.TheConstants.{MAX_RULES};
 ghost use Rattle.regex.specs.Patterns.{find_str};
 ghost use Rattle.regex.specs.Strings.{regex_pattern, matcher_pattern};
 ghost use Rattle.line_rules.specs.Rules as spec;
-ghost use Rattle.line_rules.specs.Rules.{decision_of, decided_by, HasParts};
+ghost use Rattle.line_rules.specs.Rules.{decision_of, decided_by, HasParts, IsSpanOf};
 
 use crate::decision::{DecideError, Decision};
+use crate::misses::Misses;
 use crate::needle::stands_in;
 use crate::rule::Rule;
-use crate::spans::spans_in;
+use crate::spans::{Spans, spans_in};
 use memchr::memmem::Finder;
 use regex::Matcher;
 use std::alloc::{AllocError, Global};
@@ -31,12 +32,13 @@ pub struct RuleMatcher<'r> {
     /// Finds the bytes without which a line has no match.
     pub(crate) finder: Finder<'r>,
     pub(crate) matcher: Matcher<'r>,
+    pub(crate) misses: Misses,
     ghost sought: { finder ≡ rule.now.needle.items },
     ghost same: { ∥ matcher_pattern matcher ≡ regex_pattern rule.now.regex ∥₁ },
 }
 
 impl<'r> RuleMatcher<'r> {
-    ghost use Rattle.line_rules.specs.Views.{rule_view};
+    ghost use Rattle.line_rules.specs.Views.{rule_view, spans_of};
     ghost use Rattle.line_rules.specs.declared.matchers.RuleMatcher.{RuleMatcher};
 
     /// The rule with the matcher of its pattern.
@@ -48,6 +50,7 @@ impl<'r> RuleMatcher<'r> {
                 rule,
                 finder: Finder::new(&rule.needle),
                 matcher,
+                misses: Misses::of(&rule.regex),
             }),
             Err(error) => Err(error),
         }
@@ -74,6 +77,36 @@ impl<'r> RuleMatcher<'r> {
         stands_in(&self.finder, line.as_bytes())
     }
 
+    /// Whether the line has no match, where it is worth its time to ask.
+    fn is_miss(&mut self, line: &str) -> bool
+        ensures miss { result ≡ true → find_str (matcher_pattern self.old.matcher) line.now 0 ≡ None }
+        ensures pattern { matcher_pattern self.new.matcher ≡ matcher_pattern self.old.matcher }
+        ensures same { self.new.rule ≡ self.old.rule }
+    {
+        if !self.misses.are_frequent() {
+            return false;
+        }
+        !self.matcher.is_match(line)
+    }
+
+    /// The spans of the groups that the rule uses in the first match, if there is a match.
+    fn spans(&mut self, line: &str) -> Option<Spans>
+        ensures found { result ≡ option_map (spans_of self.old.rule.now)
+            (find_str (matcher_pattern self.old.matcher) line.now 0) }
+        ensures within { IfSome result (λ s. IfSome s.typ (IsSpanOf line.now)
+            × IfSome s.trace (IsSpanOf line.now)
+            × IfSome s.time (IsSpanOf line.now)) }
+        ensures same { self.new.rule ≡ self.old.rule }
+    {
+        if self.is_miss(line) {
+            self.misses.note(false);
+            return None;
+        }
+        let spans = spans_in(self.rule, &mut self.matcher, line);
+        self.misses.note(spans.is_some());
+        spans
+    }
+
     /// What the rule, which has this number, decides about the line, if it does.
     pub(crate) fn decide(
         &mut self,
@@ -89,8 +122,9 @@ impl<'r> RuleMatcher<'r> {
         if !self.may_match(line) {
             return None;
         }
-        let spans = spans_in(self.rule, &mut self.matcher, line)?;
-        self.rule.decided_at(number, line, spans)
+        let rule = self.rule;
+        let spans = self.spans(line)?;
+        rule.decided_at(number, line, spans)
     }
 }
 
