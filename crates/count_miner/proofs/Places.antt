@@ -1,8 +1,14 @@
 -- Counts at the places of types.
-use Rattle.std.proofs.Common.{◌≡◌, ◌≢◌, ℕ, ◌+◌, ◌-◌, ◌<◌, true, false, ◌&&◌, Bool, List, length, get_or, set, cond, eqb, sym, ap, ◌∙◌, ⊎_elim, arith}
+use Rattle.std.proofs.Common.{◌≡◌, ◌≢◌, ℕ, ◌+◌, ◌-◌, ◌<◌, true, false, ◌&&◌, Bool, List, length, get_or, set, cond, eqb, refl, sym, ap, ◌∙◌, ⊎_elim, arith}
 use Rattle.std.proofs.lemmas.Bool.{and_from, and_left, cases_eq, ne_eqb}
 use Rattle.std.proofs.lemmas.Bool.Decides.{Decides-eqb}
 use Rattle.std.proofs.lemmas.List.{get_or-set_same, get_or-set_other}
+use mir.Val.{bool_byte}
+
+-- a flag as a number
+pub one-or-none : (t : Bool) → bool_byte t ≡ cond t 1 0
+one-or-none true = refl
+one-or-none false = refl
 
 -- the test of a place is the test of its type
 pub same-test : (a x place : ℕ) → x ≡ place + 2 → eqb a place ≡ eqb x (a + 2)

@@ -26,7 +26,7 @@ numbers-read false types word numbers = λ k d inside.
     subst (IsTypeNumber types) (sym (get_or-reverse word k d within)) (numbers (length word - 1 - k) d (omega arith))
 
 -- what does not occur is not counted
-none-counted : (b : ℕ) (word : List ℕ) → occurs b word ≡ false → type_count b word ≡ 0
+pub none-counted : (b : ℕ) (word : List ℕ) → occurs b word ≡ false → type_count b word ≡ 0
 none-counted b [] none = refl
 none-counted b (x ∷ word) none =
     let one : Bool → ℕ = λ t. cond t 1 0 in
@@ -34,7 +34,7 @@ none-counted b (x ∷ word) none =
     omega (arith, ap one parts.0, none-counted b word parts.1)
 
 -- what occurs is counted
-some-counted : (b : ℕ) (word : List ℕ) → occurs b word ≡ true → 1 ≤ type_count b word
+pub some-counted : (b : ℕ) (word : List ℕ) → occurs b word ≡ true → 1 ≤ type_count b word
 some-counted b [] some = let one : Bool → ℕ = λ t. cond t 1 0 in absurd (omega (arith, ap one some))
 some-counted b (x ∷ word) some = let one : Bool → ℕ = λ t. cond t 1 0 in ⊎_elim
     (λ hit. omega (arith, ap one hit))
@@ -42,7 +42,7 @@ some-counted b (x ∷ word) some = let one : Bool → ℕ = λ t. cond t 1 0 in 
     (cases_Bool (eqb x b))
 
 -- nothing is followed by what does not occur
-none-followed : (a b : ℕ) (word : List ℕ) → occurs b word ≡ false → followed_count a b word ≡ 0
+pub none-followed : (a b : ℕ) (word : List ℕ) → occurs b word ≡ false → followed_count a b word ≡ 0
 none-followed a b [] none = refl
 none-followed a b (x ∷ word) none =
     let one : Bool → ℕ = λ t. cond t 1 0 in
@@ -50,7 +50,7 @@ none-followed a b (x ∷ word) none =
     omega (arith, ap one (and_right (eqb x a) (occurs b word) rest), none-followed a b word rest)
 
 -- an event occurs in its word
-occurs-within : (b : ℕ) (front back : List ℕ) → occurs b (front ++ b ∷ back) ≡ true
+pub occurs-within : (b : ℕ) (front back : List ℕ) → occurs b (front ++ b ∷ back) ≡ true
 occurs-within b [] back = ap (λ t. t || occurs b back) ((Decides-eqb b b).1 refl)
 occurs-within b (x ∷ front) back = ap (λ t. eqb x b || t) (occurs-within b front back) ∙ or_true (eqb x b)
   where
@@ -70,7 +70,7 @@ before-last a b (x ∷ front) back none =
     and_true false = refl
 
 -- all events of a type are left where none of them is read
-all-left : (b : ℕ) (word : List ℕ) (n : ℕ) → eqb (type_count b (take n word)) (type_count b word) ≡ not (occurs b (drop n word))
+pub all-left : (b : ℕ) (word : List ℕ) (n : ℕ) → eqb (type_count b (take n word)) (type_count b word) ≡ not (occurs b (drop n word))
 all-left b word n =
     let sum : type_count b word ≡ type_count b (take n word) + type_count b (drop n word) =
     ap (type_count b) (sym (take-append-drop n word)) ∙ type_count-append b (take n word) (drop n word) in

@@ -10,3 +10,4 @@ pub mod Distinct
 pub mod Spreading
 pub mod FirstPair
 pub mod Windows
+pub mod Numbered

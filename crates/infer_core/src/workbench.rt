@@ -1,18 +1,21 @@
 //! The workbench: a log, the kinds of invariants that are asked for, and all that its inference needs.
 ghost use Rattle.std.specs.Prelude.{◌≡◌, ◌≤◌, ◌↔◌, ℕ, [], IfOk, OnErr, OnOk, Err, Some, length, slice_get};
 ghost use Rattle.limits.specs.declared.TheConstants.{LAST_TYPE, MAX_INVARIANTS, MAX_PAIRS, MAX_PATH_NUMBERS, MAX_STEPS};
+ghost use Rattle.invariants.specs.Mined.{mined_for};
 ghost use Rattle.models.specs.Limits.{KeepsLimits};
 ghost use Rattle.models.specs.Models.{typed_words, IsModelOf};
+ghost use Rattle.partition_graph.specs.Spread.{SharesWords};
 ghost use Rattle.partition_model.specs.Assignments.{events};
 ghost use Rattle.infer_core.specs.Runs.{AreFinal, CountsAtMost, PassesNumbers, PassesPartitions};
 ghost use Rattle.infer_core.specs.Workbenches.{HasParts};
+ghost use Rattle.traces.specs.Words.{words_of};
 
 use crate::law::log_is_typed;
 use crate::model::model_of;
 use crate::run::{place, run};
 use crate::tools::{Tools, both};
 use crate::whole::whole_lists;
-use count_miner::mine;
+use count_miner::mine_distinct;
 use invariants::{Invariant, Kinds, Seq};
 use partition_graph::PartGraph;
 use splitter::start_is_opened;
@@ -84,6 +87,24 @@ fn no_flags(alloc: Global, invs: &[Invariant]) -> Result<Vec<bool>, AllocError>
     Vec::from_elem(alloc, false, invs.len())
 }
 
+/// The mined invariants of the traces, if the graph of their distinct words was made. Each word is mined once.
+/// `AllocError` is returned if there is not enough memory.
+fn mine_words(
+    alloc: Global,
+    kinds: Kinds,
+    traces: &TraceSet,
+    shared: &Result<(PartGraph, Vec<u32>), AllocError>,
+) -> Result<Seq<Invariant>, AllocError>
+    requires { IfOk shared.now (λ made. SharesWords traces.now made.0 made.1.items) }
+    ensures { IfOk result (λ invs. invs
+        ≡ mined_for kinds (length (traces.now).types) (words_of traces.now)) }
+{
+    let Ok((_, numbers)) = shared else {
+        return Err(AllocError);
+    };
+    mine_distinct(alloc, kinds, traces, numbers.as_slice())
+}
+
 /// The tools and the flags for a graph and invariants, if these were made. `AllocError` is returned if there is not
 /// enough memory.
 fn equip(
@@ -135,7 +156,7 @@ impl Workbench {
         start_is_opened(&traces);
         log_is_typed(&traces);
         let shared = PartGraph::open_shared(alloc, &traces);
-        let mined = mine(alloc, kinds, &traces);
+        let mined = mine_words(alloc, kinds, &traces, &shared);
         let opened = both(shared, mined);
         let equipped = equip(alloc, &opened);
         let ((traces, ((graph, numbers), invs)), (tools, flags)) = both(

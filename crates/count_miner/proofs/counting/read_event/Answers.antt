@@ -1,6 +1,8 @@
-use Rattle.std.proofs.Common.{◌≡◌, ℕ, ◌+◌, ◌-◌, ◌*◌, ◌<◌, ◌∙◌, ◌&&◌, ap, arith, cond, drop, eqb, get_or, length, length-drop, length-take}
+use Rattle.std.proofs.Common.{◌≡◌, ℕ, Bool, List, true, false, sym, ◌+◌, ◌-◌, ◌*◌, ◌<◌, ◌∙◌, ◌&&◌, ap, arith, cond, drop, eqb, get_or, length, length-drop, length-take}
 use Rattle.std.proofs.Math.Nat.{mul-le-mul_right}
 use Rattle.std.proofs.Math.Seq.{get_or-take, get_or-drop}
+use Rattle.std.proofs.lemmas.Bool.{ne_eqb}
+use Rattle.std.proofs.lemmas.Bool.Decides.{Decides-eqb}
 use Rattle.count_miner.specs.Counts.{cell, type_count}
 use Rattle.count_miner.proofs.Places.{first-only, not-first, one-less, same-test}
 use Rattle.count_miner.proofs.Rows.{cell-row}
@@ -56,3 +58,13 @@ returns-else-is_first-clause-left c = λ a in_a.
 pub returns-else-is_first-clause-counted : goal.returns-else-is_first-clause-counted
 returns-else-is_first-clause-counted c = λ b a in_b in_a.
     not-first b c.args.x (c.args.x - 2) (cell c.args.table.now (length c.args.all.now) b a) (type_count (a + 2) c.args.unread.now) c.args.left.now c.args.all.now (omega (arith, c.requires.number.0)) c.if-is_first.false
+
+-- what the counts of the place of an event say of its type
+at-place : (x b : ℕ) (left all : List ℕ) (t : Bool) → x ≡ b + 2 → eqb (get_or left (x - 2) 0) (get_or all (x - 2) 0) ≡ t → t ≡ eqb (get_or left b 0) (get_or all b 0)
+at-place x b left all t is e = sym e ∙ ap (λ k. eqb (get_or left k 0) (get_or all k 0)) (omega (arith, is))
+
+pub returns-then-is_first-clause-first : goal.returns-then-is_first-clause-first
+returns-then-is_first-clause-first c = λ b is. at-place c.args.x b c.args.left.now c.args.all.now true is ((Decides-eqb (get_or c.args.left.now (c.args.x - 2) 0) (get_or c.args.all.now (c.args.x - 2) 0)).1 c.if-is_first.true)
+
+pub returns-else-is_first-clause-first : goal.returns-else-is_first-clause-first
+returns-else-is_first-clause-first c = λ b is. at-place c.args.x b c.args.left.now c.args.all.now false is (ne_eqb (get_or c.args.left.now (c.args.x - 2) 0) (get_or c.args.all.now (c.args.x - 2) 0) c.if-is_first.false)

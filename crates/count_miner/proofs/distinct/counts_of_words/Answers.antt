@@ -1,9 +1,9 @@
-use Rattle.std.proofs.Common.{◌≡◌, ◌+◌, ℕ, Bool, true, false, List, get_or, map, arith, refl, sym, ap, ◌∙◌, subst, cond, eqb}
+use Rattle.std.proofs.Common.{◌≡◌, ◌+◌, ℕ, List, get_or, map, arith, refl, sym, ap, ◌∙◌, subst, cond, eqb}
 use Rattle.std.proofs.lemmas.List.{length-map}
-use mir.Val.{bool_byte}
 use Rattle.traces.specs.Words.{Trace}
 use Rattle.count_miner.specs.declared.counts.Counts.{Counts}
 use Rattle.count_miner.proofs.Lengths.{events_of, room-more}
+use Rattle.count_miner.proofs.Places.{one-or-none}
 use Rattle.count_miner.proofs.Once.{Once, once-counted, once-passed}
 use Rattle.count_miner.proofs.distinct.counts_of_words.Goals as goal
 use Rattle.count_miner.proofs.distinct.counts_of_words.Goals.{then-number-next, else-number-next}
@@ -18,11 +18,6 @@ add_trace-requires-clause-room c =
       few = omega (arith, length-map o.some events_of, o.few);
       short = omega (arith, o.short, room-more traces c.loop-t.t c.events.result.now (omega arith) c.events.ensures.events, c.event_count-event_count.ensures.value, c.event_count-event_count.ensures.few);
     }
-
--- a flag as a number
-one-or-none : (t : Bool) → bool_byte t ≡ cond t 1 0
-one-or-none true = refl
-one-or-none false = refl
 
 pub loop-t-preserved : goal.loop-t-preserved
 loop-t-preserved c =

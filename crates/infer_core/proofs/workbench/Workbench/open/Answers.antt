@@ -27,19 +27,19 @@ AreNamed invs = (k : ℕ) (inv : Invariant) → slice_get invs k ≡ Some inv �
 
 pub equip-equipped-requires-clause-few : goal.equip-equipped-requires-clause-few
 equip-equipped-requires-clause-few c =
-    second-made c.both-opened.result c.mine-mined.result (λ invs. length invs ≤ MAX_INVARIANTS) c.both-opened.ensures.second
-    (made-so c.mine-mined.result (λ invs. invs ≡ mined_for c.args.kinds (length c.args.traces.types) (words_of c.args.traces)) (λ invs. length invs ≤ MAX_INVARIANTS)
+    second-made c.both-opened.result c.mine_words-mined.result (λ invs. length invs ≤ MAX_INVARIANTS) c.both-opened.ensures.second
+    (made-so c.mine_words-mined.result (λ invs. invs ≡ mined_for c.args.kinds (length c.args.traces.types) (words_of c.args.traces)) (λ invs. length invs ≤ MAX_INVARIANTS)
     (λ invs e. omega (arith, ap (λ (xs : List Invariant). length xs) e, mined-few c.args.kinds (length c.args.traces.types) (words_of c.args.traces) (c.log_is_typed.ensures.within c.args.kinds).types.few))
-    c.mine-mined.ensures)
+    c.mine_words-mined.ensures)
 
 pub equip-equipped-requires-clause-named : goal.equip-equipped-requires-clause-named
 equip-equipped-requires-clause-named c =
-    second-made c.both-opened.result c.mine-mined.result AreNamed c.both-opened.ensures.second
-    (made-so c.mine-mined.result (λ invs. invs ≡ mined_for c.args.kinds (length c.args.traces.types) (words_of c.args.traces)) AreNamed
+    second-made c.both-opened.result c.mine_words-mined.result AreNamed c.both-opened.ensures.second
+    (made-so c.mine_words-mined.result (λ invs. invs ≡ mined_for c.args.kinds (length c.args.traces.types) (words_of c.args.traces)) AreNamed
     (λ invs e k inv at.
     mined-named c.args.kinds (length c.args.traces.types) (words_of c.args.traces) (c.log_is_typed.ensures.within c.args.kinds).types.few k inv
     (subst (λ (xs : List Invariant). slice_get xs k ≡ Some inv) e at))
-    c.mine-mined.ensures)
+    c.mine_words-mined.ensures)
 
 ok-same : {A E : Type 0} (x y : A) → (let a : Result A E = Ok x in let b : Result A E = Ok y in a ≡ b) → x ≡ y
 ok-same x y e = subst (λ r. IfOk r (λ z. x ≡ z)) e refl
@@ -61,8 +61,8 @@ invariant_of-result c =
     let opened : c.both-opened.result ≡ Ok ((t.graph, t.numbers), t.invs) = made-second c in
     let same : c.args.traces ≡ t.traces = log-stays c in
     let are_mined : t.invs ≡ mined_for c.args.kinds (length c.args.traces.types) (words_of c.args.traces) =
-    subst (λ r. IfOk r (λ (list : List Invariant). list ≡ mined_for c.args.kinds (length c.args.traces.types) (words_of c.args.traces))) (subst (λ r. IfOk r (λ pair. c.mine-mined.result ≡ Ok pair.1)) opened c.both-opened.ensures.second)
-    c.mine-mined.ensures in
+    subst (λ r. IfOk r (λ (list : List Invariant). list ≡ mined_for c.args.kinds (length c.args.traces.types) (words_of c.args.traces))) (subst (λ r. IfOk r (λ pair. c.mine_words-mined.result ≡ Ok pair.1)) opened c.both-opened.ensures.second)
+    c.mine_words-mined.ensures in
     let shares : SharesWords c.args.traces t.graph t.numbers.items =
     subst (λ r. IfOk r (λ pair. SharesWords c.args.traces pair.0 pair.1.items)) (subst (λ r. IfOk r (λ pair. c.open_shared-shared.result ≡ Ok pair.0)) opened c.both-opened.ensures.first) c.open_shared-shared.ensures in
     let made = t.ensures.second in
