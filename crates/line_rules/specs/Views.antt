@@ -1,5 +1,5 @@
 -- Rules and matchers as contracts see them.
-use Rattle.std.specs.Prelude.{◌<◌, ◌≤◌, length, List, map, option_and_then, string_bytes}
+use Rattle.std.specs.Prelude.{◌≡◌, ◌<◌, ◌≤◌, length, List, map, None, option_and_then, string_bytes}
 use Rattle.limits.specs.declared.TheConstants.{MAX_TYPE_BYTES}
 use Rattle.regex.specs.Patterns.{Match}
 use Rattle.regex.specs.Strings.{regex_pattern, regex_names}
@@ -38,6 +38,12 @@ HasShortName (word.EventOf name) = (0 < length name.now) × (length name.now ≤
 -- a rule with its pattern and the names of its groups
 abbrev pub rule_view : Rule → spec.Rule
 rule_view r = record { form = form_view r.form; re = regex_pattern r.regex; names = regex_names r.regex }
+
+-- the rule uses none of the groups of its pattern
+pub record UsesNoGroup (r : Rule) : Type 0 where
+  pub typ : r.type_group ≡ None
+  pub trace : r.trace_group ≡ None
+  pub time : r.time_group ≡ None
 
 -- the spans of the groups of a rule in a match
 abbrev pub spans_of : Rule → Match → Spans

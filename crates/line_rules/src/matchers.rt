@@ -38,7 +38,7 @@ pub struct RuleMatcher<'r> {
 }
 
 impl<'r> RuleMatcher<'r> {
-    ghost use Rattle.line_rules.specs.Views.{rule_view, spans_of};
+    ghost use Rattle.line_rules.specs.Views.{rule_view, spans_of, UsesNoGroup};
     ghost use Rattle.line_rules.specs.declared.matchers.RuleMatcher.{RuleMatcher};
 
     /// The rule with the matcher of its pattern.
@@ -89,6 +89,26 @@ impl<'r> RuleMatcher<'r> {
         !self.matcher.is_match(line)
     }
 
+    /// The spans of no group, if there is a match: those of a rule that uses no group.
+    fn no_spans(&mut self, line: &str) -> Option<Spans>
+        requires { UsesNoGroup self.old.rule.now }
+        ensures found { result ≡ option_map (spans_of self.old.rule.now)
+            (find_str (matcher_pattern self.old.matcher) line.now 0) }
+        ensures within { IfSome result (λ s. IfSome s.typ (IsSpanOf line.now)
+            × IfSome s.trace (IsSpanOf line.now)
+            × IfSome s.time (IsSpanOf line.now)) }
+        ensures same { self.new.rule ≡ self.old.rule }
+    {
+        if !self.matcher.is_match(line) {
+            return None;
+        }
+        Some(Spans {
+            typ: None,
+            trace: None,
+            time: None,
+        })
+    }
+
     /// The spans of the groups that the rule uses in the first match, if there is a match.
     fn spans(&mut self, line: &str) -> Option<Spans>
         ensures found { result ≡ option_map (spans_of self.old.rule.now)
@@ -98,6 +118,9 @@ impl<'r> RuleMatcher<'r> {
             × IfSome s.time (IsSpanOf line.now)) }
         ensures same { self.new.rule ≡ self.old.rule }
     {
+        if self.rule.uses_no_group() {
+            return self.no_spans(line);
+        }
         if self.is_miss(line) {
             self.misses.note(false);
             return None;

@@ -1,5 +1,5 @@
 //! One rule.
-ghost use Rattle.std.specs.Prelude.{◌≡◌, ◌<◌, ◌≤◌, codes, IfSome, length, option_map, string_bytes};
+ghost use Rattle.std.specs.Prelude.{◌≡◌, ◌<◌, ◌≤◌, true, codes, IfSome, length, option_map, string_bytes};
 ghost use Rattle.limits.specs.declared.TheConstants.{MAX_TYPE_BYTES};
 ghost use Rattle.regex.specs.Strings.{regex_names, regex_pattern};
 ghost use Rattle.line_rules.specs.Needles.{IsNeedleFor};
@@ -56,7 +56,7 @@ pub(crate) fn group_number(regex: &Regex, name: &str) -> Option<usize>
 }
 
 impl Rule {
-    ghost use Rattle.line_rules.specs.Views.{form_view, rule_view};
+    ghost use Rattle.line_rules.specs.Views.{form_view, rule_view, UsesNoGroup};
     ghost use Rattle.line_rules.specs.Files.{lacks_type, has_time};
 
     /// A rule of this form for the pattern. Without the bytes of `needle` a line has no match.
@@ -90,6 +90,16 @@ impl Rule {
         ensures { result ≡ has_time (rule_view self.now) }
     {
         self.time_group.is_some()
+    }
+
+    /// Whether the rule uses none of the groups of its pattern.
+    pub(crate) fn uses_no_group(&self) -> bool
+        ensures { result ≡ true → UsesNoGroup self.now }
+    {
+        matches!(
+            (self.type_group, self.trace_group, self.time_group),
+            (None, None, None)
+        )
     }
 
     /// The time of an event in the line, if the group TIME has this span. It is 0 if the rule has
