@@ -1,5 +1,5 @@
 //! Phases that are carried along edges until nothing more is found.
-ghost use Rattle.std.specs.Prelude.{◌≡◌, ◌<◌, ℕ, true, false, length};
+ghost use Rattle.std.specs.Prelude.{◌≡◌, ◌↔◌, ◌<◌, ℕ, true, false, length, IsTrue};
 ghost use Rattle.limits.specs.declared.TheConstants.{INITIAL, MAX_PARTITIONS};
 ghost use Rattle.partition_model.specs.Graphs.{Graph};
 ghost use Rattle.partition_graph.specs.Seen.{seen};
@@ -59,7 +59,7 @@ fn propagate(phase_rows: &mut PhaseRows, link: Link, typ: u16) -> bool
 /// Whether a pass comes to the links that begin at the end of this link after it has passed this link. A pass goes up the
 /// ids, or down if `from_end` is true.
 fn leads_ahead(link: Link, from_end: bool) -> bool
-    ensures { result ≡ true → IsAhead from_end link.from link.to }
+    ensures { IsTrue result ↔ IsAhead from_end link.from link.to }
 {
     if from_end {
         return link.to < link.from;

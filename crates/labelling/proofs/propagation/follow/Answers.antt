@@ -42,7 +42,7 @@ returns-then-leads_ahead c =
     let new = found c.propagate.new.phase_rows in
     let e = c.if-not-propagate.ensures in
     let inside : c.args.link.to < length recent = omega (arith, c.requires.ids, c.requires.recent_room) in
-    let ahead = c.if-leads_ahead.ensures refl in
+    let ahead = c.if-leads_ahead.ensures.0 refl in
     record {
       grows = grows_quiet old new true e.grows;
       sound = e.sound;
