@@ -9,11 +9,12 @@ use Rattle.invariants.specs.Monitors.{is_bad}
 use Rattle.limits.specs.declared.TheConstants.{MAX_PARTITIONS}
 use Rattle.path_finder.specs.declared.pair.TheConstants.{STATES}
 use Rattle.path_finder.specs.declared.table.TheConstants.{OPEN}
+use Rattle.path_finder.specs.declared.pair.Pair.{Pair}
 use Rattle.path_finder.specs.declared.pair_set.PairSet.{PairSet}
-use Rattle.path_finder.specs.Levels.{HasEndsBelow, IsDue}
+use Rattle.path_finder.specs.Levels.{HasEndsBelow, HasEntered, IsDue}
 use Rattle.path_finder.specs.PairSets.{IsAdded, IsEmptySet, IsMarked}
-use Rattle.path_finder.specs.Tables.{Entries}
-use Rattle.path_finder.specs.Walks.{Asked}
+use Rattle.path_finder.specs.Tables.{Entries, at}
+use Rattle.path_finder.specs.Walks.{Asked, IsPairOf}
 use Rattle.path_finder.proofs.Entering.{place_within}
 use Rattle.path_finder.proofs.Levels.{first-due, no-pair}
 use Rattle.path_finder.proofs.PairSets.{on}
@@ -61,11 +62,24 @@ ends-same a state s ends good =
 pub no-ends : (a : Asked) (s : PairSet) → IsEmptySet s → HasEndsBelow a 0 s
 no-ends a s empty = record { marked = empty.marked; ends = λ r is. absurd (no-pair s r empty is); all = λ r id low b. absurd (omega (arith, low)) }
 
+-- a pair is open where all are
+stands-open : (a : Asked) (e : Entries) (r : Pair) → e.distances ≡ replicate (a.ids * STATES) OPEN → IsPairOf a r → at e r ≡ OPEN
+stands-open a e r is p = ap (λ (xs : List ℕ). get_or xs (r.id * STATES + r.state) 0) is ∙ get_or-replicate (a.ids * STATES) (r.id * STATES + r.state) OPEN 0 (place_within a r p)
+
+-- no pair was entered yet
+pub none-entered : (a : Asked) (e : Entries) (n : PairSet) → e.distances ≡ replicate (a.ids * STATES) OPEN → IsEmptySet n → HasEntered a e n
+none-entered a e n is empty =
+    record {
+      marked = empty.marked;
+      sound = λ r has. absurd (no-pair n r empty has);
+      whole = λ r p k. absurd (omega (arith, k, stands-open a e r is p));
+    }
+
 -- the first level is due over a table in which all pairs are open
 pub begins : (a : Asked) (e : Entries) (f s : PairSet) → 2 ≤ a.ids → a.ids ≤ MAX_PARTITIONS → e.distances ≡ replicate (a.ids * STATES) OPEN → HasEndsBelow a 3 f → IsEmptySet s → IsDue a 0 e f s
 begins a e f s two few is ends empty =
     let long : length e.distances ≡ a.ids * STATES = ap (λ (xs : List ℕ). length xs) is ∙ length-replicate (a.ids * STATES) OPEN in
     first-due a e f s two few long
-    (λ r p. ap (λ (xs : List ℕ). get_or xs (r.id * STATES + r.state) 0) is ∙ get_or-replicate (a.ids * STATES) (r.id * STATES + r.state) OPEN 0 (place_within a r p))
+    (λ r p. stands-open a e r is p)
     (omega (arith, count_by-le-length (λ x. x == OPEN) e.distances, long))
     ends empty

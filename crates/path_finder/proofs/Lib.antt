@@ -7,8 +7,6 @@ pub mod Narrow
 pub mod Neighbours
 pub mod WordSets
 pub mod WordSteps
-pub mod OpenPairs
-pub mod Marked
 pub mod PairSets
 pub mod Levels
 pub mod Parts

@@ -121,17 +121,6 @@ added-pairs old new part sl pl long is =
         ap (λ (ws : List ℕ). on (slice_index ws (word_of r)) (r.id % 64)) is
         ∙ ap (λ (x : ℕ). on x (r.id % 64)) (get_or-set_other old.words at (word_of r) (bit_or (slice_index old.words at) part.word) 0 other)
 
--- a set from which a word was taken keeps its marks
-pub taken-marked : (words : List ℕ) (marks less w : ℕ) → w < 48 → length words ≡ 48
-    → ((k : ℕ) → k < 48 → on marks k ≡ false → slice_index words k ≡ 0)
-    → ((i : ℕ) → i < 64 → i ≢ w → bit_at less i ≡ bit_at marks i)
-    → (k : ℕ) → k < 48 → on less k ≡ false → slice_index (set words w 0) k ≡ 0
-taken-marked words marks less w l long m others k low off =
-    elim (cases_eq k w) [
-      | inl same ↦ ap (λ (j : ℕ). slice_index (set words w 0) j) same ∙ get_or-set_same words w 0 0 (omega (arith, l, long))
-      | inr other ↦ get_or-set_other words w k 0 0 other ∙ m k low (ap (λ (b : ℕ). b == 1) (sym (others k (omega (arith, low)) other)) ∙ off)
-    ]
-
 -- what is in the set from which a word was taken
 pub taken-pairs : (old new : PairSet) (part : Part) (at : ℕ) → at < 48 → length old.words ≡ 48 → new.words ≡ set old.words at 0 → new.marks < old.marks
     → part.state ≡ at / 16 → part.place ≡ at % 16 → part.word ≡ slice_index old.words at → IsTaken old new part

@@ -30,6 +30,12 @@ pub record IsFound (a : Asked) (d : ℕ) (e : Entries) (s : PairSet) : Type 0 wh
   pub sound : (r : Pair) → IsPairIn s r → IsPairOf a r × Finishes a r d
   pub whole : (r : Pair) → IsPairOf a r → Finishes a r d → (at e r < OPEN) ⊎ (has_pair s r ≡ true)
 
+-- the set has the pairs that were entered, and no other
+pub record HasEntered (a : Asked) (e : Entries) (s : PairSet) : Type 0 where
+  pub marked : IsMarked s
+  pub sound : (r : Pair) → IsPairIn s r → IsPairOf a r × (at e r < OPEN)
+  pub whole : (r : Pair) → IsPairOf a r → at e r < OPEN → has_pair s r ≡ true
+
 -- all pairs that are nearer are entered, and so are some of the pairs at this distance, which are the level; the others are found
 pub record IsEntering (a : Asked) (d : ℕ) (e : Entries) (f s : PairSet) : Type 0 where
   pub known : IsKnown a d e

@@ -16,6 +16,10 @@ word_of r = r.state * ID_WORDS + r.id / 64
 abbrev pub has_pair : PairSet → Pair → Bool
 has_pair s r = bit_at (slice_index s.words (word_of r)) (r.id % 64) == 1
 
+-- whether the set has the pair of the state and the id
+abbrev pub has_in : PairSet → ℕ → ℕ → Bool
+has_in s state id = has_pair s (record { id = id; state = state })
+
 -- a word without a mark has no pair
 abbrev pub IsMarked : PairSet → Type 0
 IsMarked s = (w : ℕ) → w < PAIR_WORDS → (bit_at s.marks w == 1) ≡ false → slice_index s.words w ≡ 0

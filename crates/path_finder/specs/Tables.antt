@@ -1,9 +1,7 @@
 -- What the search has found: lengths of walks that end badly.
-use Rattle.std.specs.Prelude.{◌≡◌, ◌==◌, ℕ, ◌+◌, ◌*◌, ◌<◌, ◌≤◌, ◌&&◌, nat_lt, Bool, List, length, slice_index, slice_set, count_by}
-use Rattle.limits.specs.declared.TheConstants.{MAX_PARTITIONS}
-use Rattle.bit_rows.specs.Tables.{row_at, is_set, HasShape}
+use Rattle.std.specs.Prelude.{◌≡◌, ◌==◌, ℕ, ◌+◌, ◌*◌, ◌<◌, ◌≤◌, List, length, slice_index, slice_set, count_by}
 use Rattle.path_finder.specs.declared.pair.TheConstants.{STATES}
-use Rattle.path_finder.specs.declared.table.TheConstants.{MAX_ENTRIES, OPEN}
+use Rattle.path_finder.specs.declared.table.TheConstants.{OPEN}
 use Rattle.path_finder.specs.declared.pair.Pair.{Pair}
 use Rattle.path_finder.specs.Walks.{Asked, IsPairOf, Leads, Finishes}
 
@@ -18,18 +16,6 @@ place r = r.id * STATES + r.state
 -- the distance of a pair
 abbrev pub at : Entries → Pair → ℕ
 at e r = slice_index e.distances (place r)
-
--- whether the pair of the state and the id was entered
-abbrev pub is_entered : List ℕ → ℕ → ℕ → Bool
-is_entered distances state id =
-    nat_lt (id * STATES + state) (length distances) && nat_lt (slice_index distances (id * STATES + state)) OPEN
-
--- the first row marks the pairs that were entered, those of each state after those of the state before
-pub record AreMarked (rows : List (List Bool)) (distances : List ℕ) : Type 0 where
-  pub shape : HasShape rows 1 MAX_ENTRIES
-  pub few : length distances ≤ MAX_ENTRIES
-  pub marks : (state id : ℕ) → state < STATES → id < MAX_PARTITIONS
-      → is_set (row_at rows 0) (state * MAX_PARTITIONS + id) ≡ is_entered distances state id
 
 -- how many pairs are open
 abbrev pub open_count : Entries → ℕ

@@ -5,7 +5,7 @@ ghost use Rattle.path_finder.specs.declared.pair.Pair.{Pair};
 ghost use Rattle.path_finder.specs.declared.pair.TheConstants.{STATES};
 ghost use Rattle.path_finder.specs.declared.table.TheConstants.{OPEN};
 ghost use Rattle.path_finder.specs.Asking.{asked};
-ghost use Rattle.path_finder.specs.Levels.{AreOpened, AreEnteredWith, IsDue, IsReached};
+ghost use Rattle.path_finder.specs.Levels.{AreOpened, AreEnteredWith, HasEntered, IsDue, IsReached};
 ghost use Rattle.path_finder.specs.PairSets.{IsAmong, IsEmptySet, IsMarked};
 ghost use Rattle.path_finder.specs.Tables.{at, open_count, place};
 ghost use Rattle.path_finder.specs.Walks.{IsPairOf};
@@ -39,10 +39,12 @@ fn enter_part(table: &mut Table, part: Part, distance: u16)
     }
 }
 
-/// Enters the open pairs of the part with this distance, adds them to the level, and returns whether there are any.
+/// Enters the open pairs of the part with this distance, adds them to the level, and returns whether there are any. `entered` has
+/// the pairs that are entered.
 fn enter_open(
     question: &Question<'_, '_>,
     table: &mut Table,
+    entered: &mut PairSet,
     level: &mut PairSet,
     part: Part,
     distance: u16,
@@ -52,15 +54,17 @@ fn enter_open(
     requires closes { distance < OPEN }
     requires pairs { (r : Pair) → IsAmong part r → IsPairOf (asked question.now) r }
     requires size { length (table.old).distances ≡ (asked question.now).ids * STATES }
+    requires entered { HasEntered (asked question.now) table.old entered.old }
     requires marked { IsMarked level.old }
 
     // All pairs of the part are entered now.
+    ensures entered { HasEntered (asked question.now) table.new entered.new }
     ensures marked { IsMarked level.new }
     ensures opened { AreOpened (asked question.now) part distance table.old table.new level.old level.new }
     ensures some { result ≡ true → open_count table.new < open_count table.old }
     ensures none { result ≡ false → table.new ≡ table.old }
 {
-    let word = part.word & !table.entered_word(part.state, part.place);
+    let word = part.word & !entered.word(part.state, part.place);
     if word == 0 {
         return false;
     }
@@ -70,28 +74,32 @@ fn enter_open(
         word,
     };
     enter_part(table, open, distance);
+    entered.add(open);
     level.add(open);
     true
 }
 
 /// Takes all pairs out of `found`, enters those that are open with this distance, and returns whether there are any. They are
-/// added to the level.
+/// added to the level. `entered` has the pairs that are entered.
 pub(crate) fn enter_level(
     question: &Question<'_, '_>,
     table: &mut Table,
+    entered: &mut PairSet,
     found: &mut PairSet,
     level: &mut PairSet,
     distance: u16,
 ) -> bool
-    requires { IsDue (asked question.now) distance table.old found.old level.old }
+    requires due { IsDue (asked question.now) distance table.old found.old level.old }
+    requires entered { HasEntered (asked question.now) table.old entered.old }
     ensures reached { IsReached (asked question.now) distance table.new level.new }
+    ensures entered { HasEntered (asked question.now) table.new entered.new }
     ensures emptied { IsEmptySet found.new }
     ensures some { result ≡ true → distance + 1 + open_count table.new ≤ (asked question.now).ids * STATES }
     ensures none { result ≡ false → (r : Pair) → IsPairOf (asked question.now) r → at table.new r ≡ distance → ⊥ }
 {
     let mut any = false;
     while let Some(part) = found.take() {
-        any = any | enter_open(question, table, level, part, distance);
+        any = any | enter_open(question, table, entered, level, part, distance);
     }
     any
 }

@@ -1,9 +1,10 @@
 //! Sets of pairs.
 ghost use Rattle.std.specs.Prelude.{◌≡◌, ℕ, ◌<◌, true, MatchOption};
 ghost use Rattle.limits.specs.declared.TheConstants.{MAX_PARTITIONS};
+ghost use Rattle.partition_graph.specs.NeighbourWords.{IsWordOf};
 ghost use Rattle.partition_graph.specs.declared.id_rows.TheConstants.{ID_WORDS};
 ghost use Rattle.path_finder.specs.declared.pair.Pair.{Pair};
-ghost use Rattle.path_finder.specs.PairSets.{has_pair, IsAdded, IsEmptySet, IsMarked, IsTaken};
+ghost use Rattle.path_finder.specs.PairSets.{has_in, IsAdded, IsEmptySet, IsMarked, IsTaken};
 
 use crate::pair::STATES;
 use crate::words::without_bit;
@@ -38,6 +39,16 @@ impl PairSet {
             words: [0; PAIR_WORDS],
             marks: 0,
         }
+    }
+
+    /// The pairs of this state with ids from `64 * place` on, as a word whose lowest bit is the first of them.
+    #[inline]
+    pub fn word(&self, state: u8, place: usize) -> u64
+        requires state { state < 3 }
+        requires place { place < ID_WORDS }
+        ensures { IsWordOf (has_in self.now state) place result }
+    {
+        self.words[state as usize * ID_WORDS + place]
     }
 
     /// Adds the pairs of this state with the ids of a word.

@@ -54,10 +54,18 @@ pub(crate) fn measure(question: &Question<'_, '_>, table: &mut Table, start: Pai
     ensures { IsMeasured (asked question.now) start table.new }
 {
     table.clear(question.ids() as usize * STATES);
+    let mut entered = PairSet::none();
     let mut level = PairSet::none();
     let mut found = ends(question);
     let mut distance = 0;
-    'levels: while enter_level(question, table, &mut found, &mut level, distance) {
+    'levels: while enter_level(
+        question,
+        table,
+        &mut entered,
+        &mut found,
+        &mut level,
+        distance,
+    ) {
         if table.distance(start) != OPEN {
             return;
         }

@@ -1,13 +1,9 @@
 //! The table of distances.
 ghost use Rattle.std.specs.Prelude.{◌≡◌, ◌≤◌, ◌<◌, [], length, replicate, IfOk};
-ghost use Rattle.partition_graph.specs.NeighbourWords.{IsWordOf};
-ghost use Rattle.partition_graph.specs.declared.id_rows.TheConstants.{ID_WORDS};
-ghost use Rattle.path_finder.specs.Tables.{at, is_entered, place, with_pair};
+ghost use Rattle.path_finder.specs.Tables.{at, place, with_pair};
 
 use crate::pair::{Pair, STATES};
-use bit_rows::Rows;
 use limits::MAX_PARTITIONS;
-use partition_graph::ID_WORDS;
 use std::alloc::{AllocError, Global};
 use std::marker::Model;
 
@@ -26,21 +22,18 @@ pub(crate) const OPEN: u16 = 65535;
 #[derive(Drop)]
 pub(crate) struct Table {
     distances: Vec<u16>,
-    /// One row, with the bits of all ids for each state: whether the pair was entered.
-    marks: Rows,
 }
 
 impl Model for Table {
     ghost use Rattle.std.specs.Prelude.{◌≤◌, vec_capacity};
     ghost use Rattle.path_finder.specs.declared.table.TheConstants.{MAX_ENTRIES};
-    ghost use Rattle.path_finder.specs.Tables.{AreMarked, Entries};
+    ghost use Rattle.path_finder.specs.Tables.{Entries};
 
     ghost Value = { Entries };
 
     ghost view = { λ t. record { distances = t.distances.items } };
 
-    ghost invariant = { λ t.
-        (MAX_ENTRIES ≤ vec_capacity t.distances) × AreMarked t.marks t.distances.items };
+    ghost invariant = { λ t. MAX_ENTRIES ≤ vec_capacity t.distances };
 }
 
 impl Table {
@@ -49,8 +42,7 @@ impl Table {
         ensures { IfOk result (λ table. table.distances ≡ []) }
     {
         let distances = Vec::with_capacity(alloc, MAX_ENTRIES)?;
-        let marks = Rows::make(alloc, 1, MAX_ENTRIES)?;
-        Ok(Table { distances, marks })
+        Ok(Table { distances })
     }
 
     /// Leaves this many pairs, all of them open.
@@ -58,7 +50,6 @@ impl Table {
         requires { pairs ≤ MAX_ENTRIES }
         ensures distances { (self.new).distances ≡ replicate pairs OPEN }
     {
-        self.marks.clear(0);
         self.distances.clear();
         if self.distances.resize(pairs, OPEN).is_err() {
             unreachable!()
@@ -73,16 +64,6 @@ impl Table {
         self.distances[pair.id as usize * STATES + pair.state as usize]
     }
 
-    /// The ids from `64 * place` on that were entered in this state, as a word whose lowest bit is the first of them.
-    #[inline]
-    pub fn entered_word(&self, state: u8, place: usize) -> u64
-        requires state { state < 3 }
-        requires place { place < ID_WORDS }
-        ensures { IsWordOf (is_entered (self.now).distances state) place result }
-    {
-        self.marks.word(0, state as usize * ID_WORDS + place)
-    }
-
     /// Enters an open pair with this distance.
     pub fn enter(&mut self, pair: Pair, distance: u16)
         requires state { pair.state < 3 }
@@ -92,7 +73,5 @@ impl Table {
         ensures { self.new ≡ with_pair self.old pair distance }
     {
         self.distances[pair.id as usize * STATES + pair.state as usize] = distance;
-        self.marks
-            .put(0, pair.state as usize * IDS + pair.id as usize, true);
     }
 }

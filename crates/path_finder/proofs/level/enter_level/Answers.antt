@@ -10,6 +10,7 @@ loop-part-preserved c =
     let i = c.loop-part.invariant in
     let o = c.enter_open-any.ensures in
     record {
+      entered = o.entered;
       entering = enters (asked c.args.question.now) c.in-Some.part c.args.distance c.loop-part.table c.enter_open-any.new.table c.loop-part.found c.take.new.self c.loop-part.level c.enter_open-any.new.level
           c.args.question.now.few i.entering c.in-Some.ensures.taken c.in-Some.ensures.marked o.marked o.opened;
       some = λ e. elim (either c.loop-part.any c.enter_open-any.result e) [

@@ -1,11 +1,15 @@
 use Rattle.std.proofs.Common.{◌-◌, ◌*◌}
 use Rattle.path_finder.specs.declared.pair.TheConstants.{STATES}
 use Rattle.path_finder.specs.Asking.{asked}
-use Rattle.path_finder.specs.Levels.{IsDue}
+use Rattle.path_finder.specs.Levels.{HasEntered, IsDue}
 use Rattle.path_finder.proofs.search.measure.Given as goal
 
 abbrev pub invariant-levels : goal.invariant-levels
-invariant-levels l = IsDue (asked l.question) l.distance l.table l.found l.level
+invariant-levels l =
+    record {
+      due : IsDue (asked l.question) l.distance l.table l.found l.level;
+      entered : HasEntered (asked l.question) l.table l.entered;
+    }
 
 abbrev pub decreases-levels : goal.decreases-levels
 decreases-levels l = l.question.ids * STATES - l.distance
