@@ -1,13 +1,14 @@
 -- Sets of pairs: which pairs are in them.
 use Rattle.std.proofs.Common.{◌≡◌, ◌≢◌, ◌⊎◌, ◌==◌, ◌||◌, ◌<◌, ◌≤◌, ◌+◌, ◌*◌, ◌/◌, ◌%◌, ◌^◌, ℕ, zero, suc, Bool, true, false, List, length, set, slice_index, replicate, eq-eqb, eqb-true, ne_eqb, w64, get_or-set_same, get_or-set_other, refl, sym, ap, subst, ◌∙◌, inl, inr, arith}
-use Rattle.std.proofs.lemmas.Bool.{cases_eq, cases_lt, true≢false}
+use Rattle.std.proofs.lemmas.Bool.{cases_Bool, cases_eq, cases_lt, true≢false}
 use Rattle.std.proofs.lemmas.Nat.{div-add-mod', mod_below, one_shl}
 use Rattle.std.proofs.lemmas.Nat.Bits.{bit_at-zero, bit_at-pow_same, bit_at-pow_other, bit_at-trailing_zeros}
 use Rattle.std.specs.Int.{bit_at, trailing_zeros}
 use Rattle.std.specs.Int.Bits.{bit_or}
 use Rattle.bit_rows.proofs.Bitwise.{or_bit}
 use Rattle.limits.specs.declared.TheConstants.{MAX_PARTITIONS}
-use Rattle.partition_graph.specs.NeighbourWords.{IsWordOf}
+use Rattle.partition_graph.specs.NeighbourWords.{ArePlaces, IsWordOf}
+use Rattle.partition_graph.specs.Nexts.{IsNext}
 use Rattle.path_finder.specs.declared.pair.Pair.{Pair}
 use Rattle.path_finder.specs.declared.pair_set.PairSet.{PairSet}
 use Rattle.path_finder.specs.declared.pair_set.Part.{Part}
@@ -205,3 +206,32 @@ some-among part some fits =
     let here : id / 64 ≡ part.place = omega (arith, low.0, div-add-mod' id 64, mod_below id 64 (omega arith)) in
     let bit : id % 64 ≡ t = omega (arith, low.0, here, div-add-mod' id 64) in
     (record { id = id; state = part.state }, record { state = refl; place = here; bit = ap (λ (k : ℕ). on part.word k) bit ∙ ap (λ (b : ℕ). b == 1) low.1 })
+
+-- the marks of places, as bits of one word
+mark-bits : (x : ℕ) → IsWordOf (λ n. on x n) 0 x
+mark-bits x i below =
+    let same : i ≡ 0 * 64 + i = omega arith in
+    ap (λ (k : ℕ). on x k) same
+
+-- the first mark of a word is on, and none before it is
+pub first-mark : (x place : ℕ) → ((h : ℕ → Bool) → IsWordOf h 0 x → IsNext h 0 place) → IsNext (λ n. on x n) 0 place
+first-mark x place next = next (λ n. on x n) (mark-bits x)
+
+-- where no number of a word is next, no mark is on
+pub no-mark : (x place : ℕ) → place < 64 → ((h : ℕ → Bool) → IsWordOf h 0 x → (n : ℕ) → 0 ≤ n → n < 64 → h n ≡ false) → on x place ≡ false
+no-mark x place low none = none (λ n. on x n) (mark-bits x) place (omega arith) low
+
+pub low-place : (id : ℕ) → id / 64 * 64 ≤ id
+low-place id = omega (arith, div-add-mod' id 64)
+
+-- the place of a number with the property is marked
+pub place-marked : (has : ℕ → Bool) (places id : ℕ) → ArePlaces has places → id < MAX_PARTITIONS → has id ≡ true → on places (id / 64) ≡ true
+place-marked has places id are low there =
+    elim (cases_Bool (are.marks (id / 64))) [
+      | inl yes_marked ↦
+          let same : id / 64 ≡ 0 * 64 + id / 64 = omega arith in
+          are.bits (id / 64) (omega (arith, low-place id, low)) ∙ sym (ap (λ (k : ℕ). are.marks k) same) ∙ yes_marked
+      | inr gone ↦
+          let split : id / 64 * 64 + id % 64 ≡ id = div-add-mod' id 64 in
+          absurd (true≢false (sym there ∙ sym (ap (λ (k : ℕ). has k) split) ∙ are.others (id / 64) (id % 64) (mod_below id 64 (omega arith)) gone))
+    ]

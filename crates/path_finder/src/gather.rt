@@ -10,8 +10,8 @@ ghost use Rattle.path_finder.specs.Walks.{state_at};
 use crate::pair::Pair;
 use crate::pair_set::{PairSet, Part};
 use crate::question::Question;
-use crate::words::{next_at, next_in_word, without_bit};
-use partition_graph::WORD_BITS;
+use crate::words::{next_in_word, without_bit};
+use partition_graph::{ID_WORDS, WORD_BITS};
 
 /// Adds the pairs with this state whose ids have an edge to the id of the pair. `places` are the places of these ids.
 #[inline]
@@ -33,13 +33,14 @@ fn gather_sources(
     ensures gathered { HasSourcesIn (asked question.now) (λ s. s ≡ state) pair found.old found.new }
 {
     let q = pair.id;
-    let ids = question.ids() as usize;
-    let mut at = next_at(places, 0);
-    while at < ids {
-        let place = at / WORD_BITS;
+    let mut rest = places;
+    while let Some(place) = next_in_word(rest, 0) {
+        if place >= ID_WORDS {
+            return;
+        }
         let word = question.source_word(q, place);
         found.add(Part { state, place, word });
-        at = next_at(places, (place + 1) * WORD_BITS);
+        rest = without_bit(rest, place as u32);
     }
 }
 

@@ -1,19 +1,20 @@
-use Rattle.std.proofs.Common.{◌≡◌, ◌⊎◌, ◌<◌, ◌-◌, true}
+use Rattle.std.proofs.Common.{◌≡◌, ◌⊎◌, ◌<◌, ◌/◌, true}
 use Rattle.limits.specs.declared.TheConstants.{MAX_PARTITIONS}
 use Rattle.path_finder.specs.declared.pair.Pair.{Pair}
 use Rattle.path_finder.specs.Asking.{asked}
 use Rattle.path_finder.specs.PairSets.{has_pair, IsMarked}
 use Rattle.path_finder.specs.Walks.{IsPairOf, Leads}
+use Rattle.path_finder.proofs.PairSets.{on}
 use Rattle.path_finder.proofs.gather.gather_sources.Given as goal
 
-abbrev pub invariant-loop-at : goal.invariant-loop-at
-invariant-loop-at l =
+abbrev pub invariant-loop-place : goal.invariant-loop-place
+invariant-loop-place l =
     record {
       marked : IsMarked l.found;
       kept : (p : Pair) → has_pair l.initial.found p ≡ true → has_pair l.found p ≡ true;
-      all : (p : Pair) → IsPairOf (asked l.question) p → p.state ≡ l.state → p.id < l.at → Leads (asked l.question) p l.fn.pair → has_pair l.found p ≡ true;
+      all : (p : Pair) → IsPairOf (asked l.question) p → p.state ≡ l.state → Leads (asked l.question) p l.fn.pair → (on l.rest (p.id / 64) ≡ true) ⊎ (has_pair l.found p ≡ true);
       others : (p : Pair) → p.id < MAX_PARTITIONS → has_pair l.found p ≡ true → (has_pair l.initial.found p ≡ true) ⊎ Leads (asked l.question) p l.fn.pair;
     }
 
-abbrev pub decreases-loop-at : goal.decreases-loop-at
-decreases-loop-at l = MAX_PARTITIONS - l.at
+abbrev pub decreases-loop-place : goal.decreases-loop-place
+decreases-loop-place l = l.rest
