@@ -1,8 +1,8 @@
 -- Each word counted once.
-use Rattle.std.proofs.Common.{◌≡◌, ◌≢◌, ℕ, zero, suc, ◌+◌, ◌<◌, ◌≤◌, Bool, true, false, ◌&&◌, List, [], ◌∷◌, ◌++◌, map, length, take, get_or, cond, eqb, refl, sym, ap, subst, ◌∙◌, ⊎_elim, arith, Some, length-append, length-take}
+use Rattle.std.proofs.Common.{◌≡◌, ◌≢◌, ℕ, zero, suc, ◌+◌, ◌<◌, ◌≤◌, Bool, true, false, ◌&&◌, List, [], ◌∷◌, ◌++◌, map, length, take, get_or, drop, cond, eqb, refl, sym, ap, subst, ◌∙◌, ⊎_elim, arith, Some, length-append, length-take}
 use Rattle.std.proofs.lemmas.Bool.{cases_eq, ne_eqb}
 use Rattle.std.proofs.lemmas.Bool.Decides.{Decides-eqb}
-use Rattle.std.proofs.lemmas.List.{get_or-take, map-append, take-map}
+use Rattle.std.proofs.lemmas.List.{get_or-take, map-append, take-append-drop, take-map}
 use Rattle.std.proofs.lemmas.List.Folds.{list_all-append}
 use Rattle.std.proofs.lemmas.List.{length-map}
 use Rattle.std.proofs.lemmas.Option.{get_or_from_slice_get}
@@ -13,7 +13,7 @@ use Rattle.invariants.specs.Holds.{holds}
 use Rattle.invariants.specs.Mined.{holds_of_all}
 use Rattle.traces.specs.Words.{Trace, word_of}
 use Rattle.count_miner.specs.Counts.{inner_words, total_length, AreCounts}
-use Rattle.count_miner.specs.Distinct.{NumberWords, Suffice}
+use Rattle.count_miner.specs.Distinct.{NoneHolds, NumberWords, Suffice}
 use Rattle.count_miner.specs.declared.counts.Counts.{Counts}
 use Rattle.count_miner.proofs.Lengths.{events-at, events-more}
 use Rattle.count_miner.proofs.Sums.{all-traces, sum-more}
@@ -161,5 +161,22 @@ pub once-end : (counts : Counts) (traces : List Trace) (numbers : List ℕ) (t n
 once-end counts traces numbers t next all o = record {
   some = o.some;
   counted = o.counted;
-  same = λ test. o.same test ∙ ap (λ (ts : List Trace). list_all test (inner_words ts)) all;
+  same = λ k inv at. same-all o.some traces (λ test. o.same test ∙ ap (λ (ts : List Trace). list_all test (inner_words ts)) all) inv;
+}
+
+-- what some of the first traces break is broken
+broken-early : (test : List ℕ → Bool) (words : List (List ℕ)) (t : ℕ) → list_all test (take t words) ≡ false → list_all test words ≡ false
+broken-early test words t broken =
+    ap (list_all test) (sym (take-append-drop t words)) ∙ (list_all-append test (take t words) (drop t words) ∙ ap (λ b. b && list_all test (drop t words)) broken)
+
+-- where the first traces break all candidates
+pub once-broken : (counts : Counts) (traces : List Trace) (numbers : List ℕ) (t next : ℕ) → Once counts traces numbers t next → NoneHolds counts → Suffice counts traces
+once-broken counts traces numbers t next o none = record {
+  some = o.some;
+  counted = o.counted;
+  same = λ k inv at.
+      let broken : holds_of_all (map word_of o.some) inv ≡ false = none o.some o.counted k inv at in
+      let early : holds_of_all (take t (map word_of traces)) inv ≡ false =
+      ap (λ (ws : List (List ℕ)). holds_of_all ws inv) (take-map word_of t traces) ∙ (sym (same-all o.some (take t traces) o.same inv) ∙ broken) in
+      broken ∙ sym (broken-early (holds inv) (map word_of traces) t early);
 }

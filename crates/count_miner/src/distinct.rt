@@ -1,14 +1,35 @@
 //! Counts of one trace for each distinct word.
-ghost use Rattle.std.specs.Prelude.{◌≡◌, IfOk, length};
-ghost use Rattle.count_miner.specs.Distinct.{NumberWords, Suffice};
+ghost use Rattle.std.specs.Prelude.{◌≡◌, ◌≤◌, IfOk, length, true};
+ghost use Rattle.limits.specs.declared.TheConstants.{MAX_TYPES};
+ghost use Rattle.count_miner.specs.Distinct.{NoneHolds, NumberWords, Suffice};
 
 use crate::counts::Counts;
-use invariants::Kinds;
+use invariants::{Kinds, candidate, candidate_count};
 use std::alloc::{AllocError, Global};
 use traces::TraceSet;
 
+/// After this many traces it is tested, once, whether any candidate still holds.
+const FIRST_LOOK: u32 = 1024;
+
+/// Whether no candidate holds of all traces that were counted.
+fn none_holds(kinds: Kinds, types: u32, counts: &Counts) -> bool
+    requires kinds { (counts.now).kinds ≡ kinds }
+    requires types { (counts.now).types ≡ types }
+    requires few { types ≤ MAX_TYPES }
+    ensures { result ≡ true → NoneHolds counts.now }
+{
+    for index in 0..candidate_count(kinds, types) {
+        if let Some(inv) = candidate(kinds, types, index) {
+            if counts.holds(inv) {
+                return false;
+            }
+        }
+    }
+    true
+}
+
 /// Counts that suffice for the traces. Each trace has the number of its word. A trace is passed over if its number is
-/// known to be that of an earlier trace.
+/// known to be that of an earlier trace. If the first traces break every candidate, no more of them are counted.
 pub fn counts_of_words(
     alloc: Global,
     kinds: Kinds,
@@ -27,6 +48,9 @@ pub fn counts_of_words(
     // Every smaller number is that of a trace before `t`.
     let mut next = 0;
     for t in 0..traces.trace_count() {
+        if t == FIRST_LOOK && none_holds(kinds, traces.types().len() as u32, &counts) {
+            return Ok(counts);
+        }
         let number = numbers[t as usize];
         if number >= next {
             next += u32::from(number == next);

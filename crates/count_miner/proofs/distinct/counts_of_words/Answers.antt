@@ -1,10 +1,10 @@
-use Rattle.std.proofs.Common.{◌≡◌, ◌+◌, ℕ, List, get_or, map, arith, refl, sym, ap, ◌∙◌, subst, cond, eqb}
+use Rattle.std.proofs.Common.{◌≡◌, ◌+◌, ℕ, List, get_or, map, take_all, arith, refl, sym, ap, ◌∙◌, subst, cond, eqb}
 use Rattle.std.proofs.lemmas.List.{length-map}
 use Rattle.traces.specs.Words.{Trace}
 use Rattle.count_miner.specs.declared.counts.Counts.{Counts}
 use Rattle.count_miner.proofs.Lengths.{events_of, room-more}
 use Rattle.count_miner.proofs.Places.{one-or-none}
-use Rattle.count_miner.proofs.Once.{Once, once-counted, once-passed}
+use Rattle.count_miner.proofs.Once.{Once, once-broken, once-counted, once-end, once-passed}
 use Rattle.count_miner.proofs.distinct.counts_of_words.Goals as goal
 use Rattle.count_miner.proofs.distinct.counts_of_words.Goals.{then-number-next, else-number-next}
 
@@ -47,3 +47,12 @@ loop-t-preserved c =
             (subst (λ (n : ℕ). Once c.loop-t.counts traces numbers (t + 1) n) (sym w.next-is) passed);
       }
     ]
+
+pub returns-then-none_holds-clause-counts : goal.returns-then-none_holds-clause-counts
+returns-then-none_holds-clause-counts c =
+    once-broken c.loop-t.counts c.args.traces.now.traces c.args.numbers.now c.loop-t.t c.loop-t.next c.loop-t.invariant.once (c.none_holds.ensures c.if-none_holds.true)
+
+pub returns-clause-counts : goal.returns-clause-counts
+returns-clause-counts c =
+    let traces : List Trace = c.args.traces.now.traces in
+    once-end c.loop-t.counts traces c.args.numbers.now c.loop-t.t c.loop-t.next (take_all c.loop-t.t traces (omega (arith, c.trace_count-t-end.ensures.value))) c.loop-t.invariant.once
