@@ -142,7 +142,8 @@ impl<'r> RuleMatcher<'r> {
             → IfSome result (λ answer. IfOk answer (HasParts rules line.now)) }
         ensures same { self.new.rule ≡ self.old.rule }
     {
-        if !self.may_match(line) {
+        if !self.misses.are_rare() && !self.may_match(line) {
+            self.misses.note_turned_away();
             return None;
         }
         let rule = self.rule;
