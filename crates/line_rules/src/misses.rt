@@ -4,37 +4,37 @@ ghost use Rattle.line_rules.specs.declared.misses.TheConstants.{MISS, MATCH, MOS
 
 use regex::Regex;
 
-/// What a search without a match adds to the weight.
+/// What a search that finds no match adds to the weight.
 const MISS: u32 = 2;
 
-/// What a search with a match takes from the weight.
+/// What a search that finds a match takes from the weight.
 const MATCH: u32 = 1;
 
-/// The most that the weight can be.
+/// The largest weight.
 const MOST: u32 = 32;
 
-/// Misses are frequent where the weight is above this.
+/// Misses are frequent if the weight is above this.
 const FREQUENT: u32 = 8;
 
-/// Misses are rare after so many matches in a row.
+/// Misses are rare after this many matches in a row.
 const WARY: u32 = 16;
 
-/// How often the lines of late had no match of a pattern. It says what is worth its time, and never what a line is.
+/// How often recent lines had no match of a pattern. Only speed depends on it, never a decision.
 #[derive(Clone, Copy)]
 pub struct Misses {
-    /// Whether it costs much less to ask whether there is a match than to look for its groups.
+    /// Whether a test for a match costs much less than a search for its groups.
     pub(crate) pays: bool,
     /// Rises with each search that finds no match, and falls with each that finds one.
     pub(crate) weight: u32,
-    /// How many more matches in a row it takes until misses are rare.
+    /// How many more matches in a row are needed until misses are rare.
     pub(crate) wary: u32,
 }
 
 impl Misses {
-    /// Those of a pattern for which no line is known yet.
+    /// The counts of a pattern before the first line.
     ///
-    /// A search for the groups of a match that must begin the line reads on for all of them up to the byte that tells
-    /// that there is no match. Any other search asks first whether there is one.
+    /// If a match has to begin the line, a search for its groups keeps track of them up to the byte that excludes a
+    /// match. Other searches for groups test for a match first.
     pub(crate) fn of(regex: &Regex) -> Misses
         ensures weight { result.weight ≡ 0 }
         ensures wary { result.wary ≡ WARY }
@@ -47,15 +47,15 @@ impl Misses {
         }
     }
 
-    /// Whether so many searches of late found no match that it is worth its time to ask for one before its groups.
+    /// Whether so many recent searches found no match that it is cheaper to test for one before the search.
     pub(crate) fn are_frequent(&self) -> bool
         ensures { result ≡ (self.now.pays && nat_lt FREQUENT self.now.weight) }
     {
         self.pays && self.weight > FREQUENT
     }
 
-    /// Whether so many lines in a row had a match that it is not worth its time to turn the next one away without a
-    /// search.
+    /// Whether so many lines in a row matched that it is cheaper to search the next line than to look for a reason not
+    /// to.
     pub(crate) fn are_rare(&self) -> bool
         ensures { result ≡ (self.now.pays && self.now.wary == 0) }
     {
