@@ -77,7 +77,7 @@ impl<'r> RuleMatcher<'r> {
         stands_in(&self.finder, line.as_bytes())
     }
 
-    /// Whether the line has no match, where it is worth its time to ask.
+    /// Whether the line has no match. If the test is not worth its cost, the answer is false.
     fn is_miss(&mut self, line: &str) -> bool
         ensures miss { result ≡ true → find_str (matcher_pattern self.old.matcher) line.now 0 ≡ None }
         ensures pattern { matcher_pattern self.new.matcher ≡ matcher_pattern self.old.matcher }
@@ -89,7 +89,7 @@ impl<'r> RuleMatcher<'r> {
         !self.matcher.is_match(line)
     }
 
-    /// The spans of no group, if there is a match: those of a rule that uses no group.
+    /// The spans of a rule that uses no group, if there is a match.
     fn no_spans(&mut self, line: &str) -> Option<Spans>
         requires { UsesNoGroup self.old.rule.now }
         ensures found { result ≡ option_map (spans_of self.old.rule.now)
@@ -142,7 +142,8 @@ impl<'r> RuleMatcher<'r> {
             → IfSome result (λ answer. IfOk answer (HasParts rules line.now)) }
         ensures same { self.new.rule ≡ self.old.rule }
     {
-        if !self.may_match(line) {
+        if !self.misses.are_rare() && !self.may_match(line) {
+            self.misses.note_turned_away();
             return None;
         }
         let rule = self.rule;

@@ -5,7 +5,7 @@ ghost use Rattle.line_rules.specs.Times.{IsHead, billionths, time_of};
 /// How many billionths one has.
 const BILLION: u128 = 1_000_000_000;
 
-/// The number of the digits at the head of the text, at most so many, and how many they are.
+/// The number that the first digits of the text represent, and how many digits these are: at most `most`.
 fn head(text: &[u8], most: usize) -> (u64, usize)
     requires { most ≤ 18 }
     ensures { IsHead most text.now result.0 result.1 }
@@ -22,7 +22,7 @@ fn head(text: &[u8], most: usize) -> (u64, usize)
     (number, end)
 }
 
-/// How many billionths the last of so many digits after a point stands for.
+/// How many billionths a one in the last of this many decimal places has.
 fn unit(digits: usize) -> u64
     requires { digits ≤ 9 }
     ensures { result ≡ 10 ^ (9 - digits) }
