@@ -1,8 +1,7 @@
-use Rattle.std.proofs.Common.{◌≡◌, ◌<◌, ◌≤◌, ◌+◌, ◌*◌, ◌/◌, ◌%◌, ◌-◌, ◌&&◌, not, ℕ, Bool, true, false, length, bit_and, sym, ◌∙◌, ap, inl, inr, arith, refl, slice_get}
+use Rattle.std.proofs.Common.{◌≡◌, ◌<◌, ◌+◌, ◌*◌, ◌/◌, ◌%◌, ◌&&◌, not, ℕ, Bool, true, length, sym, ◌∙◌, ap, inl, inr, arith, refl, slice_get}
 use Rattle.std.proofs.lemmas.Bool.{cases_Bool, true≢false}
 use Rattle.std.proofs.lemmas.Nat.{div-add-mod', mod_below}
 use Rattle.std.proofs.lemmas.Option.{slice_get_read, slice_get_within}
-use Rattle.limits.specs.declared.TheConstants.{MAX_PARTITIONS}
 use Rattle.partition_graph.specs.Seen.{seen}
 use Rattle.path_finder.specs.Nearness.{Met, is_met}
 use Rattle.path_finder.specs.Reaching.{edge_by}
