@@ -12,7 +12,7 @@ ghost use Rattle.partition_graph.specs.declared.id_rows.TheConstants.{ID_WORDS};
 
 use crate::id_set::IdSet;
 use crate::sight::Sight;
-use crate::words::{next_at, next_in_word, without_bit};
+use crate::words::{next_in_word, without_bit};
 use bit_rows::Rows;
 use limits::MAX_PARTITIONS;
 use partition_graph::{ID_WORDS, View, WORD_BITS};
@@ -164,15 +164,16 @@ impl Reach {
         ensures reaching { IsReaching (edge_by way (seen sight.now.view)) (next + 1) self.new }
         ensures more { MeetsMore self.old self.new }
     {
+        prove!(sight.view.ids_used() <= MAX_PARTITIONS);
         let id = self.list[next];
-        let places = neighbour_places(sight, way, id);
-        let ids = sight.view.ids_used() as usize;
-        let mut at = next_at(places, 0);
-        while at < ids {
-            let place = at / WORD_BITS;
+        let mut rest = neighbour_places(sight, way, id);
+        while let Some(place) = next_in_word(rest, 0) {
+            if place >= ID_WORDS {
+                return;
+            }
             let unmet = neighbours(sight, way, id, place) & !self.word(place);
             self.add_all(place, unmet);
-            at = next_at(places, (place + 1) * WORD_BITS);
+            rest = without_bit(rest, place as u32);
         }
     }
 
