@@ -87,6 +87,20 @@ fn digit_from(zeroth: u8, first: u8, second: u8, k: u32) -> u8
     b'0' + (zeroth >> k) % 2 + 2 * ((first >> k) % 2) + 4 * ((second >> k) % 2)
 }
 
+/// Takes the bytes with this number out of the words of one state at all partitions.
+#[inline(always)]
+fn take_state(words: &[[u64; 3]], state: usize, number: u32, bytes: &mut [u8])
+    requires state { state < 3 }
+    requires number { number < 8 }
+    requires size { length bytes.old ≡ length words.now }
+    ensures { (j : ℕ) → j < length words.now → slice_index bytes.new j
+        ≡ slice_index (slice_index_or words.now j []) state / 2 ^ (8 * number) % 256 }
+{
+    for j in 0..bytes.len() {
+        bytes[j] = byte_of(words[j][state], number);
+    }
+}
+
 impl Bytes {
     /// Bytes for this many partitions.
     fn make(alloc: Global, partitions: usize) -> Result<Bytes, AllocError>
@@ -109,11 +123,9 @@ impl Bytes {
         requires second { length (self.old).second.items ≡ length words.now }
         ensures { AreBytesOf words.now number self.new }
     {
-        for (j, [zeroth, first, second]) in words.iter().enumerate() {
-            self.zeroth[j] = byte_of(*zeroth, number);
-            self.first[j] = byte_of(*first, number);
-            self.second[j] = byte_of(*second, number);
-        }
+        take_state(words, 0, number, self.zeroth.as_mut_slice());
+        take_state(words, 1, number, self.first.as_mut_slice());
+        take_state(words, 2, number, self.second.as_mut_slice());
     }
 
     /// Writes the digits of the labels of the invariant with this bit.
@@ -276,8 +288,10 @@ fn digits_of(alloc: Global, words: &[[u64; 3]]) -> Result<Digits, AllocError>
     let apart = apart_of(words);
     let mut bytes = Bytes::make(alloc, words.len())?;
     let mut row = vec![in alloc; 0; words.len()]?;
+    // Room that is never written takes no memory.
+    let room = words.len().saturating_mul(TOGETHER);
     let mut digits = Digits {
-        text: Vec::new(alloc),
+        text: Vec::with_capacity(alloc, room)?,
         from: Vec::with_capacity(alloc, TOGETHER)?,
     };
     for number in 0..TOGETHER / AT_ONCE {

@@ -12,6 +12,12 @@ use invariants::Seq;
 use std::alloc::{AllocError, Global};
 use traces::TraceSet;
 
+/// The room for the text of an event: a name of ten bytes and an id of three digits with what stands around them.
+const EVENT_ROOM: usize = 17;
+
+/// The room for the rest of a line.
+const LINE_ROOM: usize = 32;
+
 /// Appends the events with these type numbers and ids to the text.
 fn push_steps(
     text: &mut Vec<u8>,
@@ -46,6 +52,18 @@ fn push_line(
     Ok(())
 }
 
+/// How many bytes of room the lines of the paths get at once: more than most need. Room that is never written takes no memory,
+/// and a text that outgrows its room is copied.
+fn room_for(paths: &[TakenPath<'_>]) -> usize {
+    let mut events = 0usize;
+    for path in paths {
+        events = events.saturating_add(path.ids.len());
+    }
+    events
+        .saturating_mul(EVENT_ROOM)
+        .saturating_add(paths.len().saturating_mul(LINE_ROOM))
+}
+
 /// The text of the paths that the traces take through partitions, one per line in the order first met, for example `3: INITIAL
 /// "a"@2 "b"@3 TERMINAL`. A line has the number of traces that take the path, and for each of its events the text of the type
 /// as a JSON string and the id of the partition.
@@ -62,7 +80,7 @@ pub fn path_report(alloc: Global, traces: &TraceSet, parts: &[u32]) -> Result<Se
     let paths = taken_paths(alloc, traces, parts)?;
     let names = Names::make(alloc, traces.types())?;
     let mut steps = Steps::make(alloc, names)?;
-    let mut text = Vec::new(alloc);
+    let mut text = Vec::with_capacity(alloc, room_for(paths.as_slice()))?;
     for path in &paths {
         push_line(&mut text, &mut steps, path)?;
     }
