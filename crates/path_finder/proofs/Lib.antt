@@ -11,3 +11,5 @@ pub mod PairSets
 pub mod Levels
 pub mod Parts
 pub mod Ends
+pub mod Listing
+pub mod Tracing

@@ -1,5 +1,5 @@
 //! The question that the finder answers.
-ghost use Rattle.std.specs.Prelude.{◌≡◌, ℕ, ◌≤◌, ◌<◌, true, IfSome, MatchOption};
+ghost use Rattle.std.specs.Prelude.{◌≡◌, ℕ, ◌≤◌, ◌<◌, true};
 ghost use Rattle.limits.specs.declared.TheConstants.{FIRST_TYPE, MAX_PARTITIONS};
 ghost use Rattle.partition_graph.specs.Parts.{HasEdgesBelow};
 ghost use Rattle.partition_graph.specs.Seen.{seen};
@@ -9,10 +9,9 @@ ghost use Rattle.path_finder.specs.Nearness.{narrowed};
 
 use crate::id_set::IdSet;
 use crate::sight::Sight;
-use crate::words::{next_at, next_in_word};
 use invariants::{Invariant, Monitor};
 use limits::{FIRST_TYPE, MAX_PARTITIONS};
-use partition_graph::{ID_WORDS, WORD_BITS};
+use partition_graph::ID_WORDS;
 
 /// An invariant, and a graph that may break it. Edges go between ids below `ids`. Only those between the ids in
 /// `near` are visited.
@@ -30,7 +29,6 @@ pub(crate) struct Question<'v, 'a> {
 impl<'v, 'a> Question<'v, 'a> {
     ghost use Rattle.invariants.specs.Monitors.{step, is_bad};
     ghost use Rattle.partition_graph.specs.NeighbourWords.{ArePlaces, IsWordOf};
-    ghost use Rattle.partition_graph.specs.Neighbours.{HasNoTarget, IsNextTarget};
     ghost use Rattle.path_finder.specs.Asking.{asked, looks_at};
     ghost use Rattle.path_finder.specs.Walks.{state_at};
 
@@ -56,12 +54,13 @@ impl<'v, 'a> Question<'v, 'a> {
         self.ids
     }
 
-    /// Whether the edges of the id are looked at.
+    /// The ids from `64 * place` on whose edges are looked at, as a word whose lowest bit is the first of them.
     #[inline]
-    pub fn looks_at(&self, id: u32) -> bool
-        ensures { result ≡ looks_at self.now id }
+    pub fn near_word(&self, place: usize) -> u64
+        requires { place < ID_WORDS }
+        ensures { IsWordOf (λ id. looks_at self.now id) place result }
     {
-        self.near.has(id)
+        self.near.word(place)
     }
 
     /// The ids from `64 * place` on that have an edge to q, as a word whose lowest bit is the first of them.
@@ -82,28 +81,14 @@ impl<'v, 'a> Question<'v, 'a> {
         self.sight.view.source_places(q)
     }
 
-    /// The least id at or above `from` to which p has an edge; `None` if there is none.
-    pub fn next_target(&self, p: u32, from: u32) -> Option<u32>
-        ensures next { MatchOption result
-            (HasNoTarget (asked self.now).graph p from)
-            (λ q. IsNextTarget (asked self.now).graph p from q) }
-        ensures within { IfSome result (λ q. q < (asked self.now).ids) }
+    /// The ids from `64 * place` on to which p has an edge, as a word whose lowest bit is the first of them.
+    #[inline]
+    pub fn target_word(&self, p: u32, place: usize) -> u64
+        requires looked { looks_at self.now p ≡ true }
+        requires place { place < ID_WORDS }
+        ensures { IsWordOf (λ q. (asked self.now).graph.edge p q) place result }
     {
-        if !self.near.has(p) {
-            return None;
-        }
-        let places = self.sight.view.target_places(p);
-        let ids = self.ids as usize;
-        let mut at = next_at(places, from as usize);
-        while at < ids {
-            let place = at / WORD_BITS;
-            let targets = self.sight.view.target_word(p, place) & self.near.word(place);
-            if let Some(q) = next_in_word(targets, at) {
-                return Some(q as u32);
-            }
-            at = next_at(places, (place + 1) * WORD_BITS);
-        }
-        None
+        self.sight.view.target_word(p, place) & self.near.word(place)
     }
 
     /// The type of q.

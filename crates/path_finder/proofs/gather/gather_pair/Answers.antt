@@ -1,9 +1,6 @@
-use Rattle.std.proofs.Common.{ℕ, Bool, sym, ◌∙◌, refl, ap, inl, inr, arith}
+use Rattle.std.proofs.Common.{ℕ, sym, ◌∙◌, refl, ap, inl, inr, arith}
 use Rattle.invariants.specs.Monitors.{step}
-use Rattle.std.proofs.lemmas.Bool.{cases_lt, true≢false}
-use Rattle.partition_graph.specs.Seen.{seen}
-use Rattle.path_finder.specs.IdSets.{has_id}
-use Rattle.path_finder.proofs.Neighbours.{to-gone}
+use Rattle.std.proofs.lemmas.Bool.{cases_lt}
 use Rattle.path_finder.proofs.gather.gather_pair.Goals as goal
 
 pub loop-state-init : goal.loop-state-init
@@ -27,16 +24,6 @@ loop-state-preserved c =
         | inr here ↦ g.all p pp (omega (arith, below, here)) leads
       ];
       others = λ p low h. elim (g.others p low h) [ inl old ↦ i.others p low old | inr new ↦ inr new ];
-    }
-
-pub returns-then-not-looks_at-clause-gathered : goal.returns-then-not-looks_at-clause-gathered
-returns-then-not-looks_at-clause-gathered c =
-    let around : ℕ → Bool = has_id c.args.question.now.near.now in
-    let q : ℕ = c.args.pair.id in
-    record {
-      kept = λ p h. h;
-      all = λ p pp low d. absurd (true≢false (sym d.edge ∙ to-gone (around p.id) (around q) ((seen c.args.question.now.sight.now.view).edge p.id q) c.if-not-looks_at.ensures));
-      others = λ p low h. inl h;
     }
 
 pub gather_sources-requires-clause-step : goal.gather_sources-requires-clause-step
