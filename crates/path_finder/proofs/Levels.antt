@@ -14,7 +14,7 @@ use Rattle.path_finder.specs.declared.table.Entry.{Entry}
 use Rattle.path_finder.specs.Gathering.{HasSourcesOf, IsPairIn}
 use Rattle.path_finder.specs.Levels.{HasEndsBelow, IsEntering, IsDue, IsReached, AreOpened}
 use Rattle.path_finder.specs.PairSets.{has_pair, IsAmong, IsEmptySet, IsMarked, IsTaken}
-use Rattle.path_finder.specs.Tables.{Entries, at, open_count, part_of, place, IsEntered, IsKnown, IsListed, IsListedFrom, IsMeasured, IsSplitAt}
+use Rattle.path_finder.specs.Tables.{Entries, at, open_count, part_of, IsEntered, IsKnown, IsListed, IsListedFrom, IsMeasured, IsSplitAt}
 use Rattle.path_finder.specs.Walks.{Asked, IsPairOf, Leads, EndsBadly, Finishes}
 use Rattle.path_finder.proofs.Entering.{ends_before, place_within}
 use Rattle.path_finder.proofs.Listing.{some-of}

@@ -4,7 +4,6 @@ pub mod Least
 pub mod Reaching
 pub mod Surveying
 pub mod Narrow
-pub mod Neighbours
 pub mod WordSets
 pub mod WordSteps
 pub mod PairSets

@@ -1,6 +1,6 @@
 -- The list of entries, and the distances that it gives.
-use Rattle.std.proofs.Common.{◌≡◌, ◌==◌, ◌&&◌, ◌⊎◌, ℕ, zero, suc, ◌+◌, ◌*◌, ◌/◌, ◌%◌, ◌^◌, ◌<◌, ◌≤◌, Bool, true, false, List, [], ◌∷◌, ◌++◌, length, replicate, slice_get, slice_index, count_by, Some, if◌then◌else◌, eq-eqb, eqb-true, ne_eqb, refl, sym, ◌∙◌, ap, ap₂, subst, inl, inr, arith}
-use Rattle.std.proofs.lemmas.Bool.{and_parts, cases_Bool, cases_eq, cases_lt, true≢false}
+use Rattle.std.proofs.Common.{◌≡◌, ◌==◌, ◌&&◌, ℕ, zero, suc, ◌+◌, ◌/◌, ◌%◌, ◌^◌, ◌<◌, ◌≤◌, Bool, true, false, List, [], ◌∷◌, ◌++◌, length, replicate, slice_get, slice_index, count_by, if◌then◌else◌, eq-eqb, eqb-true, ne_eqb, refl, sym, ◌∙◌, ap, ap₂, subst, inl, inr, arith}
+use Rattle.std.proofs.lemmas.Bool.{and_parts, cases_Bool, cases_lt}
 use Rattle.std.proofs.lemmas.List.{get_or-replicate, length-append, length-replicate}
 use Rattle.std.proofs.lemmas.List.Sums.{count_by-le-length, sum_by-cons}
 use Rattle.std.proofs.lemmas.Nat.{div-add-mod', mod_below}
@@ -10,10 +10,9 @@ use Rattle.partition_graph.specs.declared.id_rows.TheConstants.{ID_WORDS}
 use Rattle.path_finder.specs.declared.pair.TheConstants.{STATES}
 use Rattle.path_finder.specs.declared.table.TheConstants.{MAX_ENTRIES, OPEN}
 use Rattle.path_finder.specs.declared.pair.Pair.{Pair}
-use Rattle.path_finder.specs.declared.pair_set.Part.{Part}
 use Rattle.path_finder.specs.declared.table.Entry.{Entry}
 use Rattle.path_finder.specs.PairSets.{IsAmong}
-use Rattle.path_finder.specs.Tables.{Entries, at, open_count, part_of, place, has_place, entered_from, measured_by, entries_of, AreEnteredWith, IsEntered, IsListed, IsSplitAt}
+use Rattle.path_finder.specs.Tables.{Entries, at, part_of, place, has_place, entered_from, measured_by, entries_of, AreEnteredWith, IsEntered, IsListed, IsSplitAt}
 use Rattle.path_finder.proofs.PairSets.{some-among}
 use Rattle.path_finder.proofs.Reaching.{slice_get_kept, slice_get_last, slice_get_push}
 use Rattle.path_finder.proofs.WordSets.{past-end}

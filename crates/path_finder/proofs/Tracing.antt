@@ -1,19 +1,18 @@
 -- The next pair of the path among the entries of a level.
 use Rattle.std.proofs.Common.{◌≡◌, ◌⊎◌, ◌&&◌, ℕ, suc, ◌+◌, ◌-◌, ◌*◌, ◌/◌, ◌%◌, ◌<◌, ◌≤◌, Bool, true, length, slice_get, Some, bit_and, sym, ◌∙◌, ap, subst, inl, inr, arith}
-use Rattle.std.proofs.lemmas.Bool.{and_parts, cases_lt, true≢false}
+use Rattle.std.proofs.lemmas.Bool.{cases_lt, true≢false}
 use Rattle.std.proofs.lemmas.Nat.{div-add-mod', mod_below}
 use Rattle.std.proofs.lemmas.Option.{same_Some}
 use Rattle.partition_graph.specs.NeighbourWords.{IsWordOf}
 use Rattle.partition_graph.specs.Nexts.{IsNext}
 use Rattle.partition_graph.specs.Parts.{HasEdgesBelow}
 use Rattle.partition_graph.proofs.NeighbourWords.{word-both}
-use Rattle.path_finder.specs.declared.pair.TheConstants.{STATES}
 use Rattle.path_finder.specs.declared.table.TheConstants.{OPEN}
 use Rattle.path_finder.specs.declared.pair.Pair.{Pair}
 use Rattle.path_finder.specs.declared.table.Entry.{Entry}
 use Rattle.path_finder.specs.PairSets.{IsAmong}
 use Rattle.path_finder.specs.Tables.{Entries, at, part_of, place, IsKnown, IsListed, IsNextPair, IsSplitAt}
-use Rattle.path_finder.specs.Walks.{Asked, state_at, IsPairOf, Leads}
+use Rattle.path_finder.specs.Walks.{Asked, IsPairOf, Leads}
 use Rattle.path_finder.proofs.Entering.{place_within}
 use Rattle.path_finder.proofs.Least.{has_next}
 use Rattle.path_finder.proofs.Measuring.{state_small}

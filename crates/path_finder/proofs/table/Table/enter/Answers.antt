@@ -1,4 +1,4 @@
-use Rattle.std.proofs.Common.{◌≡◌, ◌++◌, ◌∷◌, [], List, sym, ◌∙◌, ap, subst, arith}
+use Rattle.std.proofs.Common.{◌++◌, ◌∷◌, [], List, sym, ◌∙◌, ap, subst, arith}
 use Rattle.path_finder.specs.declared.table.Entry.{Entry}
 use Rattle.path_finder.specs.Tables.{Entries, entries_of, part_of, AreEnteredWith, IsListed}
 use Rattle.path_finder.proofs.Listing.{entries-more, listed-more, may-change, room-for, with_entry, MayEnter}
