@@ -12,3 +12,4 @@ pub mod Parts
 pub mod Ends
 pub mod Listing
 pub mod Tracing
+pub mod Merging

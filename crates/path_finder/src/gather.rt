@@ -4,29 +4,31 @@ ghost use Rattle.partition_graph.specs.NeighbourWords.{ArePlaces};
 ghost use Rattle.partition_graph.specs.declared.id_rows.TheConstants.{ID_WORDS};
 ghost use Rattle.path_finder.specs.Asking.{asked, looks_at};
 ghost use Rattle.path_finder.specs.Gathering.{HasSourcesIn, HasSourcesOf};
+ghost use Rattle.path_finder.specs.Merges.{IsUnmergedAt};
 ghost use Rattle.path_finder.specs.PairSets.{IsAmong, IsEmptySet, IsMarked};
 ghost use Rattle.path_finder.specs.Tables.{part_of, IsListed, IsListedFrom};
 ghost use Rattle.path_finder.specs.Walks.{state_at};
 
 use crate::pair::Pair;
 use crate::pair_set::{PairSet, Part};
-use crate::question::Question;
+use crate::question::{Question, Sources};
 use crate::table::{Entry, Table};
 use crate::words::{next_in_word, without_bit};
 use partition_graph::{ID_WORDS, WORD_BITS};
 
-/// Adds the pairs with this state whose ids have an edge to the id of the pair. `places` are the places of these ids.
+/// Adds the pairs with this state whose ids have an edge to the id of the pair. `sources` says where these ids are.
 #[inline]
 fn gather_sources(
     question: &Question<'_, '_>,
     found: &mut PairSet,
     pair: Pair,
-    places: u64,
+    sources: Sources,
     state: u8,
 )
     requires step { state_at (asked question.now) state pair.id ≡ pair.state }
     requires looked { looks_at question.now pair.id ≡ true }
-    requires places { ArePlaces (λ id. (asked question.now).graph.edge id pair.id) places }
+    requires places { ArePlaces (λ id. (asked question.now).graph.edge id pair.id) sources.places }
+    requires unmerged { sources.unmerged ≡ true → IsUnmergedAt (question.now).sight.now.view pair.id }
     requires state { state < 3 }
     requires marked { IsMarked found.old }
 
@@ -35,30 +37,31 @@ fn gather_sources(
     ensures gathered { HasSourcesIn (asked question.now) (λ s. s ≡ state) pair found.old found.new }
 {
     let q = pair.id;
-    let mut rest = places;
+    let mut rest = sources.places;
     while let Some(place) = next_in_word(rest, 0) {
         if place >= ID_WORDS {
             return;
         }
-        let word = question.source_word(q, place);
+        let word = question.source_word(q, place, sources.unmerged);
         found.add(Part { state, place, word });
         rest = without_bit(rest, place as u32);
     }
 }
 
-/// Adds the pairs with this state that lead to the pair. `typ` is the type of its id, and `places` are the places of the ids that
+/// Adds the pairs with this state that lead to the pair. `typ` is the type of its id, and `sources` says where the ids are that
 /// have an edge to its id.
 fn gather_state(
     question: &Question<'_, '_>,
     found: &mut PairSet,
     pair: Pair,
     typ: u16,
-    places: u64,
+    sources: Sources,
     state: u8,
 )
     requires typ { typ ≡ (asked question.now).graph.typ pair.id }
     requires looked { looks_at question.now pair.id ≡ true }
-    requires places { ArePlaces (λ id. (asked question.now).graph.edge id pair.id) places }
+    requires places { ArePlaces (λ id. (asked question.now).graph.edge id pair.id) sources.places }
+    requires unmerged { sources.unmerged ≡ true → IsUnmergedAt (question.now).sight.now.view pair.id }
     requires state { state < 3 }
     requires marked { IsMarked found.old }
 
@@ -69,7 +72,7 @@ fn gather_state(
     if question.state_after(state, typ) != pair.state {
         return;
     }
-    gather_sources(question, found, pair, places, state);
+    gather_sources(question, found, pair, sources, state);
 }
 
 /// Adds the pairs that lead to the pair.
@@ -83,13 +86,13 @@ fn gather_pair(question: &Question<'_, '_>, found: &mut PairSet, pair: Pair)
     ensures gathered { HasSourcesIn (asked question.now) (λ s. s < 3) pair found.old found.new }
 {
     let typ = question.type_of(pair.id);
-    let places = question.source_places(pair.id);
+    let sources = question.sources(pair.id);
     if question.passes_over(typ) {
-        gather_sources(question, found, pair, places, pair.state);
+        gather_sources(question, found, pair, sources, pair.state);
         return;
     }
     for state in 0..3 {
-        gather_state(question, found, pair, typ, places, state);
+        gather_state(question, found, pair, typ, sources, state);
     }
 }
 

@@ -9,9 +9,19 @@ ghost use Rattle.path_finder.specs.Nearness.{narrowed};
 
 use crate::id_set::IdSet;
 use crate::sight::Sight;
+use crate::unmerged::{is_unmerged_at, unmerged};
 use invariants::{Invariant, Monitor};
 use limits::{FIRST_TYPE, MAX_PARTITIONS};
 use partition_graph::ID_WORDS;
+
+/// Where the ids are that have an edge to an id.
+#[derive(Clone, Copy)]
+pub(crate) struct Sources {
+    /// The places of their words, as the bits of a word: the lowest is place 0.
+    pub places: u64,
+    /// Whether these edges are the same without a merge.
+    pub unmerged: bool,
+}
 
 /// An invariant, and a graph that may break it. Edges go between ids below `ids`. Only those between the ids in
 /// `near` are visited.
@@ -30,6 +40,7 @@ impl<'v, 'a> Question<'v, 'a> {
     ghost use Rattle.invariants.specs.Monitors.{step, is_bad};
     ghost use Rattle.partition_graph.specs.NeighbourWords.{ArePlaces, IsWordOf};
     ghost use Rattle.path_finder.specs.Asking.{asked, looks_at};
+    ghost use Rattle.path_finder.specs.Merges.{IsUnmergedAt};
     ghost use Rattle.path_finder.specs.Walks.{state_at};
 
     /// The question whether the graph breaks the invariant by edges between the ids in `near`.
@@ -63,22 +74,40 @@ impl<'v, 'a> Question<'v, 'a> {
         self.near.word(place)
     }
 
-    /// The ids from `64 * place` on that have an edge to q, as a word whose lowest bit is the first of them.
+    /// The places of the ids that have an edge to q, and whether these edges are the same without a merge.
     #[inline]
-    pub fn source_word(&self, q: u32, place: usize) -> u64
-        requires looked { looks_at self.now q ≡ true }
-        requires place { place < ID_WORDS }
-        ensures { IsWordOf (λ p. (asked self.now).graph.edge p q) place result }
+    pub fn sources(&self, q: u32) -> Sources
+        ensures places { ArePlaces (λ p. (asked self.now).graph.edge p q) result.places }
+        ensures unmerged { result.unmerged ≡ true → IsUnmergedAt (self.now).sight.now.view q }
     {
-        self.sight.view.source_word(q, place) & self.near.word(place)
+        let view = &self.sight.view;
+        let places = unmerged(view).source_places(q);
+        if is_unmerged_at(view, q, places) {
+            return Sources {
+                places,
+                unmerged: true,
+            };
+        }
+        Sources {
+            places: view.source_places(q),
+            unmerged: false,
+        }
     }
 
-    /// The places of `source_word` at which there may be ids, as the bits of a word: the lowest is place 0.
+    /// The ids from `64 * place` on that have an edge to q, as a word whose lowest bit is the first of them. `is_unmerged` may be
+    /// true only if the edges to q are the same without a merge.
     #[inline]
-    pub fn source_places(&self, q: u32) -> u64
-        ensures { ArePlaces (λ p. (asked self.now).graph.edge p q) result }
+    pub fn source_word(&self, q: u32, place: usize, is_unmerged: bool) -> u64
+        requires looked { looks_at self.now q ≡ true }
+        requires place { place < ID_WORDS }
+        requires same { is_unmerged ≡ true → IsUnmergedAt (self.now).sight.now.view q }
+        ensures { IsWordOf (λ p. (asked self.now).graph.edge p q) place result }
     {
-        self.sight.view.source_places(q)
+        let view = &self.sight.view;
+        if is_unmerged {
+            return unmerged(view).source_word(q, place) & self.near.word(place);
+        }
+        view.source_word(q, place) & self.near.word(place)
     }
 
     /// The ids from `64 * place` on to which p has an edge, as a word whose lowest bit is the first of them.
