@@ -53,11 +53,14 @@ pub next-chosen : (a : Asked) (e : Entries) (p : Pair) (d first end : ℕ) (next
 next-chosen a e p d first end next w known listed from to pp value closes chosen least =
     elim chosen [
       | inl none ↦ absurd (omega (arith, none, some.1, cover some.0 (led-pair a p some.0 w pp.state some.2) some.2 some.3))
-      | inr is ↦ (is.0, record {
-        leads = is.1;
-        value = is.2;
-        first = λ r below leads v. omega (arith, below, cover r (led-pair a p r w pp.state leads) leads v);
-      })
+      | inr is ↦ (
+        is.0,
+        record {
+          leads = is.1;
+          value = is.2;
+          first = λ r below leads v. omega (arith, below, cover r (led-pair a p r w pp.state leads) leads v);
+        },
+      )
     ]
   where
     some : (q : Pair) × (q.id < a.ids) × Leads a p q × (at e q ≡ d)

@@ -17,7 +17,7 @@ use crate::words::{next_in_word, without_bit};
 use partition_graph::{ID_WORDS, WORD_BITS};
 
 /// Adds the pairs with this state whose ids have an edge to the id of the pair. `sources` says where these ids are.
-#[inline]
+#[inline(always)]
 fn gather_sources(
     question: &Question<'_, '_>,
     found: &mut PairSet,
@@ -75,7 +75,34 @@ fn gather_state(
     gather_sources(question, found, pair, sources, state);
 }
 
-/// Adds the pairs that lead to the pair.
+/// Adds the pairs that lead to the pair. `typ` is the type of its id, and `sources` says where the ids are that have an edge to its
+/// id.
+#[inline(never)]
+fn gather_states(
+    question: &Question<'_, '_>,
+    found: &mut PairSet,
+    pair: Pair,
+    typ: u16,
+    sources: Sources,
+)
+    requires typ { typ ≡ (asked question.now).graph.typ pair.id }
+    requires looked { looks_at question.now pair.id ≡ true }
+    requires places { ArePlaces (λ id. (asked question.now).graph.edge id pair.id) sources.places }
+    requires unmerged { sources.unmerged ≡ true → IsUnmergedAt (question.now).sight.now.view pair.id }
+    requires marked { IsMarked found.old }
+
+    // What leads to the pair was added, and nothing that does not lead to it.
+    ensures marked { IsMarked found.new }
+    ensures gathered { HasSourcesIn (asked question.now) (λ s. s < 3) pair found.old found.new }
+{
+    for state in 0..3 {
+        gather_state(question, found, pair, typ, sources, state);
+    }
+}
+
+/// Adds the pairs that lead to the pair. Most types are none of the two that the invariant names, and only one state leads to the
+/// pair then.
+#[inline]
 fn gather_pair(question: &Question<'_, '_>, found: &mut PairSet, pair: Pair)
     requires looked { looks_at question.now pair.id ≡ true }
     requires state { pair.state < 3 }
@@ -91,9 +118,7 @@ fn gather_pair(question: &Question<'_, '_>, found: &mut PairSet, pair: Pair)
         gather_sources(question, found, pair, sources, pair.state);
         return;
     }
-    for state in 0..3 {
-        gather_state(question, found, pair, typ, sources, state);
-    }
+    gather_states(question, found, pair, typ, sources);
 }
 
 /// Adds the pairs that lead to those of an entry.
@@ -120,12 +145,7 @@ fn gather_entry(question: &Question<'_, '_>, found: &mut PairSet, entry: Entry)
 }
 
 /// Gathers the pairs that lead to those of the entries from this place of the table on.
-pub(crate) fn gather(
-    question: &Question<'_, '_>,
-    table: &Table,
-    first: usize,
-    found: &mut PairSet,
-)
+pub(crate) fn gather(question: &Question<'_, '_>, table: &Table, first: usize, found: &mut PairSet)
     requires { IsEmptySet found.old }
     ensures listed { IsListed table.now }
     ensures marked { IsMarked found.new }

@@ -2,7 +2,8 @@
 ghost use Rattle.std.specs.Prelude.{◌≡◌, ℕ, ◌≤◌, ◌<◌, true};
 ghost use Rattle.limits.specs.declared.TheConstants.{FIRST_TYPE, MAX_PARTITIONS};
 ghost use Rattle.partition_graph.specs.Parts.{HasEdgesBelow};
-ghost use Rattle.partition_graph.specs.Seen.{seen};
+ghost use Rattle.partition_graph.specs.NeighbourWords.{IsWordOf};
+ghost use Rattle.partition_graph.specs.Seen.{seen, IsSound};
 ghost use Rattle.partition_graph.specs.declared.id_rows.TheConstants.{ID_WORDS};
 ghost use Rattle.path_finder.specs.IdSets.{has_id};
 ghost use Rattle.path_finder.specs.Nearness.{narrowed};
@@ -12,7 +13,7 @@ use crate::sight::Sight;
 use crate::unmerged::{is_unmerged_at, unmerged};
 use invariants::{Invariant, Monitor};
 use limits::{FIRST_TYPE, MAX_PARTITIONS};
-use partition_graph::ID_WORDS;
+use partition_graph::{ID_WORDS, View};
 
 /// Where the ids are that have an edge to an id.
 #[derive(Clone, Copy)]
@@ -38,7 +39,7 @@ pub(crate) struct Question<'v, 'a> {
 
 impl<'v, 'a> Question<'v, 'a> {
     ghost use Rattle.invariants.specs.Monitors.{step, is_bad};
-    ghost use Rattle.partition_graph.specs.NeighbourWords.{ArePlaces, IsWordOf};
+    ghost use Rattle.partition_graph.specs.NeighbourWords.{ArePlaces};
     ghost use Rattle.path_finder.specs.Asking.{asked, looks_at};
     ghost use Rattle.path_finder.specs.Merges.{IsUnmergedAt};
     ghost use Rattle.path_finder.specs.Walks.{state_at};
@@ -107,7 +108,7 @@ impl<'v, 'a> Question<'v, 'a> {
         if is_unmerged {
             return unmerged(view).source_word(q, place) & self.near.word(place);
         }
-        view.source_word(q, place) & self.near.word(place)
+        merged_source_word(view, q, place) & self.near.word(place)
     }
 
     /// The ids from `64 * place` on to which p has an edge, as a word whose lowest bit is the first of them.
@@ -152,7 +153,11 @@ impl<'v, 'a> Question<'v, 'a> {
         ensures value { result ≡ state_at (asked self.now) state q }
         ensures bound { result < 3 }
     {
-        Monitor::step(self.inv, state, self.sight.view.type_of(q))
+        let typ = self.type_of(q);
+        if self.passes_over(typ) {
+            return state;
+        }
+        self.state_after(state, typ)
     }
 
     /// Whether a path that ends in the state breaks the invariant.
@@ -161,4 +166,14 @@ impl<'v, 'a> Question<'v, 'a> {
     {
         Monitor::bad(self.inv, state)
     }
+}
+
+/// The ids from `64 * place` on that have an edge to q in the view, as a word whose lowest bit is the first of them.
+#[inline(never)]
+fn merged_source_word(view: &View<'_>, q: u32, place: usize) -> u64
+    requires sound { IsSound view.now }
+    requires place { place < ID_WORDS }
+    ensures { IsWordOf (λ p. (seen view.now).edge p q) place result }
+{
+    view.source_word(q, place)
 }

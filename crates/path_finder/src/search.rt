@@ -62,9 +62,13 @@ pub(crate) fn measure(question: &Question<'_, '_>, table: &mut Table, start: Pai
     let mut entered = PairSet::none();
     let mut found = ends(question);
     let mut distance = 0;
-    'levels: while let Some(first) =
-        enter_level(question, table, &mut entered, &mut found, distance)
-    {
+    'levels: while let Some(first) = enter_level(
+        question,
+        table,
+        &mut entered,
+        &mut found,
+        distance,
+    ) {
         if entered.has(start) {
             return Some(distance);
         }

@@ -17,9 +17,9 @@ pub returns : goal.returns
 returns c =
     let around : ℕ → Bool = has_id c.args.self.now.near.now in
     let edge : ℕ → Bool = λ r. (seen c.args.self.now.sight.now.view).edge r c.args.q in
-    word-same (λ r. edge r && around r) (λ r. (around r && around c.args.q) && edge r) c.args.place (bit_and c.source_word-2.result c.word-2.result)
+    word-same (λ r. edge r && around r) (λ r. (around r && around c.args.q) && edge r) c.args.place (bit_and c.merged_source_word.result c.word-2.result)
     (λ r. looked-at (around r) (around c.args.q) (edge r) c.requires.looked)
-    (word-both edge around c.args.place c.source_word-2.result c.word-2.result c.source_word-2.ensures c.word-2.ensures)
+    (word-both edge around c.args.place c.merged_source_word.result c.word-2.result c.merged_source_word.ensures c.word-2.ensures)
 
 pub returns-then-is_unmerged : goal.returns-then-is_unmerged
 returns-then-is_unmerged c =

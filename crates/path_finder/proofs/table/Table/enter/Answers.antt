@@ -13,8 +13,7 @@ push_reserved-requires c =
 pub invariant_of-self : goal.invariant_of-self
 invariant_of-self c =
     let may : MayEnter c.args.self.now c.args.entry = record { small = c.requires.state; below = c.requires.place; some = c.requires.some; fits = omega arith; closes = c.requires.closes; stand = c.requires.stand_open; last = c.requires.last } in
-    let e : Entries = entries_of c.self.inside.pairs c.self.inside.entries.items in
-    (
+    let e : Entries = entries_of c.self.inside.pairs c.self.inside.entries.items in (
       subst (λ (x : Entries). IsListed x)
           (sym (ap (λ (xs : List Entry). entries_of c.self.inside.pairs xs) c.push_reserved.ensures.items ∙ entries-more c.self.inside.pairs c.self.inside.entries.items c.args.entry))
           (listed-more e c.args.entry c.self.invariant.0 (subst (λ (x : Entries). MayEnter x c.args.entry) (sym c.self.view_is) may)),
