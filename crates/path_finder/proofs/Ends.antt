@@ -6,7 +6,6 @@ use Rattle.std.proofs.lemmas.List.Sums.{count_by-le-length}
 use Rattle.std.proofs.lemmas.Nat.{div-add-mod'}
 use Rattle.std.proofs.lemmas.Nat.Bits.{bit_at-pow_other}
 use Rattle.invariants.specs.Monitors.{is_bad}
-use Rattle.limits.specs.declared.TheConstants.{MAX_PARTITIONS}
 use Rattle.path_finder.specs.declared.pair.TheConstants.{STATES}
 use Rattle.path_finder.specs.declared.table.TheConstants.{OPEN}
 use Rattle.path_finder.specs.declared.pair.Pair.{Pair}
@@ -63,7 +62,7 @@ pub no-ends : (a : Asked) (s : PairSet) → IsEmptySet s → HasEndsBelow a 0 s
 no-ends a s empty = record { marked = empty.marked; ends = λ r is. absurd (no-pair s r empty is); all = λ r id low b. absurd (omega (arith, low)) }
 
 -- a pair is open where all are
-stands-open : (a : Asked) (e : Entries) (r : Pair) → e.distances ≡ replicate (a.ids * STATES) OPEN → IsPairOf a r → at e r ≡ OPEN
+pub stands-open : (a : Asked) (e : Entries) (r : Pair) → e.distances ≡ replicate (a.ids * STATES) OPEN → IsPairOf a r → at e r ≡ OPEN
 stands-open a e r is p = ap (λ (xs : List ℕ). get_or xs (r.id * STATES + r.state) 0) is ∙ get_or-replicate (a.ids * STATES) (r.id * STATES + r.state) OPEN 0 (place_within a r p)
 
 -- no pair was entered yet
@@ -76,10 +75,10 @@ none-entered a e n is empty =
     }
 
 -- the first level is due over a table in which all pairs are open
-pub begins : (a : Asked) (e : Entries) (f s : PairSet) → 2 ≤ a.ids → a.ids ≤ MAX_PARTITIONS → e.distances ≡ replicate (a.ids * STATES) OPEN → HasEndsBelow a 3 f → IsEmptySet s → IsDue a 0 e f s
-begins a e f s two few is ends empty =
+pub begins : (a : Asked) (e : Entries) (f : PairSet) → 2 ≤ a.ids → e.distances ≡ replicate (a.ids * STATES) OPEN → HasEndsBelow a 3 f → IsDue a 0 e f
+begins a e f two is ends =
     let long : length e.distances ≡ a.ids * STATES = ap (λ (xs : List ℕ). length xs) is ∙ length-replicate (a.ids * STATES) OPEN in
-    first-due a e f s two few long
+    first-due a e f two long
     (λ r p. stands-open a e r is p)
     (omega (arith, count_by-le-length (λ x. x == OPEN) e.distances, long))
-    ends empty
+    ends

@@ -1,6 +1,7 @@
 -- The levels of the search: what is known of walks after each.
-use Rattle.std.proofs.Common.{◌≡◌, ◌⊎◌, ℕ, ◌+◌, ◌*◌, ◌<◌, ◌≤◌, true, List, [], ◌∷◌, length, refl, sym, ◌∙◌, subst, inl, inr, arith}
-use Rattle.std.proofs.lemmas.Bool.{cases_eq, cases_lt, true≢false}
+use Rattle.std.proofs.Common.{◌≡◌, ◌⊎◌, ℕ, ◌+◌, ◌*◌, ◌<◌, ◌≤◌, true, false, List, [], ◌∷◌, length, slice_get, Some, refl, sym, ◌∙◌, subst, inl, inr, arith}
+use Rattle.std.proofs.lemmas.Bool.{cases_Bool, cases_eq, cases_lt, true≢false}
+use Rattle.std.proofs.lemmas.Option.{slice_get_within}
 use Rattle.invariants.specs.Monitors.{is_bad}
 use Rattle.limits.specs.declared.TheConstants.{MAX_PARTITIONS}
 use Rattle.partition_graph.specs.Parts.{HasEdgesBelow}
@@ -9,12 +10,14 @@ use Rattle.path_finder.specs.declared.table.TheConstants.{OPEN}
 use Rattle.path_finder.specs.declared.pair.Pair.{Pair}
 use Rattle.path_finder.specs.declared.pair_set.PairSet.{PairSet}
 use Rattle.path_finder.specs.declared.pair_set.Part.{Part}
+use Rattle.path_finder.specs.declared.table.Entry.{Entry}
 use Rattle.path_finder.specs.Gathering.{HasSourcesOf, IsPairIn}
 use Rattle.path_finder.specs.Levels.{HasEndsBelow, IsEntering, IsDue, IsReached, AreOpened}
 use Rattle.path_finder.specs.PairSets.{has_pair, IsAmong, IsEmptySet, IsMarked, IsTaken}
-use Rattle.path_finder.specs.Tables.{Entries, at, open_count, IsKnown, IsMeasured}
+use Rattle.path_finder.specs.Tables.{Entries, at, open_count, part_of, IsEntered, IsKnown, IsListed, IsListedFrom, IsMeasured, IsSplitAt}
 use Rattle.path_finder.specs.Walks.{Asked, IsPairOf, Leads, EndsBadly, Finishes}
-use Rattle.path_finder.proofs.Entering.{ends_before}
+use Rattle.path_finder.proofs.Entering.{ends_before, place_within}
+use Rattle.path_finder.proofs.Listing.{some-of}
 use Rattle.path_finder.proofs.Measuring.{pair_after, after_is_pair, leads_after}
 use Rattle.path_finder.proofs.PairSets.{among-low}
 
@@ -37,8 +40,8 @@ all-known a d e w known low (q ∷ xs) r p b =
     (omega (arith, k.0, i.0), k.1)
 
 -- where no pair is at this distance, all distances are known
-pub all-measured : (a : Asked) (d : ℕ) (e : Entries) (s : PairSet) (start : Pair) → HasEdgesBelow a.graph a.ids → IsReached a d e s → ((r : Pair) → IsPairOf a r → at e r ≡ d → ⊥) → IsMeasured a start e
-all-measured a d e s start w reached none =
+pub all-measured : (a : Asked) (d : ℕ) (e : Entries) (start : Pair) → HasEdgesBelow a.graph a.ids → IsReached a d e → ((r : Pair) → IsPairOf a r → at e r ≡ d → ⊥) → IsMeasured a start e
+all-measured a d e start w reached none =
     record {
       size = reached.known.size;
       short = λ r p k. omega (arith, reached.low r p k, reached.room);
@@ -53,8 +56,8 @@ all-measured a d e s start w reached none =
     low r p k = elim (cases_eq (at e r) d) [ inl same ↦ absurd (none r p same) | inr other ↦ omega (arith, reached.low r p k, other) ]
 
 -- where the start is entered, the distances up to its own are known
-pub start-measured : (a : Asked) (d : ℕ) (e : Entries) (s : PairSet) (start : Pair) → IsReached a d e s → IsPairOf a start → at e start < OPEN → IsMeasured a start e
-start-measured a d e s start reached sp st =
+pub start-measured : (a : Asked) (d : ℕ) (e : Entries) (start : Pair) → IsReached a d e → IsPairOf a start → at e start < OPEN → IsMeasured a start e
+start-measured a d e start reached sp st =
     record {
       size = reached.known.size;
       short = λ r p k. omega (arith, reached.low r p k, reached.room);
@@ -74,10 +77,32 @@ pair-in a s r few p has = record { state = p.state; id = omega (arith, p.id, few
 pub among-in : (old new : PairSet) (part : Part) (r : Pair) → IsTaken old new part → IsAmong part r → IsPairIn old r
 among-in old new part r taken is = record { state = omega (arith, is.state, taken.state); id = among-low part r taken.place is; has = taken.had r is }
 
+-- a pair of an entry is one of the pairs
+pub entered-pair : (a : Asked) (e : Entries) (x : Entry) (r : Pair) → length e.distances ≡ a.ids * STATES → IsEntered e x → IsAmong (part_of x) r → IsPairOf a r
+entered-pair a e x r size is am =
+    let small : r.state < 3 = omega (arith, am.state, is.state) in
+    record { id = omega (arith, is.within r am, size); state = small }
+
+-- where all that was entered is nearer, the entries of this distance will begin behind the others
+pub split-begun : (a : Asked) (d : ℕ) (e : Entries) (f : PairSet) → IsDue a d e f → IsListed e → IsSplitAt d (length e.parts) e
+split-begun a d e f due listed =
+    record {
+      within = omega arith;
+      before = λ i x low is.
+          let y : IsEntered e x = listed.each i x is in
+          let r : (r : Pair) × IsAmong (part_of x) r = some-of e x y in
+          let v : at e r.0 ≡ x.distance = y.value r.0 r.1 in
+          let p : IsPairOf a r.0 = entered-pair a e x r.0 due.entering.known.size y r.1 in
+          elim (cases_eq (at e r.0) d) [
+            | inl same ↦ absurd (due.none r.0 p same)
+            | inr other ↦ omega (arith, v, other, due.entering.low r.0 p (omega (arith, v, y.closes)))
+          ];
+      after = λ i x high is. absurd (omega (arith, high, slice_get_within e.parts i x is));
+    }
+
 -- the level goes on where the open pairs of a part are entered
-pub enters : (a : Asked) (part : Part) (d : ℕ) (e g : Entries) (f h s t : PairSet) → a.ids ≤ MAX_PARTITIONS → IsEntering a d e f s → IsTaken f h part → IsMarked h → IsMarked t → AreOpened a part d e g s t
-    → IsEntering a d g h t
-enters a part d e g f h s t few old taken marked now opened =
+pub enters : (a : Asked) (part : Part) (d : ℕ) (e g : Entries) (f h : PairSet) → a.ids ≤ MAX_PARTITIONS → IsEntering a d e f → IsTaken f h part → IsMarked h → AreOpened a part d e g → IsEntering a d g h
+enters a part d e g f h few old taken marked opened =
     record {
       known = record {
         size = opened.size ∙ old.known.size;
@@ -105,28 +130,12 @@ enters a part d e g f h s t few old taken marked now opened =
           ]
         ];
       };
-      level = record {
-        marked = now;
-        low = λ r is. elim (opened.made r is.id is.has) [
-          | inl was ↦
-              let o : IsPairOf a r × (at e r ≡ d) = old.level.low r (record { state = is.state; id = is.id; has = was }) in
-              (o.0, opened.known r o.0 (omega (arith, o.1, closes)) ∙ o.1)
-          | inr new ↦ ((old.found.sound r (among-in f h part r taken new.0)).0, new.1)
-        ];
-        all = λ r p k. elim (opened.others r p) [
-          | inl same ↦ opened.kept r (old.level.all r p (sym same ∙ k))
-          | inr new ↦ new.2
-        ];
-      };
       room = omega (arith, opened.count, old.room);
     }
-  where
-    closes : d < OPEN
-    closes = omega (arith, old.room, few)
 
 -- all pairs up to the distance are entered where nothing is left of those that were found
-pub level-reached : (a : Asked) (d : ℕ) (e : Entries) (f s : PairSet) → a.ids ≤ MAX_PARTITIONS → IsEntering a d e f s → IsEmptySet f → IsReached a d e s
-level-reached a d e f s few entering empty =
+pub level-reached : (a : Asked) (d : ℕ) (e : Entries) (f : PairSet) → a.ids ≤ MAX_PARTITIONS → IsEntering a d e f → IsEmptySet f → IsReached a d e
+level-reached a d e f few entering empty =
     record {
       known = record {
         size = entering.known.size;
@@ -142,14 +151,36 @@ level-reached a d e f s few entering empty =
         ];
       };
       low = entering.low;
-      level = entering.level;
       room = entering.room;
     }
 
+-- a pair of an entry of the level
+at-level : (a : Asked) (d first : ℕ) (e : Entries) (r : Pair) → IsReached a d e → IsListed e → IsSplitAt d first e → IsListedFrom first e r → IsPairOf a r × (at e r ≡ d)
+at-level a d first e r reached listed split is =
+    let x : IsEntered e is.entry = listed.each is.index is.entry is.there in
+    let pair : IsPairOf a r = entered-pair a e is.entry r reached.known.size x is.among in
+    let v : at e r ≡ is.entry.distance = x.value r is.among in
+    (pair, omega (arith, v, split.after is.index is.entry is.reached is.there, reached.low r pair (omega (arith, v, x.closes))))
+
+-- what leads to each pair of the entries of the level leads to each pair of the level
+gathered-all : (a : Asked) (d first : ℕ) (e : Entries) (g : PairSet) (p q : Pair) → IsReached a d e → IsListed e → IsSplitAt d first e → d + 1 + open_count e ≤ a.ids * STATES → a.ids ≤ MAX_PARTITIONS
+    → (IsListedFrom first e q → has_pair g p ≡ true) → IsPairOf a q → at e q ≡ d → has_pair g p ≡ true
+gathered-all a d first e g p q reached listed split room few all pq here =
+    elim (cases_Bool (has_pair g p)) [
+      | inl has ↦ has
+      | inr lacks ↦ absurd (omega (arith, here, room, few, listed.others q pq.state (omega (arith, place_within a q pq, reached.known.size)) (none lacks)))
+    ]
+  where
+    none : has_pair g p ≡ false → (i : ℕ) (x : Entry) → slice_get e.parts i ≡ Some x → IsAmong (part_of x) q → ⊥
+    none lacks i x is am = elim (cases_lt i first) [
+      | inl low ↦ omega (arith, split.before i x low is, (listed.each i x is).value q am, here)
+      | inr high ↦ true≢false (sym (all (record { index = i; entry = x; reached = high; there = is; among = am })) ∙ lacks)
+    ]
+
 -- the pairs that lead to those of a level are found, and the next level is due
-pub next-due : (a : Asked) (d : ℕ) (e : Entries) (s f g t : PairSet) → HasEdgesBelow a.graph a.ids → a.ids ≤ MAX_PARTITIONS → IsReached a d e s → d + 1 + open_count e ≤ a.ids * STATES
-    → IsEmptySet f → IsMarked g → HasSourcesOf a (IsPairIn s) f g → IsEmptySet t → IsDue a (d + 1) e g t
-next-due a d e s f g t w few reached room empty marked gathered emptied =
+pub next-due : (a : Asked) (d first : ℕ) (e : Entries) (f g : PairSet) → HasEdgesBelow a.graph a.ids → a.ids ≤ MAX_PARTITIONS → IsReached a d e → d + 1 + open_count e ≤ a.ids * STATES
+    → IsListed e → IsSplitAt d first e → IsEmptySet f → IsMarked g → HasSourcesOf a (IsListedFrom first e) f g → IsDue a (d + 1) e g
+next-due a d first e f g w few reached room listed split empty marked gathered =
     record {
       entering = record {
         known = reached.known;
@@ -159,16 +190,11 @@ next-due a d e s f g t w few reached room empty marked gathered emptied =
           sound = λ r is. elim (gathered.others r is.id is.has) [
             | inl old ↦ absurd (no-pair f r empty (record { state = is.state; id = is.id; has = old }))
             | inr new ↦
-                let q : IsPairOf a new.0 × (at e new.0 ≡ d) = reached.level.low new.0 new.1 in
+                let q : IsPairOf a new.0 × (at e new.0 ≡ d) = at-level a d first e new.0 reached listed split new.1 in
                 let z : Finishes a new.0 (at e new.0) = reached.known.sound new.0 q.0 (omega (arith, q.1, room, few)) in
                 (record { id = (w r.id new.0.id new.2.edge).0; state = is.state }, finishes-before a r new.0 d new.2 (subst (λ (n : ℕ). Finishes a new.0 n) q.1 z))
           ];
           whole = λ r p z. whole r p z.0 z.1 z.2;
-        };
-        level = record {
-          marked = emptied.marked;
-          low = λ r is. absurd (no-pair t r emptied is);
-          all = λ r p k. absurd (omega (arith, k, reached.low r p (omega (arith, k, room, few))));
         };
         room = room;
       };
@@ -185,16 +211,16 @@ next-due a d e s f g t w few reached room empty marked gathered emptied =
         let k : (at e (pair_after a r q) ≤ d) × (at e (pair_after a r q) < OPEN) =
         reached.known.whole (pair_after a r q) d sp (omega arith) (xs, long, record { walk = b.walk.1; bad = b.bad }) in
         elim (cases_eq (at e (pair_after a r q)) d) [
-          | inl same ↦ inr (gathered.all r (pair_after a r q) (pair-in a s (pair_after a r q) few sp (reached.level.all (pair_after a r q) sp same)) p leads)
+          | inl same ↦ inr (gathered-all a d first e g r (pair_after a r q) reached listed split room few (λ l. gathered.all r (pair_after a r q) l p leads) sp same)
           | inr nearer ↦
               let f : Finishes a r (at e (pair_after a r q) + 1) = finishes-before a r (pair_after a r q) (at e (pair_after a r q)) leads (reached.known.sound (pair_after a r q) sp k.1) in
               inl (reached.known.whole r (at e (pair_after a r q) + 1) p (omega (arith, k.0, nearer)) f).1
         ]
 
 -- the first level is due where TERMINAL is found in the bad states and all pairs are open
-pub first-due : (a : Asked) (e : Entries) (f s : PairSet) → 2 ≤ a.ids → a.ids ≤ MAX_PARTITIONS → length e.distances ≡ a.ids * STATES → ((r : Pair) → IsPairOf a r → at e r ≡ OPEN) → open_count e ≤ a.ids * STATES
-    → HasEndsBelow a 3 f → IsEmptySet s → IsDue a 0 e f s
-first-due a e f s two few size stand count ends empty =
+pub first-due : (a : Asked) (e : Entries) (f : PairSet) → 2 ≤ a.ids → length e.distances ≡ a.ids * STATES → ((r : Pair) → IsPairOf a r → at e r ≡ OPEN) → open_count e ≤ a.ids * STATES
+    → HasEndsBelow a 3 f → IsDue a 0 e f
+first-due a e f two size stand count ends =
     record {
       entering = record {
         known = record {
@@ -209,11 +235,6 @@ first-due a e f s two few size stand count ends empty =
               let end : (r.id ≡ 1) × (is_bad a.inv r.state ≡ true) = ends.ends r is in
               (record { id = omega (arith, end.0, two); state = is.state }, ([], refl, record { walk = end.0; bad = end.1 }));
           whole = λ r p z. whole r p z.0 z.1 z.2;
-        };
-        level = record {
-          marked = empty.marked;
-          low = λ r is. absurd (no-pair s r empty is);
-          all = λ r p k. absurd (omega (arith, k, stand r p));
         };
         room = omega (arith, count);
       };

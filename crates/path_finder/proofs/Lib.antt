@@ -4,10 +4,12 @@ pub mod Least
 pub mod Reaching
 pub mod Surveying
 pub mod Narrow
-pub mod Neighbours
 pub mod WordSets
 pub mod WordSteps
 pub mod PairSets
 pub mod Levels
 pub mod Parts
 pub mod Ends
+pub mod Listing
+pub mod Tracing
+pub mod Merging

@@ -6,12 +6,10 @@ use Rattle.invariants.specs.declared.Invariant.{Invariant}
 use Rattle.invariants.specs.declared.Kind.{Kind}
 use Rattle.invariants.specs.declared.Kind.TheVariants.{AF, NF, AP, IB}
 use Rattle.invariants.specs.Holds.{At, Holds, HoldsAs}
-use Rattle.partition_model.specs.Graphs.{Graph, Walk, IsPath, word, Breaks, Satisfies, IsLeastViolation, Merged}
+use Rattle.partition_model.specs.Graphs.{Graph, Walk, IsPath, word, Satisfies, IsLeastViolation, Merged}
 use Rattle.invariants.specs.Monitors.{run, is_bad}
 use Rattle.invariants.proofs.Agree.{monitor_agrees}
-use Rattle.path_finder.specs.declared.reach.Way.TheVariants.{Ahead, Behind}
 use Rattle.path_finder.specs.Nearness.{narrowed, is_of_type, key_of, AvoidsGone}
-use Rattle.path_finder.specs.Reaching.{edge_by}
 use Rattle.path_finder.specs.Keeping.{KeepsAround, KeepsViolations}
 use Rattle.partition_model.specs.Assignments.{Assignment, G, is_live, members}
 use Rattle.partition_model.specs.Listings.{AreBelow}

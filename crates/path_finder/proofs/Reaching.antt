@@ -13,18 +13,18 @@ use Rattle.path_finder.specs.declared.reach.Way.TheVariants.{Ahead, Behind}
 use Rattle.path_finder.specs.Reaching.{edge_by, meeting, IsCounted, IsReaching, MeetsMore}
 
 -- elements of a list with one more at its end
-slice_get_kept : {X : Type 0} (xs ys : List X) (i : ℕ) (x : X) → slice_get xs i ≡ Some x → slice_get (xs ++ ys) i ≡ Some x
+pub slice_get_kept : {X : Type 0} (xs ys : List X) (i : ℕ) (x : X) → slice_get xs i ≡ Some x → slice_get (xs ++ ys) i ≡ Some x
 slice_get_kept [] ys i x e = absurd (cc e)
 slice_get_kept (y ∷ xs) ys zero x e = e
 slice_get_kept (y ∷ xs) ys (suc i) x e = slice_get_kept xs ys i x e
 
 -- the element that was put at the end
-slice_get_last : {X : Type 0} (xs : List X) (y : X) → slice_get (xs ++ y ∷ []) (length xs) ≡ Some y
+pub slice_get_last : {X : Type 0} (xs : List X) (y : X) → slice_get (xs ++ y ∷ []) (length xs) ≡ Some y
 slice_get_last [] y = refl
 slice_get_last (x ∷ xs) y = slice_get_last xs y
 
 -- an element of a longer list is an earlier one or the last
-slice_get_push : {X : Type 0} (xs : List X) (y : X) (i : ℕ) (x : X) → slice_get (xs ++ y ∷ []) i ≡ Some x → (slice_get xs i ≡ Some x) ⊎ ((i ≡ length xs) × (y ≡ x))
+pub slice_get_push : {X : Type 0} (xs : List X) (y : X) (i : ℕ) (x : X) → slice_get (xs ++ y ∷ []) i ≡ Some x → (slice_get xs i ≡ Some x) ⊎ ((i ≡ length xs) × (y ≡ x))
 slice_get_push [] y zero x e = inr (refl, same_Some y x e)
 slice_get_push [] y (suc i) x e = absurd (cc e)
 slice_get_push (z ∷ xs) y zero x e = inl e
@@ -189,10 +189,6 @@ new-unmet true true u = sym u
 new-unmet true false u = refl
 new-unmet false m u = absurd (true≢false (sym u))
 
--- nor is there one where no edge leads
-pub no-unmet : (e m : Bool) → e ≡ false → (e && not m) ≡ false
-no-unmet e m n = ap (λ (x : Bool). x && not m) n
-
 -- an edge leads to one of them
 pub edge-unmet : (e m : Bool) → (e && not m) ≡ true → e ≡ true
 edge-unmet true m u = refl
@@ -202,9 +198,3 @@ edge-unmet false m u = u
 pub edge-below : (way : Way) (g : Graph) (ids p q : ℕ) → HasEdgesBelow g ids → edge_by way g p q ≡ true → q < ids
 edge-below Ahead g ids p q below e = (below p q e).1
 edge-below Behind g ids p q below e = (below q p e).0
-
-pub no-edge-past : (way : Way) (g : Graph) (ids p q : ℕ) → HasEdgesBelow g ids → ids ≤ q → edge_by way g p q ≡ false
-no-edge-past way g ids p q below past = elim (cases_Bool (edge_by way g p q)) [
-  | inl there ↦ absurd (omega (arith, past, edge-below way g ids p q below there))
-  | inr gone ↦ gone
-]

@@ -1,9 +1,8 @@
 -- The ids around a merged id.
-use Rattle.std.proofs.Common.{◌≡◌, ◌==◌, ◌&&◌, ◌||◌, not, ℕ, Bool, true, false, List, slice_get, Some, sym, ◌∙◌, refl, ap, subst, inl, inr, ◌⊎◌, eqb-true, eq-eqb}
-use Rattle.std.proofs.lemmas.Bool.{true≢false, cases_Bool}
+use Rattle.std.proofs.Common.{◌≡◌, ◌==◌, ◌&&◌, ◌||◌, not, ℕ, Bool, true, false, List, slice_get, Some, sym, refl, subst, inl, inr, ◌⊎◌, eq-eqb}
+use Rattle.std.proofs.lemmas.Bool.{true≢false}
 use Rattle.partition_model.specs.Graphs.{Graph, Merged}
 use Rattle.path_finder.specs.declared.survey.Surrounding.{Surrounding}
-use Rattle.path_finder.specs.declared.reach.Way.TheVariants.{Ahead, Behind}
 use Rattle.path_finder.specs.IdSets.{has_id}
 use Rattle.path_finder.specs.Keeping.{KeepsAround}
 use Rattle.path_finder.specs.Surveys.{IsSurveyOf}

@@ -1,6 +1,6 @@
 -- The levels of the search: the pairs at one distance.
 use Rattle.std.specs.Prelude.{◌≡◌, ℕ, ◌+◌, ◌*◌, ◌<◌, ◌≤◌, ◌⊎◌, true, length}
-use Rattle.limits.specs.declared.TheConstants.{MAX_PARTITIONS, TERMINAL}
+use Rattle.limits.specs.declared.TheConstants.{TERMINAL}
 use Rattle.invariants.specs.Monitors.{is_bad}
 use Rattle.path_finder.specs.declared.pair.TheConstants.{STATES}
 use Rattle.path_finder.specs.declared.table.TheConstants.{OPEN}
@@ -9,7 +9,7 @@ use Rattle.path_finder.specs.declared.pair_set.PairSet.{PairSet}
 use Rattle.path_finder.specs.declared.pair_set.Part.{Part}
 use Rattle.path_finder.specs.Gathering.{IsPairIn}
 use Rattle.path_finder.specs.PairSets.{has_pair, IsAmong, IsMarked}
-use Rattle.path_finder.specs.Tables.{Entries, at, open_count, IsKnown}
+use Rattle.path_finder.specs.Tables.{Entries, at, open_count, IsKnown, IsSplitAt}
 use Rattle.path_finder.specs.Walks.{Asked, IsPairOf, Finishes}
 
 -- the set has TERMINAL in the bad states below this one, and nothing else
@@ -17,12 +17,6 @@ pub record HasEndsBelow (a : Asked) (state : ℕ) (s : PairSet) : Type 0 where
   pub marked : IsMarked s
   pub ends : (r : Pair) → IsPairIn s r → (r.id ≡ TERMINAL) × (is_bad a.inv r.state ≡ true)
   pub all : (r : Pair) → r.id ≡ TERMINAL → r.state < state → is_bad a.inv r.state ≡ true → has_pair s r ≡ true
-
--- the set has the pairs with this distance, and no other
-pub record IsLevel (a : Asked) (d : ℕ) (e : Entries) (s : PairSet) : Type 0 where
-  pub marked : IsMarked s
-  pub low : (r : Pair) → IsPairIn s r → IsPairOf a r × (at e r ≡ d)
-  pub all : (r : Pair) → IsPairOf a r → at e r ≡ d → has_pair s r ≡ true
 
 -- walks of this length that end badly lead from the pairs of the set, and from no other pair that is open
 pub record IsFound (a : Asked) (d : ℕ) (e : Entries) (s : PairSet) : Type 0 where
@@ -36,42 +30,33 @@ pub record HasEntered (a : Asked) (e : Entries) (s : PairSet) : Type 0 where
   pub sound : (r : Pair) → IsPairIn s r → IsPairOf a r × (at e r < OPEN)
   pub whole : (r : Pair) → IsPairOf a r → at e r < OPEN → has_pair s r ≡ true
 
--- all pairs that are nearer are entered, and so are some of the pairs at this distance, which are the level; the others are found
-pub record IsEntering (a : Asked) (d : ℕ) (e : Entries) (f s : PairSet) : Type 0 where
+-- all pairs that are nearer are entered, and so are some of the pairs at this distance; the others are found
+pub record IsEntering (a : Asked) (d : ℕ) (e : Entries) (f : PairSet) : Type 0 where
   pub known : IsKnown a d e
   pub low : (r : Pair) → IsPairOf a r → at e r < OPEN → at e r ≤ d
   pub found : IsFound a d e f
-  pub level : IsLevel a d e s
   pub room : d + open_count e ≤ a.ids * STATES
 
 -- all pairs that are nearer are entered, and those at this distance are found
-pub record IsDue (a : Asked) (d : ℕ) (e : Entries) (f s : PairSet) : Type 0 where
-  pub entering : IsEntering a d e f s
+pub record IsDue (a : Asked) (d : ℕ) (e : Entries) (f : PairSet) : Type 0 where
+  pub entering : IsEntering a d e f
   pub none : (r : Pair) → IsPairOf a r → at e r ≡ d → ⊥
 
--- all pairs up to this distance are entered, and those at it are the level
-pub record IsReached (a : Asked) (d : ℕ) (e : Entries) (s : PairSet) : Type 0 where
+-- all pairs up to this distance are entered
+pub record IsReached (a : Asked) (d : ℕ) (e : Entries) : Type 0 where
   pub known : IsKnown a (d + 1) e
   pub low : (r : Pair) → IsPairOf a r → at e r < OPEN → at e r ≤ d
-  pub level : IsLevel a d e s
   pub room : d + open_count e ≤ a.ids * STATES
 
--- the pairs of the part have this distance, and all others are as before
-pub record AreEnteredWith (part : Part) (d : ℕ) (old new : Entries) : Type 0 where
-  pub size : length new.distances ≡ length old.distances
-  pub entered : (r : Pair) → IsAmong part r → at new r ≡ d
-  pub others : (r : Pair) → r.state < 3 → (at new r ≡ at old r) ⊎ IsAmong part r
-  pub count : open_count new ≤ open_count old
-  pub fewer : (r : Pair) → IsAmong part r → open_count new < open_count old
+-- each pair has this distance, or is as before
+abbrev pub ArePassed : Asked → ℕ → Entries → Entries → Type 0
+ArePassed a d old new = (r : Pair) → IsPairOf a r → (at new r ≡ at old r) ⊎ (at new r ≡ d)
 
--- the open pairs of the part were entered with this distance and added to the level, and nothing else was
-pub record AreOpened (a : Asked) (part : Part) (d : ℕ) (old new : Entries) (before after : PairSet) : Type 0 where
+-- the open pairs of the part were entered with this distance, and nothing else was
+pub record AreOpened (a : Asked) (part : Part) (d : ℕ) (old new : Entries) : Type 0 where
   pub size : length new.distances ≡ length old.distances
   pub entered : (r : Pair) → IsAmong part r → at new r < OPEN
   pub known : (r : Pair) → IsPairOf a r → at old r < OPEN → at new r ≡ at old r
-  pub others : (r : Pair) → IsPairOf a r
-      → (at new r ≡ at old r) ⊎ (IsAmong part r × (at new r ≡ d) × (has_pair after r ≡ true))
-  pub kept : (r : Pair) → has_pair before r ≡ true → has_pair after r ≡ true
-  pub made : (r : Pair) → r.id < MAX_PARTITIONS → has_pair after r ≡ true
-      → (has_pair before r ≡ true) ⊎ (IsAmong part r × (at new r ≡ d))
+  pub others : (r : Pair) → IsPairOf a r → (at new r ≡ at old r) ⊎ (IsAmong part r × (at new r ≡ d))
   pub count : open_count new ≤ open_count old
+  pub split : (first : ℕ) → IsSplitAt d first old → IsSplitAt d first new

@@ -10,3 +10,4 @@ pub mod Tables
 pub mod PairSets
 pub mod Gathering
 pub mod Levels
+pub mod Merges

@@ -1,5 +1,5 @@
 -- How the ids that walks lead to are met, one after another.
-use Rattle.std.specs.Prelude.{ℕ, ◌≡◌, ◌+◌, ◌<◌, ◌≤◌, Bool, true, not, ◌&&◌, [], ◌∷◌, ◌++◌, length, slice_get, slice_set, count_by, Some, if◌then◌else◌}
+use Rattle.std.specs.Prelude.{ℕ, ◌≡◌, ◌+◌, ◌<◌, ◌≤◌, Bool, true, not, [], ◌∷◌, ◌++◌, length, slice_get, slice_set, count_by, Some, if◌then◌else◌}
 use Rattle.limits.specs.declared.TheConstants.{MAX_PARTITIONS}
 use Rattle.partition_model.specs.Graphs.{Graph}
 use Rattle.path_finder.specs.declared.reach.Way.{Way}

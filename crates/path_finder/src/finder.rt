@@ -20,7 +20,7 @@ use crate::reach::Around;
 use crate::search::measure;
 use crate::sight::Sight;
 use crate::survey::{Survey, near_merge};
-use crate::table::{MAX_ENTRIES, OPEN, Table};
+use crate::table::{MAX_ENTRIES, Table};
 use crate::trace::trace;
 use invariants::{Invariant, Kind, Merge, Monitor};
 use limits::{INITIAL, MAX_PARTITIONS};
@@ -77,11 +77,10 @@ fn search<L: Ledger>(
         id: INITIAL,
         state: question.state_at(Monitor::start(), INITIAL),
     };
-    measure(question, table, start);
-    if table.distance(start) == OPEN {
+    let Some(distance) = measure(question, table, start) else {
         return false;
-    }
-    trace(question, table, start, path);
+    };
+    trace(question, table, start, distance, path);
     true
 }
 

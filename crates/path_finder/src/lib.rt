@@ -24,6 +24,7 @@ mod sight;
 mod survey;
 mod table;
 mod trace;
+mod unmerged;
 mod words;
 
 pub use finder::Finder;

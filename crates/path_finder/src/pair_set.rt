@@ -4,11 +4,11 @@ ghost use Rattle.limits.specs.declared.TheConstants.{MAX_PARTITIONS};
 ghost use Rattle.partition_graph.specs.NeighbourWords.{IsWordOf};
 ghost use Rattle.partition_graph.specs.declared.id_rows.TheConstants.{ID_WORDS};
 ghost use Rattle.path_finder.specs.declared.pair.Pair.{Pair};
-ghost use Rattle.path_finder.specs.PairSets.{has_in, IsAdded, IsEmptySet, IsMarked, IsTaken};
+ghost use Rattle.path_finder.specs.PairSets.{has_in, has_pair, IsAdded, IsEmptySet, IsMarked, IsTaken};
 
-use crate::pair::STATES;
-use crate::words::without_bit;
-use partition_graph::ID_WORDS;
+use crate::pair::{Pair, STATES};
+use crate::words::{has_bit, without_bit};
+use partition_graph::{ID_WORDS, WORD_BITS};
 
 /// How many words have a bit for each pair.
 pub(crate) const PAIR_WORDS: usize = ID_WORDS * STATES;
@@ -49,6 +49,16 @@ impl PairSet {
         ensures { IsWordOf (has_in self.now state) place result }
     {
         self.words[state as usize * ID_WORDS + place]
+    }
+
+    /// Whether the set has the pair.
+    pub fn has(&self, pair: Pair) -> bool
+        requires state { pair.state < 3 }
+        requires id { pair.id < MAX_PARTITIONS }
+        ensures { result ≡ has_pair self.now pair }
+    {
+        let place = pair.id as usize / WORD_BITS;
+        has_bit(self.word(pair.state, place), pair.id % WORD_BITS as u32)
     }
 
     /// Adds the pairs of this state with the ids of a word.

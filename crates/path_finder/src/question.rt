@@ -1,18 +1,28 @@
 //! The question that the finder answers.
-ghost use Rattle.std.specs.Prelude.{◌≡◌, ℕ, ◌≤◌, ◌<◌, true, IfSome, MatchOption};
+ghost use Rattle.std.specs.Prelude.{◌≡◌, ℕ, ◌≤◌, ◌<◌, true};
 ghost use Rattle.limits.specs.declared.TheConstants.{FIRST_TYPE, MAX_PARTITIONS};
 ghost use Rattle.partition_graph.specs.Parts.{HasEdgesBelow};
-ghost use Rattle.partition_graph.specs.Seen.{seen};
+ghost use Rattle.partition_graph.specs.NeighbourWords.{IsWordOf};
+ghost use Rattle.partition_graph.specs.Seen.{seen, IsSound};
 ghost use Rattle.partition_graph.specs.declared.id_rows.TheConstants.{ID_WORDS};
 ghost use Rattle.path_finder.specs.IdSets.{has_id};
 ghost use Rattle.path_finder.specs.Nearness.{narrowed};
 
 use crate::id_set::IdSet;
 use crate::sight::Sight;
-use crate::words::{next_at, next_in_word};
+use crate::unmerged::{is_unmerged_at, unmerged};
 use invariants::{Invariant, Monitor};
 use limits::{FIRST_TYPE, MAX_PARTITIONS};
-use partition_graph::{ID_WORDS, WORD_BITS};
+use partition_graph::{ID_WORDS, View};
+
+/// Where the ids are that have an edge to an id.
+#[derive(Clone, Copy)]
+pub(crate) struct Sources {
+    /// The places of their words, as the bits of a word: the lowest is place 0.
+    pub places: u64,
+    /// Whether these edges are the same without a merge.
+    pub unmerged: bool,
+}
 
 /// An invariant, and a graph that may break it. Edges go between ids below `ids`. Only those between the ids in
 /// `near` are visited.
@@ -29,9 +39,9 @@ pub(crate) struct Question<'v, 'a> {
 
 impl<'v, 'a> Question<'v, 'a> {
     ghost use Rattle.invariants.specs.Monitors.{step, is_bad};
-    ghost use Rattle.partition_graph.specs.NeighbourWords.{ArePlaces, IsWordOf};
-    ghost use Rattle.partition_graph.specs.Neighbours.{HasNoTarget, IsNextTarget};
+    ghost use Rattle.partition_graph.specs.NeighbourWords.{ArePlaces};
     ghost use Rattle.path_finder.specs.Asking.{asked, looks_at};
+    ghost use Rattle.path_finder.specs.Merges.{IsUnmergedAt};
     ghost use Rattle.path_finder.specs.Walks.{state_at};
 
     /// The question whether the graph breaks the invariant by edges between the ids in `near`.
@@ -56,54 +66,59 @@ impl<'v, 'a> Question<'v, 'a> {
         self.ids
     }
 
-    /// Whether the edges of the id are looked at.
+    /// The ids from `64 * place` on whose edges are looked at, as a word whose lowest bit is the first of them.
     #[inline]
-    pub fn looks_at(&self, id: u32) -> bool
-        ensures { result ≡ looks_at self.now id }
+    pub fn near_word(&self, place: usize) -> u64
+        requires { place < ID_WORDS }
+        ensures { IsWordOf (λ id. looks_at self.now id) place result }
     {
-        self.near.has(id)
+        self.near.word(place)
     }
 
-    /// The ids from `64 * place` on that have an edge to q, as a word whose lowest bit is the first of them.
+    /// The places of the ids that have an edge to q, and whether these edges are the same without a merge.
     #[inline]
-    pub fn source_word(&self, q: u32, place: usize) -> u64
+    pub fn sources(&self, q: u32) -> Sources
+        ensures places { ArePlaces (λ p. (asked self.now).graph.edge p q) result.places }
+        ensures unmerged { result.unmerged ≡ true → IsUnmergedAt (self.now).sight.now.view q }
+    {
+        let view = &self.sight.view;
+        let places = unmerged(view).source_places(q);
+        if is_unmerged_at(view, q, places) {
+            return Sources {
+                places,
+                unmerged: true,
+            };
+        }
+        Sources {
+            places: view.source_places(q),
+            unmerged: false,
+        }
+    }
+
+    /// The ids from `64 * place` on that have an edge to q, as a word whose lowest bit is the first of them. `is_unmerged` may be
+    /// true only if the edges to q are the same without a merge.
+    #[inline]
+    pub fn source_word(&self, q: u32, place: usize, is_unmerged: bool) -> u64
         requires looked { looks_at self.now q ≡ true }
         requires place { place < ID_WORDS }
+        requires same { is_unmerged ≡ true → IsUnmergedAt (self.now).sight.now.view q }
         ensures { IsWordOf (λ p. (asked self.now).graph.edge p q) place result }
     {
-        self.sight.view.source_word(q, place) & self.near.word(place)
+        let view = &self.sight.view;
+        if is_unmerged {
+            return unmerged(view).source_word(q, place) & self.near.word(place);
+        }
+        merged_source_word(view, q, place) & self.near.word(place)
     }
 
-    /// The places of `source_word` at which there may be ids, as the bits of a word: the lowest is place 0.
+    /// The ids from `64 * place` on to which p has an edge, as a word whose lowest bit is the first of them.
     #[inline]
-    pub fn source_places(&self, q: u32) -> u64
-        ensures { ArePlaces (λ p. (asked self.now).graph.edge p q) result }
+    pub fn target_word(&self, p: u32, place: usize) -> u64
+        requires looked { looks_at self.now p ≡ true }
+        requires place { place < ID_WORDS }
+        ensures { IsWordOf (λ q. (asked self.now).graph.edge p q) place result }
     {
-        self.sight.view.source_places(q)
-    }
-
-    /// The least id at or above `from` to which p has an edge; `None` if there is none.
-    pub fn next_target(&self, p: u32, from: u32) -> Option<u32>
-        ensures next { MatchOption result
-            (HasNoTarget (asked self.now).graph p from)
-            (λ q. IsNextTarget (asked self.now).graph p from q) }
-        ensures within { IfSome result (λ q. q < (asked self.now).ids) }
-    {
-        if !self.near.has(p) {
-            return None;
-        }
-        let places = self.sight.view.target_places(p);
-        let ids = self.ids as usize;
-        let mut at = next_at(places, from as usize);
-        while at < ids {
-            let place = at / WORD_BITS;
-            let targets = self.sight.view.target_word(p, place) & self.near.word(place);
-            if let Some(q) = next_in_word(targets, at) {
-                return Some(q as u32);
-            }
-            at = next_at(places, (place + 1) * WORD_BITS);
-        }
-        None
+        self.sight.view.target_word(p, place) & self.near.word(place)
     }
 
     /// The type of q.
@@ -138,7 +153,11 @@ impl<'v, 'a> Question<'v, 'a> {
         ensures value { result ≡ state_at (asked self.now) state q }
         ensures bound { result < 3 }
     {
-        Monitor::step(self.inv, state, self.sight.view.type_of(q))
+        let typ = self.type_of(q);
+        if self.passes_over(typ) {
+            return state;
+        }
+        self.state_after(state, typ)
     }
 
     /// Whether a path that ends in the state breaks the invariant.
@@ -147,4 +166,14 @@ impl<'v, 'a> Question<'v, 'a> {
     {
         Monitor::bad(self.inv, state)
     }
+}
+
+/// The ids from `64 * place` on that have an edge to q in the view, as a word whose lowest bit is the first of them.
+#[inline(never)]
+fn merged_source_word(view: &View<'_>, q: u32, place: usize) -> u64
+    requires sound { IsSound view.now }
+    requires place { place < ID_WORDS }
+    ensures { IsWordOf (λ p. (seen view.now).edge p q) place result }
+{
+    view.source_word(q, place)
 }

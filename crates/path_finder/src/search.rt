@@ -1,8 +1,9 @@
 //! The search backwards: the distances of pairs, starting from TERMINAL in the bad state.
-ghost use Rattle.std.specs.Prelude.{◌<◌, ◌+◌};
+ghost use Rattle.std.specs.Prelude.{◌≡◌, ◌<◌, ◌+◌, MatchOption};
+ghost use Rattle.path_finder.specs.declared.table.TheConstants.{OPEN};
 ghost use Rattle.path_finder.specs.Asking.{asked};
 ghost use Rattle.path_finder.specs.Levels.{HasEndsBelow};
-ghost use Rattle.path_finder.specs.Tables.{IsMeasured};
+ghost use Rattle.path_finder.specs.Tables.{at, IsMeasured};
 ghost use Rattle.path_finder.specs.Walks.{IsPairOf};
 
 use crate::gather::gather;
@@ -10,7 +11,7 @@ use crate::level::enter_level;
 use crate::pair::{Pair, STATES};
 use crate::pair_set::{PairSet, Part};
 use crate::question::Question;
-use crate::table::{OPEN, Table};
+use crate::table::Table;
 use limits::TERMINAL;
 use partition_graph::WORD_BITS;
 
@@ -45,31 +46,34 @@ fn ends(question: &Question<'_, '_>) -> PairSet
     found
 }
 
-/// Finds the distances of pairs, in the order of their distances, until that of the start is found.
+/// Finds the distances of pairs, in the order of their distances, until that of the start is found. Returns that; `None` if no
+/// walk from the start ends badly.
 ///
 /// The search goes level by level: a level is the set of the pairs at one distance. The pairs that lead to those of a level are
 /// gathered, and those of them that are open are the next level.
-pub(crate) fn measure(question: &Question<'_, '_>, table: &mut Table, start: Pair)
+pub(crate) fn measure(question: &Question<'_, '_>, table: &mut Table, start: Pair) -> Option<u16>
     requires { IsPairOf (asked question.now) start }
-    ensures { IsMeasured (asked question.now) start table.new }
+    ensures measured { IsMeasured (asked question.now) start table.new }
+    ensures distance { MatchOption result
+        (at table.new start ≡ OPEN)
+        (λ distance. (at table.new start ≡ distance) × (distance < OPEN)) }
 {
     table.clear(question.ids() as usize * STATES);
     let mut entered = PairSet::none();
-    let mut level = PairSet::none();
     let mut found = ends(question);
     let mut distance = 0;
-    'levels: while enter_level(
+    'levels: while let Some(first) = enter_level(
         question,
         table,
         &mut entered,
         &mut found,
-        &mut level,
         distance,
     ) {
-        if table.distance(start) != OPEN {
-            return;
+        if entered.has(start) {
+            return Some(distance);
         }
-        gather(question, &mut level, &mut found);
+        gather(question, table, first, &mut found);
         distance += 1;
     }
+    None
 }

@@ -1,7 +1,7 @@
 //! Words of bits, each for 64 numbers.
 ghost use Rattle.std.specs.Prelude.{◌≡◌, ◌≢◌, ◌==◌, ℕ, ◌+◌, ◌*◌, ◌/◌, ◌^◌, ◌<◌, ◌≤◌, Bool, false, MatchOption};
 ghost use Rattle.std.specs.Int.{bit_at};
-ghost use Rattle.partition_graph.specs.NeighbourWords.{ArePlaces, IsWordOf};
+ghost use Rattle.partition_graph.specs.NeighbourWords.{IsWordOf};
 ghost use Rattle.partition_graph.specs.Nexts.{IsNext};
 
 use partition_graph::WORD_BITS;
@@ -21,32 +21,6 @@ pub(crate) fn next_in_word(word: u64, from: usize) -> Option<usize>
         return None;
     }
     Some(from + rest.trailing_zeros() as usize)
-}
-
-/// How many places have a bit in a word.
-const PLACES: usize = 64;
-
-/// A number at or above `from` below which no number from there on has the property whose places these are. It is `from`
-/// itself, if the word of `from` may have one with the property; or the first number of the next word that may; or, if there is
-/// no such word, the first number after all places.
-#[inline]
-pub(crate) fn next_at(places: u64, from: usize) -> usize
-    requires { from < 2 ^ 32 }
-    ensures reached { from ≤ result }
-    ensures none { (has : ℕ → Bool) → ArePlaces has places
-        → (n : ℕ) → from ≤ n → n < result → has n ≡ false }
-{
-    let place = from / WORD_BITS;
-    if place >= PLACES {
-        return from;
-    }
-    let Some(next) = next_in_word(places, place) else {
-        return PLACES * WORD_BITS;
-    };
-    if next == place {
-        return from;
-    }
-    next * WORD_BITS
 }
 
 /// The word with this bit turned off.

@@ -1,4 +1,4 @@
-use Rattle.std.proofs.Common.{◌<◌, ℕ, arith}
+use Rattle.std.proofs.Common.{◌<◌, arith}
 use Rattle.partition_model.specs.Assignments.{G}
 use Rattle.path_finder.specs.IdSets.{has_id}
 use Rattle.path_finder.proofs.Narrow.{loss_keeps, live_below}

@@ -1,43 +1,6 @@
-use Rattle.std.proofs.Common.{ℕ, Bool, sym, ◌∙◌, refl, ap, inl, inr, arith}
+use Rattle.std.proofs.Common.{ℕ, sym, ◌∙◌, refl, ap}
 use Rattle.invariants.specs.Monitors.{step}
-use Rattle.std.proofs.lemmas.Bool.{cases_lt, true≢false}
-use Rattle.partition_graph.specs.Seen.{seen}
-use Rattle.path_finder.specs.IdSets.{has_id}
-use Rattle.path_finder.proofs.Neighbours.{to-gone}
 use Rattle.path_finder.proofs.gather.gather_pair.Goals as goal
-
-pub loop-state-init : goal.loop-state-init
-loop-state-init c =
-    record {
-      marked = c.requires.marked;
-      kept = λ p h. h;
-      all = λ p pp below leads. absurd (omega (arith, below));
-      others = λ p low h. inl h;
-    }
-
-pub loop-state-preserved : goal.loop-state-preserved
-loop-state-preserved c =
-    let i = c.loop-state.invariant in
-    let g = c.gather_state.ensures.gathered in
-    record {
-      marked = c.gather_state.ensures.marked;
-      kept = λ p h. g.kept p (i.kept p h);
-      all = λ p pp below leads. elim (cases_lt p.state c.loop-state.state) [
-        | inl before ↦ g.kept p (i.all p pp before leads)
-        | inr here ↦ g.all p pp (omega (arith, below, here)) leads
-      ];
-      others = λ p low h. elim (g.others p low h) [ inl old ↦ i.others p low old | inr new ↦ inr new ];
-    }
-
-pub returns-then-not-looks_at-clause-gathered : goal.returns-then-not-looks_at-clause-gathered
-returns-then-not-looks_at-clause-gathered c =
-    let around : ℕ → Bool = has_id c.args.question.now.near.now in
-    let q : ℕ = c.args.pair.id in
-    record {
-      kept = λ p h. h;
-      all = λ p pp low d. absurd (true≢false (sym d.edge ∙ to-gone (around p.id) (around q) ((seen c.args.question.now.sight.now.view).edge p.id q) c.if-not-looks_at.ensures));
-      others = λ p low h. inl h;
-    }
 
 pub gather_sources-requires-clause-step : goal.gather_sources-requires-clause-step
 gather_sources-requires-clause-step c =
@@ -53,13 +16,4 @@ returns-then-passes_over-clause-gathered c =
           g.all p pp
           (sym (ap (λ (t : ℕ). step c.args.question.now.inv p.state t) (sym c.type_of-typ.ensures) ∙ c.if-passes_over.ensures refl p.state) ∙ d.step) d;
       others = g.others;
-    }
-
-pub returns-clause-gathered : goal.returns-clause-gathered
-returns-clause-gathered c =
-    let i = c.loop-state.invariant in
-    record {
-      kept = i.kept;
-      all = λ p pp low d. i.all p pp (omega (arith, low, c.loop-state-test.false)) d;
-      others = i.others;
     }

@@ -13,7 +13,7 @@ loop-place-init c =
       marked = c.requires.marked;
       kept = λ p h. h;
       all = λ p pp st leads.
-          inl (place-marked (λ id. a.graph.edge id c.args.pair.id) c.args.places p.id c.requires.places (omega (arith, pp.id, c.args.question.now.few)) leads.edge);
+          inl (place-marked (λ id. a.graph.edge id c.args.pair.id) c.args.sources.places p.id c.requires.places (omega (arith, pp.id, c.args.question.now.few)) leads.edge);
       others = λ p low h. inl h;
     }
 

@@ -2,18 +2,22 @@ use Rattle.std.proofs.Common.{◌-◌, ◌%◌, ℕ, bit_and, sym, ◌∙◌, in
 use Rattle.std.proofs.lemmas.Bool.{true≢false}
 use Rattle.std.proofs.lemmas.Nat.{and_le_r}
 use Rattle.path_finder.specs.Asking.{asked}
+use Rattle.path_finder.proofs.Listing.{split-more}
 use Rattle.path_finder.proofs.PairSets.{off-zero, some-among}
 use Rattle.path_finder.proofs.Parts.{among-open, entered-more, open-among, opened-all, opened-none}
 use Rattle.path_finder.proofs.level.enter_open.Goals as goal
 
-pub enter_part-requires-clause-stand_open : goal.enter_part-requires-clause-stand_open
-enter_part-requires-clause-stand_open c r is =
+pub enter-requires-clause-stand_open : goal.enter-requires-clause-stand_open
+enter-requires-clause-stand_open c r is =
     let o = open-among (asked c.args.question.now) c.args.part c.args.table.now c.args.entered.now c.word.result r c.word.type_inv c.word.ensures c.requires.pairs c.requires.size c.requires.entered is in
     (o.1, o.2)
 
+pub enter-requires-clause-last : goal.enter-requires-clause-last
+enter-requires-clause-last c r small inside low = c.requires.low r (record { id = omega (arith, inside, c.requires.size); state = small }) low
+
 pub returns-then-word-eq0-clause-opened : goal.returns-then-word-eq0-clause-opened
 returns-then-word-eq0-clause-opened c =
-    opened-none (asked c.args.question.now) c.args.part c.args.distance c.args.table.now c.args.level.now
+    opened-none (asked c.args.question.now) c.args.part c.args.distance c.args.table.now
     (λ r is. elim (among-open (asked c.args.question.now) c.args.part c.args.table.now c.args.entered.now c.word.result r c.args.question.now.few c.word.type_inv c.word.ensures c.requires.entered (c.requires.pairs r is) is) [
       | inl low ↦ low
       | inr stands ↦ absurd (true≢false (sym stands.bit ∙ off-zero (bit_and c.args.part.word (18446744073709551615 - c.word.result)) (r.id % 64) c.if-word-eq0.true))
@@ -22,19 +26,21 @@ returns-then-word-eq0-clause-opened c =
 pub returns-clause-entered : goal.returns-clause-entered
 returns-clause-entered c =
     let w : ℕ = bit_and c.args.part.word (18446744073709551615 - c.word.result) in
-    entered-more (asked c.args.question.now) (record { state = c.args.part.state; place = c.args.part.place; word = w }) c.args.distance c.args.table.now c.enter_part.new.table c.args.entered.now c.add.new.self c.requires.closes c.requires.entered
+    entered-more (asked c.args.question.now) (record { state = c.args.part.state; place = c.args.part.place; word = w }) c.args.distance c.args.table.now c.enter.new.self c.args.entered.now c.add.new.self c.requires.closes c.requires.entered
     (λ r is. c.requires.pairs r (open-among (asked c.args.question.now) c.args.part c.args.table.now c.args.entered.now c.word.result r c.word.type_inv c.word.ensures c.requires.pairs c.requires.size c.requires.entered is).0)
-    c.enter_part.ensures c.add.ensures.marked c.add.ensures.added
+    c.enter.ensures.entered c.add.ensures.marked c.add.ensures.added
 
 pub returns-clause-opened : goal.returns-clause-opened
 returns-clause-opened c =
-    opened-all (asked c.args.question.now) c.args.part c.args.distance (bit_and c.args.part.word (18446744073709551615 - c.word.result)) c.args.table.now c.enter_part.new.table c.args.level.now c.add-2.new.self c.requires.closes
+    let w : ℕ = bit_and c.args.part.word (18446744073709551615 - c.word.result) in
+    opened-all (asked c.args.question.now) c.args.part c.args.distance w c.args.table.now c.enter.new.self c.requires.closes
     (λ r is. open-among (asked c.args.question.now) c.args.part c.args.table.now c.args.entered.now c.word.result r c.word.type_inv c.word.ensures c.requires.pairs c.requires.size c.requires.entered is)
     (λ r is. among-open (asked c.args.question.now) c.args.part c.args.table.now c.args.entered.now c.word.result r c.args.question.now.few c.word.type_inv c.word.ensures c.requires.entered (c.requires.pairs r is) is)
-    c.requires.state c.enter_part.ensures c.add-2.ensures.added
+    c.requires.state c.enter.ensures.entered
+    (λ first s. split-more c.args.distance first c.args.table.now c.enter.new.self (record { word = w; distance = c.args.distance; state = c.args.part.state; place = c.args.part.place }) c.enter.ensures.parts (omega arith) s)
 
 pub returns-clause-some : goal.returns-clause-some
 returns-clause-some c e =
     let w : ℕ = bit_and c.args.part.word (18446744073709551615 - c.word.result) in
     let some = some-among (record { state = c.args.part.state; place = c.args.part.place; word = w }) (omega (arith, c.if-word-eq0.false)) (omega (arith, and_le_r c.args.part.word (18446744073709551615 - c.word.result))) in
-    c.enter_part.ensures.fewer some.0 some.1
+    c.enter.ensures.entered.fewer some.0 some.1

@@ -1,4 +1,3 @@
-use Rattle.std.proofs.Common.{ℕ}
 use Rattle.partition_graph.specs.Seen.{seen}
 use Rattle.path_finder.specs.IdSets.{has_id}
 use Rattle.path_finder.proofs.Surveying.{around-merged}

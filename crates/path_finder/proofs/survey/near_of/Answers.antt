@@ -1,4 +1,3 @@
-use Rattle.std.proofs.Common.{ℕ}
 use Rattle.partition_graph.specs.Seen.{seen}
 use Rattle.path_finder.proofs.Surveying.{kept-too}
 use Rattle.path_finder.proofs.survey.near_of.Goals as goal

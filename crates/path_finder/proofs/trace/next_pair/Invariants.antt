@@ -1,16 +1,10 @@
-use Rattle.std.proofs.Common.{◌≡◌, ◌<◌, ◌≤◌, ◌-◌}
-use Rattle.path_finder.specs.declared.pair.Pair.{Pair}
 use Rattle.path_finder.specs.Asking.{asked}
-use Rattle.path_finder.specs.Walks.{Leads}
-use Rattle.path_finder.specs.Tables.{at}
+use Rattle.path_finder.proofs.Tracing.{IsChosen, IsLeastAmong}
 use Rattle.path_finder.proofs.trace.next_pair.Given as goal
 
-abbrev pub invariant-loop-id : goal.invariant-loop-id
-invariant-loop-id l =
+abbrev pub invariant-loop-i : goal.invariant-loop-i
+invariant-loop-i l =
     record {
-      low : l.from ≤ l.question.ids;
-      none : (r : Pair) → r.id < l.from → Leads (asked l.question) l.pair r → at l.table r ≡ l.distance → ⊥;
+      chosen : IsChosen (asked l.question) l.table l.pair l.distance l.next;
+      least : IsLeastAmong (asked l.question) l.table l.pair l.first l.i l.next;
     }
-
-abbrev pub decreases-loop-id : goal.decreases-loop-id
-decreases-loop-id l = l.question.ids - l.from

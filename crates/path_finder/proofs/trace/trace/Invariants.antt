@@ -3,7 +3,7 @@ use Rattle.limits.specs.declared.TheConstants.{INITIAL}
 use Rattle.path_finder.specs.declared.table.TheConstants.{MAX_ENTRIES, OPEN}
 use Rattle.path_finder.specs.Asking.{asked}
 use Rattle.path_finder.specs.Walks.{IsPairOf}
-use Rattle.path_finder.specs.Tables.{at, IsKnown}
+use Rattle.path_finder.specs.Tables.{at, IsKnown, IsSplitAt}
 use Rattle.path_finder.proofs.Least.{IsLedTo}
 use Rattle.path_finder.proofs.trace.trace.Given as goal
 
@@ -14,6 +14,7 @@ invariant-loop-left l =
       entry : at l.table l.pair ≡ l.left;
       known : IsKnown (asked l.question) l.left l.table;
       stands : l.left < OPEN;
+      split : IsSplitAt l.left l.end l.table;
       room : vec_len l.path + l.left ≤ vec_capacity l.path;
       more : MAX_ENTRIES < vec_capacity l.path;
       few : length l.path.items + l.left ≤ MAX_ENTRIES + 1;

@@ -1,4 +1,4 @@
-use Rattle.std.proofs.Common.{◌==◌, ◌<◌, ℕ, List, sym, subst, subst₂, refl, rules, arith}
+use Rattle.std.proofs.Common.{◌<◌, ℕ, List, sym, subst, subst₂, refl, rules, arith}
 use Rattle.invariants.specs.declared.Invariant.{Invariant}
 use Rattle.partition_model.specs.Assignments.{G}
 use Rattle.partition_model.specs.Graphs.{Graph, Satisfies, IsLeastViolation, Merged}

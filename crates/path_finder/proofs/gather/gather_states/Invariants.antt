@@ -4,7 +4,7 @@ use Rattle.path_finder.specs.declared.pair.Pair.{Pair}
 use Rattle.path_finder.specs.Asking.{asked}
 use Rattle.path_finder.specs.PairSets.{has_pair, IsMarked}
 use Rattle.path_finder.specs.Walks.{IsPairOf, Leads}
-use Rattle.path_finder.proofs.gather.gather_pair.Given as goal
+use Rattle.path_finder.proofs.gather.gather_states.Given as goal
 
 abbrev pub invariant-loop-state : goal.invariant-loop-state
 invariant-loop-state l =
