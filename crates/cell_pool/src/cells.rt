@@ -3,13 +3,14 @@ ghost use Rattle.std.specs.Prelude.{◌≡◌, ◌≢◌, ℕ, ◌+◌, ◌-◌,
 ghost use Rattle.std.specs.List.{range_with_len};
 ghost use Rattle.cell_pool.specs.Tables.{row_at, without, StandsIn, HasCells, KeepsCells};
 ghost use Rattle.cell_pool.specs.Chains.{next_at_start, prev_at_start};
+ghost use Rattle.cell_pool.specs.Rooms.{IsUnwritten};
 
 use std::alloc::{AllocError, Global};
 use std::marker::Model;
 
 /// Cells in lists. Cells and lists count from 0. Contracts see a list of lists of cells, in which each cell stands
-/// exactly once. A cell that is moved goes to the end of a list. Every call but `make` takes a few steps, however long
-/// the lists are.
+/// exactly once. A cell that is moved goes to the end of a list. Every call takes a few steps, however long the lists
+/// are. [`CellsRoom`] makes them.
 #[derive(Drop)]
 pub struct Cells {
     /// The node after each node. The nodes are the cells and, after them, a head for each list, where it begins and
@@ -80,36 +81,61 @@ fn prev_of(cells: u32, node: u32) -> u32
     node
 }
 
-/// The node after each node when all cells stand in list 0.
-fn all_next(alloc: Global, cells: u32, nodes: u32) -> Result<Vec<u32>, AllocError>
-    ensures { IfOk result
-        (λ next. next.items ≡ map (next_at_start cells) (range_with_len 0 nodes)) }
+/// Writes the node after each node when all cells stand in list 0.
+fn write_next(next: &mut Vec<u32>, cells: u32, nodes: u32)
+    requires { IsUnwritten next.old nodes }
+    ensures { next.new.items ≡ map (next_at_start cells) (range_with_len 0 nodes) }
 {
-    (0..nodes).map(|node| next_of(cells, node)).collect(alloc)
+    for node in 0..nodes {
+        next.push_reserved(next_of(cells, node));
+    }
 }
 
-/// The node before each node when all cells stand in list 0.
-fn all_prev(alloc: Global, cells: u32, nodes: u32) -> Result<Vec<u32>, AllocError>
-    ensures { IfOk result
-        (λ prev. prev.items ≡ map (prev_at_start cells) (range_with_len 0 nodes)) }
+/// Writes the node before each node when all cells stand in list 0.
+fn write_prev(prev: &mut Vec<u32>, cells: u32, nodes: u32)
+    requires { IsUnwritten prev.old nodes }
+    ensures { prev.new.items ≡ map (prev_at_start cells) (range_with_len 0 nodes) }
 {
-    (0..nodes).map(|node| prev_of(cells, node)).collect(alloc)
+    for node in 0..nodes {
+        prev.push_reserved(prev_of(cells, node));
+    }
 }
 
-impl Cells {
-    /// This many cells, all of them in list 0 and ascending, and this many lists, at least one. Cells and lists
-    /// together are fewer than 2^32. Only this call allocates; `AllocError` is returned if there is not enough memory.
-    pub fn make(alloc: Global, cells: u32, lists: u32) -> Result<Cells, AllocError>
+/// The memory of cells in lists, before anything is written to it. Contracts see how many cells and lists there are to
+/// be.
+#[derive(Drop)]
+pub struct CellsRoom {
+    next: Vec<u32>,
+    prev: Vec<u32>,
+    cells: u32,
+    lists: u32,
+}
+
+impl Model for CellsRoom {
+    ghost use Rattle.std.specs.Prelude.{◌+◌, ◌^◌, ◌<◌, ◌≤◌};
+    ghost use Rattle.cell_pool.specs.Rooms.{CellCounts, IsUnwritten};
+
+    ghost Value = { CellCounts };
+
+    ghost view = { λ r. record { cells = r.cells; lists = r.lists } };
+
+    ghost invariant = { λ r. IsUnwritten r.next (r.cells + r.lists)
+        × IsUnwritten r.prev (r.cells + r.lists)
+        × (1 ≤ r.lists) × (r.cells + r.lists < 2 ^ 32) };
+}
+
+impl CellsRoom {
+    /// Room for this many cells and lists, at least one list. Cells and lists together are fewer than 2^32. Only this
+    /// call allocates; `AllocError` is returned if there is not enough memory.
+    pub fn make(alloc: Global, cells: u32, lists: u32) -> Result<CellsRoom, AllocError>
         requires some { 1 ≤ lists }
         requires few { cells + lists < 2 ^ 32 }
-        ensures lists { IfOk result
-            (λ made. made ≡ range_with_len 0 cells ∷ replicate (lists - 1) []) }
-        ensures cells { IfOk result (λ made. HasCells made cells) }
+        ensures { IfOk result (λ room. room ≡ record { cells = cells; lists = lists }) }
     {
-        let nodes = cells + lists;
-        let next = all_next(alloc, cells, nodes)?;
-        let prev = all_prev(alloc, cells, nodes)?;
-        Ok(Cells {
+        let nodes = (cells + lists) as usize;
+        let next = Vec::with_capacity(alloc, nodes)?;
+        let prev = Vec::with_capacity(alloc, nodes)?;
+        Ok(CellsRoom {
             next,
             prev,
             cells,
@@ -117,6 +143,29 @@ impl Cells {
         })
     }
 
+    /// The cells, all of them in list 0 and ascending. It takes a step for each cell and each list.
+    pub fn fill(self) -> Cells
+        ensures lists { result ≡ range_with_len 0 self.cells ∷ replicate (self.lists - 1) [] }
+        ensures cells { HasCells result self.cells }
+    {
+        let CellsRoom {
+            mut next,
+            mut prev,
+            cells,
+            lists,
+        } = self;
+        write_next(&mut next, cells, cells + lists);
+        write_prev(&mut prev, cells, cells + lists);
+        Cells {
+            next,
+            prev,
+            cells,
+            lists,
+        }
+    }
+}
+
+impl Cells {
     /// Moves a cell from list `from`, in which it stands, to the end of list `to`. The two lists are different. The
     /// other cells of `from` keep their order, and all other lists stay.
     pub fn move_to(&mut self, cell: u32, from: u32, to: u32)

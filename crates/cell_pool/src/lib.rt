@@ -5,6 +5,6 @@ mod cells;
 mod run_log;
 mod spans;
 
-pub use cells::Cells;
+pub use cells::{Cells, CellsRoom};
 pub use run_log::{BlockEntry, MergeEntry, RunLog, SplitEntry};
 pub use spans::{Span, Spans};

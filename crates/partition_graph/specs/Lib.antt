@@ -18,3 +18,4 @@ pub mod Spread
 pub mod Shared
 pub mod Slots
 pub mod Filled
+pub mod IdLists
