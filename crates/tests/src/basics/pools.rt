@@ -5,7 +5,7 @@ ghost use Rattle.cell_pool.specs.Tables.{HasCells};
 ghost use Rattle.run_history.specs.Records.{HoldsPaths};
 
 use crate::tools::both;
-use cell_pool::{Cells, RunLog, Span, Spans};
+use cell_pool::{Cells, CellsRoom, RunLog, Span, Spans};
 use invariants::{Block, Merge, Split};
 use run_history::{blocks, merges, splits};
 use std::alloc::{AllocError, Global};
@@ -25,7 +25,8 @@ fn lists(cells: &Cells) -> ([Option<u32>; 2], [Option<u32>; 4])
 
 /// `cells`
 pub fn cells(alloc: Global, out: &mut String) -> Result<(), AllocError> {
-    let mut cells = Cells::make(alloc, 4, 2)?;
+    let room = CellsRoom::make(alloc, 4, 2)?;
+    let mut cells = room.fill();
     let made = lists(&cells);
     cells.move_to(1, 0, 1);
     cells.move_to(3, 0, 1);
