@@ -28,6 +28,7 @@ pub mod Looking
 pub mod SetCounts
 pub mod CountSteps
 mod DividingBefore
+mod Listed
 mod CountedTraces
 mod CountedWords
 pub mod Filling

@@ -51,6 +51,12 @@ not-counted counts a b a_low b_low e =
     let none : count_in counts a b ≤ 0 = ltb-false 0 (count_in counts a b) zero_count in
     omega (arith, none)
 
+-- an edge that is counted has a count above 0
+pub counted-some : (counts : List ℕ) (a b : ℕ) → is_counted counts a b ≡ true → 0 < count_in counts a b
+counted-some counts a b e =
+    let parts = and_parts (ltb a MAX_PARTITIONS) (ltb b MAX_PARTITIONS && ltb 0 (count_in counts a b)) e in
+    ltb-true 0 (count_in counts a b) (and_parts (ltb b MAX_PARTITIONS) (ltb 0 (count_in counts a b)) parts.1).1
+
 -- where q has no edge to an id, nothing is added
 none-added : (p q : ℕ) (old : ℕ → ℕ → ℕ) (a b : ℕ) → old q b ≡ 0 → with_targets p q old a b ≡ old a b
 none-added p q old a b none = elim (cases_eq a q) [

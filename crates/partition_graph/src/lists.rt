@@ -86,15 +86,17 @@ fn push_edges_from(
     ensures { (h : Assignment) (n : ℕ) → IsCountedFor tables.now n h
         → OnOk result (list.new.items ≡ list.old.items ++ edges_from used h p) }
 {
-    for q in 0..used {
-        let count = tables.count_at(p, q);
-        if count > 0 {
-            list.push(Edge {
-                from: p,
-                to: q,
-                count,
-            })?;
+    let mut reached = 0;
+    while let Some(q) = tables.next_target(p, reached) {
+        if q >= used {
+            return Ok(());
         }
+        list.push(Edge {
+            from: p,
+            to: q,
+            count: tables.count_at(p, q),
+        })?;
+        reached = q + 1;
     }
     Ok(())
 }
