@@ -1,5 +1,5 @@
 -- The pairs of TERMINAL, from which the search begins.
-use Rattle.std.proofs.Common.{◌≡◌, ◌==◌, ◌≤◌, ◌+◌, ◌*◌, ◌/◌, ◌%◌, ℕ, true, false, List, length, replicate, sym, ap, ◌∙◌, inl, inr, get_or, arith}
+use Rattle.std.proofs.Common.{◌≡◌, ◌==◌, ◌≤◌, ◌+◌, ◌*◌, ◌/◌, ◌%◌, ℕ, true, List, length, replicate, sym, ap, ◌∙◌, inl, inr, get_or, arith}
 use Rattle.std.proofs.lemmas.Bool.{cases_eq, cases_lt, true≢false}
 use Rattle.std.proofs.lemmas.List.{get_or-replicate, length-replicate}
 use Rattle.std.proofs.lemmas.List.Sums.{count_by-le-length}
@@ -42,24 +42,6 @@ ends-more a state old new ends marked added bad =
         | inr here ↦ added.added r (record { state = omega (arith, low, here); place = ap (λ (n : ℕ). n / 64) id; bit = ap (λ (n : ℕ). on 2 (n % 64)) id })
       ];
     }
-
--- a state that is not bad
-pub ends-same : (a : Asked) (state : ℕ) (s : PairSet) → HasEndsBelow a state s → is_bad a.inv state ≡ false → HasEndsBelow a (state + 1) s
-ends-same a state s ends good =
-    record {
-      marked = ends.marked;
-      ends = ends.ends;
-      all = λ r id low b. elim (cases_lt r.state state) [
-        | inl before ↦ ends.all r id before b
-        | inr here ↦
-            let same : r.state ≡ state = omega (arith, low, here) in
-            absurd (true≢false (sym b ∙ ap (λ (n : ℕ). is_bad a.inv n) same ∙ good))
-      ];
-    }
-
--- no end was found yet
-pub no-ends : (a : Asked) (s : PairSet) → IsEmptySet s → HasEndsBelow a 0 s
-no-ends a s empty = record { marked = empty.marked; ends = λ r is. absurd (no-pair s r empty is); all = λ r id low b. absurd (omega (arith, low)) }
 
 -- a pair is open where all are
 pub stands-open : (a : Asked) (e : Entries) (r : Pair) → e.distances ≡ replicate (a.ids * STATES) OPEN → IsPairOf a r → at e r ≡ OPEN

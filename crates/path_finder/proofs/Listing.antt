@@ -1,8 +1,8 @@
 -- The list of entries, and the distances that it gives.
 use Rattle.std.proofs.Common.{◌≡◌, ◌==◌, ◌&&◌, ℕ, zero, suc, ◌+◌, ◌/◌, ◌%◌, ◌^◌, ◌<◌, ◌≤◌, Bool, true, false, List, [], ◌∷◌, ◌++◌, length, replicate, slice_get, slice_index, count_by, if◌then◌else◌, eq-eqb, eqb-true, ne_eqb, refl, sym, ◌∙◌, ap, ap₂, subst, inl, inr, arith}
 use Rattle.std.proofs.lemmas.Bool.{and_parts, cases_Bool, cases_lt}
-use Rattle.std.proofs.lemmas.List.{get_or-replicate, length-append, length-replicate}
-use Rattle.std.proofs.lemmas.List.Sums.{count_by-le-length, sum_by-cons}
+use Rattle.std.proofs.lemmas.List.{length-append}
+use Rattle.std.proofs.lemmas.List.Sums.{sum_by-cons}
 use Rattle.std.proofs.lemmas.Nat.{div-add-mod', mod_below}
 use Rattle.std.proofs.lemmas.Option.{slice_get_within}
 use Rattle.std.specs.Int.{bit_at}
@@ -218,20 +218,6 @@ listed-more e x listed may =
         let r : (r : Pair) × IsAmong (part_of y) r = some-of e y is in
         let v : at e r.0 ≡ y.distance = is.value r.0 r.1 in
         omega (arith, v, may.last r.0 (omega (arith, r.1.state, is.state)) (is.within r.0 r.1) (omega (arith, v, is.closes)))
-
--- no entry yet
-pub listed-begun : (n : ℕ) → n ≤ MAX_ENTRIES → IsListed (entries_of n [])
-listed-begun n few =
-    record {
-      each = λ i x is. absurd (cc is);
-      others = λ r l inside none. omega (arith, get_or-replicate n (place r) OPEN 0 (omega (arith, inside, length-replicate n OPEN)));
-      top = λ k. elim (cases_lt k n) [
-        | inl inside ↦ omega (arith, get_or-replicate n k OPEN 0 inside)
-        | inr past ↦ omega (arith, past-end (replicate n OPEN) k (omega (arith, past, length-replicate n OPEN)))
-      ];
-      ascends = λ i j x y before ix jy. absurd (cc ix);
-      room = omega (arith, few, count_by-le-length (λ d. d == OPEN) (replicate n OPEN), length-replicate n OPEN);
-    }
 
 -- the entries of a distance begin at the same place where one more is put behind them
 pub split-more : (d first : ℕ) (e g : Entries) (x : Entry) → g.parts ≡ e.parts ++ x ∷ [] → d ≤ x.distance → IsSplitAt d first e → IsSplitAt d first g

@@ -177,22 +177,11 @@ reaching_next edge next id m s there followed =
       ];
     }
 
--- an id to which an edge leads is met, unless it is among those that are not met
-pub met-else : (e m : Bool) → (e && not m) ≡ false → e ≡ true → m ≡ true
-met-else true true n d = refl
-met-else true false n d = sym n
-met-else false m n d = absurd (true≢false (sym d))
-
 -- one of those is not met
 pub new-unmet : (e m : Bool) → (e && not m) ≡ true → m ≡ false
 new-unmet true true u = sym u
 new-unmet true false u = refl
 new-unmet false m u = absurd (true≢false (sym u))
-
--- an edge leads to one of them
-pub edge-unmet : (e m : Bool) → (e && not m) ≡ true → e ≡ true
-edge-unmet true m u = refl
-edge-unmet false m u = u
 
 -- the id to which an edge leads is below the bound on ids, in either direction
 pub edge-below : (way : Way) (g : Graph) (ids p q : ℕ) → HasEdgesBelow g ids → edge_by way g p q ≡ true → q < ids

@@ -1,8 +1,7 @@
 -- The next pair of the path among the entries of a level.
-use Rattle.std.proofs.Common.{◌≡◌, ◌⊎◌, ◌&&◌, ℕ, suc, ◌+◌, ◌-◌, ◌*◌, ◌/◌, ◌%◌, ◌<◌, ◌≤◌, Bool, true, length, slice_get, Some, bit_and, sym, ◌∙◌, ap, subst, inl, inr, arith}
+use Rattle.std.proofs.Common.{◌≡◌, ◌⊎◌, ◌&&◌, ℕ, suc, ◌+◌, ◌*◌, ◌/◌, ◌%◌, ◌<◌, ◌≤◌, Bool, true, slice_get, Some, bit_and, sym, ◌∙◌, ap, subst, inl, inr, arith}
 use Rattle.std.proofs.lemmas.Bool.{cases_lt, true≢false}
 use Rattle.std.proofs.lemmas.Nat.{div-add-mod', mod_below}
-use Rattle.std.proofs.lemmas.Option.{same_Some}
 use Rattle.partition_graph.specs.NeighbourWords.{IsWordOf}
 use Rattle.partition_graph.specs.Nexts.{IsNext}
 use Rattle.partition_graph.specs.Parts.{HasEdgesBelow}
@@ -82,16 +81,3 @@ next-chosen a e p d first end next w known listed from to pp value closes chosen
                 | inr past ↦ omega (arith, its, v, to.after i x past is)
               ]
             ]
-
--- an entry before the place is nearer where that before it is
-pub split-here : (d first : ℕ) (e : Entries) (x : Entry) → IsListed e → first ≤ length e.parts → 0 < first → ((m : ℕ) → suc m ≡ first → slice_get e.parts m ≡ Some x) → x.distance < d
-    → ((i : ℕ) (y : Entry) → first ≤ i → slice_get e.parts i ≡ Some y → d ≤ y.distance) → IsSplitAt d first e
-split-here d first e x listed within some is near after =
-    record {
-      within = within;
-      before = λ i y low at. elim (cases_lt (suc i) first) [
-        | inl lower ↦ omega (arith, listed.ascends i (first - 1) y x (omega arith) at (is (first - 1) (omega arith)), near)
-        | inr here ↦ omega (arith, near, ap (λ (z : Entry). z.distance) (same_Some y x (sym at ∙ is i (omega arith))))
-      ];
-      after = after;
-    }
