@@ -157,15 +157,13 @@ module _ (view : List (List ℕ)) (next prev : List ℕ) (count lists : ℕ) (se
           done_from view next3 prev3 count lists wanted here (linked_keeps next prev count lists view seen_table from to from_in to_in apart next3 prev3 here)
 
 -- the nodes that are made hold all cells in the first list and none in the others
-pub made_done : (next prev : List ℕ) (count lists nodes : ℕ) → 1 ≤ lists → (count + lists < 2 ^ 32) × (nodes ≡ count + lists)
-    → next ≡ map (next_at_start count) (range_with_len 0 nodes) → prev ≡ map (prev_at_start count) (range_with_len 0 nodes)
+pub made_done : (next prev : List ℕ) (count lists : ℕ) → 1 ≤ lists → count + lists < 2 ^ 32
+    → next ≡ map (next_at_start count) (range_with_len 0 (count + lists)) → prev ≡ map (prev_at_start count) (range_with_len 0 (count + lists))
     → IsTable next prev count lists (table_of next count lists) × (table_of next count lists ≡ range_with_len 0 count ∷ replicate (lists - 1) []) × HasCells (table_of next count lists) count
-made_done next prev count lists nodes some limit is_next is_prev =
+made_done next prev count lists some limit next_is prev_is =
     let wanted : List (List ℕ) = range_with_len 0 count ∷ replicate (lists - 1) [] in
-    let next_is : next ≡ map (next_at_start count) (range_with_len 0 (count + lists)) = is_next ∙ ap (λ n. map (next_at_start count) (range_with_len 0 n)) limit.1 in
-    let prev_is : prev ≡ map (prev_at_start count) (range_with_len 0 (count + lists)) = is_prev ∙ ap (λ n. map (prev_at_start count) (range_with_len 0 n)) limit.1 in
     let here : IsTable next prev count lists wanted =
     subst (λ l. IsTable l prev count lists wanted) (sym next_is)
-    (subst (λ l. IsTable (map (next_at_start count) (range_with_len 0 (count + lists))) l count lists wanted) (sym prev_is) (made_table count lists some limit.0)) in
+    (subst (λ l. IsTable (map (next_at_start count) (range_with_len 0 (count + lists))) l count lists wanted) (sym prev_is) (made_table count lists some limit)) in
     let same = table_is next prev count lists wanted here in
-    (subst (λ t. IsTable next prev count lists t) (sym same) here, same, subst (λ t. HasCells t count) (sym same) (made_cells count lists some limit.0))
+    (subst (λ t. IsTable next prev count lists t) (sym same) here, same, subst (λ t. HasCells t count) (sym same) (made_cells count lists some limit))

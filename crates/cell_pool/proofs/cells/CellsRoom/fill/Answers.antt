@@ -1,4 +1,4 @@
-use Rattle.std.proofs.Common.{◌≡◌, ◌+◌, ◌-◌, List, ℕ, [], ◌∷◌, replicate, ap, ◌∙◌, refl, subst}
+use Rattle.std.proofs.Common.{◌≡◌, ◌-◌, List, ℕ, [], ◌∷◌, replicate, ap, ◌∙◌, subst}
 use Rattle.std.specs.List.{range_with_len}
 use Rattle.cell_pool.specs.Chains.{table_of, IsTable}
 use Rattle.cell_pool.specs.Rooms.{CellCounts}
@@ -12,7 +12,7 @@ made : (c : After-write_prev) → IsTable c.write_next.new.next.items c.write_pr
     × (table_of c.write_next.new.next.items c.self.inside.cells c.self.inside.lists ≡ range_with_len 0 c.self.inside.cells ∷ replicate (c.self.inside.lists - 1) [])
     × HasCells (table_of c.write_next.new.next.items c.self.inside.cells c.self.inside.lists) c.self.inside.cells
 made c =
-    made_done c.write_next.new.next.items c.write_prev.new.prev.items c.self.inside.cells c.self.inside.lists (c.self.inside.cells + c.self.inside.lists) c.self.invariant.2 (c.self.invariant.3, refl)
+    made_done c.write_next.new.next.items c.write_prev.new.prev.items c.self.inside.cells c.self.inside.lists c.self.invariant.2 c.self.invariant.3
     c.write_next.ensures c.write_prev.ensures
 
 pub invariant_of-result : goal.invariant_of-result
