@@ -10,6 +10,41 @@ use memchr::memchr;
 use std::marker::Model;
 use std::rc::Rc;
 
+/// The decimal digit that these bytes begin with, and the bytes after it.
+#[inline(always)]
+fn digit_and_others(bytes: &[u8]) -> Option<(u32, &[u8])>
+    ensures { IfSome result (λ digit. (digit.0 < 10) × (bytes.now ≡ (48 + digit.0) ∷ digit.1.now)) }
+{
+    let [first, others @ ..] = bytes else {
+        return None;
+    };
+    let digit = first.wrapping_sub(b'0');
+    if digit > 9 {
+        return None;
+    }
+    Some((digit as u32, others))
+}
+
+/// The number of at most nine digits without leading zeros that these bytes begin with, and the bytes after it. The bytes are
+/// a local variable here, since a field behind a reference would be loaded and stored for each digit.
+#[inline(always)]
+fn number_and_others(bytes: &[u8]) -> Option<(u32, &[u8])>
+    ensures { IfSome result (λ number. bytes.now ≡ decimal number.0 ++ number.1.now) }
+{
+    let (mut number, mut others) = digit_and_others(bytes)?;
+    if number == 0 {
+        return Some((0, others));
+    }
+    'digits: while let Some((digit, fewer)) = digit_and_others(others) {
+        if number > 99_999_999 {
+            return None;
+        }
+        number = number * 10 + digit;
+        others = fewer;
+    }
+    Some((number, others))
+}
+
 /// How often a byte occurs. There is no branch and no wide counter, so that many bytes are compared at once.
 fn count_of(byte: u8, bytes: &[u8]) -> u32 {
     let mut count: u32 = 0;
@@ -102,37 +137,13 @@ impl<'a> Rest<'a> {
         }
     }
 
-    /// Takes a decimal digit, if one comes next.
-    #[inline(always)]
-    fn digit(&mut self) -> Option<u32>
-        ensures { MatchOption result (self.new ≡ self.old)
-            (λ digit. (digit < 10) × (self.old ≡ (48 + digit) ∷ self.new)) }
-    {
-        let [first, others @ ..] = self.bytes else {
-            return None;
-        };
-        if *first < b'0' || *first > b'9' {
-            return None;
-        }
-        self.bytes = others;
-        Some((*first - b'0') as u32)
-    }
-
     /// Takes a number of at most nine digits without leading zeros.
     #[inline(always)]
     pub(crate) fn number(&mut self) -> Option<u32>
         ensures { IfSome result (λ number. self.old ≡ decimal number ++ self.new) }
     {
-        let mut number = self.digit()?;
-        if number == 0 {
-            return Some(0);
-        }
-        'digits: while let Some(digit) = self.digit() {
-            if number > 99_999_999 {
-                return None;
-            }
-            number = number * 10 + digit;
-        }
+        let (number, others) = number_and_others(self.bytes)?;
+        self.bytes = others;
         Some(number)
     }
 

@@ -1,18 +1,6 @@
-use Rattle.std.proofs.Common.{ℕ, ◌+◌, ◌∷◌, ap, ◌∙◌, arith}
-use Rattle.model_reader.proofs.Numbers.{begun, continued}
+use Rattle.std.specs.Fmt.{decimal}
+use Rattle.model_reader.proofs.Tails.{less-left}
 use Rattle.model_reader.proofs.rest.Rest.number.Goals as goal
 
-pub returns-then-number-eq0 : goal.returns-then-number-eq0
-returns-then-number-eq0 c = begun c.args.self.now c.digit.new.self 0 (omega arith) (c.in_ok-number.ensures.1 ∙ ap (λ (digit : ℕ). (48 + digit) ∷ c.digit.new.self) c.if-number-eq0.true)
-
-pub digits-init : goal.digits-init
-digits-init c = record {
-  text = begun c.args.self.now c.digit.new.self c.in_ok-number.number c.in_ok-number.ensures.0 c.in_ok-number.ensures.1;
-  rises = omega (arith, c.if-number-eq0.false);
-}
-
-pub digits-preserved : goal.digits-preserved
-digits-preserved c = record {
-  text = continued c.args.self.now c.digits.self c.digit-in-digits.new.self c.digits.number c.in-Some.digit c.digits.invariant.rises c.in-Some.ensures.0 (omega (arith, c.in-Some.ensures.0, c.if-number-gt99999999.false)) c.digits.invariant.text c.in-Some.ensures.1;
-  rises = omega (arith, c.digits.invariant.rises);
-}
+pub invariant_of-self : goal.invariant_of-self
+invariant_of-self c = less-left c.self.inside.text.now.value.items c.self.inside.bytes.now (decimal c.in_ok-number.number) c.in_ok-number.others.now c.self.invariant c.in_ok-number.ensures
