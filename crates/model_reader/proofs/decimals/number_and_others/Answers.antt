@@ -1,6 +1,6 @@
 use Rattle.std.proofs.Common.{ℕ, ◌+◌, ◌∷◌, ap, ◌∙◌, arith}
 use Rattle.model_reader.proofs.Numbers.{begun, continued}
-use Rattle.model_reader.proofs.rest.number_and_others.Goals as goal
+use Rattle.model_reader.proofs.decimals.number_and_others.Goals as goal
 
 pub returns-then-number-eq0 : goal.returns-then-number-eq0
 returns-then-number-eq0 c = begun c.args.bytes.now c.in_ok-number.others.now 0 (omega arith) (c.in_ok-number.ensures.1 ∙ ap (λ (digit : ℕ). (48 + digit) ∷ c.in_ok-number.others.now) c.if-number-eq0.true)

@@ -1,6 +1,0 @@
-use Rattle.std.specs.Fmt.{decimal}
-use Rattle.model_reader.proofs.Tails.{less-left}
-use Rattle.model_reader.proofs.rest.Rest.number.Goals as goal
-
-pub invariant_of-self : goal.invariant_of-self
-invariant_of-self c = less-left c.self.inside.text.now.value.items c.self.inside.bytes.now (decimal c.in_ok-number.number) c.in_ok-number.others.now c.self.invariant c.in_ok-number.ensures
