@@ -1,6 +1,6 @@
 -- What is left of a text, piece by piece.
-use Rattle.std.proofs.Common.{◌≡◌, ℕ, ◌-◌, ◌≤◌, List, [], ◌++◌, drop, length, take, refl, sym, ap, ◌∙◌, arith, append_assoc}
-use Rattle.std.proofs.lemmas.List.{drop_at, length-append, take-append-drop, take_rest}
+use Rattle.std.proofs.Common.{◌≡◌, ℕ, ◌-◌, ◌≤◌, List, [], ◌∷◌, ◌++◌, drop, get_or, length, take, refl, sym, ap, ap₂, ◌∙◌, arith, append_assoc}
+use Rattle.std.proofs.lemmas.List.{drop_at, length-append, take-append-drop, take_all, take_rest}
 use Rattle.model_reader.specs.Tails.{IsTail}
 
 -- the whole text is left
@@ -29,3 +29,8 @@ pub left-behind : (text rest : List ℕ) → IsTail text rest → drop (length t
 left-behind text rest tail =
     let taken : length tail.front ≡ length text - length rest = omega (arith, ap (λ xs. length xs) tail.is, length-append tail.front rest) in
     ap (λ xs. drop (length text - length rest) xs) tail.is ∙ drop_at tail.front rest (length text - length rest) taken
+
+-- the first byte, and what is left behind it
+pub first-apart : (bytes : List ℕ) (first d : ℕ) → 1 ≤ length bytes → get_or bytes 0 d ≡ first → bytes ≡ first ∷ take (length bytes - 1) (drop 1 bytes)
+first-apart [] first d some is = absurd (omega arith)
+first-apart (byte ∷ bytes) first d some is = ap₂ (λ (x : ℕ) (xs : List ℕ). x ∷ xs) is (sym (take_all (length (byte ∷ bytes) - 1) bytes (omega arith)))

@@ -1,44 +1,15 @@
 //! The entries of a model in their shortest spelling.
 ghost use Rattle.std.specs.Prelude.{◌≡◌, ◌∷◌, ◌++◌, decimal, IfSome};
-ghost use Rattle.serde_json.specs.Written.{compact_text};
-ghost use Rattle.model_file.specs.Tree.{path_data};
 
-use crate::lists::{Spelled, take_list};
+use crate::lists::Spelled;
 use crate::rest::Rest;
 use crate::texts::{kind_number, take_kind, take_labels, take_type_text};
-use invariants::{Block, Edge, Ids, Invariant, Listed, Merge, Partition, Split, Text};
-use limits::MAX_PARTITIONS;
+use invariants::{Block, Edge, Invariant, Listed, Merge, Partition, Split, Text};
 use std::alloc::Global;
-
-/// How many ids a path that is written has at most: a shortest path to a bad state meets each partition in each of the three
-/// states of a monitor at most once.
-const LONGEST_PATH: usize = 3 * MAX_PARTITIONS as usize;
 
 /// Room for the blocks and for the invariants, more than a model may have of either. It is so large that the system gives it
 /// apart from all other memory and takes it back whole: if the file has to be read a second time, nothing is left of it.
 const ROOM: usize = 1 << 20;
-
-/// An id of a path.
-impl Spelled for u32 {
-    ghost use Rattle.model_file.specs.Tree.{number_data};
-
-    ghost data_of = { number_data };
-
-    #[inline(always)]
-    fn take(_alloc: Global, rest: &mut Rest<'_>) -> Option<u32> {
-        rest.number()
-    }
-
-    #[inline(always)]
-    fn may_follow(&self, _before: &u32) -> bool {
-        true
-    }
-
-    #[inline(always)]
-    fn room(rest: &Rest<'_>) -> usize {
-        (rest.commas_in_list() + 1).min(LONGEST_PATH)
-    }
-}
 
 /// Whether the second pair comes after the first.
 #[inline(always)]
@@ -55,36 +26,16 @@ fn invariant_key(inv: Invariant) -> (u32, u32) {
     )
 }
 
-/// Takes a number and the comma after it.
-#[inline(always)]
-fn take_field(rest: &mut Rest<'_>) -> Option<u32>
-    ensures { IfSome result (λ number. rest.old ≡ decimal number ++ 44 ∷ rest.new) }
-{
-    let number = rest.number()?;
-    rest.byte(b',')?;
-    Some(number)
-}
-
 /// Takes the number of a type and the comma after it.
 #[inline(always)]
 fn take_type(rest: &mut Rest<'_>) -> Option<u16>
     ensures { IfSome result (λ number. rest.old ≡ decimal number ++ 44 ∷ rest.new) }
 {
-    let number = take_field(rest)?;
+    let number = rest.number_before(b',')?;
     if number > 65_535 {
         return None;
     }
     Some(number as u16)
-}
-
-/// Takes a number and the bracket after it.
-#[inline(always)]
-fn take_last(rest: &mut Rest<'_>) -> Option<u32>
-    ensures { IfSome result (λ number. rest.old ≡ decimal number ++ 93 ∷ rest.new) }
-{
-    let number = rest.number()?;
-    rest.byte(b']')?;
-    Some(number)
 }
 
 impl Spelled for Partition {
@@ -95,9 +46,9 @@ impl Spelled for Partition {
     #[inline(always)]
     fn take(_alloc: Global, rest: &mut Rest<'_>) -> Option<Partition> {
         rest.byte(b'[')?;
-        let id = take_field(rest)?;
+        let id = rest.number_before(b',')?;
         let typ = take_type(rest)?;
-        let count = take_last(rest)?;
+        let count = rest.number_before(b']')?;
         Some(Partition { id, typ, count })
     }
 
@@ -115,9 +66,9 @@ impl Spelled for Edge {
     #[inline(always)]
     fn take(_alloc: Global, rest: &mut Rest<'_>) -> Option<Edge> {
         rest.byte(b'[')?;
-        let from = take_field(rest)?;
-        let to = take_field(rest)?;
-        let count = take_last(rest)?;
+        let from = rest.number_before(b',')?;
+        let to = rest.number_before(b',')?;
+        let count = rest.number_before(b']')?;
         Some(Edge { from, to, count })
     }
 
@@ -135,8 +86,8 @@ impl Spelled for Merge {
     #[inline(always)]
     fn take(_alloc: Global, rest: &mut Rest<'_>) -> Option<Merge> {
         rest.byte(b'[')?;
-        let p = take_field(rest)?;
-        let q = take_last(rest)?;
+        let p = rest.number_before(b',')?;
+        let q = rest.number_before(b']')?;
         Some(Merge { p, q })
     }
 
@@ -144,15 +95,6 @@ impl Spelled for Merge {
     fn may_follow(&self, _before: &Merge) -> bool {
         true
     }
-}
-
-/// Takes a path of at most `LONGEST_PATH` ids.
-#[inline(always)]
-fn take_path(alloc: Global, rest: &mut Rest<'_>) -> Option<Ids>
-    ensures { IfSome result (λ path. rest.old ≡ compact_text (path_data path) ++ rest.new) }
-{
-    let ids = take_list::<u32>(alloc, rest, LONGEST_PATH)?;
-    Some(Ids::from_vec(ids))
 }
 
 impl Spelled for Split {
@@ -163,9 +105,9 @@ impl Spelled for Split {
     #[inline(always)]
     fn take(alloc: Global, rest: &mut Rest<'_>) -> Option<Split> {
         rest.byte(b'[')?;
-        let inv = take_field(rest)?;
-        let place = take_field(rest)?;
-        let path = take_path(alloc, rest)?;
+        let inv = rest.number_before(b',')?;
+        let place = rest.number_before(b',')?;
+        let path = rest.path(alloc)?;
         rest.byte(b']')?;
         Some(Split { inv, place, path })
     }
@@ -184,10 +126,10 @@ impl Spelled for Block {
     #[inline(always)]
     fn take(alloc: Global, rest: &mut Rest<'_>) -> Option<Block> {
         rest.byte(b'[')?;
-        let p = take_field(rest)?;
-        let q = take_field(rest)?;
-        let inv = take_field(rest)?;
-        let path = take_path(alloc, rest)?;
+        let p = rest.number_before(b',')?;
+        let q = rest.number_before(b',')?;
+        let inv = rest.number_before(b',')?;
+        let path = rest.path(alloc)?;
         rest.byte(b']')?;
         Some(Block { p, q, inv, path })
     }
@@ -198,7 +140,7 @@ impl Spelled for Block {
     }
 
     #[inline(always)]
-    fn room(_rest: &Rest<'_>) -> usize {
+    fn room() -> usize {
         ROOM
     }
 }
@@ -229,7 +171,7 @@ impl Spelled for Listed {
     }
 
     #[inline(always)]
-    fn room(_rest: &Rest<'_>) -> usize {
+    fn room() -> usize {
         ROOM
     }
 }

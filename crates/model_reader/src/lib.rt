@@ -5,6 +5,7 @@
 //! refusal.
 #![tactic(auto)]
 
+mod decimals;
 mod entries;
 mod labels;
 mod law;

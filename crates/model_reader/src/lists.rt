@@ -20,10 +20,10 @@ pub(crate) trait Spelled: Sized {
     /// Whether a model may list this entry next to the one before it.
     fn may_follow(&self, before: &Self) -> bool;
 
-    /// How many entries a list gets room for at once. The text after the bracket that opens the list comes next. Room that is
-    /// never written takes no memory, and a list that outgrows its room is copied, which takes both.
+    /// How many entries a list gets room for at once. Room that is never written takes no memory, and a list that outgrows its
+    /// room is copied, which takes both.
     #[inline(always)]
-    fn room(_rest: &Rest<'_>) -> usize {
+    fn room() -> usize {
         0
     }
 }
@@ -42,10 +42,10 @@ fn fits<T: Spelled>(entries: &[T], entry: &T, most: usize) -> bool {
 
 /// An empty list with the room that `T::room` tells.
 #[inline(always)]
-fn empty_list<T: Spelled + Drop>(alloc: Global, rest: &Rest<'_>) -> Option<Vec<T>>
+fn empty_list<T: Spelled + Drop>(alloc: Global) -> Option<Vec<T>>
     ensures { IfSome result (λ list. list.items ≡ []) }
 {
-    match Vec::with_capacity(alloc, T::room(rest)) {
+    match Vec::with_capacity(alloc, T::room()) {
         Ok(list) => Some(list),
         Err(_) => None,
     }
@@ -64,7 +64,7 @@ fn take_entries<T: Spelled + Drop>(
     ensures { IfSome result (λ entries. 91 ∷ rest.old
         ≡ compact_text (array_of (map T.data_of entries.items)) ++ rest.new) }
 {
-    let mut entries = empty_list::<T>(alloc, rest)?;
+    let mut entries = empty_list::<T>(alloc)?;
     if rest.takes(b']') {
         return Some(entries);
     }

@@ -41,8 +41,8 @@ fn written_model(alloc: Global, text: &Rc<Vec<u8>>) -> Option<Model>
     ensures text { IfSome result (λ model. (text.now).value.items ≡ file_text model) }
     ensures utf8 { IfSome result (λ model. All IsUtf8 model.types) }
 {
+    let mut rest = Rest::new(alloc, text)?;
     let mut model = empty(alloc);
-    let mut rest = Rest::new(text);
     take_members(alloc, &mut rest, &mut model)?;
     if !rest.is_empty() {
         return None;

@@ -1,30 +1,32 @@
 //! The bytes that are still to be read. Tokens in their shortest spelling are taken from the start.
-ghost use Rattle.std.specs.Prelude.{◌≡◌, ◌<◌, ◌≤◌, ◌+◌, ◌^◌, ◌∷◌, ◌++◌, [], IfSome, OnSome, MatchOption, decimal, length, map, take};
+ghost use Rattle.std.specs.Prelude.{◌≡◌, ◌≤◌, ◌∷◌, ◌++◌, [], IfSome, OnSome, MatchOption, decimal, length, map, take};
 ghost use Rattle.std.specs.Bool.{OnTrue, OnFalse};
 ghost use Rattle.json.specs.Print.{escape};
 ghost use Rattle.invariants.specs.Labels.{digit_of};
+ghost use Rattle.serde_json.specs.Written.{compact_text};
+ghost use Rattle.model_file.specs.Tree.{path_data};
 
+use crate::decimals::{number_before, numbers_in_list};
 use crate::labels::labels_at;
-use invariants::Labels;
+use invariants::{Ids, Labels};
+use limits::MAX_PARTITIONS;
 use memchr::memchr;
+use std::alloc::Global;
 use std::marker::Model;
 use std::rc::Rc;
 
-/// How often a byte occurs. There is no branch and no wide counter, so that many bytes are compared at once.
-fn count_of(byte: u8, bytes: &[u8]) -> u32 {
-    let mut count: u32 = 0;
-    for other in bytes {
-        count = count.wrapping_add(u32::from(*other == byte));
-    }
-    count
-}
+/// How many ids a path that is written has at most: a shortest path to a bad state meets each partition in each of the three
+/// states of a monitor at most once.
+const LONGEST_PATH: usize = 3 * MAX_PARTITIONS as usize;
 
-/// The bytes that are still to be read, which are the end of a text, and how long the last labels were. Contracts see the bytes.
+/// The bytes that are still to be read, which are the end of a text, how long the last labels were, and room for the ids of a
+/// path, which is used again for each path. Contracts see the bytes.
 #[derive(Drop)]
 pub(crate) struct Rest<'a> {
     text: &'a Rc<Vec<u8>>,
     bytes: &'a [u8],
     labels: usize,
+    ids: Vec<u32>,
 }
 
 impl<'a> Model for Rest<'a> {
@@ -39,14 +41,18 @@ impl<'a> Model for Rest<'a> {
 }
 
 impl<'a> Rest<'a> {
-    /// All bytes of the text.
-    pub(crate) fn new(text: &'a Rc<Vec<u8>>) -> Rest<'a>
-        ensures { result ≡ (text.now).value.items }
+    /// All bytes of the text. It is `None` if memory runs out.
+    pub(crate) fn new(alloc: Global, text: &'a Rc<Vec<u8>>) -> Option<Rest<'a>>
+        ensures { IfSome result (λ rest. rest ≡ (text.now).value.items) }
     {
-        Rest {
-            text,
-            bytes: text.as_slice(),
-            labels: 0,
+        match vec![in alloc; 0; LONGEST_PATH] {
+            Ok(ids) => Some(Rest {
+                text,
+                bytes: text.as_slice(),
+                labels: 0,
+                ids,
+            }),
+            Err(_) => None,
         }
     }
 
@@ -102,47 +108,28 @@ impl<'a> Rest<'a> {
         }
     }
 
-    /// Takes a decimal digit, if one comes next.
+    /// Takes a number of at most nine digits without leading zeros, and this byte after it.
     #[inline(always)]
-    fn digit(&mut self) -> Option<u32>
-        ensures { MatchOption result (self.new ≡ self.old)
-            (λ digit. (digit < 10) × (self.old ≡ (48 + digit) ∷ self.new)) }
+    pub(crate) fn number_before(&mut self, end: u8) -> Option<u32>
+        ensures { IfSome result (λ number. self.old ≡ decimal number ++ end ∷ self.new) }
     {
-        let [first, others @ ..] = self.bytes else {
-            return None;
-        };
-        if *first < b'0' || *first > b'9' {
-            return None;
-        }
+        let (number, others) = number_before(self.bytes, end)?;
         self.bytes = others;
-        Some((*first - b'0') as u32)
-    }
-
-    /// Takes a number of at most nine digits without leading zeros.
-    #[inline(always)]
-    pub(crate) fn number(&mut self) -> Option<u32>
-        ensures { IfSome result (λ number. self.old ≡ decimal number ++ self.new) }
-    {
-        let mut number = self.digit()?;
-        if number == 0 {
-            return Some(0);
-        }
-        'digits: while let Some(digit) = self.digit() {
-            if number > 99_999_999 {
-                return None;
-            }
-            number = number * 10 + digit;
-        }
         Some(number)
     }
 
-    /// How many commas come before the next closing bracket; 0 if no bracket comes.
-    pub(crate) fn commas_in_list(&self) -> usize
-        ensures { result < 2 ^ 63 }
+    /// Takes a path of at most `LONGEST_PATH` ids.
+    pub(crate) fn path(&mut self, alloc: Global) -> Option<Ids>
+        ensures { IfSome result (λ path. self.old ≡ compact_text (path_data path) ++ self.new) }
     {
-        match memchr(b']', self.bytes) {
-            Some(end) => count_of(b',', &self.bytes[..end]) as usize,
-            None => 0,
+        let [b'[', entries @ ..] = self.bytes else {
+            return None;
+        };
+        let (count, others) = numbers_in_list(self.ids.as_mut_slice(), entries)?;
+        self.bytes = others;
+        match Vec::from_slice(alloc, &self.ids.as_slice()[..count]) {
+            Ok(ids) => Some(Ids::from_vec(ids)),
+            Err(_) => None,
         }
     }
 
