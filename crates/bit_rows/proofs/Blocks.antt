@@ -1,9 +1,10 @@
 -- Steps of the loops over blocks of eight words.
-use Rattle.std.proofs.Common.{◌≡◌, ℕ, ◌+◌, ◌-◌, ◌*◌, ◌<◌, ◌≤◌, zero, suc, Bool, not, ◌||◌, eqb, List, [], ◌∷◌, length, get_or, sym, ap, ◌∙◌, subst, arith, ◌⊎◌, inl, inr}
+use Rattle.std.proofs.Common.{◌≡◌, ℕ, ◌+◌, ◌-◌, ◌*◌, ◌<◌, ◌≤◌, zero, suc, Bool, not, ◌||◌, eqb, List, [], ◌∷◌, length, get_or, sym, ap, ap₂, ◌∙◌, subst, arith, ◌⊎◌, inl, inr}
 use Rattle.std.proofs.lemmas.Bool.{cases_lt, or_parts, or_cases, eqb-true, eqb-false, not-true, not-false}
 use Rattle.std.proofs.lemmas.Nat.{le_or_l, le_or_r}
 use Rattle.std.proofs.lemmas.Simd.{length-zip2, get_or-zip2, get_or-chunk, length-chunk, length-put_chunk, get_or-put_chunk_below, get_or-put_chunk_at, get_or-put_chunk_above}
 use Rattle.std.specs.Int.Bits.{bit_or, bit_xor, xor_self, or_zero_l}
+use lib.Bits.{bit_and}
 use lib.Lanes.{zip2, chunk, put_chunk, fold_l}
 use Rattle.bit_rows.specs.Written.{word, IsApart, IsWritten, HasSeen, TellsChange}
 
@@ -178,4 +179,30 @@ next_zero_block ws at b room none before k below = elim (cases_lt k (b * 8)) [
       let inside : j < 8 = omega arith in
       let place : at + b * 8 + j ≡ at + k = omega arith in
       ap (λ p. get_or ws p 0) (sym place) ∙ sym (get_or-chunk (at + b * 8) 8 ws j 0 inside) ∙ (fold_none 0 (chunk (at + b * 8) 8 ws) none).1 j (omega (arith, length-chunk (at + b * 8) 8 ws room))
+]
+
+-- one block more of four runs of words has no bit in common
+pub next_apart_block : (ws : List ℕ) (a b c d i : ℕ) → a + i * 8 + 8 ≤ length ws → b + i * 8 + 8 ≤ length ws → c + i * 8 + 8 ≤ length ws → d + i * 8 + 8 ≤ length ws
+    → fold_l bit_or 0 (zip2 bit_or (zip2 bit_and (chunk (a + i * 8) 8 ws) (chunk (b + i * 8) 8 ws)) (zip2 bit_and (chunk (c + i * 8) 8 ws) (chunk (d + i * 8) 8 ws))) ≡ 0
+    → ((k : ℕ) → k < i * 8 → bit_or (bit_and (word ws a k) (word ws b k)) (bit_and (word ws c k) (word ws d k)) ≡ 0)
+    → (k : ℕ) → k < (i + 1) * 8 → bit_or (bit_and (word ws a k) (word ws b k)) (bit_and (word ws c k) (word ws d k)) ≡ 0
+next_apart_block ws a b c d i room_a room_b room_c room_d none before k below = elim (cases_lt k (i * 8)) [
+  | inl early ↦ before k early
+  | inr late ↦
+      let j : ℕ = k - i * 8 in
+      let inside : j < 8 = omega arith in
+      let long : (r : ℕ) → r + i * 8 + 8 ≤ length ws → length (chunk (r + i * 8) 8 ws) ≡ 8 = λ r room. length-chunk (r + i * 8) 8 ws room in
+      let lane : (r : ℕ) → get_or (chunk (r + i * 8) 8 ws) j 0 ≡ word ws r k =
+      λ r. get_or-chunk (r + i * 8) 8 ws j 0 inside ∙ ap (λ p. get_or ws p 0) (let place : r + i * 8 + j ≡ r + k = omega arith in place) in
+      let pair : (r s : ℕ) → r + i * 8 + 8 ≤ length ws → s + i * 8 + 8 ≤ length ws → get_or (zip2 bit_and (chunk (r + i * 8) 8 ws) (chunk (s + i * 8) 8 ws)) j 0 ≡ bit_and (word ws r k) (word ws s k) =
+      λ r s room_r room_s. get_or-zip2 bit_and (chunk (r + i * 8) 8 ws) (chunk (s + i * 8) 8 ws) j 0 0 0 (omega (arith, inside, long r room_r)) (omega (arith, inside, long s room_s)) ∙ ap₂ bit_and (lane r) (lane s) in
+      let long_pair : (r s : ℕ) → r + i * 8 + 8 ≤ length ws → s + i * 8 + 8 ≤ length ws → length (zip2 bit_and (chunk (r + i * 8) 8 ws) (chunk (s + i * 8) 8 ws)) ≡ 8 =
+      λ r s room_r room_s. length-zip2 bit_and (chunk (r + i * 8) 8 ws) (chunk (s + i * 8) 8 ws) (long r room_r ∙ sym (long s room_s)) ∙ long r room_r in
+      let one : List ℕ = zip2 bit_and (chunk (a + i * 8) 8 ws) (chunk (b + i * 8) 8 ws) in
+      let other : List ℕ = zip2 bit_and (chunk (c + i * 8) 8 ws) (chunk (d + i * 8) 8 ws) in
+      let long_one : length one ≡ 8 = long_pair a b room_a room_b in
+      let long_other : length other ≡ 8 = long_pair c d room_c room_d in
+      let long_all : length (zip2 bit_or one other) ≡ 8 = length-zip2 bit_or one other (long_one ∙ sym long_other) ∙ long_one in
+      sym (get_or-zip2 bit_or one other j 0 0 0 (omega (arith, inside, long_one)) (omega (arith, inside, long_other)) ∙ ap₂ bit_or (pair a b room_a room_b) (pair c d room_c room_d))
+      ∙ (fold_none 0 (zip2 bit_or one other) none).1 j (omega (arith, inside, long_all))
 ]

@@ -1,3 +1,4 @@
+pub mod Apart
 pub mod Bitwise
 pub mod Blocks
 pub mod Done

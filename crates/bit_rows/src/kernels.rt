@@ -7,7 +7,7 @@ ghost use Rattle.bit_rows.specs.Written.{word, AllFit, IsApart, IsReached, IsWri
 use std::simd::prelude::*;
 
 /// How many words a vector has.
-const LANES: usize = 8;
+pub(crate) const LANES: usize = 8;
 
 /// The word with this bit turned on or off.
 pub(crate) fn with_bit(word: u64, place: u32, on: bool) -> u64
@@ -102,6 +102,35 @@ pub(crate) fn first_word(words: &[u64], at: usize, count: usize) -> usize
         }
     }
     count
+}
+
+/// How many blocks of words, from the first, show no bit that is set both in `a` and in `b`, or both in `c` and in `d`.
+pub(crate) fn apart_blocks(
+    words: &[u64],
+    a: usize,
+    b: usize,
+    c: usize,
+    d: usize,
+    blocks: usize,
+) -> usize
+    requires a_in { a + blocks * LANES ≤ length words.now }
+    requires b_in { b + blocks * LANES ≤ length words.now }
+    requires c_in { c + blocks * LANES ≤ length words.now }
+    requires d_in { d + blocks * LANES ≤ length words.now }
+    ensures within { result ≤ blocks }
+    ensures before { (k : ℕ) → k < result * LANES
+        → bit_or (bit_and (word words.now a k) (word words.now b k))
+        (bit_and (word words.now c k) (word words.now d k)) ≡ 0 }
+{
+    for i in 0..blocks {
+        let k = i * LANES;
+        let one = u64x8::from_slice(&words[a + k..]) & u64x8::from_slice(&words[b + k..]);
+        let other = u64x8::from_slice(&words[c + k..]) & u64x8::from_slice(&words[d + k..]);
+        if (one | other).reduce_or() != 0 {
+            return i;
+        }
+    }
+    blocks
 }
 
 /// Makes words 0.

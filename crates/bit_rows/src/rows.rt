@@ -1,18 +1,21 @@
 //! The rows, and what is done with them.
-ghost use Rattle.std.specs.Prelude.{◌≡◌, ◌≢◌, ◌==◌, ℕ, ◌+◌, ◌*◌, ◌^◌, ◌<◌, ◌≤◌, ◌↔◌, false, length, replicate, slice_set, IfOk, IsTrue, MatchOption};
+ghost use Rattle.std.specs.Prelude.{◌≡◌, ◌≢◌, ◌==◌, ◌&&◌, ◌||◌, ℕ, ◌+◌, ◌*◌, ◌%◌, ◌^◌, ◌<◌, ◌≤◌, ◌↔◌, false, length, replicate, slice_set, IfOk, IsTrue, MatchOption};
 ghost use Rattle.std.specs.Bool.{OnTrue, OnFalse};
 ghost use Rattle.std.specs.Int.{bit_at};
 ghost use Rattle.bit_rows.specs.Tables.{row_at, is_set, HasShape, KeepsShape, IsBlank, IsFirstSet, IsNextSet, either, both, without};
 
 use crate::kernels::{
-    and_not_words, and_words, clear_words, copy_words, first_word, from_place, has_bit,
-    or_and_not_words, or_and_words, or_words, reach, with_bit, word_at,
+    LANES, and_not_words, and_words, apart_blocks, clear_words, copy_words, first_word, from_place,
+    has_bit, or_and_not_words, or_and_words, or_words, reach, with_bit, word_at,
 };
 use std::alloc::{AllocError, Global};
 use std::marker::Model;
 
 /// The bits of a word.
 const WORD_BITS: usize = 64;
+
+/// The bits of the words that are compared at once.
+const BLOCK_BITS: usize = LANES * WORD_BITS;
 
 /// Rows of bits, each with the same number of bits. Contracts see them as a list of rows, and a row as the list of its
 /// truth values. Rows and places count from 0.
@@ -165,6 +168,34 @@ impl Rows {
             return None;
         }
         Some(k * WORD_BITS + words[start + k].trailing_zeros() as usize)
+    }
+
+    /// A number of bits, from the first, among which none is on both in row `a` and in row `b`, or both in row `c` and in row
+    /// `d`. It is a multiple of 64. Bits behind these may be like them.
+    pub fn bits_apart(&self, a: usize, b: usize, c: usize, d: usize) -> usize
+        requires a_row { a < length self.now }
+        requires b_row { b < length self.now }
+        requires c_row { c < length self.now }
+        requires d_row { d < length self.now }
+        ensures whole { result % 64 ≡ 0 }
+        ensures within { result ≤ length (row_at self.now a) }
+        ensures apart { (i : ℕ) → i < result → ((is_set (row_at self.now a) i && is_set (row_at self.now b) i)
+            || (is_set (row_at self.now c) i && is_set (row_at self.now d) i)) ≡ false }
+    {
+        let words = self.words.as_slice();
+        let last = a.max(b).max(c.max(d));
+        if last * self.width + self.width > words.len() {
+            return 0;
+        }
+        let blocks = apart_blocks(
+            words,
+            a * self.width,
+            b * self.width,
+            c * self.width,
+            d * self.width,
+            self.bits / BLOCK_BITS,
+        );
+        blocks * BLOCK_BITS
     }
 
     /// Makes row `to` the same as row `from`. The two rows are different. All rows but `to` stay.
