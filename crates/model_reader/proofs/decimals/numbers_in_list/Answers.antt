@@ -1,4 +1,4 @@
-use Rattle.std.proofs.Common.{rules, arith, ◌≡◌, ◌-◌, ◌∷◌, ℕ, List, drop, length, take}
+use Rattle.std.proofs.Common.{arith, ◌≡◌, ◌-◌, ◌∷◌, ℕ, List, drop, length, take}
 use Rattle.std.proofs.lemmas.List.{take_more_set}
 use Rattle.std.proofs.lemmas.Grind.{common_steps}
 use Rattle.model_file.specs.Tree.{number_data}
