@@ -1,12 +1,12 @@
 -- The first invariant for which two ids clash, word by word.
-use Rattle.std.proofs.Common.{◌≡◌, ◌==◌, ℕ, ◌+◌, ◌-◌, ◌*◌, ◌/◌, ◌%◌, ◌^◌, ◌<◌, ◌≤◌, Bool, true, false, ◌&&◌, ◌||◌, List, [], ◌∷◌, zero, suc, refl, length, bit_and, bit_or, sym, ap, ap₂, ◌∙◌, ◌⊎◌, inl, inr, eqb-true, arith}
+use Rattle.std.proofs.Common.{◌≡◌, ◌==◌, ℕ, ◌+◌, ◌-◌, ◌*◌, ◌/◌, ◌%◌, ◌<◌, Bool, true, false, ◌&&◌, ◌||◌, List, [], ◌∷◌, zero, suc, refl, length, bit_and, bit_or, sym, ap, ap₂, ◌∙◌, ◌⊎◌, inl, inr, arith}
 use Rattle.std.proofs.lemmas.Bool.{cases_lt, true≢false}
 use Rattle.std.proofs.lemmas.Nat.{div-add-mod'}
 use Rattle.std.specs.Int.{bit_at}
 use Rattle.invariants.specs.declared.Invariant.{Invariant}
 use Rattle.partition_graph.specs.NeighbourWords.{IsWordOf}
 use Rattle.partition_graph.proofs.NeighbourWords.{word-both, word-either, word-same}
-use Rattle.clashes.specs.Marks.{Marks, on, has_clash, NoClash, IsFirstClash}
+use Rattle.clashes.specs.Marks.{Marks, on, has_clash, IsFirstClash}
 use Rattle.clashes.specs.Layout.{fore_row, back_row, row_count, fores_in, backs_in, marks_in}
 use Rattle.limits.specs.declared.TheConstants.{MAX_PARTITIONS}
 use Rattle.bit_rows.specs.Tables.{row_at, is_set, HasShape}
@@ -22,6 +22,15 @@ clash-word invs others T p q place a b c d ia ib ic id =
     (λ k. ap₂ (λ (x y : Bool). x || y) (ap₂ (λ (x y : Bool). x && y) (sym (fore_is others T p k)) (sym (back_is others T q k))) (ap₂ (λ (x y : Bool). x && y) (sym (fore_is others T q k)) (sym (back_is others T p k))))
     (word-either (λ k. on T (fore_row others p) k && on T (back_row others q) k) (λ k. on T (fore_row others q) k && on T (back_row others p) k) place (bit_and a b) (bit_and c d)
     (word-both (λ k. on T (fore_row others p) k) (λ k. on T (back_row others q) k) place a b ia ib) (word-both (λ k. on T (fore_row others q) k) (λ k. on T (back_row others p) k) place c d ic id))
+
+-- where the four rows have no bit in common, the two ids do not clash
+pub no-clash : (invs : List Invariant) (others : ℕ) (T : List (List Bool)) (p q k a b c d : ℕ) → a ≡ fore_row others p → b ≡ back_row others q → c ≡ fore_row others q → d ≡ back_row others p
+    → ((on T a k && on T b k) || (on T c k && on T d k)) ≡ false → has_clash (marks_in invs others T) k p q ≡ false
+no-clash invs others T p q k a b c d is_a is_b is_c is_d none =
+    let row : (r s : ℕ) → r ≡ s → on T s k ≡ on T r k = λ r s e. ap (λ (n : ℕ). on T n k) (sym e) in
+    ap₂ (λ (x y : Bool). x || y) (ap₂ (λ (x y : Bool). x && y) (fore_is others T p k ∙ row a (fore_row others p) is_a) (back_is others T q k ∙ row b (back_row others q) is_b))
+    (ap₂ (λ (x y : Bool). x && y) (fore_is others T q k ∙ row c (fore_row others q) is_c) (back_is others T p k ∙ row d (back_row others p) is_d))
+    ∙ none
 
 -- a truth value that is true is in its row
 set-within : (row : List Bool) (k : ℕ) → is_set row k ≡ true → k < length row

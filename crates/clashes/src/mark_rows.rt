@@ -176,7 +176,12 @@ impl MarkRows {
         requires other { q < MAX_PARTITIONS }
         ensures { MatchOption result (NoClash self.now p q) (IsFirstClash self.now p q) }
     {
-        let mut first = 0;
+        let mut first = self.rows.bits_apart(
+            fore_row(self.others, p),
+            back_row(self.others, q),
+            fore_row(self.others, q),
+            back_row(self.others, p),
+        );
         while first < self.invs.len() {
             let clashes = self.clashes_at(p, q, first / WORD_BITS);
             if clashes != 0 {

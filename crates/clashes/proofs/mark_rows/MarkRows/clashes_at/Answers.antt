@@ -1,4 +1,4 @@
-use Rattle.std.proofs.Common.{◌≡◌, ℕ, List, Bool, bit_and, bit_or, subst}
+use Rattle.std.proofs.Common.{ℕ, List, Bool, bit_and, bit_or, subst}
 use Rattle.partition_graph.specs.NeighbourWords.{IsWordOf}
 use Rattle.clashes.specs.Marks.{Marks, on, has_clash}
 use Rattle.clashes.proofs.First.{clash-word}

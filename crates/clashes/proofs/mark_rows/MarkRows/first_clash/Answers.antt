@@ -1,10 +1,19 @@
-use Rattle.std.proofs.Common.{◌≡◌, ◌<◌, ◌%◌, ◌+◌, ◌∙◌, ℕ, true, length, ap, subst, sym, arith, w64}
+use Rattle.std.proofs.Common.{◌≡◌, ◌<◌, ◌+◌, ◌∙◌, ℕ, true, false, length, ap, subst, arith, w64}
 use Rattle.std.specs.Int.{bit_at}
 use Rattle.std.proofs.lemmas.Nat.{div-add-mod', mod_below}
 use Rattle.std.proofs.lemmas.Nat.Bits.{bit_at-zero, bit_at-trailing_zeros}
 use Rattle.clashes.specs.Marks.{Marks, has_clash}
-use Rattle.clashes.proofs.First.{clash-within, first-in-word, none-in-word}
+use Rattle.clashes.proofs.First.{clash-within, first-in-word, no-clash, none-in-word}
 use Rattle.clashes.proofs.mark_rows.MarkRows.first_clash.Goals as goal
+
+pub loop-first-init : goal.loop-first-init
+loop-first-init c =
+    record {
+      whole = c.bits_apart-first.ensures.whole;
+      none = λ k below. subst (λ (m : Marks). has_clash m k c.args.p c.args.q ≡ false) c.self.view_is
+          (no-clash c.self.inside.invs.items c.self.inside.others c.self.inside.rows c.args.p c.args.q k c.fore_row.result c.back_row.result c.fore_row-2.result c.back_row-2.result c.fore_row.ensures c.back_row.ensures c.fore_row-2.ensures
+          c.back_row-2.ensures (c.bits_apart-first.ensures.apart k below));
+    }
 
 pub returns-then-clashes-ne0 : goal.returns-then-clashes-ne0
 returns-then-clashes-ne0 c =
