@@ -1,5 +1,5 @@
 -- The rows that mark which edges are counted.
-use Rattle.std.proofs.Common.{◌≡◌, ℕ, zero, suc, ◌+◌, ◌*◌, ◌<◌, Bool, false, ltb, List, [], ◌∷◌, ◌++◌, length, replicate, get_or, arith, ap, sym, ◌∙◌, refl, inl, inr}
+use Rattle.std.proofs.Common.{◌≡◌, ℕ, ◌+◌, ◌*◌, ◌<◌, Bool, false, ltb, List, length, replicate, get_or, arith, ap, sym, ◌∙◌, inl, inr}
 use Rattle.std.proofs.lemmas.Bool.{cases_lt}
 use Rattle.std.proofs.lemmas.List.{length-replicate, get_or-replicate, get_or_past}
 use Rattle.limits.specs.declared.TheConstants.{MAX_PARTITIONS}
@@ -29,10 +29,3 @@ new_marked counts sources targets none s s_rows t t_rows =
       sources_are = λ p q a b. blank_rows sources MAX_PARTITIONS MAX_PARTITIONS q p s b ∙ sym (ap (λ n. ltb 0 n) (none (q * MAX_PARTITIONS + p)));
       targets_are = λ p q a b. blank_rows targets MAX_PARTITIONS MAX_PARTITIONS p q t a ∙ sym (ap (λ n. ltb 0 n) (none (q * MAX_PARTITIONS + p)));
     }
-
--- a count of 0 behind the last one changes no count
-pub zero_pushed : (counts : List ℕ) (k : ℕ) → get_or (counts ++ 0 ∷ []) k 0 ≡ get_or counts k 0
-zero_pushed [] zero = refl
-zero_pushed [] (suc k) = refl
-zero_pushed (x ∷ xs) zero = refl
-zero_pushed (x ∷ xs) (suc k) = zero_pushed xs k

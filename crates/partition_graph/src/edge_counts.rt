@@ -190,7 +190,7 @@ fn reach(counts: &mut Vec<u32>, place: usize)
     requires room { place < vec_capacity counts.old }
     ensures reached { place < length counts.new.items }
     ensures same { (k : ℕ) → slice_index counts.new.items k ≡ slice_index counts.old.items k }
-    ensures capacity { vec_capacity counts.new ≡ vec_capacity counts.old }
+    ensures capacity { vec_capacity counts.old ≤ vec_capacity counts.new }
 {
     if place < counts.len() {
         return;
@@ -201,13 +201,14 @@ fn reach(counts: &mut Vec<u32>, place: usize)
 /// Does what `reach` does, where the list ends before this place.
 #[inline(never)]
 fn append_zeros(counts: &mut Vec<u32>, place: usize)
+    requires past { length counts.old.items ≤ place }
     requires room { place < vec_capacity counts.old }
     ensures reached { place < length counts.new.items }
     ensures same { (k : ℕ) → slice_index counts.new.items k ≡ slice_index counts.old.items k }
-    ensures capacity { vec_capacity counts.new ≡ vec_capacity counts.old }
+    ensures capacity { vec_capacity counts.old ≤ vec_capacity counts.new }
 {
-    while counts.len() <= place {
-        counts.push_reserved(0);
+    if counts.resize(place + 1, 0).is_err() {
+        unreachable!()
     }
 }
 
