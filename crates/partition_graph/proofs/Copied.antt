@@ -287,15 +287,18 @@ start_at traces i copies starts c k l =
           get_or_push starts (length copies) 0 k (n ∙ q) ∙ ap (λ (cs : List Cell). length cs) c.copies_are ∙ ap (λ (j : ℕ). length (joined_traces (take j traces))) q
     ]
 
+-- the first traces with one more
+joined_more : (traces : List (List Cell)) (i : ℕ) (x : List Cell) → i < length traces → x ≡ get_or traces i [] → joined_traces (take (i + 1) traces) ≡ joined_traces (take i traces) ++ x
+joined_more traces i x l e =
+    let more : take (i + 1) traces ≡ take i traces ++ x ∷ [] = take_more traces i [] l ∙ ap (λ (t : List Cell). take i traces ++ t ∷ []) (sym e) in
+    ap (λ (us : List (List Cell)). joined_traces us) more ∙ flat_map-append (λ (u : List Cell). u) (take i traces) (x ∷ []) ∙ ap (λ (cs : List Cell). joined_traces (take i traces) ++ cs) (append-nil x)
+
 -- one trace more
 pub one_more_copied : (traces : List (List Cell)) (i : ℕ) (copies : List Cell) (starts : List ℕ) (x : List Cell) → i < length traces → x ≡ get_or traces i [] → IsCopying traces i copies starts
     → IsCopying traces (i + 1) (copies ++ x) (starts ++ length copies ∷ [])
 one_more_copied traces i copies starts x l e c =
-    let more : take (i + 1) traces ≡ take i traces ++ x ∷ [] = take_more traces i [] l ∙ ap (λ (t : List Cell). take i traces ++ t ∷ []) (sym e) in
-    let joined : joined_traces (take (i + 1) traces) ≡ joined_traces (take i traces) ++ x =
-    ap (λ (us : List (List Cell)). joined_traces us) more ∙ flat_map-append (λ (u : List Cell). u) (take i traces) (x ∷ []) ∙ ap (λ (cs : List Cell). joined_traces (take i traces) ++ cs) (append-nil x) in
     record {
-      copies_are = ap (λ (cs : List Cell). cs ++ x) c.copies_are ∙ sym joined;
+      copies_are = ap (λ (cs : List Cell). cs ++ x) c.copies_are ∙ sym (joined_more traces i x l e);
       count = length_push starts (length copies) ∙ ap (λ n. n + 1) c.count;
       starts_are = λ k b. start_at traces i copies starts c k b;
     }
@@ -306,3 +309,11 @@ copying-few traces i copies starts l c =
     let a : length (joined_traces (take i traces)) + length (get_or traces i []) ≤ length (joined_traces traces) = length-flat_map-take (λ (u : List Cell). u) traces i [] l in
     let b : length copies ≡ length (joined_traces (take i traces)) = ap (λ (cs : List Cell). length cs) c.copies_are in
     omega arith
+
+-- the ids of one trace more
+pub one_more_named : (traces : List (List Cell)) (i : ℕ) (ids : List ℕ) (x : List Cell) → i < length traces → x ≡ get_or traces i [] → ids ≡ map (λ (c : Cell). c.id) (joined_traces (take i traces))
+    → ids ++ map (λ (c : Cell). c.id) x ≡ map (λ (c : Cell). c.id) (joined_traces (take (i + 1) traces))
+one_more_named traces i ids x l e named =
+    ap (λ (ns : List ℕ). ns ++ map (λ (c : Cell). c.id) x) named
+    ∙ sym (map-append (λ (c : Cell). c.id) (joined_traces (take i traces)) x)
+    ∙ ap (λ (cs : List Cell). map (λ (c : Cell). c.id) cs) (sym (joined_more traces i x l e))

@@ -1,8 +1,9 @@
 //! The lists that a graph gives: its partitions, its edges, and the ids of its events.
-ghost use Rattle.std.specs.Prelude.{◌≡◌, ◌≤◌, ◌<◌, IfOk, length, map};
+ghost use Rattle.std.specs.Prelude.{◌≡◌, ◌≤◌, ◌<◌, ◌++◌, All, IfOk, OnOk, length, map};
+ghost use Rattle.partition_graph.specs.Shared.{joined_traces, picked, trace_cells, Begin};
 
 use super::PartGraph;
-use crate::cells::{Cell, copy_traces};
+use crate::cells::{Cell, trace_at};
 use crate::lists::{edges_of, lists_of, partitions_of};
 use crate::tables::Tables;
 use invariants::{Edge, Partition, Seq};
@@ -16,12 +17,50 @@ fn ids_of(alloc: Global, cells: &[Cell]) -> Result<Seq<u32>, AllocError>
     Ok(Seq::from_vec(ids))
 }
 
+/// The id of each cell of the traces with these numbers, one trace after another.
+fn trace_ids(
+    alloc: Global,
+    cells: &[Cell],
+    firsts: &[u32],
+    numbers: &[u32],
+) -> Result<Seq<u32>, AllocError>
+    requires begin { Begin firsts.now (trace_cells cells.now) }
+    requires within { All (λ k. k < length (trace_cells cells.now)) numbers.now }
+    ensures { IfOk result
+        (λ list. list ≡ map (λ c. c.id) (joined_traces (picked numbers.now (trace_cells cells.now)))) }
+{
+    let mut ids = Vec::with_capacity(alloc, cell_count(cells, firsts, numbers))?;
+    for number in numbers {
+        push_ids(&mut ids, trace_at(cells, firsts, *number as usize))?;
+    }
+    Ok(Seq::from_vec(ids))
+}
+
+/// How many cells the traces with these numbers have together. Nothing is promised, since it only says how much room to
+/// take for them.
+fn cell_count(cells: &[Cell], firsts: &[u32], numbers: &[u32]) -> usize
+    requires begin { Begin firsts.now (trace_cells cells.now) }
+    requires within { All (λ k. k < length (trace_cells cells.now)) numbers.now }
+{
+    let mut count: usize = 0;
+    for number in numbers {
+        count = count.saturating_add(trace_at(cells, firsts, *number as usize).len());
+    }
+    count
+}
+
+/// Appends the ids of cells.
+fn push_ids(ids: &mut Vec<u32>, cells: &[Cell]) -> Result<(), AllocError>
+    ensures { OnOk result (ids.new.items ≡ ids.old.items ++ map (λ c. c.id) cells.now) }
+{
+    ids.extend(cells.iter().map(|cell| cell.id as u32))
+}
+
 impl PartGraph {
     ghost use Rattle.partition_model.specs.Assignments.{events};
     ghost use Rattle.partition_model.specs.Listings.{edges_below, partitions_below, parts_of, AreBelow};
     ghost use Rattle.partition_graph.specs.Spread.{spread};
     ghost use Rattle.limits.specs.declared.TheConstants.{MAX_EVENTS};
-    ghost use Rattle.std.specs.Prelude.{All};
 
     /// The live partitions, in the order of their ids. `AllocError` is returned if there is not enough memory.
     pub fn partitions(&self, alloc: Global) -> Result<Seq<Partition>, AllocError>
@@ -77,7 +116,6 @@ impl PartGraph {
         requires few { length (events (spread numbers.now (self.now).traces)) ≤ MAX_EVENTS }
         ensures { IfOk result (λ list. list ≡ parts_of (spread numbers.now (self.now).traces)) }
     {
-        let (cells, _firsts) = copy_traces(alloc, self.events.cells(), &self.firsts, numbers)?;
-        ids_of(alloc, &cells)
+        trace_ids(alloc, self.events.cells(), &self.firsts, numbers)
     }
 }
