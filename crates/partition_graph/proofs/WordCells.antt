@@ -12,7 +12,7 @@ use Rattle.partition_model.specs.Listings.{first_event, AreBelow}
 use Rattle.partition_model.proofs.Lists.{all_from, all_in}
 use Rattle.partition_model.proofs.Naming.{TypedBy, type_known}
 use Rattle.partition_graph.specs.declared.cells.Cell.{Cell}
-use Rattle.partition_graph.specs.Cells.{event_of, put_before, traces_of, IsClosed, cells_of, IsGathered}
+use Rattle.partition_graph.specs.Cells.{event_of, put_before, traces_of, IsClosed, cells_of, inner_cell, IsGathered}
 use Rattle.partition_graph.proofs.CellTraces.{events_are}
 
 -- the words of traces
@@ -27,6 +27,12 @@ events_of_word (n ∷ ns) = ap (λ (es : List Event). named n ∷ es) (events_of
 pub length-cells_of : (w : List ℕ) → length (cells_of w) ≡ length w
 length-cells_of [] = refl
 length-cells_of (n ∷ ns) = ap suc (length-cells_of ns)
+
+-- the cells of a word are those of the events before its last one, and that of the last
+pub cells_of-last : (ns : List ℕ) (n : ℕ) → cells_of (ns ++ n ∷ []) ≡ map inner_cell ns ++ record { typ = n; last = true; id = n } ∷ []
+cells_of-last [] n = refl
+cells_of-last (m ∷ []) n = refl
+cells_of-last (m ∷ k ∷ ks) n = ap (λ (cs : List Cell). inner_cell m ∷ cs) (cells_of-last (k ∷ ks) n)
 
 -- the cells of a word before others make its trace
 trace_of_word : (n : ℕ) (ns : List ℕ) (cs : List Cell) → traces_of (cells_of (n ∷ ns) ++ cs) ≡ map named (n ∷ ns) ∷ traces_of cs

@@ -32,6 +32,10 @@ abbrev pub is_end : List ℕ → Bool
 is_end [] = true
 is_end (n ∷ ns) = false
 
+-- the cell of an event that does not end its trace, with the type's number as its id
+abbrev pub inner_cell : ℕ → Cell
+inner_cell n = record { typ = n; last = false; id = n }
+
 -- the cells of a trace, with the types' numbers as ids
 abbrev pub cells_of : List ℕ → List Cell
 cells_of [] = []

@@ -1,8 +1,8 @@
 //! A cell for each event, trace after trace.
-ghost use Rattle.std.specs.Prelude.{◌≡◌, ◌-◌, ◌++◌, ◌<◌, ◌≤◌, ◌^◌, ℕ, List, All, OnOk, IfOk, IfSome, drop, take, length, slice_index_or, []};
+ghost use Rattle.std.specs.Prelude.{◌≡◌, ◌-◌, ◌++◌, ◌<◌, ◌≤◌, ◌^◌, ℕ, List, All, OnOk, IfOk, IfSome, drop, take, length, map, slice_index_or, []};
 ghost use Rattle.limits.specs.declared.TheConstants.{INITIAL, MAX_EVENTS};
 ghost use Rattle.partition_model.specs.Coarsening.{onto};
-ghost use Rattle.partition_graph.specs.Cells.{cells_of, id_behind, IsGatheredOf};
+ghost use Rattle.partition_graph.specs.Cells.{cells_of, id_behind, inner_cell, IsGatheredOf};
 ghost use Rattle.partition_graph.specs.Counts.{before_next, id_before};
 ghost use Rattle.partition_graph.specs.Shared.{joined_traces, picked, trace_cells, AreShared, Begin, IsNoted};
 ghost use Rattle.partition_graph.specs.Slots.{AreSlots};
@@ -187,10 +187,19 @@ fn part(cells: &[Cell], from: usize, to: usize) -> &[Cell]
 fn push_cells(cells: &mut Vec<Cell>, numbers: &[u16]) -> Result<(), AllocError>
     ensures { OnOk result (cells.new.items ≡ cells.old.items ++ cells_of numbers.now) }
 {
-    for (i, number) in numbers.iter().enumerate() {
-        cells.push(Cell::of_type(*number, i + 1 == numbers.len()))?;
-    }
+    let Some((last, front)) = numbers.split_last() else {
+        return Ok(());
+    };
+    push_inner(cells, front)?;
+    cells.push(Cell::of_type(*last, true))?;
     Ok(())
+}
+
+/// Appends the cells of events that do not end their trace.
+fn push_inner(cells: &mut Vec<Cell>, numbers: &[u16]) -> Result<(), AllocError>
+    ensures { OnOk result (cells.new.items ≡ cells.old.items ++ map inner_cell numbers.now) }
+{
+    cells.extend(numbers.iter().map(|number| Cell::of_type(*number, false)))
 }
 
 /// The id that stands before the cell at this place: that of the cell before it, and INITIAL where a trace begins.
