@@ -54,20 +54,6 @@ put_counts old counts new from to n low is inside same a b a_low b_low = elim (c
       ]))
 ]
 
--- the edge is counted once more
-pub add_counts : (old counts new : List ℕ) (from to was : ℕ) → from < MAX_PARTITIONS → counts ≡ old → to * MAX_PARTITIONS + from < length new → ((k : ℕ) → get_or new k 0 ≡ get_or counts k 0) → was ≡ get_or new (to * MAX_PARTITIONS + from) was
-    → (a b : ℕ) → a < MAX_PARTITIONS → b < MAX_PARTITIONS → count_in (slice_set new (to * MAX_PARTITIONS + from) (was + 1)) a b ≡ count_in old a b + is_edge from to a b
-add_counts old counts new from to was low is inside same at a b a_low b_low = elim (cases_edge a b from to) [
-  | inl e ↦
-      let now : count_in (slice_set new (to * MAX_PARTITIONS + from) (was + 1)) a b ≡ was + 1 = set_here new from to (was + 1) a b inside e.0 e.1 in
-      let once : was ≡ count_in old a b = get_or_read new (to * MAX_PARTITIONS + from) was inside at 0 ∙ same (to * MAX_PARTITIONS + from) ∙ ap₂ (λ x y. count_in counts x y) (sym e.0) (sym e.1) ∙ ap (λ (cs : List ℕ). count_in cs a b) is in
-      omega (arith, now, once, edge_here from to a b e.0 e.1)
-  | inr far ↦
-      let now : count_in (slice_set new (to * MAX_PARTITIONS + from) (was + 1)) a b ≡ count_in old a b =
-      set_far new from to (was + 1) a b low a_low far ∙ same (b * MAX_PARTITIONS + a) ∙ ap (λ (cs : List ℕ). count_in cs a b) is in
-      omega (arith, now, edge_far from to a b far)
-]
-
 -- the edge is counted once less
 pub remove_counts : (old counts new : List ℕ) (from to was : ℕ) → from < MAX_PARTITIONS → counts ≡ old → to * MAX_PARTITIONS + from < length new → ((k : ℕ) → get_or new k 0 ≡ get_or counts k 0) → was ≡ get_or new (to * MAX_PARTITIONS + from) was
     → 0 < count_in old from to → (a b : ℕ) → a < MAX_PARTITIONS → b < MAX_PARTITIONS → count_in (slice_set new (to * MAX_PARTITIONS + from) (was - 1)) a b + is_edge from to a b ≡ count_in old a b

@@ -73,18 +73,24 @@ impl EdgeCounts {
         ensures { (p q : ℕ) → p < MAX_PARTITIONS → q < MAX_PARTITIONS
             → count_in self.new p q ≡ count_in self.old p q + is_edge from to p q }
     {
-        let from = from as usize;
-        let to = to as usize;
-        let place = to * IDS + from;
-        reach(&mut self.counts, place);
-        mark(
-            &mut self.sources,
-            &mut self.targets,
-            self.counts[place],
-            from,
-            to,
-        );
-        self.counts[place] += 1;
+        if self.get(from, to) == 0 {
+            self.add_first(from, to);
+            return;
+        }
+        self.counts[to as usize * IDS + from as usize] += 1;
+    }
+
+    /// Counts an edge that is not counted yet. It stands apart, so that what `add` inlines stays small.
+    #[cold]
+    #[inline(never)]
+    fn add_first(&mut self, from: u32, to: u32)
+        requires from { from < MAX_PARTITIONS }
+        requires to { to < MAX_PARTITIONS }
+        requires none { count_in self.old from to ≡ 0 }
+        ensures { (p q : ℕ) → p < MAX_PARTITIONS → q < MAX_PARTITIONS
+            → count_in self.new p q ≡ count_in self.old p q + is_edge from to p q }
+    {
+        self.put(from, to, 1);
     }
 
     /// Counts an edge once less.
@@ -218,24 +224,6 @@ pub fn no_counts(alloc: Global, room: usize) -> Result<Vec<u32>, AllocError>
     ensures zero { IfOk result (λ table. (k : ℕ) → slice_index table.items k ≡ 0) }
 {
     vec![in alloc; 0; room]
-}
-
-/// Marks an edge whose count was `count` so far.
-#[inline(always)]
-fn mark(sources: &mut IdRows, targets: &mut IdRows, count: u32, from: usize, to: usize)
-    requires from { from < MAX_PARTITIONS }
-    requires to { to < MAX_PARTITIONS }
-    requires source_rows { HasIdRows sources.old }
-    requires target_rows { HasIdRows targets.old }
-    requires source { is_set (row_at sources.old to) from ≡ nat_lt 0 count }
-    requires target { is_set (row_at targets.old from) to ≡ nat_lt 0 count }
-    ensures sources { IsWithBit to from true sources.old sources.new }
-    ensures targets { IsWithBit from to true targets.old targets.new }
-{
-    if count > 0 {
-        return;
-    }
-    put_marks(sources, targets, from, to, true);
 }
 
 /// Removes the marks of an edge if nothing is left of its count.

@@ -244,9 +244,9 @@ impl Tables {
         ensures { IsCountMore self.old self.new cells.now }
     {
         let mut before = INITIAL;
-        for cell in cells {
-            self.count_cell(*cell);
-            self.count_edges_at(before, *cell);
+        for &cell in cells {
+            self.count_cell(cell);
+            self.count_edges_at(before, cell);
             before = cell.before_next();
         }
     }
