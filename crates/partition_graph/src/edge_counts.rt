@@ -73,17 +73,20 @@ impl EdgeCounts {
         ensures { (p q : ℕ) → p < MAX_PARTITIONS → q < MAX_PARTITIONS
             → count_in self.new p q ≡ count_in self.old p q + is_edge from to p q }
     {
-        if self.get(from, to) == 0 {
+        let from = from as usize;
+        let to = to as usize;
+        let place = to * IDS + from;
+        if count_at(self.counts.as_slice(), place) == 0 {
             self.add_first(from, to);
             return;
         }
-        self.counts[to as usize * IDS + from as usize] += 1;
+        self.counts[place] += 1;
     }
 
     /// Counts an edge that is not counted yet. It stands apart, so that what `add` inlines stays small.
     #[cold]
     #[inline(never)]
-    fn add_first(&mut self, from: u32, to: u32)
+    fn add_first(&mut self, from: usize, to: usize)
         requires from { from < MAX_PARTITIONS }
         requires to { to < MAX_PARTITIONS }
         requires none { count_in self.old from to ≡ 0 }
@@ -138,8 +141,8 @@ impl EdgeCounts {
         let mut reached = 0;
         while let Some(to) = self.next_target(q, reached) {
             let count = self.get(p, to) + self.get(q, to);
-            self.put(q, to, 0);
-            self.put(p, to, count);
+            self.put(q as usize, to as usize, 0);
+            self.put(p as usize, to as usize, count);
             reached = to + 1;
         }
     }
@@ -157,21 +160,19 @@ impl EdgeCounts {
         let mut reached = 0;
         while let Some(from) = self.next_source(q, reached) {
             let count = self.get(from, p) + self.get(from, q);
-            self.put(from, q, 0);
-            self.put(from, p, count);
+            self.put(from as usize, q as usize, 0);
+            self.put(from as usize, p as usize, count);
             reached = from + 1;
         }
     }
 
     /// Sets the count of an edge.
-    fn put(&mut self, from: u32, to: u32, count: u32)
+    fn put(&mut self, from: usize, to: usize, count: u32)
         requires from { from < MAX_PARTITIONS }
         requires to { to < MAX_PARTITIONS }
         ensures { (a b : ℕ) → a < MAX_PARTITIONS → b < MAX_PARTITIONS → count_in self.new a b
             ≡ (if a == from && b == to then count else count_in self.old a b) }
     {
-        let from = from as usize;
-        let to = to as usize;
         let place = to * IDS + from;
         reach(&mut self.counts, place);
         self.counts[place] = count;
