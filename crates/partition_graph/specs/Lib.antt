@@ -10,6 +10,7 @@ pub mod Nexts
 pub mod Parts
 pub mod Seen
 pub mod Starts
+pub mod Sums
 pub mod Tables
 pub mod Joins
 pub mod Types

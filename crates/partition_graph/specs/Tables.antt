@@ -1,5 +1,5 @@
 -- Tables of the counts of cells.
-use Rattle.std.specs.Prelude.{ℕ, ◌≡◌, ◌<◌, ◌+◌, ◌^◌, ◌==◌, if◌then◌else◌, List, length, slice_index}
+use Rattle.std.specs.Prelude.{ℕ, ◌≡◌, ◌<◌, ◌+◌, ◌==◌, if◌then◌else◌, List, length, slice_index}
 use Rattle.limits.specs.declared.TheConstants.{MAX_PARTITIONS, INITIAL}
 use Rattle.partition_model.specs.Assignments.{Assignment, edge_count, events, first_type, members}
 use Rattle.partition_graph.specs.declared.cells.Cell.{Cell}
@@ -7,6 +7,7 @@ use Rattle.partition_graph.specs.declared.tables.Tables.{Tables}
 use Rattle.partition_graph.specs.Marks.{count_in}
 use Rattle.partition_graph.specs.Members.{id_at}
 use Rattle.partition_graph.specs.Counts.{cells_with, last_type, edges_along, edges_around}
+use Rattle.partition_graph.specs.Sums.{sums, HasRoom, IsMore, Sums}
 
 -- the type of an id
 abbrev pub type_at : Tables → ℕ → ℕ
@@ -33,18 +34,17 @@ pub record IsCountOf (t : Tables) (cells : List Cell) : Type 0 where
   pub counts : (p q : ℕ) → p < MAX_PARTITIONS → q < MAX_PARTITIONS
       → count_at t p q ≡ edges_along INITIAL cells p q
 
+-- the sums of tables
+abbrev pub sums_of : Tables → Sums
+sums_of t = sums t.types.items t.sizes.items t.counts
+
 -- there is room to count these cells as well
-pub record HasRoomFor (t : Tables) (cells : List Cell) : Type 0 where
-  pub sizes : (p : ℕ) → p < MAX_PARTITIONS → size_at t p + cells_with p cells < 2 ^ 32
-  pub counts : (p q : ℕ) → p < MAX_PARTITIONS → q < MAX_PARTITIONS
-      → count_at t p q + edges_along INITIAL cells p q < 2 ^ 32
+abbrev pub HasRoomFor : Tables → List Cell → Type 0
+HasRoomFor t cells = HasRoom (sums_of t) cells
 
 -- the new tables count what the old ones do, and these cells as well
-pub record IsCountMore (old new : Tables) (cells : List Cell) : Type 0 where
-  pub types : (p : ℕ) → p < MAX_PARTITIONS → type_at new p ≡ last_type p (type_at old p) cells
-  pub sizes : (p : ℕ) → p < MAX_PARTITIONS → size_at new p ≡ size_at old p + cells_with p cells
-  pub counts : (p q : ℕ) → p < MAX_PARTITIONS → q < MAX_PARTITIONS
-      → count_at new p q ≡ count_at old p q + edges_along INITIAL cells p q
+abbrev pub IsCountMore : Tables → Tables → List Cell → Type 0
+IsCountMore old new cells = IsMore (sums_of old) (sums_of new) cells
 
 -- the type and size of each id, and the count of each edge, are those of this assignment, which has so many traces
 pub record IsCountedFor (t : Tables) (traces : ℕ) (h : Assignment) : Type 0 where

@@ -6,11 +6,12 @@ ghost use Rattle.partition_model.specs.Listings.{AreBelow};
 ghost use Rattle.partition_graph.specs.Cells.{cells_of, IsClosed};
 ghost use Rattle.partition_graph.specs.Counts.{HasId, edges_at};
 ghost use Rattle.partition_graph.specs.Joins.{joined_counts};
-ghost use Rattle.partition_graph.specs.Marks.{is_counted};
+ghost use Rattle.partition_graph.specs.Marks.{count_in, is_counted};
 ghost use Rattle.partition_graph.specs.NeighbourWords.{ArePlaces, IsWordOf};
 ghost use Rattle.partition_graph.specs.Nexts.{IsNextAnswer};
 ghost use Rattle.partition_graph.specs.Parts.{start_of};
 ghost use Rattle.partition_graph.specs.Shared.{joined_traces, picked, trace_cells, Begin};
+ghost use Rattle.partition_graph.specs.Sums.{sums, HasRoom, IsMore};
 ghost use Rattle.partition_graph.specs.declared.id_rows.TheConstants.{ID_WORDS};
 
 use crate::cells::{Cell, id_before, id_behind, trace_at};
@@ -243,12 +244,12 @@ impl Tables {
         requires room { HasRoomFor self.old cells.now }
         ensures { IsCountMore self.old self.new cells.now }
     {
-        let mut before = INITIAL;
-        for &cell in cells {
-            self.count_cell(cell);
-            self.count_edges_at(before, cell);
-            before = cell.before_next();
-        }
+        count_cells(
+            self.types.as_mut_slice(),
+            self.sizes.as_mut_slice(),
+            &mut self.counts,
+            cells,
+        );
     }
 
     /// Adds the events of a word to what is counted. The id of each event is the number of its type.
@@ -257,13 +258,12 @@ impl Tables {
         requires room { HasRoomFor self.old (cells_of word.now) }
         ensures { IsCountMore self.old self.new (cells_of word.now) }
     {
-        let mut before = INITIAL;
-        for (i, number) in word.iter().enumerate() {
-            let cell = Cell::of_type(*number, i + 1 == word.len());
-            self.count_cell(cell);
-            self.count_edges_at(before, cell);
-            before = cell.before_next();
-        }
+        count_events(
+            self.types.as_mut_slice(),
+            self.sizes.as_mut_slice(),
+            &mut self.counts,
+            word,
+        );
     }
 
     /// Notes the type of the cell's id, and adds the cell to the size of its id.
@@ -277,8 +277,7 @@ impl Tables {
             → size_at self.new p ≡ size_at self.old p + (if cell.id == p then 1 else 0) }
         ensures counts { (self.new).counts ≡ (self.old).counts }
     {
-        self.types[cell.id as usize] = cell.typ;
-        self.sizes[cell.id as usize] += 1;
+        note_cell(self.types.as_mut_slice(), self.sizes.as_mut_slice(), cell);
     }
 
     /// Takes a cell out of the size of its id. If no cell of the id is left, its type is 0 again.
@@ -298,25 +297,72 @@ impl Tables {
             self.types[cell.id as usize] = 0;
         }
     }
+}
 
-    /// Adds the edge to a cell and, if its trace ends there, the edge from it to TERMINAL.
-    #[inline]
-    fn count_edges_at(&mut self, before: u32, cell: Cell)
-        requires before { before < MAX_PARTITIONS }
-        requires id { cell.id < MAX_PARTITIONS }
-        requires few { (p q : ℕ) → p < MAX_PARTITIONS → q < MAX_PARTITIONS
-            → count_at self.old p q + edges_at before cell p q < 2 ^ 32 }
+/// Adds cells to the types, the sizes and the counts of tables. The tables are taken apart before the loop, so that it does
+/// not read for each cell where they stand.
+fn count_cells(types: &mut [u16], sizes: &mut [u32], counts: &mut EdgeCounts, cells: &[Cell])
+    requires type_room { length types.old ≡ MAX_PARTITIONS }
+    requires size_room { length sizes.old ≡ MAX_PARTITIONS }
+    requires ids { All HasId cells.now }
+    requires room { HasRoom (sums types.old sizes.old counts.old) cells.now }
+    ensures { IsMore (sums types.old sizes.old counts.old) (sums types.new sizes.new counts.new) cells.now }
+{
+    let mut before = INITIAL;
+    for &cell in cells {
+        note_cell(types, sizes, cell);
+        add_edges_at(counts, before, cell);
+        before = cell.before_next();
+    }
+}
 
-        // The types and the sizes stay.
-        ensures counts { (p q : ℕ) → p < MAX_PARTITIONS → q < MAX_PARTITIONS
-            → count_at self.new p q ≡ count_at self.old p q + edges_at before cell p q }
-        ensures types { (self.new).types ≡ (self.old).types }
-        ensures sizes { (self.new).sizes ≡ (self.old).sizes }
-    {
-        self.counts.add(before, cell.id as u32);
-        if cell.last {
-            self.counts.add(cell.id as u32, TERMINAL);
-        }
+/// Adds the events of a word to the types, the sizes and the counts of tables. The id of each event is the number of its
+/// type.
+fn count_events(types: &mut [u16], sizes: &mut [u32], counts: &mut EdgeCounts, word: &[u16])
+    requires type_room { length types.old ≡ MAX_PARTITIONS }
+    requires size_room { length sizes.old ≡ MAX_PARTITIONS }
+    requires ids { All HasId (cells_of word.now) }
+    requires room { HasRoom (sums types.old sizes.old counts.old) (cells_of word.now) }
+    ensures { IsMore (sums types.old sizes.old counts.old) (sums types.new sizes.new counts.new) (cells_of word.now) }
+{
+    let mut before = INITIAL;
+    for (i, number) in word.iter().enumerate() {
+        let cell = Cell::of_type(*number, i + 1 == word.len());
+        note_cell(types, sizes, cell);
+        add_edges_at(counts, before, cell);
+        before = cell.before_next();
+    }
+}
+
+/// Notes the type of the cell's id, and adds the cell to the size of its id.
+#[inline]
+fn note_cell(types: &mut [u16], sizes: &mut [u32], cell: Cell)
+    requires type_room { length types.old ≡ MAX_PARTITIONS }
+    requires size_room { length sizes.old ≡ MAX_PARTITIONS }
+    requires id { cell.id < MAX_PARTITIONS }
+    requires few { slice_index sizes.old cell.id + 1 < 2 ^ 32 }
+    ensures types { (p : ℕ) → p < MAX_PARTITIONS
+        → slice_index types.new p ≡ (if cell.id == p then cell.typ else slice_index types.old p) }
+    ensures sizes { (p : ℕ) → p < MAX_PARTITIONS
+        → slice_index sizes.new p ≡ slice_index sizes.old p + (if cell.id == p then 1 else 0) }
+{
+    types[cell.id as usize] = cell.typ;
+    sizes[cell.id as usize] += 1;
+}
+
+/// Adds the edge to a cell and, if its trace ends there, the edge from it to TERMINAL.
+#[inline]
+fn add_edges_at(counts: &mut EdgeCounts, before: u32, cell: Cell)
+    requires before { before < MAX_PARTITIONS }
+    requires id { cell.id < MAX_PARTITIONS }
+    requires few { (p q : ℕ) → p < MAX_PARTITIONS → q < MAX_PARTITIONS
+        → count_in counts.old p q + edges_at before cell p q < 2 ^ 32 }
+    ensures { (p q : ℕ) → p < MAX_PARTITIONS → q < MAX_PARTITIONS
+        → count_in counts.new p q ≡ count_in counts.old p q + edges_at before cell p q }
+{
+    counts.add(before, cell.id as u32);
+    if cell.last {
+        counts.add(cell.id as u32, TERMINAL);
     }
 }
 
