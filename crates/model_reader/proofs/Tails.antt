@@ -1,6 +1,6 @@
 -- What is left of a text, piece by piece.
 use Rattle.std.proofs.Common.{◌≡◌, ℕ, ◌-◌, ◌≤◌, List, [], ◌∷◌, ◌++◌, drop, get_or, length, take, refl, sym, ap, ap₂, ◌∙◌, arith, append_assoc}
-use Rattle.std.proofs.lemmas.List.{drop_at, length-append, take-append-drop, take_all, take_rest}
+use Rattle.std.proofs.lemmas.List.{take-append-drop, take_all, take_rest}
 use Rattle.model_reader.specs.Tails.{IsTail}
 
 -- the whole text is left
@@ -19,16 +19,6 @@ pub without-first : (text old : List ℕ) (k : ℕ) → IsTail text old → IsTa
 without-first text old k tail =
     less-left text old (take k old) (take (length old - k) (drop k old)) tail
     (sym (ap (λ xs. take k old ++ xs) (take_rest old k) ∙ take-append-drop k old))
-
--- how much is left
-pub left-length : (text rest : List ℕ) → IsTail text rest → length rest ≤ length text
-left-length text rest tail = omega (arith, ap (λ xs. length xs) tail.is, length-append tail.front rest)
-
--- what is left stands behind all that was taken
-pub left-behind : (text rest : List ℕ) → IsTail text rest → drop (length text - length rest) text ≡ rest
-left-behind text rest tail =
-    let taken : length tail.front ≡ length text - length rest = omega (arith, ap (λ xs. length xs) tail.is, length-append tail.front rest) in
-    ap (λ xs. drop (length text - length rest) xs) tail.is ∙ drop_at tail.front rest (length text - length rest) taken
 
 -- the first byte, and what is left behind it
 pub first-apart : (bytes : List ℕ) (first d : ℕ) → 1 ≤ length bytes → get_or bytes 0 d ≡ first → bytes ≡ first ∷ take (length bytes - 1) (drop 1 bytes)

@@ -3,8 +3,7 @@
 //! These functions take a slice and return what is left of it. So the slice stays a local variable while digits are read: a
 //! field behind a reference would be loaded and stored for each digit.
 ghost use Rattle.std.specs.Prelude.{◌≡◌, ◌<◌, ◌≤◌, ◌+◌, ◌∷◌, ◌++◌, IfSome, decimal, length, take};
-ghost use Rattle.serde_json.specs.Written.{compact_text};
-ghost use Rattle.model_file.specs.Tree.{path_data};
+ghost use Rattle.model_reader.specs.Lists.{list_text};
 
 /// The decimal digit that these bytes begin with, and the bytes after it.
 #[inline(always)]
@@ -59,7 +58,8 @@ pub(crate) fn number_before(bytes: &[u8], end: u8) -> Option<(u32, &[u8])>
 /// after the closing bracket. It gives up if there are more than `numbers` has room for.
 pub(crate) fn numbers_in_list<'b>(numbers: &mut [u32], bytes: &'b [u8]) -> Option<(usize, &'b [u8])>
     ensures count { IfSome result (λ list. list.0 ≤ length numbers.new) }
-    ensures text { IfSome result (λ list. 91 ∷ bytes.now ≡ compact_text (path_data (take list.0 numbers.new)) ++ list.1.now) }
+    ensures text { IfSome result
+        (λ list. 91 ∷ bytes.now ≡ list_text (take list.0 numbers.new) ++ list.1.now) }
 {
     if let [b']', others @ ..] = bytes {
         return Some((0, others));
