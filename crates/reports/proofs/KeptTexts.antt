@@ -30,6 +30,7 @@ kept-more types bytes more id (Some k) held = (
   held.0,
   omega (arith, length-append bytes more, held.1),
   range-more bytes more k.start k.end held.0 held.1 ∙ held.2,
+  held.3,
 )
 
 -- what holds of all entries holds of all after one is set to another of which it holds
@@ -41,12 +42,17 @@ set-all P (y ∷ ys) zero new all here (suc i) x is = all (suc i) x is
 set-all P (y ∷ ys) (suc at) new all here zero x is = all zero x is
 set-all P (y ∷ ys) (suc at) new all here (suc i) x is = set-all (λ k. P (suc k)) ys at new (λ k z at_k. all (suc k) z at_k) here i x is
 
--- one text more is kept where its bytes are put at the end
-pub keep-more : (types : List (List ℕ)) (kept : List (Option Kept)) (bytes text new : List ℕ) (at number start end : ℕ) → AreKept types kept bytes → new ≡ bytes ++ text
-    → start ≡ length bytes → end ≡ length new → text ≡ step_text types (number, at)
-    → AreKept types (set kept at (Some record { number = number; start = start; end = end })) new
-keep-more types kept bytes text new at number start end all put from till is =
+-- one text more is kept where its bytes are put at the end, and in its entry if it is short
+pub keep-more : (types : List (List ℕ)) (kept : List (Option Kept)) (bytes text new short : List ℕ) (at number start end : ℕ) → AreKept types kept bytes → new ≡ bytes ++ text
+    → start ≡ length bytes → end ≡ length new → text ≡ step_text types (number, at) → (length text ≤ 16 → take (length text) short ≡ text)
+    → AreKept types (set kept at (Some record { number = number; short = short; start = start; end = end })) new
+keep-more types kept bytes text new short at number start end all put from till is in_place =
     let last : slice_range new start end ≡ text = ap (λ (xs : List ℕ). slice_range xs start end) put ∙ range-last bytes text start end from (till ∙ ap length put) in
-    set-all (IsKept types new) kept at (Some record { number = number; start = start; end = end })
-    (λ i x at_i. subst (λ (xs : List ℕ). IsKept types xs i x) (sym put) (kept-more types bytes text i x (all i x at_i)))
-    (omega (arith, from, till, ap length put, length-append bytes text), omega (arith, till), last ∙ is)
+    let size : end - start ≡ length text = omega (arith, from, till, ap length put, length-append bytes text) in
+    set-all (IsKept types new) kept at (Some record { number = number; short = short; start = start; end = end })
+    (λ i x at_i. subst (λ (xs : List ℕ). IsKept types xs i x) (sym put) (kept-more types bytes text i x (all i x at_i))) (
+      omega (arith, from, till, ap length put, length-append bytes text),
+      omega (arith, till),
+      last ∙ is,
+      λ few. ap (λ n. take n short) size ∙ (in_place (omega (arith, few, size)) ∙ is),
+    )
