@@ -1,5 +1,5 @@
 //! The texts of the events of paths.
-ghost use Rattle.std.specs.Prelude.{◌≡◌, ◌≤◌, ◌-◌, ◌++◌, OnOk, IfOk, MatchOption, length, slice_range, take};
+ghost use Rattle.std.specs.Prelude.{◌≡◌, ◌≤◌, ◌+◌, ◌++◌, OnOk, IfOk, MatchOption, length, slice_range, take};
 ghost use Rattle.reports.specs.Paths.{step_text};
 
 use crate::name::Names;
@@ -19,7 +19,7 @@ fn push_text(text: &mut Vec<u8>, names: &Names<'_>, number: u16, id: u32) -> Res
     Ok(())
 }
 
-/// A text of at most this many bytes is kept in its entry too.
+/// A text of at most this many bytes is kept beside its place too.
 const IN_PLACE: usize = 16;
 
 /// Where the text of an event is kept.
@@ -27,12 +27,12 @@ const IN_PLACE: usize = 16;
 pub struct Kept {
     /// The number of its type.
     pub number: u16,
-    /// If it has at most `IN_PLACE` bytes: its bytes, with zeros behind them.
+    /// Its bytes with zeros behind them, if there are at most `IN_PLACE`.
     pub short: [u8; 16],
     /// Where its bytes begin.
     pub start: usize,
-    /// Where they end.
-    pub end: usize,
+    /// How many bytes it has.
+    pub count: usize,
 }
 
 /// The text with zeros behind it, if it has at most `IN_PLACE` bytes.
@@ -61,18 +61,16 @@ fn push_short(text: &mut Vec<u8>, bytes: [u8; 16], count: usize) -> Result<(), A
 /// Appends a text that is kept in these bytes.
 #[inline(always)]
 fn push_kept(text: &mut Vec<u8>, kept: &Kept, bytes: &[u8]) -> Result<(), AllocError>
-    requires order { (kept.now).start ≤ (kept.now).end }
-    requires inside { (kept.now).end ≤ length bytes.now }
-    requires short { (kept.now).end - (kept.now).start ≤ 16 → take ((kept.now).end - (kept.now).start) (kept.now).short
-        ≡ slice_range bytes.now (kept.now).start (kept.now).end }
+    requires inside { (kept.now).start + (kept.now).count ≤ length bytes.now }
+    requires short { (kept.now).count ≤ 16 → take (kept.now).count (kept.now).short
+        ≡ slice_range bytes.now (kept.now).start ((kept.now).start + (kept.now).count) }
     ensures { OnOk result (text.new.items
-        ≡ text.old.items ++ slice_range bytes.now (kept.now).start (kept.now).end) }
+        ≡ text.old.items ++ slice_range bytes.now (kept.now).start ((kept.now).start + (kept.now).count)) }
 {
-    let count = kept.end - kept.start;
-    if count <= IN_PLACE {
-        return push_short(text, kept.short, count);
+    if kept.count <= IN_PLACE {
+        return push_short(text, kept.short, kept.count);
     }
-    text.extend_from_slice(&bytes[kept.start..kept.end])
+    text.extend_from_slice(&bytes[kept.start..kept.start + kept.count])
 }
 
 /// Writes the events of paths. The text of an event depends on the number of its type and on the id of its partition alone, so
@@ -139,12 +137,11 @@ impl<'a> Steps<'a> {
         };
         let start = self.bytes.len();
         self.bytes.extend_from_slice(text)?;
-        let end = self.bytes.len();
         self.kept[at] = Some(Kept {
             number,
             short: in_place(text),
             start,
-            end,
+            count: text.len(),
         });
         Ok(())
     }
@@ -166,9 +163,10 @@ impl<'a> Steps<'a> {
         ensures same { self.new ≡ self.old }
         ensures text { OnOk result (text.new.items ≡ text.old.items ++ step_text self.old (number, id)) }
     {
-        if let Some(done) = self.push_known(text, number, id) {
-            return done;
+        match self.push_known(text, number, id) {
+            Some(done) => done?,
+            None => self.push_new(text, number, id)?,
         }
-        self.push_new(text, number, id)
+        Ok(())
     }
 }
