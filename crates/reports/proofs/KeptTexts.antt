@@ -1,5 +1,5 @@
 -- What is kept of the texts of events, as the table and its bytes grow.
-use Rattle.std.proofs.Common.{◌≡◌, ℕ, zero, suc, ◌-◌, ◌<◌, ◌≤◌, List, [], ◌∷◌, ◌++◌, length, length-append, length-drop, take, drop, set, slice_get, slice_index_or, slice_range, Option, Some, None, IfSome, sym, refl, ap, ◌∙◌, subst, arith}
+use Rattle.std.proofs.Common.{◌≡◌, ℕ, zero, suc, ◌+◌, ◌-◌, ◌<◌, ◌≤◌, List, [], ◌∷◌, ◌++◌, length, length-append, length-drop, take, drop, set, slice_get, slice_index_or, slice_range, Option, Some, None, IfSome, sym, refl, ap, ◌∙◌, subst, arith}
 use Rattle.std.proofs.lemmas.List.{take-append-le, drop-append-le, drop_at, take_all}
 use Rattle.std.proofs.lemmas.Option.{slice_get_read}
 use Rattle.reports.specs.declared.steps.Kept.{Kept}
@@ -27,9 +27,9 @@ range-last xs ys start end at till =
 kept-more : (types : List (List ℕ)) (bytes more : List ℕ) (id : ℕ) (entry : Option Kept) → IsKept types bytes id entry → IsKept types (bytes ++ more) id entry
 kept-more types bytes more id None held = held
 kept-more types bytes more id (Some k) held = (
-  held.0,
-  omega (arith, length-append bytes more, held.1),
-  range-more bytes more k.start k.end held.0 held.1 ∙ held.2,
+  omega (arith, length-append bytes more, held.0),
+  range-more bytes more k.start (k.start + k.count) (omega arith) held.0 ∙ held.1,
+  held.2,
 )
 
 -- what holds of all entries holds of all after one is set to another of which it holds
@@ -41,12 +41,16 @@ set-all P (y ∷ ys) zero new all here (suc i) x is = all (suc i) x is
 set-all P (y ∷ ys) (suc at) new all here zero x is = all zero x is
 set-all P (y ∷ ys) (suc at) new all here (suc i) x is = set-all (λ k. P (suc k)) ys at new (λ k z at_k. all (suc k) z at_k) here i x is
 
--- one text more is kept where its bytes are put at the end
-pub keep-more : (types : List (List ℕ)) (kept : List (Option Kept)) (bytes text new : List ℕ) (at number start end : ℕ) → AreKept types kept bytes → new ≡ bytes ++ text
-    → start ≡ length bytes → end ≡ length new → text ≡ step_text types (number, at)
-    → AreKept types (set kept at (Some record { number = number; start = start; end = end })) new
-keep-more types kept bytes text new at number start end all put from till is =
-    let last : slice_range new start end ≡ text = ap (λ (xs : List ℕ). slice_range xs start end) put ∙ range-last bytes text start end from (till ∙ ap length put) in
-    set-all (IsKept types new) kept at (Some record { number = number; start = start; end = end })
-    (λ i x at_i. subst (λ (xs : List ℕ). IsKept types xs i x) (sym put) (kept-more types bytes text i x (all i x at_i)))
-    (omega (arith, from, till, ap length put, length-append bytes text), omega (arith, till), last ∙ is)
+-- one text more is kept where its bytes are put at the end, and in its entry if it is short
+pub keep-more : (types : List (List ℕ)) (kept : List (Option Kept)) (bytes text new short : List ℕ) (at number start count : ℕ) → AreKept types kept bytes → new ≡ bytes ++ text
+    → start ≡ length bytes → count ≡ length text → text ≡ step_text types (number, at) → (length text ≤ 16 → take (length text) short ≡ text)
+    → AreKept types (set kept at (Some record { number = number; short = short; start = start; count = count })) new
+keep-more types kept bytes text new short at number start count all put from size is in_place =
+    let long : start + count ≡ length new = omega (arith, from, size, ap length put, length-append bytes text) in
+    let last : slice_range new start (start + count) ≡ text = ap (λ (xs : List ℕ). slice_range xs start (start + count)) put ∙ range-last bytes text start (start + count) from (long ∙ ap length put) in
+    set-all (IsKept types new) kept at (Some record { number = number; short = short; start = start; count = count })
+    (λ i x at_i. subst (λ (xs : List ℕ). IsKept types xs i x) (sym put) (kept-more types bytes text i x (all i x at_i))) (
+      omega (arith, long),
+      last ∙ is,
+      λ few. ap (λ n. take n short) size ∙ (in_place (omega (arith, few, size)) ∙ is),
+    )

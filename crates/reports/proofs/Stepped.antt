@@ -7,16 +7,17 @@ use Rattle.reports.specs.declared.taken.TakenPath.{TakenPath}
 use Rattle.reports.specs.Paths.{Taken, path_line, shown, step_text}
 
 -- with one event more, the text has the events up to it
-pub steps-more : (types : List (List ℕ)) (ns is base old new : List ℕ) (k n i : ℕ) → k < length ns → k < length is → n ≡ get_or ns k n → i ≡ get_or is k i
-    → old ≡ base ++ flat_map (step_text types) (take k (zip ns is)) → new ≡ old ++ step_text types (n, i)
+pub steps-more : (types : List (List ℕ)) (ns is base old new : List ℕ) (k : ℕ) → k < length ns → k < length is
+    → old ≡ base ++ flat_map (step_text types) (take k (zip ns is)) → new ≡ old ++ step_text types (get_or ns k 0, get_or is k 0)
     → new ≡ base ++ flat_map (step_text types) (take (k + 1) (zip ns is))
-steps-more types ns is base old new k n i in-ns in-is n-is i-is before put =
+steps-more types ns is base old new k in-ns in-is before put =
+    let step : ℕ × ℕ = (get_or ns k 0, get_or is k 0) in
     let within : k < length (zip ns is) = omega (arith, length-zip ns is) in
-    let here : get_or (zip ns is) k (n, i) ≡ (n, i) = get_or-zip ns is k (n, i) in-ns in-is ∙ (ap (λ (m : ℕ). (m, get_or is k i)) (sym n-is) ∙ ap (λ (m : ℕ). (n, m)) (sym i-is)) in
+    let here : get_or (zip ns is) k (0, 0) ≡ step = get_or-zip ns is k (0, 0) in-ns in-is in
     put
-    ∙ (ap (λ (t : List ℕ). t ++ step_text types (n, i)) before
-    ∙ (flat_map_more (step_text types) base (take k (zip ns is)) (n, i)
-    ∙ ap (λ (steps : List (ℕ × ℕ)). base ++ flat_map (step_text types) steps) (sym (take_more (zip ns is) k (n, i) within ∙ ap (λ (s : ℕ × ℕ). take k (zip ns is) ++ s ∷ []) here))))
+    ∙ (ap (λ (t : List ℕ). t ++ step_text types step) before
+    ∙ (flat_map_more (step_text types) base (take k (zip ns is)) step
+    ∙ ap (λ (steps : List (ℕ × ℕ)). base ++ flat_map (step_text types) steps) (sym (take_more (zip ns is) k (0, 0) within ∙ ap (λ (s : ℕ × ℕ). take k (zip ns is) ++ s ∷ []) here))))
 
 -- at the end of the shorter list the text has all events
 pub steps-all : (types : List (List ℕ)) (ns is base old : List ℕ) (k : ℕ) → k ≡ min (length ns) (length is)

@@ -29,8 +29,11 @@ fn push_steps(
     ensures text { OnOk result (text.new.items
         ≡ text.old.items ++ flat_map (step_text steps.old) (zip numbers.now ids.now)) }
 {
-    for (number, id) in numbers.iter().zip(ids) {
-        steps.push_step(text, *number, *id)?;
+    let count = numbers.len().min(ids.len());
+    let mut i = 0;
+    while i < count {
+        steps.push_step(text, numbers[i], ids[i])?;
+        i += 1;
     }
     Ok(())
 }

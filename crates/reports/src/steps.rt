@@ -1,5 +1,5 @@
 //! The texts of the events of paths.
-ghost use Rattle.std.specs.Prelude.{◌≡◌, ◌++◌, OnOk, IfOk, IfSome};
+ghost use Rattle.std.specs.Prelude.{◌≡◌, ◌≤◌, ◌+◌, ◌++◌, OnOk, IfOk, MatchOption, length, slice_range, take};
 ghost use Rattle.reports.specs.Paths.{step_text};
 
 use crate::name::Names;
@@ -19,15 +19,58 @@ fn push_text(text: &mut Vec<u8>, names: &Names<'_>, number: u16, id: u32) -> Res
     Ok(())
 }
 
+/// A text of at most this many bytes is kept beside its place too.
+const IN_PLACE: usize = 16;
+
 /// Where the text of an event is kept.
 #[derive(Clone, Copy)]
 pub struct Kept {
     /// The number of its type.
     pub number: u16,
+    /// Its bytes with zeros behind them, if there are at most `IN_PLACE`.
+    pub short: [u8; 16],
     /// Where its bytes begin.
     pub start: usize,
-    /// Where they end.
-    pub end: usize,
+    /// How many bytes it has.
+    pub count: usize,
+}
+
+/// The text with zeros behind it, if it has at most `IN_PLACE` bytes.
+fn in_place(text: &[u8]) -> [u8; 16]
+    ensures { length text.now ≤ 16 → take (length text.now) result ≡ text.now }
+{
+    let mut bytes = [0; 16];
+    if text.len() <= IN_PLACE {
+        bytes[..text.len()].copy_from_slice(text);
+    }
+    bytes
+}
+
+/// Appends the first `count` of these bytes to the text. All of them are copied, as one value, and those behind are cut
+/// off again. To copy a number of bytes that is not constant costs more.
+#[inline(always)]
+fn push_short(text: &mut Vec<u8>, bytes: [u8; 16], count: usize) -> Result<(), AllocError>
+    requires { count ≤ 16 }
+    ensures { OnOk result (text.new.items ≡ text.old.items ++ take count bytes) }
+{
+    text.extend_from_slice(&bytes)?;
+    text.truncate(text.len() - (IN_PLACE - count));
+    Ok(())
+}
+
+/// Appends a text that is kept in these bytes.
+#[inline(always)]
+fn push_kept(text: &mut Vec<u8>, kept: &Kept, bytes: &[u8]) -> Result<(), AllocError>
+    requires inside { (kept.now).start + (kept.now).count ≤ length bytes.now }
+    requires short { (kept.now).count ≤ 16 → take (kept.now).count (kept.now).short
+        ≡ slice_range bytes.now (kept.now).start ((kept.now).start + (kept.now).count) }
+    ensures { OnOk result (text.new.items
+        ≡ text.old.items ++ slice_range bytes.now (kept.now).start ((kept.now).start + (kept.now).count)) }
+{
+    if kept.count <= IN_PLACE {
+        return push_short(text, kept.short, kept.count);
+    }
+    text.extend_from_slice(&bytes[kept.start..kept.start + kept.count])
 }
 
 /// Writes the events of paths. The text of an event depends on the number of its type and on the id of its partition alone, so
@@ -68,10 +111,11 @@ impl<'a> Steps<'a> {
         })
     }
 
-    /// The text of an event, if it is kept.
+    /// Appends an event whose text is kept. If it is not kept, the text stays and `None` is returned.
     #[inline(always)]
-    fn kept_text(&self, number: u16, id: u32) -> Option<&[u8]>
-        ensures { IfSome result (λ text. text.now ≡ step_text self.now (number, id)) }
+    fn push_known(&self, text: &mut Vec<u8>, number: u16, id: u32) -> Option<Result<(), AllocError>>
+        ensures { MatchOption result (text.new ≡ text.old)
+            (λ done. OnOk done (text.new.items ≡ text.old.items ++ step_text self.now (number, id))) }
     {
         let Some(Some(kept)) = self.kept.get(id as usize) else {
             return None;
@@ -79,7 +123,7 @@ impl<'a> Steps<'a> {
         if kept.number != number {
             return None;
         }
-        Some(&self.bytes[kept.start..kept.end])
+        Some(push_kept(text, kept, &self.bytes))
     }
 
     /// Keeps the text of an event, unless one is kept for its id. If memory runs out, what is kept stays.
@@ -93,8 +137,12 @@ impl<'a> Steps<'a> {
         };
         let start = self.bytes.len();
         self.bytes.extend_from_slice(text)?;
-        let end = self.bytes.len();
-        self.kept[at] = Some(Kept { number, start, end });
+        self.kept[at] = Some(Kept {
+            number,
+            short: in_place(text),
+            start,
+            count: text.len(),
+        });
         Ok(())
     }
 
@@ -115,9 +163,10 @@ impl<'a> Steps<'a> {
         ensures same { self.new ≡ self.old }
         ensures text { OnOk result (text.new.items ≡ text.old.items ++ step_text self.old (number, id)) }
     {
-        if let Some(kept) = self.kept_text(number, id) {
-            return text.extend_from_slice(kept);
+        match self.push_known(text, number, id) {
+            Some(done) => done?,
+            None => self.push_new(text, number, id)?,
         }
-        self.push_new(text, number, id)
+        Ok(())
     }
 }
