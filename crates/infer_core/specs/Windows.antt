@@ -31,6 +31,12 @@ abbrev pub SaysApart : List (List ℕ) → List ℕ → Type 0
 SaysApart found apart =
     (near k : ℕ) → near < NEAR → bit_at (slice_index apart near) k ≡ 0 → row_of found k ≡ row_of found (near + 1 + k)
 
+-- two bits are the same in each of three words
+pub record AreSame (words : List ℕ) (k l : ℕ) : Type 0 where
+  pub zeroth : bit_at (slice_index words 0) k ≡ bit_at (slice_index words 0) l
+  pub first : bit_at (slice_index words 1) k ≡ bit_at (slice_index words 1) l
+  pub second : bit_at (slice_index words 2) k ≡ bit_at (slice_index words 2) l
+
 -- a byte of each word
 pub record AreBytesOf (found : List (List ℕ)) (number : ℕ) (bytes : Bytes) : Type 0 where
   pub zeroth_size : length bytes.zeroth.items ≡ length found

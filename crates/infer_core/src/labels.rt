@@ -14,7 +14,7 @@ ghost use Rattle.partition_model.specs.Listings.{ArePartitions};
 ghost use Rattle.models.specs.Models.{AreReached};
 ghost use Rattle.labelling.specs.Labelled.{digit, AreLabelsOf, AreStatesAt, SaysSwapped};
 ghost use Rattle.infer_core.specs.declared.labels.TheConstants.{AHEAD, AT_ONCE, NEAR, TOGETHER};
-ghost use Rattle.infer_core.specs.Windows.{row_of, AreBytesOf, AreReadAt, AreTakenFrom, HasRows, HaveSize, IsAheadOf, IsWindowOf, SaysApart};
+ghost use Rattle.infer_core.specs.Windows.{row_of, AreBytesOf, AreReadAt, AreSame, AreTakenFrom, HasRows, HaveSize, IsAheadOf, IsWindowOf, SaysApart};
 
 use invariants::{Invariant, Labels, Listed, Partition, Seq};
 use labelling::Planes;
@@ -166,32 +166,33 @@ fn differs(word: u64, distance: u32) -> u64
     word ^ (word >> distance)
 }
 
-/// A word in which a bit is off only if the invariant with that bit has the same labels as the one `distance` after it.
-fn apart_by(words: &[[u64; 3]], distance: u32) -> u64
+/// A word in which a bit is off only if that bit of each of three words is the same as the one that is `distance` places
+/// above it.
+fn differs_in(words: &[u64; 3], distance: u32) -> u64
     requires { distance < 64 }
-    ensures { (k : ℕ) → bit_at result k ≡ 0
-        → row_of words.now k ≡ row_of words.now (distance + k) }
+    ensures { (k : ℕ) → bit_at result k ≡ 0 → AreSame words.now k (distance + k) }
 {
-    let mut apart = 0;
-    for word in words {
-        let [zeroth, first, second] = *word;
-        apart = apart | differs(zeroth, distance);
-        apart = apart | differs(first, distance);
-        apart = apart | differs(second, distance);
-    }
-    apart
+    let [zeroth, first, second] = *words;
+    differs(zeroth, distance) | differs(first, distance) | differs(second, distance)
 }
 
-/// Such a word for each distance from 1 to `NEAR`.
+/// For each distance from 1 to `NEAR`, a word in which a bit is off only if the invariant with that bit has the same labels
+/// as the one at this distance after it.
 fn apart_of(words: &[[u64; 3]]) -> [u64; NEAR]
     ensures size { length result ≡ NEAR }
     ensures apart { SaysApart words.now result }
 {
-    let mut apart = [0; NEAR];
-    for near in 0..NEAR {
-        apart[near] = apart_by(words, near as u32 + 1);
+    let mut by_one = 0;
+    let mut by_two = 0;
+    let mut by_three = 0;
+    let mut by_four = 0;
+    for word in words {
+        by_one = by_one | differs_in(word, 1);
+        by_two = by_two | differs_in(word, 2);
+        by_three = by_three | differs_in(word, 3);
+        by_four = by_four | differs_in(word, 4);
     }
-    apart
+    [by_one, by_two, by_three, by_four]
 }
 
 /// An invariant before the one with bit k, and near it, that has the same labels. `apart` is what `apart_of` returns for
