@@ -9,7 +9,7 @@ use Rattle.invariants.specs.Labels.{digit_of}
 use Rattle.invariants.specs.declared.records.Partition.{Partition}
 use Rattle.labelling.specs.Labelled.{Labelling, digit, is_found, number_of, AreStatesAt}
 use Rattle.infer_core.specs.declared.labels.Bytes.{Bytes}
-use Rattle.infer_core.specs.Windows.{label_at, row_of, AreBytesOf, HasRows}
+use Rattle.infer_core.specs.Windows.{label_at, row_of, AreBytesOf, AreSame, HasRows}
 use Rattle.std.proofs.lemmas.List.{drop-append-le, drop_all, get_or_default, length-append, length-drop, length-map, get_or-map, same_lists, take-append-le, take_all}
 use Rattle.std.proofs.lemmas.Bool.{cases_eq}
 
@@ -100,17 +100,33 @@ bits-same word distance k off =
     let sum : bit_at (bit_xor word (word / 2 ^ distance)) k ≡ (bit_at word k + bit_at (word / 2 ^ distance) k) % 2 = bit_at_xor word (word / 2 ^ distance) k in
     omega (arith, off, sum, shifted, bit_at-lt word k, bit_at-lt (word / 2 ^ distance) k)
 
--- the bits of two invariants are the same in three words
-pub record AreSame (words : List ℕ) (k l : ℕ) : Type 0 where
-  pub zeroth : bit_at (get_or words 0 0) k ≡ bit_at (get_or words 0 0) l
-  pub first : bit_at (get_or words 1 0) k ≡ bit_at (get_or words 1 0) l
-  pub second : bit_at (get_or words 2 0) k ≡ bit_at (get_or words 2 0) l
-
 -- a bit is off in a word made of others
 pub off-both : (a b k : ℕ) → bit_at (bit_or a b) k ≡ 0 → (bit_at a k ≡ 0) × (bit_at b k ≡ 0)
 off-both a b k off =
     let most : max (bit_at a k) (bit_at b k) ≡ 0 = sym (bit_at_or a b k) ∙ off in
     (omega (arith, most), omega (arith, most))
+
+-- a bit is off in a word made of three
+pub off-all : (a b c k : ℕ) → bit_at (bit_or (bit_or a b) c) k ≡ 0 → (bit_at a k ≡ 0) × (bit_at b k ≡ 0) × (bit_at c k ≡ 0)
+off-all a b c k off =
+    let two = off-both (bit_or a b) c k off in
+    let one = off-both a b k two.0 in
+    (one.0, one.1, two.1)
+
+-- a bit that is off in the word means that the bits at this distance are the same in the words of the first partitions
+abbrev pub AreSameBefore : List (List ℕ) → ℕ → ℕ → ℕ → Type 0
+AreSameBefore found count distance word =
+    (k : ℕ) → bit_at word k ≡ 0 → (j : ℕ) → j < count → AreSame (get_or found j []) k (distance + k)
+
+-- the words of one partition more
+pub same-after : (found : List (List ℕ)) (count distance word more : ℕ) → AreSameBefore found count distance word
+    → ((k : ℕ) → bit_at more k ≡ 0 → AreSame (get_or found count []) k (distance + k)) → AreSameBefore found (count + 1) distance (bit_or word more)
+same-after found count distance word more before one k off j low =
+    let both = off-both word more k off in
+    elim (cases_eq j count) [
+      | inl same ↦ subst (λ (i : ℕ). AreSame (get_or found i []) k (distance + k)) (sym same) (one k both.1)
+      | inr other ↦ before k both.0 j (let less : j < count = omega (arith, low, other) in less)
+    ]
 
 -- if they are the same in the words of each partition, so are the digits
 pub rows-same : (found : List (List ℕ)) (k l : ℕ) → ((j : ℕ) → j < length found → AreSame (get_or found j []) k l) → row_of found k ≡ row_of found l

@@ -31,6 +31,12 @@ abbrev pub SaysApart : List (List ℕ) → List ℕ → Type 0
 SaysApart found apart =
     (near k : ℕ) → near < NEAR → bit_at (slice_index apart near) k ≡ 0 → row_of found k ≡ row_of found (near + 1 + k)
 
+-- two bits are the same in each of three words
+pub record AreSame (words : List ℕ) (k l : ℕ) : Type 0 where
+  pub zeroth : bit_at (slice_index words 0) k ≡ bit_at (slice_index words 0) l
+  pub first : bit_at (slice_index words 1) k ≡ bit_at (slice_index words 1) l
+  pub second : bit_at (slice_index words 2) k ≡ bit_at (slice_index words 2) l
+
 -- a byte of each word
 pub record AreBytesOf (found : List (List ℕ)) (number : ℕ) (bytes : Bytes) : Type 0 where
   pub zeroth_size : length bytes.zeroth.items ≡ length found
@@ -42,6 +48,17 @@ pub record AreBytesOf (found : List (List ℕ)) (number : ℕ) (bytes : Bytes) :
       → slice_index bytes.first.items j ≡ slice_index (slice_index_or found j []) 1 / 2 ^ (8 * number) % 256
   pub second : (j : ℕ) → j < length found
       → slice_index bytes.second.items j ≡ slice_index (slice_index_or found j []) 2 / 2 ^ (8 * number) % 256
+
+-- there are as many bytes of each state as this
+pub record HaveSize (count : ℕ) (bytes : Bytes) : Type 0 where
+  pub zeroth : length bytes.zeroth.items ≡ count
+  pub first : length bytes.first.items ≡ count
+  pub second : length bytes.second.items ≡ count
+
+-- the bytes that are taken are those with their number
+pub record AreTakenFrom (found : List (List ℕ)) (bytes : Bytes) : Type 0 where
+  pub size : HaveSize (length found) bytes
+  pub taken : (number : ℕ) → bytes.number ≡ Some number → AreBytesOf found number bytes
 
 -- for each partition, the words at the places of a block, up to the last place
 abbrev pub AreReadAt : Labelling → List Partition → ℕ → ℕ → List (List (List ℕ)) → Type 0
@@ -58,9 +75,11 @@ pub record IsAheadOf (planes : Labelling) (partitions : List Partition) (last : 
 pub record IsWindowOf (planes : Labelling) (partitions : List Partition) (window : Window) : Type 0 where
   pub size : length window.words.items ≡ length partitions
   pub ahead : IsAheadOf planes partitions ((length planes.invs - 1) / TOGETHER) window.ahead
-  pub few : window.len ≤ length window.from.items
+  pub bytes : HaveSize (length partitions) window.bytes
+  pub row : length window.row.items ≡ length partitions
+  pub few : window.len ≤ length window.digits.from.items
   pub within : (k : ℕ) → k < window.len
-      → slice_index window.from.items k + length partitions ≤ length window.text.value.items
+      → slice_index window.digits.from.items k + length partitions ≤ length window.text.value.items
   pub labels : (k : ℕ) → k < window.len
-      → take (length partitions) (drop (slice_index window.from.items k) window.text.value.items)
+      → take (length partitions) (drop (slice_index window.digits.from.items k) window.text.value.items)
       ≡ map digit_of (map (λ x. digit planes (window.first + k) x.id) partitions)

@@ -14,7 +14,7 @@ ghost use Rattle.partition_model.specs.Listings.{ArePartitions};
 ghost use Rattle.models.specs.Models.{AreReached};
 ghost use Rattle.labelling.specs.Labelled.{digit, AreLabelsOf, AreStatesAt, SaysSwapped};
 ghost use Rattle.infer_core.specs.declared.labels.TheConstants.{AHEAD, AT_ONCE, NEAR, TOGETHER};
-ghost use Rattle.infer_core.specs.Windows.{row_of, AreBytesOf, AreReadAt, HasRows, IsAheadOf, IsWindowOf, SaysApart};
+ghost use Rattle.infer_core.specs.Windows.{row_of, AreBytesOf, AreReadAt, AreSame, AreTakenFrom, HasRows, HaveSize, IsAheadOf, IsWindowOf, SaysApart};
 
 use invariants::{Invariant, Labels, Listed, Partition, Seq};
 use labelling::Planes;
@@ -45,10 +45,14 @@ pub struct Window {
     len: usize,
     /// The digits of their labels, one for each partition. Some invariants with the same labels share them.
     text: Rc<Vec<u8>>,
-    /// Where in the text the digits of each invariant begin.
-    from: Vec<usize>,
+    /// The digits that were written last, and where in the text those of each invariant begin.
+    digits: Digits,
     /// Scratch space: for each partition, the words of the states.
     words: Vec<[u64; 3]>,
+    /// Scratch space: bytes of these words.
+    bytes: Bytes,
+    /// Scratch space: the digits of one invariant.
+    row: Vec<u8>,
     /// Such words at this place and at others near it.
     ahead: Ahead,
 }
@@ -66,6 +70,8 @@ struct Ahead {
 /// bit for each invariant.
 #[derive(Drop)]
 struct Bytes {
+    /// Their number in the words; `None` if nothing is taken yet.
+    number: Option<u32>,
     zeroth: Vec<u8>,
     first: Vec<u8>,
     second: Vec<u8>,
@@ -109,23 +115,27 @@ impl Bytes {
         ensures second { IfOk result (λ made. length made.second.items ≡ partitions) }
     {
         Ok(Bytes {
+            number: None,
             zeroth: vec![in alloc; 0; partitions]?,
             first: vec![in alloc; 0; partitions]?,
             second: vec![in alloc; 0; partitions]?,
         })
     }
 
-    /// Takes the bytes with this number out of the words of all partitions.
+    /// Takes the bytes with this number out of the words of all partitions, unless they are taken already.
     fn take(&mut self, words: &[[u64; 3]], number: u32)
         requires number { number < 8 }
-        requires zeroth { length (self.old).zeroth.items ≡ length words.now }
-        requires first { length (self.old).first.items ≡ length words.now }
-        requires second { length (self.old).second.items ≡ length words.now }
-        ensures { AreBytesOf words.now number self.new }
+        requires taken { AreTakenFrom words.now self.old }
+        ensures taken { AreTakenFrom words.now self.new }
+        ensures bytes { AreBytesOf words.now number self.new }
     {
+        if self.number == Some(number) {
+            return;
+        }
         take_state(words, 0, number, self.zeroth.as_mut_slice());
         take_state(words, 1, number, self.first.as_mut_slice());
         take_state(words, 2, number, self.second.as_mut_slice());
+        self.number = Some(number);
     }
 
     /// Writes the digits of the labels of the invariant with this bit.
@@ -156,32 +166,33 @@ fn differs(word: u64, distance: u32) -> u64
     word ^ (word >> distance)
 }
 
-/// A word in which a bit is off only if the invariant with that bit has the same labels as the one `distance` after it.
-fn apart_by(words: &[[u64; 3]], distance: u32) -> u64
+/// A word in which a bit is off only if that bit of each of three words is the same as the one that is `distance` places
+/// above it.
+fn differs_in(words: &[u64; 3], distance: u32) -> u64
     requires { distance < 64 }
-    ensures { (k : ℕ) → bit_at result k ≡ 0
-        → row_of words.now k ≡ row_of words.now (distance + k) }
+    ensures { (k : ℕ) → bit_at result k ≡ 0 → AreSame words.now k (distance + k) }
 {
-    let mut apart = 0;
-    for word in words {
-        let [zeroth, first, second] = *word;
-        apart = apart | differs(zeroth, distance);
-        apart = apart | differs(first, distance);
-        apart = apart | differs(second, distance);
-    }
-    apart
+    let [zeroth, first, second] = *words;
+    differs(zeroth, distance) | differs(first, distance) | differs(second, distance)
 }
 
-/// Such a word for each distance from 1 to `NEAR`.
+/// For each distance from 1 to `NEAR`, a word in which a bit is off only if the invariant with that bit has the same labels
+/// as the one at this distance after it.
 fn apart_of(words: &[[u64; 3]]) -> [u64; NEAR]
     ensures size { length result ≡ NEAR }
     ensures apart { SaysApart words.now result }
 {
-    let mut apart = [0; NEAR];
-    for near in 0..NEAR {
-        apart[near] = apart_by(words, near as u32 + 1);
+    let mut by_one = 0;
+    let mut by_two = 0;
+    let mut by_three = 0;
+    let mut by_four = 0;
+    for word in words {
+        by_one = by_one | differs_in(word, 1);
+        by_two = by_two | differs_in(word, 2);
+        by_three = by_three | differs_in(word, 3);
+        by_four = by_four | differs_in(word, 4);
     }
-    apart
+    [by_one, by_two, by_three, by_four]
 }
 
 /// An invariant before the one with bit k, and near it, that has the same labels. `apart` is what `apart_of` returns for
@@ -210,13 +221,22 @@ struct Digits {
 }
 
 impl Digits {
+    /// No digits, with room for those of `TOGETHER` invariants at this many partitions.
+    fn make(alloc: Global, partitions: usize) -> Result<Digits, AllocError> {
+        // Room that is never written takes no memory.
+        Ok(Digits {
+            text: Vec::with_capacity(alloc, partitions.saturating_mul(TOGETHER))?,
+            from: Vec::with_capacity(alloc, TOGETHER)?,
+        })
+    }
+
     /// Adds the digits of the next invariant, unless one near it has the same. Its bit is bit k of the bytes with this
-    /// number. `apart` is what `apart_of` returns for the words. `row` is scratch space.
+    /// number. `apart` is what `apart_of` returns for the words. `bytes` and `row` are scratch space.
     fn add(
         &mut self,
         words: &[[u64; 3]],
         apart: &[u64],
-        bytes: &Bytes,
+        bytes: &mut Bytes,
         number: u32,
         k: u32,
         row: &mut [u8],
@@ -226,18 +246,20 @@ impl Digits {
         requires next { length (self.old).from.items ≡ AT_ONCE * number + k }
         requires size { length apart.now ≡ NEAR }
         requires apart { SaysApart words.now apart.now }
-        requires bytes { AreBytesOf words.now number bytes.now }
+        requires taken { AreTakenFrom words.now bytes.old }
         requires row { length row.old ≡ length words.now }
         requires rows { HasRows words.now (self.old).text.items (self.old).from.items }
         ensures rows { OnOk result (HasRows words.now (self.new).text.items (self.new).from.items) }
         ensures count { OnOk result (length (self.new).from.items
             ≡ length (self.old).from.items + 1) }
+        ensures taken { AreTakenFrom words.now bytes.new }
     {
         if let Some(same) = same_before(words, apart, self.from.len()) {
             let start = self.from[same];
             self.from.push(start)?;
             return Ok(());
         }
+        bytes.take(words, number);
         bytes.write(k, row);
         let start = self.text.len();
         self.text.extend_from_slice(row)?;
@@ -259,45 +281,42 @@ impl Digits {
         requires next { length (self.old).from.items ≡ AT_ONCE * number }
         requires size { length apart.now ≡ NEAR }
         requires apart { SaysApart words.now apart.now }
-        requires zeroth { length bytes.old.zeroth.items ≡ length words.now }
-        requires first { length bytes.old.first.items ≡ length words.now }
-        requires second { length bytes.old.second.items ≡ length words.now }
+        requires taken { AreTakenFrom words.now bytes.old }
         requires row { length row.old ≡ length words.now }
         requires rows { HasRows words.now (self.old).text.items (self.old).from.items }
         ensures rows { OnOk result (HasRows words.now (self.new).text.items (self.new).from.items) }
         ensures count { OnOk result (length (self.new).from.items ≡ AT_ONCE * (number + 1)) }
-
-        // The scratch space stays as large as it was.
-        ensures zeroth { length bytes.new.zeroth.items ≡ length words.now }
-        ensures first { length bytes.new.first.items ≡ length words.now }
-        ensures second { length bytes.new.second.items ≡ length words.now }
+        ensures taken { AreTakenFrom words.now bytes.new }
     {
-        bytes.take(words, number);
         for k in 0..AT_ONCE {
             self.add(words, apart, bytes, number, k as u32, row)?;
         }
         Ok(())
     }
-}
 
-/// The digits of the labels that the words say, of `TOGETHER` invariants.
-fn digits_of(alloc: Global, words: &[[u64; 3]]) -> Result<Digits, AllocError>
-    ensures rows { IfOk result (λ digits. HasRows words.now digits.text.items digits.from.items) }
-    ensures count { IfOk result (λ digits. length digits.from.items ≡ TOGETHER) }
-{
-    let apart = apart_of(words);
-    let mut bytes = Bytes::make(alloc, words.len())?;
-    let mut row = vec![in alloc; 0; words.len()]?;
-    // Room that is never written takes no memory.
-    let room = words.len().saturating_mul(TOGETHER);
-    let mut digits = Digits {
-        text: Vec::with_capacity(alloc, room)?,
-        from: Vec::with_capacity(alloc, TOGETHER)?,
-    };
-    for number in 0..TOGETHER / AT_ONCE {
-        digits.add_all(words, &apart, number as u32, &mut bytes, row.as_mut_slice())?;
+    /// Finds the digits of the labels that the words say, of `TOGETHER` invariants, in place of those before. `bytes` and
+    /// `row` are scratch space.
+    fn find(
+        &mut self,
+        words: &[[u64; 3]],
+        bytes: &mut Bytes,
+        row: &mut [u8],
+    ) -> Result<(), AllocError>
+        requires bytes { HaveSize (length words.now) bytes.old }
+        requires row { length row.old ≡ length words.now }
+        ensures rows { OnOk result (HasRows words.now (self.new).text.items (self.new).from.items) }
+        ensures count { OnOk result (length (self.new).from.items ≡ TOGETHER) }
+        ensures bytes { HaveSize (length words.now) bytes.new }
+    {
+        self.text.clear();
+        self.from.clear();
+        bytes.number = None;
+        let apart = apart_of(words);
+        for number in 0..TOGETHER / AT_ONCE {
+            self.add_all(words, &apart, number as u32, bytes, row)?;
+        }
+        Ok(())
     }
-    Ok(digits)
 }
 
 /// What `Planes::words` needs to know at each of the `AHEAD` places from `AHEAD * block` on, up to the last place.
@@ -414,19 +433,23 @@ impl Window {
         ensures size { IfOk result (λ window. length window.words.items ≡ partitions) }
         ensures unread { IfOk result (λ window. window.ahead.block ≡ None) }
         ensures ahead { IfOk result (λ window. length window.ahead.words.items ≡ partitions) }
+        ensures bytes { IfOk result (λ window. HaveSize partitions window.bytes) }
+        ensures row { IfOk result (λ window. length window.row.items ≡ partitions) }
     {
         Ok(Window {
             first: 0,
             len: 0,
             text: Rc::new(alloc, Vec::new(alloc))?,
-            from: Vec::new(alloc),
+            digits: Digits::make(alloc, partitions)?,
             words: vec![in alloc; [0; 3]; partitions]?,
+            bytes: Bytes::make(alloc, partitions)?,
+            row: vec![in alloc; 0; partitions]?,
             ahead: Ahead::make(alloc, partitions)?,
         })
     }
 
     /// Reads the labels at these partitions of the invariants from number `TOGETHER * place` on, as many as there is room
-    /// for. `AllocError` is returned if there is not enough memory; then the window stays.
+    /// for. `AllocError` is returned if there is not enough memory; then the window is of no invariants.
     fn read(
         &mut self,
         alloc: Global,
@@ -446,12 +469,17 @@ impl Window {
             → k < (self.new).len) }
     {
         let last = (count - 1) / TOGETHER;
+        self.len = 0;
         self.ahead.read(planes, place / AHEAD, last, partitions);
         self.ahead.copy(place % AHEAD, self.words.as_mut_slice());
-        let Digits { text, from } = digits_of(alloc, self.words.as_slice())?;
+        self.digits.find(
+            self.words.as_slice(),
+            &mut self.bytes,
+            self.row.as_mut_slice(),
+        )?;
+        let text = self.digits.text.to_vec(alloc)?;
         let first = place * TOGETHER;
         self.text = Rc::new(alloc, text)?;
-        self.from = from;
         self.first = first;
         self.len = TOGETHER.min(count - first);
         Ok(())
@@ -503,7 +531,7 @@ fn labels_of(
     ensures window { IsWindowOf planes.now partitions.now window.new }
 {
     let place = window.place_of(alloc, planes, number, count, partitions)?;
-    Labels::part_of(&window.text, window.from[place], partitions.len())
+    Labels::part_of(&window.text, window.digits.from[place], partitions.len())
 }
 
 /// The invariants, each with its labels at these partitions. `AllocError` is returned if there is not enough memory.

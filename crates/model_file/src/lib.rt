@@ -19,6 +19,7 @@ mod lists;
 mod parts;
 mod reading;
 mod refusal;
+mod room;
 mod shape;
 mod stream;
 mod table;

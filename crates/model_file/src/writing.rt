@@ -8,6 +8,7 @@ ghost use Rattle.model_shape.specs.Shapes.{IsWellShaped};
 ghost use Rattle.model_file.specs.Reading.{reads};
 ghost use Rattle.model_file.specs.Writing.{tokens_of, first_members, last_members, Appends};
 
+use crate::room::room_for;
 use invariants::{
     Block, Edge, Ids, Kind, Kinds, Labels, Listed, Merge, Model, Partition, Seq, Split, Text,
 };
@@ -274,7 +275,8 @@ pub fn write_model(alloc: Global, model: &Model) -> Result<Seq<u8>, AllocError>
     ensures value { IfOk result (λ text. text ≡ file_text model.now) }
     ensures reads_back { IfOk result (λ text. reads text ≡ Ok model.now) }
 {
-    let mut out = Writer::new(Vec::new(alloc));
+    let text = Vec::with_capacity(alloc, room_for(model))?;
+    let mut out = Writer::new(text);
     write_tree(alloc, model, &mut out)?;
     Ok(Seq::from_vec(out.into_inner()))
 }

@@ -1,12 +1,11 @@
-use Rattle.std.proofs.Common.{◌≡◌, ◌<◌, ◌+◌, ℕ, length, get_or}
-use Rattle.std.specs.Int.{bit_at}
-use Rattle.infer_core.specs.declared.labels.TheConstants.{NEAR}
-use Rattle.infer_core.specs.Windows.{row_of}
+use Rattle.infer_core.proofs.Windows.{AreSameBefore}
 use Rattle.infer_core.proofs.labels.apart_of.Given as goal
 
-abbrev pub invariant-loop-near : goal.invariant-loop-near
-invariant-loop-near l =
+abbrev pub invariant-loop-word : goal.invariant-loop-word
+invariant-loop-word l =
     record {
-      size : length l.apart ≡ NEAR;
-      told : (d k : ℕ) → d < l.near → bit_at (get_or l.apart d 0) k ≡ 0 → row_of l.words k ≡ row_of l.words (d + 1 + k);
+      by_one : AreSameBefore l.words l.word-index 1 l.by_one;
+      by_two : AreSameBefore l.words l.word-index 2 l.by_two;
+      by_three : AreSameBefore l.words l.word-index 3 l.by_three;
+      by_four : AreSameBefore l.words l.word-index 4 l.by_four;
     }

@@ -1,12 +1,12 @@
 use Rattle.std.proofs.Common.{◌≡◌, ◌+◌, ◌*◌, length}
 use Rattle.infer_core.specs.declared.labels.TheConstants.{AT_ONCE}
-use Rattle.infer_core.specs.Windows.{AreBytesOf, HasRows}
+use Rattle.infer_core.specs.Windows.{AreTakenFrom, HasRows}
 use Rattle.infer_core.proofs.labels.Digits.add_all.Given as goal
 
 abbrev pub invariant-loop-k : goal.invariant-loop-k
 invariant-loop-k l =
     record {
-      bytes : AreBytesOf l.words l.number l.bytes;
+      taken : AreTakenFrom l.words l.bytes;
       row : length l.row ≡ length l.words;
       rows : HasRows l.words l.self.text.items l.self.from.items;
       count : length l.self.from.items ≡ AT_ONCE * l.number + l.k;
