@@ -15,15 +15,16 @@ use crate::words::{next_in_word, without_bit};
 use limits::INITIAL;
 use partition_graph::WORD_BITS;
 
-/// The first of the pairs of the entry to which `pair` leads, in the order of their ids; or `other`, if that has no greater id or
-/// `pair` leads to none of them.
+/// The first of the pairs of the entry to which `pair` leads, in the order of their ids; or `other`, if that has no greater
+/// id or `pair` leads to none of them.
 fn nearest(question: &Question<'_, '_>, pair: Pair, entry: Entry, other: Pair) -> Pair
     requires looked { looks_at question.now pair.id ≡ true }
     requires pair { pair.state < 3 }
     requires place { entry.place < ID_WORDS }
     ensures found { (result ≡ other) ⊎ (IsAmong (part_of entry) result × Leads (asked question.now) pair result) }
     ensures lower { result.id ≤ other.id }
-    ensures least { (r : Pair) → IsAmong (part_of entry) r → Leads (asked question.now) pair r → result.id ≤ r.id }
+    ensures least { (r : Pair) → IsAmong (part_of entry) r → Leads (asked question.now) pair r
+        → result.id ≤ r.id }
 {
     let place = entry.place as usize;
     let from = place * WORD_BITS;
@@ -44,8 +45,8 @@ fn nearest(question: &Question<'_, '_>, pair: Pair, entry: Entry, other: Pair) -
     other
 }
 
-/// The pair of the least id to which `pair` leads among the entries from `first` to `end`. These are the entries of one distance,
-/// one less than that of `pair`.
+/// The pair of the least id to which `pair` leads among the entries from `first` to `end`. These are the entries of one
+/// distance, one less than that of `pair`.
 fn next_pair(
     question: &Question<'_, '_>,
     table: &Table,
@@ -78,7 +79,8 @@ fn next_pair(
 fn first_at(table: &Table, distance: u16, end: usize) -> usize
     requires listed { IsListed table.now }
     requires within { end ≤ length (table.now).parts }
-    requires after { (i : ℕ) (x : Entry) → end ≤ i → slice_get (table.now).parts i ≡ Some x → distance ≤ x.distance }
+    requires after { (i : ℕ) (x : Entry) → end ≤ i → slice_get (table.now).parts i ≡ Some x
+        → distance ≤ x.distance }
     ensures { IsSplitAt distance result table.now }
 {
     let mut first = end;
@@ -91,7 +93,8 @@ fn first_at(table: &Table, distance: u16, end: usize) -> usize
     first
 }
 
-/// Writes the ids of the least violation to `path`, which has the capacity for them. `distance` is the distance of the start.
+/// Writes the ids of the least violation to `path`, which has the capacity for them. `distance` is the distance of the
+/// start.
 pub(crate) fn trace(
     question: &Question<'_, '_>,
     table: &Table,
