@@ -100,6 +100,12 @@ pub record IsListedFrom (first : ℕ) (e : Entries) (r : Pair) : Type 0 where
   pub there : slice_get e.parts index ≡ Some entry
   pub among : IsAmong (part_of entry) r
 
+-- the entries from the first place up to the end have no other pair than q
+abbrev pub IsOnlyPair : ℕ → ℕ → Entries → Pair → Type 0
+IsOnlyPair first end e q =
+    (i : ℕ) (x : Entry) → first ≤ i → i < end → slice_get e.parts i ≡ Some x
+    → (r : Pair) → IsAmong (part_of x) r → r ≡ q
+
 -- no pair that was entered is farther
 abbrev pub AreWithin : Asked → ℕ → Entries → Type 0
 AreWithin a d e = (r : Pair) → IsPairOf a r → at e r < OPEN → at e r ≤ d

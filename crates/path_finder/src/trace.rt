@@ -1,12 +1,12 @@
 //! The path forwards: from the start along the least ids to TERMINAL.
-ghost use Rattle.std.specs.Prelude.{◌≡◌, ℕ, ◌≤◌, ◌<◌, ◌+◌, ◌⊎◌, length, slice_get, Some, true, vec_capacity};
+ghost use Rattle.std.specs.Prelude.{◌≡◌, ℕ, ◌≤◌, ◌<◌, ◌+◌, ◌⊎◌, length, slice_get, IfSome, Some, true, vec_capacity};
 ghost use Rattle.partition_graph.specs.declared.id_rows.TheConstants.{ID_WORDS};
 ghost use Rattle.path_finder.specs.declared.pair.Pair.{Pair};
 ghost use Rattle.path_finder.specs.declared.table.Entry.{Entry};
 ghost use Rattle.path_finder.specs.Asking.{asked, looks_at};
 ghost use Rattle.path_finder.specs.PairSets.{IsAmong};
 ghost use Rattle.path_finder.specs.Walks.{state_at, IsLeastOf, IsPairOf, Leads};
-ghost use Rattle.path_finder.specs.Tables.{at, part_of, IsKnown, IsListed, IsMeasured, IsNextPair, IsSplitAt};
+ghost use Rattle.path_finder.specs.Tables.{at, part_of, IsKnown, IsListed, IsMeasured, IsNextPair, IsOnlyPair, IsSplitAt};
 
 use crate::pair::Pair;
 use crate::question::Question;
@@ -45,6 +45,30 @@ fn nearest(question: &Question<'_, '_>, pair: Pair, entry: Entry, other: Pair) -
     other
 }
 
+/// The pair of the entries from `first` to `end`, if they have no more than one.
+#[inline]
+fn only_pair(table: &Table, first: usize, end: usize) -> Option<Pair>
+    requires listed { IsListed table.now }
+    requires first { first ≤ length (table.now).parts }
+    requires end { end ≤ length (table.now).parts }
+    ensures { IfSome result (IsOnlyPair first end table.now) }
+{
+    if first + 1 != end {
+        return None;
+    }
+    let entry = table.entry(first);
+    let Some(id) = next_in_word(entry.word, entry.place as usize * WORD_BITS) else {
+        return None;
+    };
+    if without_bit(entry.word, (id % WORD_BITS) as u32) != 0 {
+        return None;
+    }
+    Some(Pair {
+        id: id as u32,
+        state: entry.state,
+    })
+}
+
 /// The pair of the least id to which `pair` leads among the entries from `first` to `end`. These are the entries of one
 /// distance, one less than that of `pair`.
 fn next_pair(
@@ -65,6 +89,9 @@ fn next_pair(
     ensures pair { IsPairOf (asked question.now) result }
     ensures next { IsNextPair (asked question.now) table.now pair distance result }
 {
+    if let Some(only) = only_pair(table, first, end) {
+        return only;
+    }
     let mut next = Pair {
         id: question.ids(),
         state: 0,
