@@ -27,7 +27,6 @@ pub record IsFound (a : Asked) (d : ℕ) (e : Entries) (s : PairSet) : Type 0 wh
 
 -- the set has the pairs that were entered, and no other
 pub record HasEntered (a : Asked) (e : Entries) (s : PairSet) : Type 0 where
-  pub marked : IsMarked s
   pub sound : (r : Pair) → IsPairIn s r → IsPairOf a r × (at e r < OPEN)
   pub whole : (r : Pair) → IsPairOf a r → at e r < OPEN → has_pair s r ≡ true
 

@@ -37,7 +37,7 @@ fn enter_open(
     ensures some { result ≡ true → open_count table.new < open_count table.old }
     ensures none { result ≡ false → table.new ≡ table.old }
 {
-    let word = part.word & !entered.word(part.state, part.place);
+    let word = part.word & !entered.put(part);
     if word == 0 {
         return false;
     }
@@ -46,11 +46,6 @@ fn enter_open(
         distance,
         state: part.state,
         place: part.place as u8,
-    });
-    entered.add(Part {
-        state: part.state,
-        place: part.place,
-        word,
     });
     true
 }
