@@ -13,7 +13,7 @@ use crate::pair::Pair;
 use crate::pair_set::{PairSet, Part};
 use crate::question::{Question, Sources};
 use crate::table::{Entry, Table};
-use crate::words::{next_in_word, without_bit};
+use crate::words::{next_in_word, without_bit, without_lowest};
 use partition_graph::{ID_WORDS, WORD_BITS};
 
 /// Adds the pairs with this state whose ids have an edge to the id of the pair. `sources` says where these ids are.
@@ -144,7 +144,7 @@ fn gather_entry(question: &Question<'_, '_>, found: &mut PairSet, entry: Entry)
             state: entry.state,
         };
         gather_pair(question, found, pair);
-        rest = without_bit(rest, (id % WORD_BITS) as u32);
+        rest = without_lowest(rest);
     }
 }
 

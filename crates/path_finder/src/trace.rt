@@ -11,7 +11,7 @@ ghost use Rattle.path_finder.specs.Tables.{at, part_of, IsKnown, IsListed, IsMea
 use crate::pair::Pair;
 use crate::question::Question;
 use crate::table::{Entry, MAX_ENTRIES, OPEN, Table};
-use crate::words::{next_in_word, without_bit};
+use crate::words::{next_in_word, without_lowest};
 use limits::INITIAL;
 use partition_graph::WORD_BITS;
 
@@ -40,7 +40,7 @@ fn nearest(question: &Question<'_, '_>, pair: Pair, entry: Entry, other: Pair) -
                 state: entry.state,
             };
         }
-        rest = without_bit(rest, (at % WORD_BITS) as u32);
+        rest = without_lowest(rest);
     }
     other
 }
@@ -60,7 +60,7 @@ fn only_pair(table: &Table, first: usize, end: usize) -> Option<Pair>
     let Some(id) = next_in_word(entry.word, entry.place as usize * WORD_BITS) else {
         return None;
     };
-    if without_bit(entry.word, (id % WORD_BITS) as u32) != 0 {
+    if without_lowest(entry.word) != 0 {
         return None;
     }
     Some(Pair {

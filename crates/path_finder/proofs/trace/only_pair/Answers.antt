@@ -4,9 +4,11 @@ use Rattle.std.proofs.lemmas.Nat.{mod_below}
 use Rattle.std.proofs.lemmas.Option.{same_Some}
 use Rattle.path_finder.specs.declared.pair.Pair.{Pair}
 use Rattle.path_finder.specs.declared.table.Entry.{Entry}
+use Rattle.path_finder.specs.Bits.{IsLowestBit}
 use Rattle.path_finder.specs.PairSets.{IsAmong}
 use Rattle.path_finder.specs.Tables.{part_of}
 use Rattle.path_finder.proofs.PairSets.{bit-left, id-low, off-zero, same-id}
+use Rattle.path_finder.proofs.Lowest.{lowest-of-word}
 use Rattle.path_finder.proofs.WordSteps.{bit-of-word}
 use Rattle.path_finder.proofs.trace.only_pair.Goals as goal
 
@@ -21,14 +23,14 @@ pub returns : goal.returns
 returns c i y low high is r among =
     let x : Entry = c.entry-entry.result in
     let id : ℕ = c.in-Some.id in
-    let w = c.without_bit.ensures in
+    let bit : IsLowestBit x.word (id % 64) = lowest-of-word x.place x.word id c.in-Some.ensures in
     let f = bit-of-word x.place x.word id c.in-Some.ensures in
     let here : i ≡ c.args.first = omega (arith, low, high, c.if-first-end.false) in
     let this : y ≡ x = same_Some y x (sym is ∙ ap (slice_get c.args.table.now.parts) here ∙ c.entry-entry.ensures) in
     let am : IsAmong (part_of x) r = subst (λ (z : Entry). IsAmong (part_of z) r) this among in
-    let same : r.id ≡ id = elim (bit-left x.word c.without_bit.result (id % 64) (r.id % 64) (mod_below r.id 64 (omega arith)) w.others am.bit) [
-      | inl still ↦ absurd (true≢false (sym still ∙ off-zero c.without_bit.result (r.id % 64) c.if-without_bit-ne0.false))
-      | inr bit ↦ same-id x.place r.id id am.place f.0 bit
+    let same : r.id ≡ id = elim (bit-left x.word c.without_lowest.result (id % 64) (r.id % 64) (mod_below r.id 64 (omega arith)) (c.without_lowest.ensures.others (id % 64) bit) am.bit) [
+      | inl still ↦ absurd (true≢false (sym still ∙ off-zero c.without_lowest.result (r.id % 64) c.if-without_lowest-ne0.false))
+      | inr at ↦ same-id x.place r.id id am.place f.0 at
     ] in
     let pair : ℕ → ℕ → Pair = λ n s. record { id = n; state = s } in
     ap₂ pair same am.state
