@@ -48,8 +48,8 @@ fn gather_sources(
     }
 }
 
-/// Adds the pairs with this state that lead to the pair. `typ` is the type of its id, and `sources` says where the ids are
-/// that have an edge to its id.
+/// Adds the pairs with this state that lead to the pair. `typ` is the type of its id, and `sources` says where the ids
+/// are that have an edge to its id.
 fn gather_state(
     question: &Question<'_, '_>,
     found: &mut PairSet,
@@ -75,8 +75,8 @@ fn gather_state(
     gather_sources(question, found, pair, sources, state);
 }
 
-/// Adds the pairs that lead to the pair. `typ` is the type of its id, and `sources` says where the ids are that have an edge
-/// to its id.
+/// Adds the pairs that lead to the pair. `typ` is the type of its id, and `sources` says where the ids are that have
+/// an edge to its id.
 #[inline(never)]
 fn gather_states(
     question: &Question<'_, '_>,
@@ -100,8 +100,8 @@ fn gather_states(
     }
 }
 
-/// Adds the pairs that lead to the pair. Most types are none of the two that the invariant names, and only one state leads
-/// to the pair then.
+/// Adds the pairs that lead to the pair. Most types are none of the two that the invariant names, and only one state
+/// leads to the pair then.
 #[inline]
 fn gather_pair(question: &Question<'_, '_>, found: &mut PairSet, pair: Pair)
     requires looked { looks_at question.now pair.id ≡ true }

@@ -14,8 +14,8 @@ use crate::pair_set::{PairSet, Part};
 use crate::question::Question;
 use crate::table::{Entry, OPEN, Table};
 
-/// Enters the open pairs of the part with this distance, and returns whether there are any. `entered` has the pairs that
-/// are entered. None of them is farther.
+/// Enters the open pairs of the part with this distance, and returns whether there are any. `entered` has the pairs
+/// that are entered. None of them is farther.
 fn enter_open(
     question: &Question<'_, '_>,
     table: &mut Table,
@@ -50,8 +50,8 @@ fn enter_open(
     true
 }
 
-/// Takes all pairs out of `found`, and enters those that are open with this distance. Returns at which place of the table
-/// their entries begin; `None` if there are none. `entered` has the pairs that are entered.
+/// Takes all pairs out of `found`, and enters those that are open with this distance. Returns at which place of the
+/// table their entries begin; `None` if there are none. `entered` has the pairs that are entered.
 pub(crate) fn enter_level(
     question: &Question<'_, '_>,
     table: &mut Table,

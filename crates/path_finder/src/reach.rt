@@ -222,7 +222,8 @@ fn meet_of_type(ahead: &mut Reach, behind: &mut Reach, view: &View<'_>, typ: u16
     behind.meet(id);
 }
 
-/// The first id at or above `from` that has the type and is none of the two ends; if there is none, how many ids are used.
+/// The first id at or above `from` that has the type and is none of the two ends; if there is none, how many ids are
+/// used.
 #[inline]
 fn next_of_type(view: &View<'_>, typ: u16, from: u32) -> u32
     requires { from ≤ (parts_seen view.now).used }

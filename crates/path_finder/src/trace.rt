@@ -15,8 +15,8 @@ use crate::words::{next_in_word, without_lowest};
 use limits::INITIAL;
 use partition_graph::WORD_BITS;
 
-/// The first of the pairs of the entry to which `pair` leads, in the order of their ids; or `other`, if that has no greater
-/// id or `pair` leads to none of them.
+/// The first of the pairs of the entry to which `pair` leads, in the order of their ids; or `other`, if that has no
+/// greater id or `pair` leads to none of them.
 fn nearest(question: &Question<'_, '_>, pair: Pair, entry: Entry, other: Pair) -> Pair
     requires looked { looks_at question.now pair.id ≡ true }
     requires pair { pair.state < 3 }

@@ -7,8 +7,8 @@ ghost use Rattle.path_finder.specs.Bits.{IsLowestBit};
 
 use partition_graph::WORD_BITS;
 
-/// The least number at or above `from` whose bit is on, in the word that has the bit of `from`. `None` if no bit is on from
-/// there to the end of the word.
+/// The least number at or above `from` whose bit is on, in the word that has the bit of `from`. `None` if no bit is on
+/// from there to the end of the word.
 #[inline]
 pub(crate) fn next_in_word(word: u64, from: usize) -> Option<usize>
     requires { from < 2 ^ 32 }
