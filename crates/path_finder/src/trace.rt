@@ -6,7 +6,8 @@ ghost use Rattle.path_finder.specs.declared.table.Entry.{Entry};
 ghost use Rattle.path_finder.specs.Asking.{asked, looks_at};
 ghost use Rattle.path_finder.specs.PairSets.{IsAmong};
 ghost use Rattle.path_finder.specs.Walks.{state_at, IsLeastOf, IsPairOf, Leads};
-ghost use Rattle.path_finder.specs.Tables.{at, part_of, IsKnown, IsListed, IsMeasured, IsNextPair, IsOnlyPair, IsSplitAt};
+ghost use Rattle.path_finder.specs.Tables.{at, part_of, IsKnown, IsListed, IsMeasured};
+ghost use Rattle.path_finder.specs.Tables.{IsNextPair, IsOnlyPair, IsSplitAt};
 
 use crate::pair::Pair;
 use crate::question::Question;
