@@ -51,7 +51,6 @@ stands-open a e r is p = ap (λ (xs : List ℕ). get_or xs (r.id * STATES + r.st
 pub none-entered : (a : Asked) (e : Entries) (n : PairSet) → e.distances ≡ replicate (a.ids * STATES) OPEN → IsEmptySet n → HasEntered a e n
 none-entered a e n is empty =
     record {
-      marked = empty.marked;
       sound = λ r has. absurd (no-pair n r empty has);
       whole = λ r p k. absurd (omega (arith, k, stands-open a e r is p));
     }

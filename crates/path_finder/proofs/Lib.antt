@@ -6,6 +6,7 @@ pub mod Surveying
 pub mod Narrow
 pub mod WordSets
 pub mod WordSteps
+pub mod Lowest
 pub mod PairSets
 pub mod Levels
 pub mod Parts

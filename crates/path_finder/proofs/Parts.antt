@@ -10,7 +10,7 @@ use Rattle.path_finder.specs.declared.pair.Pair.{Pair}
 use Rattle.path_finder.specs.declared.pair_set.PairSet.{PairSet}
 use Rattle.path_finder.specs.declared.pair_set.Part.{Part}
 use Rattle.path_finder.specs.Levels.{AreOpened, HasEntered}
-use Rattle.path_finder.specs.PairSets.{has_in, has_pair, IsAdded, IsAmong, IsMarked}
+use Rattle.path_finder.specs.PairSets.{has_in, has_pair, IsAdded, IsAmong}
 use Rattle.path_finder.specs.Tables.{Entries, at, place, AreEnteredWith, IsSplitAt}
 use Rattle.path_finder.specs.Walks.{Asked, IsPairOf}
 use Rattle.path_finder.proofs.Entering.{place_within}
@@ -59,12 +59,40 @@ among-open a part e n entered r few fits is all pr among =
       })
     ]
 
+-- where the whole part was added, its open pairs were
+pub added-open : (a : Asked) (part these : Part) (e : Entries) (n m : PairSet) → HasEntered a e n → ((r : Pair) → IsAmong part r → IsPairOf a r)
+    → ((r : Pair) → IsAmong these r → IsAmong part r) → ((r : Pair) → IsAmong part r → (at e r < OPEN) ⊎ IsAmong these r)
+    → IsAdded n m part → IsAdded n m these
+added-open a part these e n m all pairs own either added =
+    record {
+      kept = added.kept;
+      added = λ r is. added.added r (own r is);
+      others = λ r low h. elim (added.others r low h) [
+        | inl old ↦ inl old
+        | inr among ↦ elim (either r among) [
+          | inl entered ↦ inl (all.whole r (pairs r among) entered)
+          | inr new ↦ inr new
+        ]
+      ];
+    }
+
+-- the set of the entered pairs stays the same where all pairs of the part were entered
+pub entered-still : (a : Asked) (part : Part) (e : Entries) (n m : PairSet) → HasEntered a e n → ((r : Pair) → IsAmong part r → IsPairOf a r)
+    → ((r : Pair) → IsAmong part r → at e r < OPEN) → IsAdded n m part → HasEntered a e m
+entered-still a part e n m all pairs low added =
+    record {
+      sound = λ r is. elim (added.others r is.id is.has) [
+        | inl old ↦ all.sound r (record { state = is.state; id = is.id; has = old })
+        | inr among ↦ (pairs r among, low r among)
+      ];
+      whole = λ r p k. added.kept r (all.whole r p k);
+    }
+
 -- the set of the entered pairs has those that were entered now
 pub entered-more : (a : Asked) (these : Part) (d : ℕ) (e g : Entries) (n m : PairSet) → d < OPEN → HasEntered a e n → ((r : Pair) → IsAmong these r → IsPairOf a r)
-    → AreEnteredWith these d e g → IsMarked m → IsAdded n m these → HasEntered a g m
-entered-more a these d e g n m closes all pairs now marked added =
+    → AreEnteredWith these d e g → IsAdded n m these → HasEntered a g m
+entered-more a these d e g n m closes all pairs now added =
     record {
-      marked = marked;
       sound = λ r is. elim (added.others r is.id is.has) [
         | inl old ↦
             let o : IsPairOf a r × (at e r < OPEN) = all.sound r (record { state = is.state; id = is.id; has = old }) in

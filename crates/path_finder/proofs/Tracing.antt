@@ -1,16 +1,17 @@
 -- The next pair of the path among the entries of a level.
-use Rattle.std.proofs.Common.{◌≡◌, ◌⊎◌, ◌&&◌, ℕ, suc, ◌+◌, ◌*◌, ◌/◌, ◌%◌, ◌<◌, ◌≤◌, Bool, true, slice_get, Some, bit_and, sym, ◌∙◌, ap, subst, inl, inr, arith}
-use Rattle.std.proofs.lemmas.Bool.{cases_lt, true≢false}
+use Rattle.std.proofs.Common.{◌≡◌, ◌⊎◌, ◌&&◌, ℕ, suc, ◌+◌, ◌*◌, ◌/◌, ◌%◌, ◌<◌, ◌≤◌, Bool, true, length, slice_get, Some, bit_and, sym, ◌∙◌, ap, ap₂, subst, inl, inr, arith}
+use Rattle.std.proofs.lemmas.Bool.{cases_eq, cases_lt, true≢false}
 use Rattle.std.proofs.lemmas.Nat.{div-add-mod', mod_below}
 use Rattle.partition_graph.specs.NeighbourWords.{IsWordOf}
 use Rattle.partition_graph.specs.Nexts.{IsNext}
 use Rattle.partition_graph.specs.Parts.{HasEdgesBelow}
 use Rattle.partition_graph.proofs.NeighbourWords.{word-both}
+use Rattle.path_finder.specs.declared.pair.TheConstants.{STATES}
 use Rattle.path_finder.specs.declared.table.TheConstants.{OPEN}
 use Rattle.path_finder.specs.declared.pair.Pair.{Pair}
 use Rattle.path_finder.specs.declared.table.Entry.{Entry}
 use Rattle.path_finder.specs.PairSets.{IsAmong}
-use Rattle.path_finder.specs.Tables.{Entries, at, part_of, place, IsKnown, IsListed, IsNextPair, IsSplitAt}
+use Rattle.path_finder.specs.Tables.{Entries, at, part_of, IsKnown, IsListed, IsNextPair, IsOnlyPair, IsSplitAt}
 use Rattle.path_finder.specs.Walks.{Asked, IsPairOf, Leads}
 use Rattle.path_finder.proofs.Entering.{place_within}
 use Rattle.path_finder.proofs.Least.{has_next}
@@ -46,6 +47,23 @@ IsLeastAmong a e p first end next =
 abbrev pub IsChosen : Asked → Entries → Pair → ℕ → Pair → Type 0
 IsChosen a e p d next = (next.id ≡ a.ids) ⊎ (IsPairOf a next × Leads a p next × (at e next ≡ d))
 
+-- a pair at this distance is one of the entries of the level
+pub in-level : (a : Asked) (e : Entries) (d first end : ℕ) (r : Pair) → length e.distances ≡ a.ids * STATES → IsListed e → IsSplitAt d first e → IsSplitAt (suc d) end e
+    → IsPairOf a r → at e r ≡ d → d < OPEN
+    → ((i : ℕ) (x : Entry) → first ≤ i → i < end → slice_get e.parts i ≡ Some x → IsAmong (part_of x) r → ⊥) → ⊥
+in-level a e d first end r size listed from to pr v closes without = omega (arith, v, closes, listed.others r pr.state (omega (arith, place_within a r pr, size)) none)
+  where
+    none : (i : ℕ) (x : Entry) → slice_get e.parts i ≡ Some x → IsAmong (part_of x) r → ⊥
+    none i x is am =
+        let its : at e r ≡ x.distance = (listed.each i x is).value r am in
+        elim (cases_lt i first) [
+          | inl low ↦ omega (arith, its, v, from.before i x low is)
+          | inr reached ↦ elim (cases_lt i end) [
+            | inl inside ↦ without i x reached inside is am
+            | inr past ↦ omega (arith, its, v, to.after i x past is)
+          ]
+        ]
+
 -- the least of all entries of the level is the next one
 pub next-chosen : (a : Asked) (e : Entries) (p : Pair) (d first end : ℕ) (next : Pair) → HasEdgesBelow a.graph a.ids → IsKnown a (suc d) e → IsListed e → IsSplitAt d first e → IsSplitAt (suc d) end e
     → IsPairOf a p → at e p ≡ suc d → suc d < OPEN → IsChosen a e p d next → IsLeastAmong a e p first end next → IsPairOf a next × IsNextPair a e p d next
@@ -67,17 +85,31 @@ next-chosen a e p d first end next w known listed from to pp value closes chosen
 
     cover : (r : Pair) → IsPairOf a r → Leads a p r → at e r ≡ d → next.id ≤ r.id
     cover r pr leads v = elim (cases_lt r.id next.id) [
-      | inl below ↦ absurd (omega (arith, v, closes, listed.others r pr.state (omega (arith, place_within a r pr, known.size)) (λ i x is am. none below i x is am)))
+      | inl below ↦ absurd (in-level a e d first end r known.size listed from to pr v (omega arith) (λ i x low high is am. omega (arith, below, least i x low high is r am leads)))
       | inr above ↦ above
     ]
-      where
-        none : r.id < next.id → (i : ℕ) (x : Entry) → slice_get e.parts i ≡ Some x → IsAmong (part_of x) r → ⊥
-        none below i x is am =
-            let its : at e r ≡ x.distance = (listed.each i x is).value r am in
-            elim (cases_lt i first) [
-              | inl low ↦ omega (arith, its, v, from.before i x low is)
-              | inr reached ↦ elim (cases_lt i end) [
-                | inl inside ↦ omega (arith, below, least i x reached inside is r am leads)
-                | inr past ↦ omega (arith, its, v, to.after i x past is)
-              ]
-            ]
+
+-- the only pair of the level is the next one
+pub next-only : (a : Asked) (e : Entries) (p : Pair) (d first end : ℕ) (q : Pair) → HasEdgesBelow a.graph a.ids → IsKnown a (suc d) e → IsListed e → IsSplitAt d first e → IsSplitAt (suc d) end e
+    → IsPairOf a p → at e p ≡ suc d → suc d < OPEN → IsOnlyPair first end e q → IsPairOf a q × IsNextPair a e p d q
+next-only a e p d first end q w known listed from to pp value closes only =
+    let its : some.0 ≡ q = same some.0 (led-pair a p some.0 w pp.state some.2) some.3 in (
+      subst (λ (r : Pair). IsPairOf a r) its (led-pair a p some.0 w pp.state some.2),
+      record {
+        leads = subst (λ (r : Pair). Leads a p r) its some.2;
+        value = subst (λ (r : Pair). at e r ≡ d) its some.3;
+        first = λ r below leads v. let id : r.id ≡ q.id = ap (λ (x : Pair). x.id) (same r (led-pair a p r w pp.state leads) v) in omega (arith, below, id);
+      },
+    )
+  where
+    some : (r : Pair) × (r.id < a.ids) × Leads a p r × (at e r ≡ d)
+    some = has_next a e p d w known pp value closes
+
+    same : (r : Pair) → IsPairOf a r → at e r ≡ d → r ≡ q
+    same r pr v = elim (cases_eq r.id q.id) [
+      | inl id ↦ elim (cases_eq r.state q.state) [
+        | inl state ↦ let pair : ℕ → ℕ → Pair = λ n s. record { id = n; state = s } in ap₂ pair id state
+        | inr other ↦ absurd (in-level a e d first end r known.size listed from to pr v (omega arith) (λ i x low high is am. other (ap (λ (y : Pair). y.state) (only i x low high is r am))))
+      ]
+      | inr other ↦ absurd (in-level a e d first end r known.size listed from to pr v (omega arith) (λ i x low high is am. other (ap (λ (y : Pair). y.id) (only i x low high is r am))))
+    ]

@@ -16,7 +16,8 @@ pub record IsPairIn (s : PairSet) (r : Pair) : Type 0 where
 pub record HasSourcesIn (a : Asked) (states : ℕ → Type 0) (q : Pair) (old new : PairSet) : Type 0 where
   pub kept : (p : Pair) → has_pair old p ≡ true → has_pair new p ≡ true
   pub all : (p : Pair) → IsPairOf a p → states p.state → Leads a p q → has_pair new p ≡ true
-  pub others : (p : Pair) → p.id < MAX_PARTITIONS → has_pair new p ≡ true → (has_pair old p ≡ true) ⊎ Leads a p q
+  pub others : (p : Pair) → p.id < MAX_PARTITIONS → has_pair new p ≡ true
+      → (has_pair old p ≡ true) ⊎ Leads a p q
 
 -- the pairs that lead to one of these were added, and no other
 pub record HasSourcesOf (a : Asked) (these : Pair → Type 0) (old new : PairSet) : Type 0 where

@@ -9,14 +9,15 @@ use Rattle.path_finder.specs.declared.pair_set.PairSet.{PairSet}
 use Rattle.path_finder.specs.declared.pair_set.Part.{Part}
 use Rattle.path_finder.specs.Gathering.{IsPairIn}
 use Rattle.path_finder.specs.PairSets.{has_pair, IsAmong, IsMarked}
-use Rattle.path_finder.specs.Tables.{Entries, at, open_count, IsKnown, IsSplitAt}
+use Rattle.path_finder.specs.Tables.{Entries, at, open_count, AreWithin, IsKnown, IsSplitAt}
 use Rattle.path_finder.specs.Walks.{Asked, IsPairOf, Finishes}
 
 -- the set has TERMINAL in the bad states below this one, and nothing else
 pub record HasEndsBelow (a : Asked) (state : ℕ) (s : PairSet) : Type 0 where
   pub marked : IsMarked s
   pub ends : (r : Pair) → IsPairIn s r → (r.id ≡ TERMINAL) × (is_bad a.inv r.state ≡ true)
-  pub all : (r : Pair) → r.id ≡ TERMINAL → r.state < state → is_bad a.inv r.state ≡ true → has_pair s r ≡ true
+  pub all : (r : Pair) → r.id ≡ TERMINAL → r.state < state → is_bad a.inv r.state ≡ true
+      → has_pair s r ≡ true
 
 -- walks of this length that end badly lead from the pairs of the set, and from no other pair that is open
 pub record IsFound (a : Asked) (d : ℕ) (e : Entries) (s : PairSet) : Type 0 where
@@ -26,14 +27,13 @@ pub record IsFound (a : Asked) (d : ℕ) (e : Entries) (s : PairSet) : Type 0 wh
 
 -- the set has the pairs that were entered, and no other
 pub record HasEntered (a : Asked) (e : Entries) (s : PairSet) : Type 0 where
-  pub marked : IsMarked s
   pub sound : (r : Pair) → IsPairIn s r → IsPairOf a r × (at e r < OPEN)
   pub whole : (r : Pair) → IsPairOf a r → at e r < OPEN → has_pair s r ≡ true
 
 -- all pairs that are nearer are entered, and so are some of the pairs at this distance; the others are found
 pub record IsEntering (a : Asked) (d : ℕ) (e : Entries) (f : PairSet) : Type 0 where
   pub known : IsKnown a d e
-  pub low : (r : Pair) → IsPairOf a r → at e r < OPEN → at e r ≤ d
+  pub low : AreWithin a d e
   pub found : IsFound a d e f
   pub room : d + open_count e ≤ a.ids * STATES
 
@@ -45,7 +45,7 @@ pub record IsDue (a : Asked) (d : ℕ) (e : Entries) (f : PairSet) : Type 0 wher
 -- all pairs up to this distance are entered
 pub record IsReached (a : Asked) (d : ℕ) (e : Entries) : Type 0 where
   pub known : IsKnown a (d + 1) e
-  pub low : (r : Pair) → IsPairOf a r → at e r < OPEN → at e r ≤ d
+  pub low : AreWithin a d e
   pub room : d + open_count e ≤ a.ids * STATES
 
 -- each pair has this distance, or is as before

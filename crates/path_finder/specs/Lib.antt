@@ -1,4 +1,5 @@
 pub mod Asking
+pub mod Bits
 pub mod IdSets
 pub mod Keeping
 pub mod Nearness

@@ -39,7 +39,8 @@ pub record IsAmong (part : Part) (r : Pair) : Type 0 where
 pub record IsAdded (old new : PairSet) (part : Part) : Type 0 where
   pub kept : (r : Pair) → has_pair old r ≡ true → has_pair new r ≡ true
   pub added : (r : Pair) → IsAmong part r → has_pair new r ≡ true
-  pub others : (r : Pair) → r.id < MAX_PARTITIONS → has_pair new r ≡ true → (has_pair old r ≡ true) ⊎ IsAmong part r
+  pub others : (r : Pair) → r.id < MAX_PARTITIONS → has_pair new r ≡ true
+      → (has_pair old r ≡ true) ⊎ IsAmong part r
 
 -- the pairs of the part were taken out
 pub record IsTaken (old new : PairSet) (part : Part) : Type 0 where
@@ -47,5 +48,6 @@ pub record IsTaken (old new : PairSet) (part : Part) : Type 0 where
   pub place : part.place < ID_WORDS
   pub had : (r : Pair) → IsAmong part r → has_pair old r ≡ true
   pub kept : (r : Pair) → has_pair new r ≡ true → has_pair old r ≡ true
-  pub left : (r : Pair) → r.state < 3 → r.id < MAX_PARTITIONS → has_pair old r ≡ true → (has_pair new r ≡ true) ⊎ IsAmong part r
+  pub left : (r : Pair) → r.state < 3 → r.id < MAX_PARTITIONS → has_pair old r ≡ true
+      → (has_pair new r ≡ true) ⊎ IsAmong part r
   pub fewer : new.marks < old.marks

@@ -67,14 +67,23 @@ pub record IsEntered (e : Entries) (x : Entry) : Type 0 where
   pub within : (r : Pair) → IsAmong (part_of x) r → place r < length e.distances
   pub value : (r : Pair) → IsAmong (part_of x) r → at e r ≡ x.distance
 
--- each pair that is not open is one of an entry's, no distance is past OPEN, the distances of the entries ascend, and there is room
--- for an entry for each open pair
+-- the pair is none of an entry's
+abbrev pub IsUnlisted : Entries → Pair → Type 0
+IsUnlisted e r = (i : ℕ) (x : Entry) → slice_get e.parts i ≡ Some x → IsAmong (part_of x) r → ⊥
+
+-- no entry has a greater distance than one that follows it
+abbrev pub AreInOrder : List Entry → Type 0
+AreInOrder xs =
+    (i j : ℕ) (x y : Entry) → i < j → slice_get xs i ≡ Some x → slice_get xs j ≡ Some y
+    → x.distance ≤ y.distance
+
+-- each pair that is not open is one of an entry's, no distance is past OPEN, the distances of the entries ascend, and
+-- there is room for an entry for each open pair
 pub record IsListed (e : Entries) : Type 0 where
   pub each : (i : ℕ) (x : Entry) → slice_get e.parts i ≡ Some x → IsEntered e x
-  pub others : (r : Pair) → r.state < 3 → place r < length e.distances
-      → ((i : ℕ) (x : Entry) → slice_get e.parts i ≡ Some x → IsAmong (part_of x) r → ⊥) → OPEN ≤ at e r
+  pub others : (r : Pair) → r.state < 3 → place r < length e.distances → IsUnlisted e r → OPEN ≤ at e r
   pub top : (k : ℕ) → slice_index e.distances k ≤ OPEN
-  pub ascends : (i j : ℕ) (x y : Entry) → i < j → slice_get e.parts i ≡ Some x → slice_get e.parts j ≡ Some y → x.distance ≤ y.distance
+  pub ascends : AreInOrder e.parts
   pub room : length e.parts + open_count e ≤ MAX_ENTRIES
 
 -- the entries from this place of the list on have this distance or a greater one, and those before it have none of them
@@ -91,10 +100,20 @@ pub record IsListedFrom (first : ℕ) (e : Entries) (r : Pair) : Type 0 where
   pub there : slice_get e.parts index ≡ Some entry
   pub among : IsAmong (part_of entry) r
 
+-- the entries from the first place up to the end have no other pair than q
+abbrev pub IsOnlyPair : ℕ → ℕ → Entries → Pair → Type 0
+IsOnlyPair first end e q =
+    (i : ℕ) (x : Entry) → first ≤ i → i < end → slice_get e.parts i ≡ Some x
+    → (r : Pair) → IsAmong (part_of x) r → r ≡ q
+
+-- no pair that was entered is farther
+abbrev pub AreWithin : Asked → ℕ → Entries → Type 0
+AreWithin a d e = (r : Pair) → IsPairOf a r → at e r < OPEN → at e r ≤ d
+
 -- distances less than that of the start are exact; if the start is open, all are
 pub record IsMeasured (a : Asked) (start : Pair) (e : Entries) : Type 0 where
   pub size : length e.distances ≡ a.ids * STATES
-  pub short : (r : Pair) → IsPairOf a r → at e r < OPEN → at e r ≤ a.ids * STATES
+  pub short : AreWithin a (a.ids * STATES) e
   pub sound : (r : Pair) → IsPairOf a r → at e r < OPEN → Finishes a r (at e r)
   pub whole : (r : Pair) (k : ℕ) → IsPairOf a r → (at e start < OPEN → k < at e start) → Finishes a r k
       → (at e r ≤ k) × (at e r < OPEN)
@@ -103,7 +122,8 @@ pub record IsMeasured (a : Asked) (start : Pair) (e : Entries) : Type 0 where
 pub record IsKnown (a : Asked) (bound : ℕ) (e : Entries) : Type 0 where
   pub size : length e.distances ≡ a.ids * STATES
   pub sound : (r : Pair) → IsPairOf a r → at e r < OPEN → Finishes a r (at e r)
-  pub whole : (r : Pair) (k : ℕ) → IsPairOf a r → k < bound → Finishes a r k → (at e r ≤ k) × (at e r < OPEN)
+  pub whole : (r : Pair) (k : ℕ) → IsPairOf a r → k < bound → Finishes a r k
+      → (at e r ≤ k) × (at e r < OPEN)
 
 -- q is the pair with the least id that p leads to and that has the distance d
 pub record IsNextPair (a : Asked) (e : Entries) (p : Pair) (d : ℕ) (q : Pair) : Type 0 where

@@ -13,7 +13,7 @@ use crate::pair::Pair;
 use crate::pair_set::{PairSet, Part};
 use crate::question::{Question, Sources};
 use crate::table::{Entry, Table};
-use crate::words::{next_in_word, without_bit};
+use crate::words::{next_in_word, without_bit, without_lowest};
 use partition_graph::{ID_WORDS, WORD_BITS};
 
 /// Adds the pairs with this state whose ids have an edge to the id of the pair. `sources` says where these ids are.
@@ -48,8 +48,8 @@ fn gather_sources(
     }
 }
 
-/// Adds the pairs with this state that lead to the pair. `typ` is the type of its id, and `sources` says where the ids are that
-/// have an edge to its id.
+/// Adds the pairs with this state that lead to the pair. `typ` is the type of its id, and `sources` says where the ids
+/// are that have an edge to its id.
 fn gather_state(
     question: &Question<'_, '_>,
     found: &mut PairSet,
@@ -75,8 +75,8 @@ fn gather_state(
     gather_sources(question, found, pair, sources, state);
 }
 
-/// Adds the pairs that lead to the pair. `typ` is the type of its id, and `sources` says where the ids are that have an edge to its
-/// id.
+/// Adds the pairs that lead to the pair. `typ` is the type of its id, and `sources` says where the ids are that have
+/// an edge to its id.
 #[inline(never)]
 fn gather_states(
     question: &Question<'_, '_>,
@@ -100,8 +100,8 @@ fn gather_states(
     }
 }
 
-/// Adds the pairs that lead to the pair. Most types are none of the two that the invariant names, and only one state leads to the
-/// pair then.
+/// Adds the pairs that lead to the pair. Most types are none of the two that the invariant names, and only one state
+/// leads to the pair then.
 #[inline]
 fn gather_pair(question: &Question<'_, '_>, found: &mut PairSet, pair: Pair)
     requires looked { looks_at question.now pair.id ≡ true }
@@ -132,6 +132,10 @@ fn gather_entry(question: &Question<'_, '_>, found: &mut PairSet, entry: Entry)
     ensures gathered { HasSourcesOf (asked question.now) (IsAmong (part_of entry)) found.old found.new }
 {
     let place = entry.place as usize;
+    if place >= ID_WORDS {
+        // It never is. The compiler learns from this that no id is out of range, and tests none of them.
+        return;
+    }
     let from = place * WORD_BITS;
     let mut rest = entry.word & question.near_word(place);
     while let Some(id) = next_in_word(rest, from) {
@@ -140,7 +144,7 @@ fn gather_entry(question: &Question<'_, '_>, found: &mut PairSet, entry: Entry)
             state: entry.state,
         };
         gather_pair(question, found, pair);
-        rest = without_bit(rest, (id % WORD_BITS) as u32);
+        rest = without_lowest(rest);
     }
 }
 

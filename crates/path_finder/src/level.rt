@@ -7,15 +7,15 @@ ghost use Rattle.path_finder.specs.declared.table.TheConstants.{OPEN};
 ghost use Rattle.path_finder.specs.Asking.{asked};
 ghost use Rattle.path_finder.specs.Levels.{AreOpened, ArePassed, HasEntered, IsDue, IsReached};
 ghost use Rattle.path_finder.specs.PairSets.{IsAmong, IsEmptySet};
-ghost use Rattle.path_finder.specs.Tables.{at, open_count, IsSplitAt};
+ghost use Rattle.path_finder.specs.Tables.{at, open_count, AreWithin, IsSplitAt};
 ghost use Rattle.path_finder.specs.Walks.{IsPairOf};
 
 use crate::pair_set::{PairSet, Part};
 use crate::question::Question;
 use crate::table::{Entry, OPEN, Table};
 
-/// Enters the open pairs of the part with this distance, and returns whether there are any. `entered` has the pairs that are
-/// entered. None of them is farther.
+/// Enters the open pairs of the part with this distance, and returns whether there are any. `entered` has the pairs
+/// that are entered. None of them is farther.
 fn enter_open(
     question: &Question<'_, '_>,
     table: &mut Table,
@@ -28,7 +28,7 @@ fn enter_open(
     requires closes { distance < OPEN }
     requires pairs { (r : Pair) → IsAmong part r → IsPairOf (asked question.now) r }
     requires size { length (table.old).distances ≡ (asked question.now).ids * STATES }
-    requires low { (r : Pair) → IsPairOf (asked question.now) r → at table.old r < OPEN → at table.old r ≤ distance }
+    requires low { AreWithin (asked question.now) distance table.old }
     requires entered { HasEntered (asked question.now) table.old entered.old }
 
     // All pairs of the part are entered now.
@@ -37,7 +37,7 @@ fn enter_open(
     ensures some { result ≡ true → open_count table.new < open_count table.old }
     ensures none { result ≡ false → table.new ≡ table.old }
 {
-    let word = part.word & !entered.word(part.state, part.place);
+    let word = part.word & !entered.put(part);
     if word == 0 {
         return false;
     }
@@ -47,16 +47,11 @@ fn enter_open(
         state: part.state,
         place: part.place as u8,
     });
-    entered.add(Part {
-        state: part.state,
-        place: part.place,
-        word,
-    });
     true
 }
 
-/// Takes all pairs out of `found`, and enters those that are open with this distance. Returns at which place of the table their
-/// entries begin; `None` if there are none. `entered` has the pairs that are entered.
+/// Takes all pairs out of `found`, and enters those that are open with this distance. Returns at which place of the
+/// table their entries begin; `None` if there are none. `entered` has the pairs that are entered.
 pub(crate) fn enter_level(
     question: &Question<'_, '_>,
     table: &mut Table,

@@ -15,7 +15,8 @@ pub(crate) const PAIR_WORDS: usize = ID_WORDS * STATES;
 
 /// A set of pairs: for each state a word for each 64 ids, with a bit for each id.
 ///
-/// Most of the words are 0 in most sets. So a set also has a mark for each word that may have a pair.
+/// Most of the words are 0 in most sets. So a set from which pairs are taken also has a mark for each word that may
+/// have a pair.
 #[derive(Clone, Copy)]
 pub(crate) struct PairSet {
     pub words: [u64; PAIR_WORDS],
@@ -73,6 +74,21 @@ impl PairSet {
         let at = part.state as usize * ID_WORDS + part.place;
         self.words[at] |= part.word;
         self.marks |= 1 << at;
+    }
+
+    /// Puts the pairs of this state with the ids of a word into the set, without a mark. Returns the word that the set
+    /// had.
+    #[inline]
+    pub fn put(&mut self, part: Part) -> u64
+        requires state { part.state < 3 }
+        requires place { part.place < ID_WORDS }
+        ensures had { IsWordOf (has_in self.old part.state) part.place result }
+        ensures added { IsAdded self.old self.new part }
+    {
+        let at = part.state as usize * ID_WORDS + part.place;
+        let had = self.words[at];
+        self.words[at] = had | part.word;
+        had
     }
 
     /// Takes the pairs of one word out of the set; `None` if the set has no pair.

@@ -1,7 +1,7 @@
 //! The ids that walks from some ids reach, and those from which walks reach one of them.
 ghost use Rattle.std.specs.Prelude.{◌≡◌, ◌==◌, ◌||◌, ℕ, ◌≤◌, ◌<◌, ◌+◌, ◌*◌, [], Bool, true, length, replicate, slice_index, false};
 ghost use Rattle.std.specs.Int.{bit_at};
-ghost use Rattle.limits.specs.declared.TheConstants.{MAX_PARTITIONS};
+ghost use Rattle.limits.specs.declared.TheConstants.{FIRST_TYPE, MAX_PARTITIONS};
 ghost use Rattle.partition_graph.specs.Seen.{parts_seen, seen};
 ghost use Rattle.path_finder.specs.IdSets.{has_id};
 ghost use Rattle.path_finder.specs.Nearness.{is_met, is_of_type, IsClosed, IsReachedFrom};
@@ -14,7 +14,7 @@ use crate::id_set::IdSet;
 use crate::sight::Sight;
 use crate::words::{next_in_word, without_bit};
 use bit_rows::Rows;
-use limits::MAX_PARTITIONS;
+use limits::{FIRST_TYPE, MAX_PARTITIONS};
 use partition_graph::{ID_WORDS, View, WORD_BITS};
 use std::alloc::{AllocError, Global};
 use std::marker::Model;
@@ -222,6 +222,24 @@ fn meet_of_type(ahead: &mut Reach, behind: &mut Reach, view: &View<'_>, typ: u16
     behind.meet(id);
 }
 
+/// The first id at or above `from` that has the type and is none of the two ends; if there is none, how many ids are
+/// used.
+#[inline]
+fn next_of_type(view: &View<'_>, typ: u16, from: u32) -> u32
+    requires { from ≤ (parts_seen view.now).used }
+    ensures reached { from ≤ result }
+    ensures within { result ≤ (parts_seen view.now).used }
+    ensures none_between { (p : ℕ) → FIRST_TYPE ≤ p → from ≤ p → p < result
+        → (seen view.now).typ p ≡ typ → ⊥ }
+{
+    for id in from.max(FIRST_TYPE)..view.ids_used() {
+        if view.type_of(id) == typ {
+            return id;
+        }
+    }
+    view.ids_used()
+}
+
 /// Forgets all ids in both directions, and meets those of the type.
 fn begin_with_type(ahead: &mut Reach, behind: &mut Reach, view: &View<'_>, typ: u16)
     ensures ahead { (edge : ℕ → ℕ → Bool) → IsReaching edge 0 ahead.new }
@@ -233,8 +251,14 @@ fn begin_with_type(ahead: &mut Reach, behind: &mut Reach, view: &View<'_>, typ: 
 {
     ahead.clear();
     behind.clear();
-    for id in 0..view.ids_used() {
+    for end in 0..FIRST_TYPE {
+        meet_of_type(ahead, behind, view, typ, end);
+    }
+    let ids = view.ids_used();
+    let mut id = next_of_type(view, typ, FIRST_TYPE);
+    while id < ids {
         meet_of_type(ahead, behind, view, typ, id);
+        id = next_of_type(view, typ, id + 1);
     }
 }
 

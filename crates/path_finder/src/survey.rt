@@ -70,7 +70,8 @@ impl Survey {
     /// The ids around this id, if they were found.
     fn known(&self, id: u32) -> Option<IdSet>
         requires { id < MAX_PARTITIONS }
-        ensures { IfSome result (λ near. (k : ℕ) × (slice_get self.now k ≡ Some (record { id = id; near = near }))) }
+        ensures { IfSome result
+            (λ near. (k : ℕ) × (slice_get self.now k ≡ Some (record { id = id; near = near }))) }
     {
         let place = usize::from(self.places[id as usize]);
         let Some(found) = self.found.get(place) else {
@@ -122,7 +123,8 @@ pub(crate) fn near_merge(
     requires p { merge.p < MAX_PARTITIONS }
     requires q { merge.q < MAX_PARTITIONS }
     requires surveyed { IsSurveyOf survey.old (seen sight.now.view) }
-    ensures around { KeepsAround (has_id result) (merged_graph (seen sight.now.view) merge.p merge.q) (λ u. u == merge.p) }
+    ensures around { KeepsAround (has_id result)
+        (merged_graph (seen sight.now.view) merge.p merge.q) (λ u. u == merge.p) }
     ensures surveyed { IsSurveyOf survey.new (seen sight.now.view) }
 {
     let near_p = near_of(survey, around, sight, merge.p);

@@ -19,8 +19,8 @@ pub(crate) const MAX_ENTRIES: usize = IDS * STATES;
 /// The distance of a pair that was not entered.
 pub(crate) const OPEN: u16 = 65535;
 
-/// Pairs that were entered together: they have one state and one distance, and their ids have their bits in one word. The lowest
-/// bit is that of the id `64 * place`.
+/// Pairs that were entered together: they have one state and one distance, and their ids have their bits in one word.
+/// The lowest bit is that of the id `64 * place`.
 ///
 /// The distance of a pair is the number of edges of the shortest walk from it to TERMINAL that ends in the bad state.
 #[derive(Clone, Copy)]
@@ -31,8 +31,8 @@ pub(crate) struct Entry {
     pub place: u8,
 }
 
-/// The pairs that were entered, in the order of their distances. Contracts see the list of the entries, and a distance for each
-/// pair: that of its entry, or `OPEN` if it was not entered.
+/// The pairs that were entered, in the order of their distances. Contracts see the list of the entries, and a distance
+/// for each pair: that of its entry, or `OPEN` if it was not entered.
 #[derive(Drop)]
 pub(crate) struct Table {
     entries: Vec<Entry>,
@@ -49,7 +49,8 @@ impl Model for Table {
 
     ghost view = { λ t. entries_of t.pairs t.entries.items };
 
-    ghost invariant = { λ t. IsListed (entries_of t.pairs t.entries.items) × (MAX_ENTRIES ≤ vec_capacity t.entries) };
+    ghost invariant = { λ t.
+        IsListed (entries_of t.pairs t.entries.items) × (MAX_ENTRIES ≤ vec_capacity t.entries) };
 }
 
 impl Table {

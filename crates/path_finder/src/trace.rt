@@ -1,29 +1,31 @@
 //! The path forwards: from the start along the least ids to TERMINAL.
-ghost use Rattle.std.specs.Prelude.{◌≡◌, ℕ, ◌≤◌, ◌<◌, ◌+◌, ◌⊎◌, length, slice_get, Some, true, vec_capacity};
+ghost use Rattle.std.specs.Prelude.{◌≡◌, ℕ, ◌≤◌, ◌<◌, ◌+◌, ◌⊎◌, length, slice_get, IfSome, Some, true, vec_capacity};
 ghost use Rattle.partition_graph.specs.declared.id_rows.TheConstants.{ID_WORDS};
 ghost use Rattle.path_finder.specs.declared.pair.Pair.{Pair};
 ghost use Rattle.path_finder.specs.declared.table.Entry.{Entry};
 ghost use Rattle.path_finder.specs.Asking.{asked, looks_at};
 ghost use Rattle.path_finder.specs.PairSets.{IsAmong};
 ghost use Rattle.path_finder.specs.Walks.{state_at, IsLeastOf, IsPairOf, Leads};
-ghost use Rattle.path_finder.specs.Tables.{at, part_of, IsKnown, IsListed, IsMeasured, IsNextPair, IsSplitAt};
+ghost use Rattle.path_finder.specs.Tables.{at, part_of, IsKnown, IsListed, IsMeasured};
+ghost use Rattle.path_finder.specs.Tables.{IsNextPair, IsOnlyPair, IsSplitAt};
 
 use crate::pair::Pair;
 use crate::question::Question;
 use crate::table::{Entry, MAX_ENTRIES, OPEN, Table};
-use crate::words::{next_in_word, without_bit};
+use crate::words::{next_in_word, without_lowest};
 use limits::INITIAL;
 use partition_graph::WORD_BITS;
 
-/// The first of the pairs of the entry to which `pair` leads, in the order of their ids; or `other`, if that has no greater id or
-/// `pair` leads to none of them.
+/// The first of the pairs of the entry to which `pair` leads, in the order of their ids; or `other`, if that has no
+/// greater id or `pair` leads to none of them.
 fn nearest(question: &Question<'_, '_>, pair: Pair, entry: Entry, other: Pair) -> Pair
     requires looked { looks_at question.now pair.id ≡ true }
     requires pair { pair.state < 3 }
     requires place { entry.place < ID_WORDS }
     ensures found { (result ≡ other) ⊎ (IsAmong (part_of entry) result × Leads (asked question.now) pair result) }
     ensures lower { result.id ≤ other.id }
-    ensures least { (r : Pair) → IsAmong (part_of entry) r → Leads (asked question.now) pair r → result.id ≤ r.id }
+    ensures least { (r : Pair) → IsAmong (part_of entry) r → Leads (asked question.now) pair r
+        → result.id ≤ r.id }
 {
     let place = entry.place as usize;
     let from = place * WORD_BITS;
@@ -39,13 +41,37 @@ fn nearest(question: &Question<'_, '_>, pair: Pair, entry: Entry, other: Pair) -
                 state: entry.state,
             };
         }
-        rest = without_bit(rest, (at % WORD_BITS) as u32);
+        rest = without_lowest(rest);
     }
     other
 }
 
-/// The pair of the least id to which `pair` leads among the entries from `first` to `end`. These are the entries of one distance,
-/// one less than that of `pair`.
+/// The pair of the entries from `first` to `end`, if they have no more than one.
+#[inline]
+fn only_pair(table: &Table, first: usize, end: usize) -> Option<Pair>
+    requires listed { IsListed table.now }
+    requires first { first ≤ length (table.now).parts }
+    requires end { end ≤ length (table.now).parts }
+    ensures { IfSome result (IsOnlyPair first end table.now) }
+{
+    if first + 1 != end {
+        return None;
+    }
+    let entry = table.entry(first);
+    let Some(id) = next_in_word(entry.word, entry.place as usize * WORD_BITS) else {
+        return None;
+    };
+    if without_lowest(entry.word) != 0 {
+        return None;
+    }
+    Some(Pair {
+        id: id as u32,
+        state: entry.state,
+    })
+}
+
+/// The pair of the least id to which `pair` leads among the entries from `first` to `end`. These are the entries of one
+/// distance, one less than that of `pair`.
 fn next_pair(
     question: &Question<'_, '_>,
     table: &Table,
@@ -64,6 +90,9 @@ fn next_pair(
     ensures pair { IsPairOf (asked question.now) result }
     ensures next { IsNextPair (asked question.now) table.now pair distance result }
 {
+    if let Some(only) = only_pair(table, first, end) {
+        return only;
+    }
     let mut next = Pair {
         id: question.ids(),
         state: 0,
@@ -78,7 +107,8 @@ fn next_pair(
 fn first_at(table: &Table, distance: u16, end: usize) -> usize
     requires listed { IsListed table.now }
     requires within { end ≤ length (table.now).parts }
-    requires after { (i : ℕ) (x : Entry) → end ≤ i → slice_get (table.now).parts i ≡ Some x → distance ≤ x.distance }
+    requires after { (i : ℕ) (x : Entry) → end ≤ i → slice_get (table.now).parts i ≡ Some x
+        → distance ≤ x.distance }
     ensures { IsSplitAt distance result table.now }
 {
     let mut first = end;
@@ -91,7 +121,8 @@ fn first_at(table: &Table, distance: u16, end: usize) -> usize
     first
 }
 
-/// Writes the ids of the least violation to `path`, which has the capacity for them. `distance` is the distance of the start.
+/// Writes the ids of the least violation to `path`, which has the capacity for them. `distance` is the distance of the
+/// start.
 pub(crate) fn trace(
     question: &Question<'_, '_>,
     table: &Table,

@@ -5,9 +5,11 @@ use Rattle.partition_graph.specs.NeighbourWords.{IsWordOf}
 use Rattle.partition_graph.specs.Seen.{seen}
 use Rattle.partition_graph.proofs.NeighbourWords.{word-both}
 use Rattle.path_finder.specs.Asking.{asked}
+use Rattle.path_finder.specs.Bits.{IsLowestBit}
 use Rattle.path_finder.specs.IdSets.{has_id}
 use Rattle.path_finder.specs.Walks.{Asked, state_at}
-use Rattle.path_finder.proofs.PairSets.{bit-left, bit-on, id-low, left-bit, none-of-word, on, own-bits, same-id}
+use Rattle.path_finder.proofs.PairSets.{bit-left, id-low, left-bit, none-of-word, on, own-bits, same-id}
+use Rattle.path_finder.proofs.Lowest.{lowest-of-word, some-on}
 use Rattle.path_finder.proofs.WordSteps.{bit-of-word}
 use Rattle.path_finder.proofs.gather.gather_entry.Goals as goal
 
@@ -43,22 +45,26 @@ gather_pair-requires-clause-looked c =
     let f = bit-of-word c.args.entry.place c.loop-id.rest c.in-Some.id c.in-Some.ensures in
     (c.loop-id.invariant.within (record { id = c.in-Some.id; state = c.args.entry.state }) (record { state = refl; place = f.0; bit = f.1 })).1
 
+pub without_lowest-rest-requires : goal.without_lowest-rest-requires
+without_lowest-rest-requires c = some-on c.loop-id.rest (c.in-Some.id % 64) (bit-of-word c.args.entry.place c.loop-id.rest c.in-Some.id c.in-Some.ensures).1
+
 pub loop-id-preserved : goal.loop-id-preserved
 loop-id-preserved c =
     let a : Asked = asked c.args.question.now in
     let i = c.loop-id.invariant in
     let id : ℕ = c.in-Some.id in
     let rest : ℕ = c.loop-id.rest in
-    let less : ℕ = c.without_bit-rest.result in
-    let w = c.without_bit-rest.ensures in
+    let less : ℕ = c.without_lowest-rest.result in
+    let w = c.without_lowest-rest.ensures in
+    let low : IsLowestBit rest (id % 64) = lowest-of-word c.args.entry.place rest id c.in-Some.ensures in
     let g = c.gather_pair.ensures.gathered in
     let f = bit-of-word c.args.entry.place rest id c.in-Some.ensures in
     record {
       marked = c.gather_pair.ensures.marked;
-      within = λ r is. i.within r (record { state = is.state; place = is.place; bit = (left-bit rest less (id % 64) (r.id % 64) (mod_below r.id 64 (omega arith)) w.there w.others is.bit).1 });
+      within = λ r is. i.within r (record { state = is.state; place = is.place; bit = (left-bit rest less (id % 64) (r.id % 64) (mod_below r.id 64 (omega arith)) (w.there (id % 64) low) (w.others (id % 64) low) is.bit).1 });
       kept = λ p h. g.kept p (i.kept p h);
       all = λ p q is pp leads. elim (i.all p q is pp leads) [
-        | inl waits ↦ elim (bit-left rest less (id % 64) (q.id % 64) (mod_below q.id 64 (omega arith)) w.others waits) [
+        | inl waits ↦ elim (bit-left rest less (id % 64) (q.id % 64) (mod_below q.id 64 (omega arith)) (w.others (id % 64) low) waits) [
           | inl still ↦ inl still
           | inr same ↦
               let this : q.id ≡ id = same-id c.args.entry.place q.id id is.place f.0 same in
@@ -73,9 +79,7 @@ loop-id-preserved c =
     }
 
 pub loop-id-smaller : goal.loop-id-smaller
-loop-id-smaller c =
-    let f = bit-of-word c.args.entry.place c.loop-id.rest c.in-Some.id c.in-Some.ensures in
-    c.without_bit-rest.ensures.fewer (bit-on c.loop-id.rest (c.in-Some.id % 64) f.1)
+loop-id-smaller c = c.without_lowest-rest.ensures.fewer
 
 pub returns-clause-gathered : goal.returns-clause-gathered
 returns-clause-gathered c =

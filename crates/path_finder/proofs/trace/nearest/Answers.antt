@@ -2,9 +2,11 @@ use Rattle.std.proofs.Common.{◌≡◌, ◌&&◌, ◌%◌, ℕ, Bool, refl, sym
 use Rattle.std.proofs.lemmas.Bool.{and_parts, true≢false}
 use Rattle.std.proofs.lemmas.Nat.{mod_below}
 use Rattle.path_finder.specs.Asking.{asked}
+use Rattle.path_finder.specs.Bits.{IsLowestBit}
 use Rattle.path_finder.specs.Walks.{Asked, state_at}
-use Rattle.path_finder.proofs.PairSets.{bit-left, bit-on, id-low, left-bit, none-of-word, on, same-id}
+use Rattle.path_finder.proofs.PairSets.{bit-left, id-low, left-bit, none-of-word, on, same-id}
 use Rattle.path_finder.proofs.Tracing.{first-on, on-both}
+use Rattle.path_finder.proofs.Lowest.{lowest-of-word, some-on}
 use Rattle.path_finder.proofs.WordSteps.{bit-of-word}
 use Rattle.path_finder.proofs.trace.nearest.Goals as goal
 
@@ -21,18 +23,22 @@ loop-at-init c =
       waits = λ r am leads. on-both edge c.target_word.result c.args.entry.word c.args.entry.place r.id c.target_word.ensures am.place ∙ ap₂ (λ (a b : Bool). a && b) leads.edge am.bit;
     }
 
+pub without_lowest-rest-requires : goal.without_lowest-rest-requires
+without_lowest-rest-requires c = some-on c.loop-at.rest (c.in-Some.at % 64) (bit-of-word c.args.entry.place c.loop-at.rest c.in-Some.at c.in-Some.ensures).1
+
 pub loop-at-preserved : goal.loop-at-preserved
 loop-at-preserved c =
     let a : Asked = asked c.args.question.now in
     let i = c.loop-at.invariant in
     let id : ℕ = c.in-Some.at in
     let rest : ℕ = c.loop-at.rest in
-    let less : ℕ = c.without_bit-rest.result in
-    let w = c.without_bit-rest.ensures in
+    let less : ℕ = c.without_lowest-rest.result in
+    let w = c.without_lowest-rest.ensures in
+    let low : IsLowestBit rest (id % 64) = lowest-of-word c.args.entry.place rest id c.in-Some.ensures in
     let f = bit-of-word c.args.entry.place rest id c.in-Some.ensures in
     record {
-      within = λ n here is. i.within n here (left-bit rest less (id % 64) (n % 64) (mod_below n 64 (omega arith)) w.there w.others is).1;
-      waits = λ r am leads. elim (bit-left rest less (id % 64) (r.id % 64) (mod_below r.id 64 (omega arith)) w.others (i.waits r am leads)) [
+      within = λ n here is. i.within n here (left-bit rest less (id % 64) (n % 64) (mod_below n 64 (omega arith)) (w.there (id % 64) low) (w.others (id % 64) low) is).1;
+      waits = λ r am leads. elim (bit-left rest less (id % 64) (r.id % 64) (mod_below r.id 64 (omega arith)) (w.others (id % 64) low) (i.waits r am leads)) [
         | inl still ↦ still
         | inr same ↦
             let this : r.id ≡ id = same-id c.args.entry.place r.id id am.place f.0 same in
@@ -41,9 +47,7 @@ loop-at-preserved c =
     }
 
 pub loop-at-smaller : goal.loop-at-smaller
-loop-at-smaller c =
-    let f = bit-of-word c.args.entry.place c.loop-at.rest c.in-Some.at c.in-Some.ensures in
-    c.without_bit-rest.ensures.fewer (bit-on c.loop-at.rest (c.in-Some.at % 64) f.1)
+loop-at-smaller c = c.without_lowest-rest.ensures.fewer
 
 pub returns-clause-least : goal.returns-clause-least
 returns-clause-least c r am leads = absurd (true≢false (sym (c.loop-at.invariant.waits r am leads) ∙ none-of-word c.args.entry.place c.loop-at.rest c.in_default.ensures r.id am.place))

@@ -11,7 +11,7 @@ use Rattle.path_finder.specs.IdSets.{has_id}
 use Rattle.path_finder.specs.Walks.{Asked}
 use Rattle.path_finder.proofs.Least.{has_next}
 use Rattle.path_finder.proofs.Levels.{entered-pair}
-use Rattle.path_finder.proofs.Tracing.{IsChosen, next-chosen}
+use Rattle.path_finder.proofs.Tracing.{IsChosen, next-chosen, next-only}
 use Rattle.path_finder.proofs.trace.next_pair.Goals as goal
 
 pub loop-i-init : goal.loop-i-init
@@ -56,6 +56,18 @@ loop-i-preserved c =
             n.least r (subst (λ (z : Entry). IsAmong (part_of z) r) this am) leads
       ];
     }
+
+-- the only pair is the next one
+pub returns-in-Some : goal.returns-in-Some
+returns-in-Some c =
+    let a : Asked = asked c.args.question.now in
+    let e : Entries = c.args.table.now in
+    let d : ℕ = c.args.distance in
+    let next = next-only a e c.args.pair d c.args.first c.args.end c.in-Some.only c.args.question.now.within
+    (subst (λ (n : ℕ). IsKnown a n e) (add-one d) c.requires.known) c.requires.listed c.requires.first
+    (subst (λ (n : ℕ). IsSplitAt n c.args.end e) (add-one d) c.requires.end)
+    c.requires.pair (c.requires.entry ∙ add-one d) (omega (arith, c.requires.stands)) c.in-Some.ensures in
+    record { pair = next.0; next = next.1 }
 
 -- the pair that is left is the next one
 pub returns : goal.returns
