@@ -501,6 +501,15 @@ impl Ahead {
     }
 }
 
+/// A copy of the digits, with no more room than they need.
+fn copy_of(alloc: Global, digits: &[u8]) -> Result<Vec<u8>, AllocError>
+    ensures { IfOk result (λ copy. copy.items ≡ digits.now) }
+{
+    let mut copy = Vec::with_capacity(alloc, digits.len())?;
+    copy.extend_from_slice(digits)?;
+    Ok(copy)
+}
+
 impl Window {
     /// The labels of no invariants, with scratch space for this many partitions.
     fn make(alloc: Global, partitions: usize) -> Result<Window, AllocError>
@@ -552,7 +561,7 @@ impl Window {
             &mut self.bytes,
             self.row.as_mut_slice(),
         )?;
-        let text = self.digits.text.to_vec(alloc)?;
+        let text = copy_of(alloc, self.digits.text.as_slice())?;
         let first = place * TOGETHER;
         self.text = Rc::new(alloc, text)?;
         self.first = first;
