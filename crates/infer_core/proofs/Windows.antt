@@ -9,7 +9,7 @@ use Rattle.invariants.specs.Labels.{digit_of}
 use Rattle.invariants.specs.declared.records.Partition.{Partition}
 use Rattle.labelling.specs.Labelled.{Labelling, digit, is_found, number_of, AreStatesAt}
 use Rattle.infer_core.specs.declared.labels.Bytes.{Bytes}
-use Rattle.infer_core.specs.Windows.{label_at, row_of, AreBytesOf, AreSame, HasRows}
+use Rattle.infer_core.specs.Windows.{label_at, row_of, AreColumnsOf, AreSame, HasRows, HaveNumber}
 use Rattle.std.proofs.lemmas.List.{drop-append-le, drop_all, get_or_default, length-append, length-drop, length-map, get_or-map, same_lists, take-append-le, take_all}
 use Rattle.std.proofs.lemmas.Bool.{cases_eq}
 
@@ -29,18 +29,23 @@ bit-of-byte x number k l = low (x / 2 ^ (8 * number)) k l ∙ ap (λ y. y % 2) (
     low y (suc (suc (suc (suc (suc (suc (suc (suc j)))))))) l = absurd (omega (arith, l))
 
 -- what is written for a bit of the bytes is a row of digits
-pub row-written : (found : List (List ℕ)) (number k : ℕ) (bytes : Bytes) (row : List ℕ) → k < 8 → length row ≡ length found → AreBytesOf found number bytes
+pub row-written : (found : List (List ℕ)) (number k : ℕ) (bytes : Bytes) (row : List ℕ) → k < 8 → length row ≡ length found
+    → AreColumnsOf found bytes.columns → HaveNumber number bytes
     → ((j : ℕ) → j < length row → get_or row j 0 ≡ digit_of (bit_at (get_or bytes.zeroth.items j 0) k + 2 * bit_at (get_or bytes.first.items j 0) k + 4 * bit_at (get_or bytes.second.items j 0) k))
     → row ≡ row_of found (8 * number + k)
-row-written found number k bytes row l size b h =
+row-written found number k bytes row l size c b h =
     let f : List ℕ → ℕ = λ words. digit_of (label_at (get_or words 0 0) (get_or words 1 0) (get_or words 2 0) (8 * number + k)) in
     same_lists row (map f found) (size ∙ sym (length-map found f)) (λ j d m.
     let inside : j < length found = omega (arith, size, m) in
-    let of : (x i : ℕ) → i < 3 → x ≡ get_or (get_or found j []) i 0 / 2 ^ (8 * number) % 256 → bit_at x k ≡ bit_at (get_or (get_or found j []) i 0) (8 * number + k) =
-    λ x i small e. ap (λ (y : ℕ). bit_at y k) e ∙ bit-of-byte (get_or (get_or found j []) i 0) number k l in
+    let of : (x y word : ℕ) → x ≡ y / 2 ^ (8 * number) % 256 → y ≡ word → bit_at x k ≡ bit_at word (8 * number + k) =
+    λ x y word taken same. ap (λ (z : ℕ). bit_at z k) taken ∙ bit-of-byte y number k l ∙ ap (λ (z : ℕ). bit_at z (8 * number + k)) same in
     get_or_default row j d 0 m ∙ h j m
-    ∙ ap digit_of (ap₂ (λ (x y : ℕ). x + y) (ap₂ (λ (x y : ℕ). x + 2 * y) (of (get_or bytes.zeroth.items j 0) 0 (omega arith) (b.zeroth j inside)) (of (get_or bytes.first.items j 0) 1 (omega arith) (b.first j inside)))
-    (ap (λ (x : ℕ). 4 * x) (of (get_or bytes.second.items j 0) 2 (omega arith) (b.second j inside))))
+    ∙ ap digit_of (ap₂ (λ (x y : ℕ). x + y)
+    (ap₂ (λ (x y : ℕ). x + 2 * y)
+    (of (get_or bytes.zeroth.items j 0) (get_or bytes.columns.zeroth.items j 0) (get_or (get_or found j []) 0 0) (b.zeroth j (omega (arith, inside, c.zeroth_size))) (c.zeroth j inside))
+    (of (get_or bytes.first.items j 0) (get_or bytes.columns.first.items j 0) (get_or (get_or found j []) 1 0) (b.first j (omega (arith, inside, c.first_size))) (c.first j inside)))
+    (ap (λ (x : ℕ). 4 * x)
+    (of (get_or bytes.second.items j 0) (get_or bytes.columns.second.items j 0) (get_or (get_or found j []) 2 0) (b.second j (omega (arith, inside, c.second_size))) (c.second j inside))))
     ∙ sym (get_or-map f found j [] d inside))
 
 -- a digit more at the end leaves those before it
@@ -101,7 +106,7 @@ bits-same word distance k off =
     omega (arith, off, sum, shifted, bit_at-lt word k, bit_at-lt (word / 2 ^ distance) k)
 
 -- a bit is off in a word made of others
-pub off-both : (a b k : ℕ) → bit_at (bit_or a b) k ≡ 0 → (bit_at a k ≡ 0) × (bit_at b k ≡ 0)
+off-both : (a b k : ℕ) → bit_at (bit_or a b) k ≡ 0 → (bit_at a k ≡ 0) × (bit_at b k ≡ 0)
 off-both a b k off =
     let most : max (bit_at a k) (bit_at b k) ≡ 0 = sym (bit_at_or a b k) ∙ off in
     (omega (arith, most), omega (arith, most))

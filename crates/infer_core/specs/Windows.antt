@@ -7,6 +7,7 @@ use Rattle.labelling.specs.Labelled.{Labelling, digit, AreStatesAt}
 use Rattle.infer_core.specs.declared.labels.TheConstants.{AHEAD, NEAR, TOGETHER}
 use Rattle.infer_core.specs.declared.labels.Ahead.{Ahead}
 use Rattle.infer_core.specs.declared.labels.Bytes.{Bytes}
+use Rattle.infer_core.specs.declared.labels.Columns.{Columns}
 use Rattle.infer_core.specs.declared.labels.Window.{Window}
 
 -- the label that bit k of each of three numbers makes
@@ -37,28 +38,39 @@ pub record AreSame (words : List ℕ) (k l : ℕ) : Type 0 where
   pub first : bit_at (slice_index words 1) k ≡ bit_at (slice_index words 1) l
   pub second : bit_at (slice_index words 2) k ≡ bit_at (slice_index words 2) l
 
--- a byte of each word
-pub record AreBytesOf (found : List (List ℕ)) (number : ℕ) (bytes : Bytes) : Type 0 where
-  pub zeroth_size : length bytes.zeroth.items ≡ length found
-  pub first_size : length bytes.first.items ≡ length found
-  pub second_size : length bytes.second.items ≡ length found
-  pub zeroth : (j : ℕ) → j < length found
-      → slice_index bytes.zeroth.items j ≡ slice_index (slice_index_or found j []) 0 / 2 ^ (8 * number) % 256
-  pub first : (j : ℕ) → j < length found
-      → slice_index bytes.first.items j ≡ slice_index (slice_index_or found j []) 1 / 2 ^ (8 * number) % 256
-  pub second : (j : ℕ) → j < length found
-      → slice_index bytes.second.items j ≡ slice_index (slice_index_or found j []) 2 / 2 ^ (8 * number) % 256
+-- the words of each state
+pub record AreColumnsOf (found : List (List ℕ)) (columns : Columns) : Type 0 where
+  pub zeroth_size : length columns.zeroth.items ≡ length found
+  pub first_size : length columns.first.items ≡ length found
+  pub second_size : length columns.second.items ≡ length found
+  pub zeroth : (j : ℕ) → j < length found → slice_index columns.zeroth.items j ≡ slice_index (slice_index_or found j []) 0
+  pub first : (j : ℕ) → j < length found → slice_index columns.first.items j ≡ slice_index (slice_index_or found j []) 1
+  pub second : (j : ℕ) → j < length found → slice_index columns.second.items j ≡ slice_index (slice_index_or found j []) 2
 
--- there are as many bytes of each state as this
+-- the bytes are those with this number of the words that they are taken from
+pub record HaveNumber (number : ℕ) (bytes : Bytes) : Type 0 where
+  pub zeroth : (j : ℕ) → j < length bytes.columns.zeroth.items
+      → slice_index bytes.zeroth.items j ≡ slice_index bytes.columns.zeroth.items j / 2 ^ (8 * number) % 256
+  pub first : (j : ℕ) → j < length bytes.columns.first.items
+      → slice_index bytes.first.items j ≡ slice_index bytes.columns.first.items j / 2 ^ (8 * number) % 256
+  pub second : (j : ℕ) → j < length bytes.columns.second.items
+      → slice_index bytes.second.items j ≡ slice_index bytes.columns.second.items j / 2 ^ (8 * number) % 256
+
+-- there are as many words and bytes of each state as this
 pub record HaveSize (count : ℕ) (bytes : Bytes) : Type 0 where
+  pub zeroth_words : length bytes.columns.zeroth.items ≡ count
+  pub first_words : length bytes.columns.first.items ≡ count
+  pub second_words : length bytes.columns.second.items ≡ count
   pub zeroth : length bytes.zeroth.items ≡ count
   pub first : length bytes.first.items ≡ count
   pub second : length bytes.second.items ≡ count
 
--- the bytes that are taken are those with their number
-pub record AreTakenFrom (found : List (List ℕ)) (bytes : Bytes) : Type 0 where
-  pub size : HaveSize (length found) bytes
-  pub taken : (number : ℕ) → bytes.number ≡ Some number → AreBytesOf found number bytes
+-- there is a byte for each word, and those that are taken are those with their number
+pub record AreTaken (bytes : Bytes) : Type 0 where
+  pub zeroth : length bytes.zeroth.items ≡ length bytes.columns.zeroth.items
+  pub first : length bytes.first.items ≡ length bytes.columns.first.items
+  pub second : length bytes.second.items ≡ length bytes.columns.second.items
+  pub taken : (number : ℕ) → bytes.number ≡ Some number → HaveNumber number bytes
 
 -- for each partition, the words at the places of a block, up to the last place
 abbrev pub AreReadAt : Labelling → List Partition → ℕ → ℕ → List (List (List ℕ)) → Type 0

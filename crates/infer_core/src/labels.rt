@@ -14,7 +14,7 @@ ghost use Rattle.partition_model.specs.Listings.{ArePartitions};
 ghost use Rattle.models.specs.Models.{AreReached};
 ghost use Rattle.labelling.specs.Labelled.{digit, AreLabelsOf, AreStatesAt, SaysSwapped};
 ghost use Rattle.infer_core.specs.declared.labels.TheConstants.{AHEAD, AT_ONCE, NEAR, TOGETHER};
-ghost use Rattle.infer_core.specs.Windows.{row_of, AreBytesOf, AreReadAt, AreSame, AreTakenFrom, HasRows, HaveSize, IsAheadOf, IsWindowOf, SaysApart};
+ghost use Rattle.infer_core.specs.Windows.{row_of, AreColumnsOf, AreReadAt, AreSame, AreTaken, HasRows, HaveNumber, HaveSize, IsAheadOf, IsWindowOf, SaysApart};
 
 use invariants::{Invariant, Labels, Listed, Partition, Seq};
 use labelling::Planes;
@@ -66,10 +66,21 @@ struct Ahead {
     words: Vec<[[u64; 3]; AHEAD]>,
 }
 
+/// The words of each state at each of some partitions. Those of one state lie together, so that one instruction reads
+/// many.
+#[derive(Drop)]
+struct Columns {
+    zeroth: Vec<u64>,
+    first: Vec<u64>,
+    second: Vec<u64>,
+}
+
 /// Which states `AT_ONCE` invariants have at each of some partitions: for each state a byte for each partition, with a
 /// bit for each invariant.
 #[derive(Drop)]
 struct Bytes {
+    /// The words that they are taken from.
+    columns: Columns,
     /// Their number in the words; `None` if nothing is taken yet.
     number: Option<u32>,
     zeroth: Vec<u8>,
@@ -93,28 +104,65 @@ fn digit_from(zeroth: u8, first: u8, second: u8, k: u32) -> u8
     b'0' + (zeroth >> k) % 2 + 2 * ((first >> k) % 2) + 4 * ((second >> k) % 2)
 }
 
-/// Takes the bytes with this number out of the words of one state at all partitions.
+/// Copies the words of one state at all partitions.
 #[inline(always)]
-fn take_state(words: &[[u64; 3]], state: usize, number: u32, bytes: &mut [u8])
+fn copy_state(words: &[[u64; 3]], state: usize, column: &mut [u64])
     requires state { state < 3 }
+    requires size { length column.old ≡ length words.now }
+    ensures { (j : ℕ) → j < length words.now → slice_index column.new j
+        ≡ slice_index (slice_index_or words.now j []) state }
+{
+    for j in 0..column.len() {
+        column[j] = words[j][state];
+    }
+}
+
+/// Takes the bytes with this number out of the words of one state at all partitions.
+fn take_state(column: &[u64], number: u32, bytes: &mut [u8])
     requires number { number < 8 }
-    requires size { length bytes.old ≡ length words.now }
-    ensures { (j : ℕ) → j < length words.now → slice_index bytes.new j
-        ≡ slice_index (slice_index_or words.now j []) state / 2 ^ (8 * number) % 256 }
+    requires size { length bytes.old ≡ length column.now }
+    ensures { (j : ℕ) → j < length column.now
+        → slice_index bytes.new j ≡ slice_index column.now j / 2 ^ (8 * number) % 256 }
 {
     for j in 0..bytes.len() {
-        bytes[j] = byte_of(words[j][state], number);
+        bytes[j] = byte_of(column[j], number);
+    }
+}
+
+impl Columns {
+    /// Columns for this many partitions.
+    fn make(alloc: Global, partitions: usize) -> Result<Columns, AllocError>
+        ensures zeroth { IfOk result (λ made. length made.zeroth.items ≡ partitions) }
+        ensures first { IfOk result (λ made. length made.first.items ≡ partitions) }
+        ensures second { IfOk result (λ made. length made.second.items ≡ partitions) }
+    {
+        Ok(Columns {
+            zeroth: vec![in alloc; 0; partitions]?,
+            first: vec![in alloc; 0; partitions]?,
+            second: vec![in alloc; 0; partitions]?,
+        })
+    }
+
+    /// Copies the words of all states.
+    fn copy(&mut self, words: &[[u64; 3]])
+        requires zeroth { length (self.old).zeroth.items ≡ length words.now }
+        requires first { length (self.old).first.items ≡ length words.now }
+        requires second { length (self.old).second.items ≡ length words.now }
+        ensures { AreColumnsOf words.now self.new }
+    {
+        copy_state(words, 0, self.zeroth.as_mut_slice());
+        copy_state(words, 1, self.first.as_mut_slice());
+        copy_state(words, 2, self.second.as_mut_slice());
     }
 }
 
 impl Bytes {
     /// Bytes for this many partitions.
     fn make(alloc: Global, partitions: usize) -> Result<Bytes, AllocError>
-        ensures zeroth { IfOk result (λ made. length made.zeroth.items ≡ partitions) }
-        ensures first { IfOk result (λ made. length made.first.items ≡ partitions) }
-        ensures second { IfOk result (λ made. length made.second.items ≡ partitions) }
+        ensures { IfOk result (λ made. HaveSize partitions made) }
     {
         Ok(Bytes {
+            columns: Columns::make(alloc, partitions)?,
             number: None,
             zeroth: vec![in alloc; 0; partitions]?,
             first: vec![in alloc; 0; partitions]?,
@@ -122,19 +170,42 @@ impl Bytes {
         })
     }
 
+    /// Copies the words of all partitions. No bytes are taken out of them yet.
+    fn begin(&mut self, words: &[[u64; 3]])
+        requires { HaveSize (length words.now) self.old }
+        ensures columns { AreColumnsOf words.now (self.new).columns }
+        ensures taken { AreTaken self.new }
+    {
+        self.columns.copy(words);
+        self.number = None;
+    }
+
     /// Takes the bytes with this number out of the words of all partitions, unless they are taken already.
-    fn take(&mut self, words: &[[u64; 3]], number: u32)
+    fn take(&mut self, number: u32)
         requires number { number < 8 }
-        requires taken { AreTakenFrom words.now self.old }
-        ensures taken { AreTakenFrom words.now self.new }
-        ensures bytes { AreBytesOf words.now number self.new }
+        requires taken { AreTaken self.old }
+        ensures columns { (self.new).columns ≡ (self.old).columns }
+        ensures taken { AreTaken self.new }
+        ensures bytes { HaveNumber number self.new }
     {
         if self.number == Some(number) {
             return;
         }
-        take_state(words, 0, number, self.zeroth.as_mut_slice());
-        take_state(words, 1, number, self.first.as_mut_slice());
-        take_state(words, 2, number, self.second.as_mut_slice());
+        take_state(
+            self.columns.zeroth.as_slice(),
+            number,
+            self.zeroth.as_mut_slice(),
+        );
+        take_state(
+            self.columns.first.as_slice(),
+            number,
+            self.first.as_mut_slice(),
+        );
+        take_state(
+            self.columns.second.as_slice(),
+            number,
+            self.second.as_mut_slice(),
+        );
         self.number = Some(number);
     }
 
@@ -166,8 +237,8 @@ fn differs(word: u64, distance: u32) -> u64
     word ^ (word >> distance)
 }
 
-/// A word in which a bit is off only if that bit of each of three words is the same as the one that is `distance` places
-/// above it.
+/// A word in which a bit is off only if that bit of each of three words is the same as the one that is `distance`
+/// places above it.
 fn differs_in(words: &[u64; 3], distance: u32) -> u64
     requires { distance < 64 }
     ensures { (k : ℕ) → bit_at result k ≡ 0 → AreSame words.now k (distance + k) }
@@ -176,8 +247,8 @@ fn differs_in(words: &[u64; 3], distance: u32) -> u64
     differs(zeroth, distance) | differs(first, distance) | differs(second, distance)
 }
 
-/// For each distance from 1 to `NEAR`, a word in which a bit is off only if the invariant with that bit has the same labels
-/// as the one at this distance after it.
+/// For each distance from 1 to `NEAR`, a word in which a bit is off only if the invariant with that bit has the same
+/// labels as the one at this distance after it.
 fn apart_of(words: &[[u64; 3]]) -> [u64; NEAR]
     ensures size { length result ≡ NEAR }
     ensures apart { SaysApart words.now result }
@@ -246,20 +317,22 @@ impl Digits {
         requires next { length (self.old).from.items ≡ AT_ONCE * number + k }
         requires size { length apart.now ≡ NEAR }
         requires apart { SaysApart words.now apart.now }
-        requires taken { AreTakenFrom words.now bytes.old }
+        requires columns { AreColumnsOf words.now bytes.old.columns }
+        requires taken { AreTaken bytes.old }
         requires row { length row.old ≡ length words.now }
         requires rows { HasRows words.now (self.old).text.items (self.old).from.items }
         ensures rows { OnOk result (HasRows words.now (self.new).text.items (self.new).from.items) }
         ensures count { OnOk result (length (self.new).from.items
             ≡ length (self.old).from.items + 1) }
-        ensures taken { AreTakenFrom words.now bytes.new }
+        ensures columns { AreColumnsOf words.now bytes.new.columns }
+        ensures taken { AreTaken bytes.new }
     {
         if let Some(same) = same_before(words, apart, self.from.len()) {
             let start = self.from[same];
             self.from.push(start)?;
             return Ok(());
         }
-        bytes.take(words, number);
+        bytes.take(number);
         bytes.write(k, row);
         let start = self.text.len();
         self.text.extend_from_slice(row)?;
@@ -281,12 +354,14 @@ impl Digits {
         requires next { length (self.old).from.items ≡ AT_ONCE * number }
         requires size { length apart.now ≡ NEAR }
         requires apart { SaysApart words.now apart.now }
-        requires taken { AreTakenFrom words.now bytes.old }
+        requires columns { AreColumnsOf words.now bytes.old.columns }
+        requires taken { AreTaken bytes.old }
         requires row { length row.old ≡ length words.now }
         requires rows { HasRows words.now (self.old).text.items (self.old).from.items }
         ensures rows { OnOk result (HasRows words.now (self.new).text.items (self.new).from.items) }
         ensures count { OnOk result (length (self.new).from.items ≡ AT_ONCE * (number + 1)) }
-        ensures taken { AreTakenFrom words.now bytes.new }
+        ensures columns { AreColumnsOf words.now bytes.new.columns }
+        ensures taken { AreTaken bytes.new }
     {
         for k in 0..AT_ONCE {
             self.add(words, apart, bytes, number, k as u32, row)?;
@@ -294,8 +369,8 @@ impl Digits {
         Ok(())
     }
 
-    /// Finds the digits of the labels that the words say, of `TOGETHER` invariants, in place of those before. `bytes` and
-    /// `row` are scratch space.
+    /// Finds the digits of the labels that the words say, of `TOGETHER` invariants, in place of those before.
+    /// `bytes` and `row` are scratch space.
     fn find(
         &mut self,
         words: &[[u64; 3]],
@@ -310,7 +385,7 @@ impl Digits {
     {
         self.text.clear();
         self.from.clear();
-        bytes.number = None;
+        bytes.begin(words);
         let apart = apart_of(words);
         for number in 0..TOGETHER / AT_ONCE {
             self.add_all(words, &apart, number as u32, bytes, row)?;
@@ -426,6 +501,15 @@ impl Ahead {
     }
 }
 
+/// A copy of the digits, with no more room than they need.
+fn copy_of(alloc: Global, digits: &[u8]) -> Result<Vec<u8>, AllocError>
+    ensures { IfOk result (λ copy. copy.items ≡ digits.now) }
+{
+    let mut copy = Vec::with_capacity(alloc, digits.len())?;
+    copy.extend_from_slice(digits)?;
+    Ok(copy)
+}
+
 impl Window {
     /// The labels of no invariants, with scratch space for this many partitions.
     fn make(alloc: Global, partitions: usize) -> Result<Window, AllocError>
@@ -477,7 +561,7 @@ impl Window {
             &mut self.bytes,
             self.row.as_mut_slice(),
         )?;
-        let text = self.digits.text.to_vec(alloc)?;
+        let text = copy_of(alloc, self.digits.text.as_slice())?;
         let first = place * TOGETHER;
         self.text = Rc::new(alloc, text)?;
         self.first = first;

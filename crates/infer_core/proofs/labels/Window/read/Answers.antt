@@ -15,7 +15,7 @@ returns-clause-window c =
     let starts : List ℕ = c.find.new.self.from.items in
     let same = with_items_is c.args.self.now.words words (omega (arith, c.copy.auto.words, c.as_mut_slice.ensures.len)) in
     let size : length words ≡ length partitions = omega (arith, c.copy.auto.words, c.as_mut_slice.ensures.len, c.requires.window.size) in
-    let text : c.in_ok-self.field-0.value.items ≡ c.find.new.self.text.items = ap (λ v. v.items) c.in_ok-self.ensures.ok ∙ c.in_ok-text.ensures.items_if_clones_equal (λ x y e. e) ∙ c.deref.ensures.value in
+    let text : c.in_ok-self.field-0.value.items ≡ c.find.new.self.text.items = ap (λ v. v.items) c.in_ok-self.ensures.ok ∙ c.in_ok-text.ensures ∙ c.as_slice-2.ensures.value in
     let rows : HasRows words c.in_ok-self.field-0.value.items starts =
     subst (λ (ds : List ℕ). HasRows words ds starts) (sym text)
     (subst (λ (ws : List (List ℕ)). HasRows ws c.find.new.self.text.items starts) (c.as_slice.ensures.value ∙ same) c.in_ok-find.ensures.rows) in
