@@ -1,5 +1,5 @@
 -- Columns: what is put into them, and what edges between them tell of labels.
-use Rattle.std.proofs.Common.{◌≡◌, ◌≢◌, ℕ, ◌+◌, ◌-◌, ◌<◌, ◌≤◌, ◌==◌, ◌&&◌, if◌then◌else◌, true, false, true≢false, List, ◌∷◌, length, drop, slice_get, Some, refl, sym, ◌∙◌, ap, subst, subst₂, inl, inr, arith, eq-eqb, ne_eqb}
+use Rattle.std.proofs.Common.{◌≡◌, ◌≢◌, ℕ, ◌+◌, ◌-◌, ◌<◌, ◌≤◌, ◌==◌, ◌&&◌, if◌then◌else◌, true, false, true≢false, List, ◌∷◌, length, drop, slice_get, Some, refl, sym, ◌∙◌, ap, subst, subst₂, ◌⊎◌, inl, inr, arith, eq-eqb, ne_eqb}
 use Rattle.std.specs.List.{All}
 use Rattle.std.proofs.lemmas.Bool.{cases_eq, cases_lt}
 use Rattle.std.proofs.lemmas.Option.{slice_get_within}
@@ -23,26 +23,24 @@ use Rattle.models.proofs.Formed.{shaped_are_formed}
 use Rattle.models.proofs.Valid.{three-states}
 use Rattle.model_check.specs.Rows.{AreApart, IsNextOfType}
 use Rattle.model_check.specs.States.{IsSource, AreRightEnds}
-use Rattle.model_check.specs.Columns.{at, AreLabelledBefore, AreWithin, AreInColumn, HasSources, IsColumnOf, AreColumnsOf, SameOthers}
+use Rattle.model_check.specs.Columns.{at, AreLabelledBefore, AreWithin, AreInColumn, HasSources, HaveLabels, IsColumnOf, AreColumnsOf, SameOthers}
 use Rattle.model_check.specs.declared.columns.TheConstants.{TOGETHER}
 
--- a column into which all partitions are put, but for the rest
-pub record IsFilledUpTo (partitions rest : List Partition) (given rest-given labels sources : List ℕ) (k : ℕ) : Type 0 where
+-- a column into which the labels of all partitions are put, but for the rest
+pub record IsFilledUpTo (partitions rest : List Partition) (given rest-given labels : List ℕ) (k : ℕ) : Type 0 where
   pub apart : AreApart rest
   pub ahead : (p : ℕ) → is_listed p rest ≡ true → label_at p rest rest-given ≡ label_at p partitions given
-  pub filled : (p : ℕ) → is_listed p partitions ≡ true → is_listed p rest ≡ false
-      → (at labels k p ≡ label_at p partitions given) × (at sources k p ≡ label_at p partitions given)
+  pub filled : (p : ℕ) → is_listed p partitions ≡ true → is_listed p rest ≡ false → at labels k p ≡ label_at p partitions given
 
 -- at first all partitions are the rest
-pub filled-none : (partitions : List Partition) (given labels sources : List ℕ) (k : ℕ) → AreApart partitions → IsFilledUpTo partitions partitions given given labels sources k
-filled-none partitions given labels sources k apart = record { apart = apart; ahead = λ p h. refl; filled = λ p h n. absurd (true≢false (sym h ∙ n)) }
+pub filled-none : (partitions : List Partition) (given labels : List ℕ) (k : ℕ) → AreApart partitions → IsFilledUpTo partitions partitions given given labels k
+filled-none partitions given labels k apart = record { apart = apart; ahead = λ p h. refl; filled = λ p h n. absurd (true≢false (sym h ∙ n)) }
 
--- one partition more is put into the column
-pub filled-more : (partitions rest : List Partition) (given rest-given old-labels old-sources labels sources : List ℕ) (k label : ℕ) (x : Partition) → k < TOGETHER
-    → ((c q : ℕ) → c < TOGETHER → at labels c q ≡ (if c == k && q == x.id then label else at old-labels c q))
-    → ((c q : ℕ) → c < TOGETHER → at sources c q ≡ (if c == k && q == x.id then label else at old-sources c q))
-    → IsFilledUpTo partitions (x ∷ rest) given (label ∷ rest-given) old-labels old-sources k → IsFilledUpTo partitions rest given rest-given labels sources k
-filled-more partitions rest given rest-given old-labels old-sources labels sources k label x l put put-sources before =
+-- one label more is put into the column
+pub filled-more : (partitions rest : List Partition) (given rest-given old labels : List ℕ) (k label : ℕ) (x : Partition) → k < TOGETHER
+    → ((c q : ℕ) → c < TOGETHER → at labels c q ≡ (if c == k && q == x.id then label else at old c q))
+    → IsFilledUpTo partitions (x ∷ rest) given (label ∷ rest-given) old k → IsFilledUpTo partitions rest given rest-given labels k
+filled-more partitions rest given rest-given old labels k label x l put before =
     record { apart = before.apart.1; ahead = ahead; filled = filled }
   where
     ahead : (p : ℕ) → is_listed p rest ≡ true → label_at p rest rest-given ≡ label_at p partitions given
@@ -50,25 +48,43 @@ filled-more partitions rest given rest-given old-labels old-sources labels sourc
         let n : x.id ≢ p = λ e. true≢false (sym h ∙ sym (ap (λ q. is_listed q rest) e) ∙ before.apart.0) in
         rw (ne_eqb x.id p n) at (before.ahead p) h
 
-    filled : (p : ℕ) → is_listed p partitions ≡ true → is_listed p rest ≡ false → (at labels k p ≡ label_at p partitions given) × (at sources k p ≡ label_at p partitions given)
+    filled : (p : ℕ) → is_listed p partitions ≡ true → is_listed p rest ≡ false → at labels k p ≡ label_at p partitions given
     filled p h u =
         elim (cases_eq p x.id) [
           | inl e ↦
               let b : label ≡ label_at p partitions given = rw (eq-eqb x.id p (sym e)) at (before.ahead p) refl in
               let here : at labels k p ≡ label = put k p l ∙ rw (eq-eqb k k refl, eq-eqb p x.id e) refl in
-              let there : at sources k p ≡ label = put-sources k p l ∙ rw (eq-eqb k k refl, eq-eqb p x.id e) refl in
-              (here ∙ b, there ∙ b)
+              here ∙ b
           | inr n ↦
-              let b : (at old-labels k p ≡ label_at p partitions given) × (at old-sources k p ≡ label_at p partitions given) = rw (ne_eqb x.id p (λ e. n (sym e))) at (before.filled p h) u in
-              let here : at labels k p ≡ at old-labels k p = put k p l ∙ rw (eq-eqb k k refl, ne_eqb p x.id n) refl in
-              let there : at sources k p ≡ at old-sources k p = put-sources k p l ∙ rw (eq-eqb k k refl, ne_eqb p x.id n) refl in
-              (here ∙ b.0, there ∙ b.1)
+              let b : at old k p ≡ label_at p partitions given = rw (ne_eqb x.id p (λ e. n (sym e))) at (before.filled p h) u in
+              let here : at labels k p ≡ at old k p = put k p l ∙ rw (eq-eqb k k refl, ne_eqb p x.id n) refl in
+              here ∙ b
         ]
 
--- with no rest, all partitions are in the column
-pub filled-all : (partitions : List Partition) (given rest-given labels sources : List ℕ) (k i : ℕ) → length partitions ≤ i
-    → IsFilledUpTo partitions (drop i partitions) given rest-given labels sources k → AreInColumn partitions given labels sources k
-filled-all partitions given rest-given labels sources k i l before p h = before.filled p h (ap (λ (xs : List Partition). is_listed p xs) (drop_all i partitions l))
+-- with no rest, all labels are in the column
+pub filled-all : (partitions : List Partition) (given rest-given labels : List ℕ) (k i : ℕ) → length partitions ≤ i
+    → IsFilledUpTo partitions (drop i partitions) given rest-given labels k → AreInColumn partitions given labels k
+filled-all partitions given rest-given labels k i l before p h = before.filled p h (ap (λ (xs : List Partition). is_listed p xs) (drop_all i partitions l))
+
+-- a column has the labels of one listed invariant more
+pub labels-more : (m : Model) (old labels : List ℕ) (from k : ℕ) (x : Listed) → k < TOGETHER → slice_get m.invariants (from + k) ≡ Some x
+    → SameOthers old labels k → AreInColumn m.partitions x.labels labels k → HaveLabels m old from k → HaveLabels m labels from (k + 1)
+labels-more m old labels from k x w there same here before c l h e =
+    elim (cases_eq c k) [
+      | inl f ↦
+          let one : Some x ≡ Some l = sym there ∙ sym (ap (λ i. slice_get m.invariants (from + i)) f) ∙ e in
+          let two : x ≡ l = cc in
+          subst₂ (λ (z : Listed) (i : ℕ). AreInColumn m.partitions z.labels labels i) two (sym f) here
+      | inr n ↦ λ p i. same c p (omega (arith, h, w)) n ∙ before c l (omega (arith, h, n)) e p i
+    ]
+
+-- where no more invariants are listed, the other columns may have anything
+pub labels-end : (m : Model) (labels : List ℕ) (from count : ℕ) → (TOGETHER ≤ count) ⊎ (length m.invariants - from ≤ count) → HaveLabels m labels from count → HaveLabels m labels from TOGETHER
+labels-end m labels from count few before k l h e =
+    elim few [
+      | inl all ↦ before k l (omega (arith, all, h)) e
+      | inr none ↦ before k l (let w : from + k < length m.invariants = slice_get_within m.invariants (from + k) l e in omega (arith, none, w)) e
+    ]
 
 -- the sources of the ids of a type are put into a column, up to a bound
 pub record ArePutBelow (inv : Invariant) (g : Graph) (typ : ℕ) (labels old sources : List ℕ) (k bound : ℕ) : Type 0 where
@@ -148,42 +164,64 @@ ends-listed types xs w = rw w.ends (refl, refl)
 
 -- a column that has what belongs to each partition, with the right ends, is that of the invariant
 pub column-of : (m : Model) (l : Listed) (g : Graph) (labels first second third : List ℕ) (k : ℕ) → IsWellShaped m → g ≡ graph_of m
-    → AreInColumn m.partitions l.labels labels first k → HasSources l.inv g l.inv.a labels first second k → HasSources l.inv g l.inv.b labels second third k
+    → AreInColumn m.partitions l.labels labels k → ((p : ℕ) → at first k p ≡ at labels k p) → HasSources l.inv g l.inv.a labels first second k → HasSources l.inv g l.inv.b labels second third k
     → AreRightEnds l.inv g (at labels k INITIAL) (at labels k TERMINAL) → IsColumnOf m l labels third k
-column-of m l g labels first second third k w same all a b ends =
+column-of m l g labels first second third k w same all begun a b ends =
     let listed : (is_listed INITIAL m.partitions ≡ true) × (is_listed TERMINAL m.partitions ≡ true) = ends-listed (length m.types) m.partitions w.partitions in
     let below : (p : ℕ) → is_listed p m.partitions ≡ true → p < MAX_PARTITIONS = (shaped_are_formed m w).1 in
     record {
-      start = subst₂ (λ (n : ℕ) (h : Graph). has_state n (step l.inv 0 (h.typ INITIAL)) ≡ true) (all INITIAL listed.0).0 same ends.start;
-      end = λ s h. ends.end s (subst (λ (n : ℕ). has_state n s ≡ true) (sym (all TERMINAL listed.1).0) h);
-      has_labels = λ p h. (all p h).0;
+      start = subst₂ (λ (n : ℕ) (h : Graph). has_state n (step l.inv 0 (h.typ INITIAL)) ≡ true) (all INITIAL listed.0) same ends.start;
+      end = λ s h. ends.end s (subst (λ (n : ℕ). has_state n s ≡ true) (sym (all TERMINAL listed.1)) h);
+      has_labels = λ p h. all p h;
       has_sources = λ p h.
-          let o : IsSource l.inv (g.typ p) (at labels k p) (at third k p) = sources-right l.inv g labels first second third k p (below p h) ((all p h).1 ∙ sym (all p h).0) a b in
-          subst₂ (λ (n : ℕ) (f : Graph). IsSource l.inv (f.typ p) n (at third k p)) (all p h).0 same o;
+          let o : IsSource l.inv (g.typ p) (at labels k p) (at third k p) = sources-right l.inv g labels first second third k p (below p h) (begun p) a b in
+          subst₂ (λ (n : ℕ) (f : Graph). IsSource l.inv (f.typ p) n (at third k p)) (all p h) same o;
     }
 
 -- a column stays that of its invariant while another is laid
-pub column-stays : (m : Model) (l : Listed) (old new old-sources sources : List ℕ) (k c : ℕ) → SameOthers old new k → SameOthers old-sources sources k → c < TOGETHER → c ≢ k
-    → IsColumnOf m l old old-sources c → IsColumnOf m l new sources c
-column-stays m l old new old-sources sources k c same same-sources w n i =
+pub column-stays : (m : Model) (l : Listed) (labels old sources : List ℕ) (k c : ℕ) → SameOthers old sources k → c < TOGETHER → c ≢ k → IsColumnOf m l labels old c → IsColumnOf m l labels sources c
+column-stays m l labels old sources k c same w n i =
     record {
       start = i.start;
       end = i.end;
-      has_labels = λ p h. same c p w n ∙ i.has_labels p h;
-      has_sources = λ p h. subst (λ (x : ℕ). IsSource l.inv ((graph_of m).typ p) (label_at p m.partitions l.labels) x) (sym (same-sources c p w n)) (i.has_sources p h);
+      has_labels = i.has_labels;
+      has_sources = λ p h. subst (λ (x : ℕ). IsSource l.inv ((graph_of m).typ p) (label_at p m.partitions l.labels) x) (sym (same c p w n)) (i.has_sources p h);
+    }
+
+-- the columns of the first listed invariants from a place on are laid, and the others have their labels also as sources
+pub record AreLaidUpTo (m : Model) (labels sources : List ℕ) (from count : ℕ) : Type 0 where
+  pub filled : HaveLabels m labels from TOGETHER
+  pub laid : AreColumnsOf m labels sources from count
+  pub begun : (c p : ℕ) → count ≤ c → c < TOGETHER → at sources c p ≡ at labels c p
+
+-- at first none is laid
+pub laid-none : (m : Model) (labels sources : List ℕ) (from : ℕ) → HaveLabels m labels from TOGETHER → sources ≡ labels → AreLaidUpTo m labels sources from 0
+laid-none m labels sources from filled same =
+    record {
+      filled = filled;
+      laid = λ k l h e. absurd (let low : k < 0 = h in omega arith);
+      begun = λ c p l h. ap (λ (xs : List ℕ). at xs c p) same;
     }
 
 -- one column more is laid
-pub columns-more : (m : Model) (old labels old-sources sources : List ℕ) (from k : ℕ) (x : Listed) → k < TOGETHER → slice_get m.invariants (from + k) ≡ Some x
-    → SameOthers old labels k → SameOthers old-sources sources k → IsColumnOf m x labels sources k → AreColumnsOf m old old-sources from k → AreColumnsOf m labels sources from (k + 1)
-columns-more m old labels old-sources sources from k x w there same same-sources here before c l h e =
-    elim (cases_eq c k) [
-      | inl f ↦
-          let one : Some x ≡ Some l = sym there ∙ sym (ap (λ i. slice_get m.invariants (from + i)) f) ∙ e in
-          let two : x ≡ l = cc in
-          subst₂ (λ (z : Listed) (i : ℕ). IsColumnOf m z labels sources i) two (sym f) here
-      | inr n ↦ column-stays m l old labels old-sources sources k c same same-sources (omega (arith, h, w)) n (before c l (omega (arith, h, n)) e)
-    ]
+pub laid-more : (m : Model) (labels old sources : List ℕ) (from k : ℕ) (x : Listed) → k < TOGETHER → slice_get m.invariants (from + k) ≡ Some x
+    → SameOthers old sources k → (AreInColumn m.partitions x.labels labels k → IsColumnOf m x labels sources k) → AreLaidUpTo m labels old from k → AreLaidUpTo m labels sources from (k + 1)
+laid-more m labels old sources from k x w there same here before =
+    record {
+      filled = before.filled;
+      laid = laid;
+      begun = λ c p l h. same c p h (λ e. absurd (omega (arith, l, e))) ∙ before.begun c p (omega (arith, l)) h;
+    }
+  where
+    laid : AreColumnsOf m labels sources from (k + 1)
+    laid c l h e =
+        elim (cases_eq c k) [
+          | inl f ↦
+              let one : Some x ≡ Some l = sym there ∙ sym (ap (λ i. slice_get m.invariants (from + i)) f) ∙ e in
+              let two : x ≡ l = cc in
+              subst₂ (λ (z : Listed) (i : ℕ). IsColumnOf m z labels sources i) two (sym f) (here (before.filled k x w there))
+          | inr n ↦ column-stays m l labels old sources k c same (omega (arith, h, w)) n (before.laid c l (omega (arith, h, n)) e)
+        ]
 
 -- where no more invariants are listed, the other columns may have anything
 pub columns-end : (m : Model) (labels sources : List ℕ) (from count : ℕ) → length m.invariants - from ≤ count → AreColumnsOf m labels sources from count → AreColumnsOf m labels sources from TOGETHER

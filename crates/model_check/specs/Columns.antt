@@ -21,11 +21,16 @@ abbrev pub AreWithin : List ℕ → List ℕ → ℕ → ℕ → ℕ → Type 0
 AreWithin labels sources count from to =
     (k s : ℕ) → k < count → has_state (at labels k from) s ≡ true → has_state (at sources k to) s ≡ true
 
--- the column has the label of each partition's id, both as label and as source
-abbrev pub AreInColumn : List Partition → List ℕ → List ℕ → List ℕ → ℕ → Type 0
-AreInColumn partitions given labels sources k =
-    (p : ℕ) → is_listed p partitions ≡ true
-    → (at labels k p ≡ label_at p partitions given) × (at sources k p ≡ label_at p partitions given)
+-- the column has the label of each partition's id
+abbrev pub AreInColumn : List Partition → List ℕ → List ℕ → ℕ → Type 0
+AreInColumn partitions given labels k =
+    (p : ℕ) → is_listed p partitions ≡ true → at labels k p ≡ label_at p partitions given
+
+-- the first columns have the labels of the listed invariants from a place on, as far as there are any
+abbrev pub HaveLabels : Model → List ℕ → ℕ → ℕ → Type 0
+HaveLabels m labels from count =
+    (k : ℕ) (l : Listed) → k < count → slice_get m.invariants (from + k) ≡ Some l
+    → AreInColumn m.partitions l.labels labels k
 
 -- the column has the sources of the ids of a type, and the former ones of the other ids
 pub record HasSources (inv : Invariant) (g : Graph) (typ : ℕ) (labels old sources : List ℕ) (k : ℕ) : Type 0 where

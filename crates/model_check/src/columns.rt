@@ -1,12 +1,13 @@
 //! Labels in columns, one column for each of many invariants, so that an edge is tested for all of them at once.
 ghost use Rattle.std.specs.Prelude.{◌≡◌, ◌↔◌, ◌<◌, ◌≤◌, ◌*◌, ◌==◌, ◌&&◌, ℕ, length, if◌then◌else◌, map, IfOk, IsTrue, All};
 ghost use Rattle.limits.specs.declared.TheConstants.{MAX_PARTITIONS};
+ghost use Rattle.invariants.specs.declared.records.Model.{Model};
 ghost use Rattle.invariants.specs.Labels.{IsDigit, number_of};
 ghost use Rattle.model_shape.specs.Shapes.{IsShapedListed, IsWellShaped};
 ghost use Rattle.models.specs.Models.{graph_of};
 ghost use Rattle.model_check.specs.declared.columns.TheConstants.{TOGETHER};
 ghost use Rattle.model_check.specs.Rows.{shown, AreApart, IsEdgeWithin, IsMarkable};
-ghost use Rattle.model_check.specs.Columns.{at, AreColumnsOf, AreLabelledBefore, AreWithin, IsColumnOf, AreInColumn, HasSources, SameOthers};
+ghost use Rattle.model_check.specs.Columns.{at, AreColumnsOf, AreLabelledBefore, AreWithin, IsColumnOf, AreInColumn, HasSources, HaveLabels, SameOthers};
 
 use crate::graph::ModelGraph;
 use crate::labels::has_right_ends;
@@ -37,22 +38,30 @@ impl Columns {
         })
     }
 
-    /// Puts the label and the source of an id into a column.
-    pub fn put(&mut self, k: usize, p: usize, label: StateSet, source: StateSet)
+    /// Puts the label of an id into a column.
+    pub fn put_label(&mut self, k: usize, p: usize, label: StateSet)
         requires column { k < TOGETHER }
         requires id { p < MAX_PARTITIONS }
 
-        // Both sets of the id are in the column, and all else stays.
+        // The label of the id is in the column, and all else stays.
         ensures labels { (c q : ℕ) → c < TOGETHER → at (self.new).labels.items c q
             ≡ (if c == k && q == p then label else at (self.old).labels.items c q) }
-        ensures sources { (c q : ℕ) → c < TOGETHER → at (self.new).sources.items c q
-            ≡ (if c == k && q == p then source else at (self.old).sources.items c q) }
+        ensures sources { (self.new).sources.items ≡ (self.old).sources.items }
     {
         self.labels[p * TOGETHER + k] = label;
-        self.sources[p * TOGETHER + k] = source;
     }
 
-    /// Puts another source of an id into a column.
+    /// Puts each label also as the source of its id.
+    pub fn begin_sources(&mut self)
+        ensures labels { (self.new).labels.items ≡ (self.old).labels.items }
+        ensures sources { (self.new).sources.items ≡ (self.old).labels.items }
+    {
+        self.sources
+            .as_mut_slice()
+            .copy_from_slice(self.labels.as_slice());
+    }
+
+    /// Puts the source of an id into a column.
     pub fn put_source(&mut self, k: usize, p: usize, source: StateSet)
         requires column { k < TOGETHER }
         requires id { p < MAX_PARTITIONS }
@@ -89,7 +98,7 @@ impl Columns {
     }
 }
 
-/// Puts the label of each partition, given as its digit, into a column, both as label and as source.
+/// Puts the label of each partition, given as its digit, into a column.
 fn fill_column(columns: &mut Columns, k: usize, partitions: &[Partition], given: &[u8])
     requires column { k < TOGETHER }
     requires markable { All IsMarkable partitions.now }
@@ -98,14 +107,30 @@ fn fill_column(columns: &mut Columns, k: usize, partitions: &[Partition], given:
     requires given { All IsDigit given.now }
 
     // The column has the labels of the partitions, and all others stay.
-    ensures column { AreInColumn partitions.now (map number_of given.now) (columns.new).labels.items
-        (columns.new).sources.items k }
-    ensures other_labels { SameOthers (columns.old).labels.items (columns.new).labels.items k }
-    ensures other_sources { SameOthers (columns.old).sources.items (columns.new).sources.items k }
+    ensures column { AreInColumn partitions.now (map number_of given.now) (columns.new).labels.items k }
+    ensures others { SameOthers (columns.old).labels.items (columns.new).labels.items k }
 {
     for (i, partition) in partitions.iter().enumerate() {
         let label = StateSet::of(given[i] - b'0');
-        columns.put(k, partition.id as usize, label, label);
+        columns.put_label(k, partition.id as usize, label);
+    }
+}
+
+/// Puts the labels of the listed invariants from `from` on into the columns, at most one for each column.
+fn fill_columns(columns: &mut Columns, model: &Model, from: usize)
+    requires shaped { IsWellShaped model.now }
+    requires from { from ≤ length (model.now).invariants }
+    ensures { HaveLabels model.now (columns.new).labels.items from TOGETHER }
+{
+    let partitions = model.partitions.as_slice();
+    let invariants = model.invariants.as_slice();
+    for k in 0..TOGETHER.min(invariants.len() - from) {
+        fill_column(
+            columns,
+            k,
+            partitions,
+            invariants[from + k].labels.as_digits(),
+        );
     }
 }
 
@@ -127,32 +152,19 @@ fn put_sources(columns: &mut Columns, k: usize, sources: &Sources, graph: &Model
     }
 }
 
-/// Puts the labels of the listed invariant into a column. Returns whether those of the two ends are right.
-fn lay_column(
-    columns: &mut Columns,
-    k: usize,
-    model: &Model,
-    graph: &ModelGraph,
-    listed: &Listed,
-) -> bool
+/// Puts the sources of a listed invariant into a column, which has its labels, also as sources. Returns whether the labels of
+/// the two ends are right.
+fn lay_column(columns: &mut Columns, k: usize, graph: &ModelGraph, listed: &Listed) -> bool
     requires column { k < TOGETHER }
-    requires shaped { IsWellShaped model.now }
-    requires graph { shown graph.now ≡ graph_of model.now }
-    requires listed { IsShapedListed (model.now).kinds (length (model.now).types) (length (model.now).partitions)
-        listed.now }
+    requires begun { (p : ℕ) → at (columns.old).sources.items k p ≡ at (columns.old).labels.items k p }
 
-    // If both ends are right, the column is that of the invariant. All others stay.
-    ensures column { IsTrue result → IsColumnOf model.now listed.now (columns.new).labels.items
-        (columns.new).sources.items k }
-    ensures other_labels { SameOthers (columns.old).labels.items (columns.new).labels.items k }
+    // If both ends are right, the column is that of the invariant. All else stays.
+    ensures column { (m : Model) → IsWellShaped m → shown graph.now ≡ graph_of m
+        → AreInColumn m.partitions (listed.now).labels (columns.old).labels.items k → IsTrue result
+        → IsColumnOf m listed.now (columns.new).labels.items (columns.new).sources.items k }
+    ensures labels { (columns.new).labels.items ≡ (columns.old).labels.items }
     ensures other_sources { SameOthers (columns.old).sources.items (columns.new).sources.items k }
 {
-    fill_column(
-        columns,
-        k,
-        model.partitions.as_slice(),
-        listed.labels.as_digits(),
-    );
     // A type that the invariant does not name leads from each state to itself.
     let sources = Sources::of(listed.inv);
     put_sources(columns, k, &sources, graph, listed.inv.a);
@@ -162,8 +174,8 @@ fn lay_column(
     has_right_ends(listed.inv, graph, initial, terminal)
 }
 
-/// Puts the labels of the listed invariants from `from` on into the columns, at most one for each column. Returns whether those
-/// of their ends are all right.
+/// Puts the labels of the listed invariants from `from` on, and their sources, into the columns, at most one for each column.
+/// Returns whether the labels of their ends are all right.
 fn lay_columns(columns: &mut Columns, model: &Model, graph: &ModelGraph, from: usize) -> bool
     requires shaped { IsWellShaped model.now }
     requires graph { shown graph.now ≡ graph_of model.now }
@@ -174,12 +186,14 @@ fn lay_columns(columns: &mut Columns, model: &Model, graph: &ModelGraph, from: u
         → AreColumnsOf model.now (columns.new).labels.items (columns.new).sources.items
         from TOGETHER }
 {
+    fill_columns(columns, model, from);
+    columns.begin_sources();
     let invariants = model.invariants.as_slice();
     for k in 0..TOGETHER {
         if k >= invariants.len() - from {
             return true;
         }
-        if !lay_column(columns, k, model, graph, &invariants[from + k]) {
+        if !lay_column(columns, k, graph, &invariants[from + k]) {
             return false;
         }
     }

@@ -8,9 +8,8 @@ use Rattle.model_check.proofs.columns.fill_column.Goals as goal
 pub loop-i-init : goal.loop-i-init
 loop-i-init c =
     record {
-      filled = filled-none c.args.partitions.now (map number_of c.args.given.now) c.args.columns.now.labels.items c.args.columns.now.sources.items c.args.k c.requires.apart;
-      other_labels = λ d p l n. refl;
-      other_sources = λ d p l n. refl;
+      filled = filled-none c.args.partitions.now (map number_of c.args.given.now) c.args.columns.now.labels.items c.args.k c.requires.apart;
+      others = λ d p l n. refl;
     }
 
 pub loop-i-preserved : goal.loop-i-preserved
@@ -21,22 +20,19 @@ loop-i-preserved c =
     let x : Partition = get_or xs i (record { id = 0; typ = 0; count = 0 }) in
     let label : ℕ = c.of-label.result in
     let labels : List ℕ = c.loop-i.columns.labels.items in
-    let sources : List ℕ = c.loop-i.columns.sources.items in
     let rest : drop i xs ≡ x ∷ drop (i + 1) xs = drop_more xs i (record { id = 0; typ = 0; count = 0 }) c.loop-i-test.true in
     let within : i < length ds = omega (arith, c.loop-i-test.true, c.requires.count) in
     let digits : map number_of (drop i ds) ≡ label ∷ map number_of (drop (i + 1) ds) =
     ap (λ (ys : List ℕ). map number_of ys) (drop_more ds i 0 within) ∙ ap (λ (n : ℕ). n ∷ map number_of (drop (i + 1) ds)) (sym c.of-label.ensures) in
-    let before : IsFilledUpTo xs (x ∷ drop (i + 1) xs) (map number_of ds) (label ∷ map number_of (drop (i + 1) ds)) labels sources c.args.k =
-    subst₂ (λ (ys : List Partition) (ns : List ℕ). IsFilledUpTo xs ys (map number_of ds) ns labels sources c.args.k) rest digits c.loop-i.invariant.filled in
+    let before : IsFilledUpTo xs (x ∷ drop (i + 1) xs) (map number_of ds) (label ∷ map number_of (drop (i + 1) ds)) labels c.args.k =
+    subst₂ (λ (ys : List Partition) (ns : List ℕ). IsFilledUpTo xs ys (map number_of ds) ns labels c.args.k) rest digits c.loop-i.invariant.filled in
     record {
       filled =
-          filled-more xs (drop (i + 1) xs) (map number_of ds) (map number_of (drop (i + 1) ds)) labels sources c.put.new.self.labels.items c.put.new.self.sources.items c.args.k label x c.requires.column
-          c.put.ensures.labels c.put.ensures.sources before;
-      other_labels = others-more c.args.columns.now.labels.items labels c.put.new.self.labels.items c.args.k c.loop-i.invariant.other_labels (put-others labels c.put.new.self.labels.items c.args.k _ _ c.put.ensures.labels);
-      other_sources = others-more c.args.columns.now.sources.items sources c.put.new.self.sources.items c.args.k c.loop-i.invariant.other_sources (put-others sources c.put.new.self.sources.items c.args.k _ _ c.put.ensures.sources);
+          filled-more xs (drop (i + 1) xs) (map number_of ds) (map number_of (drop (i + 1) ds)) labels c.put_label.new.self.labels.items c.args.k label x c.requires.column c.put_label.ensures.labels before;
+      others = others-more c.args.columns.now.labels.items labels c.put_label.new.self.labels.items c.args.k c.loop-i.invariant.others (put-others labels c.put_label.new.self.labels.items c.args.k _ _ c.put_label.ensures.labels);
     }
 
 pub returns-clause-column : goal.returns-clause-column
 returns-clause-column c =
-    filled-all c.args.partitions.now (map number_of c.args.given.now) (map number_of (drop c.loop-i.i c.args.given.now)) c.loop-i.columns.labels.items c.loop-i.columns.sources.items c.args.k c.loop-i.i c.loop-i-test.false
+    filled-all c.args.partitions.now (map number_of c.args.given.now) (map number_of (drop c.loop-i.i c.args.given.now)) c.loop-i.columns.labels.items c.args.k c.loop-i.i c.loop-i-test.false
     c.loop-i.invariant.filled

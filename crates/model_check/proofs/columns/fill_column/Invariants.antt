@@ -7,7 +7,6 @@ use Rattle.model_check.proofs.columns.fill_column.Given as goal
 abbrev pub invariant-loop-i : goal.invariant-loop-i
 invariant-loop-i l =
     record {
-      filled : IsFilledUpTo l.partitions (drop l.i l.partitions) (map number_of l.given) (map number_of (drop l.i l.given)) l.columns.labels.items l.columns.sources.items l.k;
-      other_labels : SameOthers l.initial.columns.labels.items l.columns.labels.items l.k;
-      other_sources : SameOthers l.initial.columns.sources.items l.columns.sources.items l.k;
+      filled : IsFilledUpTo l.partitions (drop l.i l.partitions) (map number_of l.given) (map number_of (drop l.i l.given)) l.columns.labels.items l.k;
+      others : SameOthers l.initial.columns.labels.items l.columns.labels.items l.k;
     }

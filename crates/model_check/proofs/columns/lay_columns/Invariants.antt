@@ -1,5 +1,5 @@
-use Rattle.model_check.specs.Columns.{AreColumnsOf}
+use Rattle.model_check.proofs.Together.{AreLaidUpTo}
 use Rattle.model_check.proofs.columns.lay_columns.Given as goal
 
 abbrev pub invariant-loop-k : goal.invariant-loop-k
-invariant-loop-k l = AreColumnsOf l.model l.columns.labels.items l.columns.sources.items l.from l.k
+invariant-loop-k l = AreLaidUpTo l.model l.columns.labels.items l.columns.sources.items l.from l.k
