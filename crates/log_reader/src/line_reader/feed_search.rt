@@ -63,8 +63,9 @@ pub fn first_feed(bytes: &[u8], searched: usize) -> Option<usize>
 }
 
 /// The place of the first line feed, if it is among the first `NEAR_BYTES` bytes and more bytes follow. It may be missed if fewer
-/// than `LANES` bytes follow. There is none among the first 2 * `LANES` bytes. It stays a call, so that the path of a short line
-/// is short.
+/// than `LANES` bytes follow. There is none among the first 2 * `LANES` bytes. It stays a call, and is marked as a rare one, so that
+/// the path of a short line is short.
+#[cold]
 #[inline(never)]
 fn further_feed(bytes: &[u8]) -> Option<usize>
     requires inside { LANES + LANES ≤ length bytes.now }
