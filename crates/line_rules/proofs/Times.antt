@@ -73,6 +73,13 @@ reads-on text i n inside few value digits range =
     let count : length (take (i + 1) text) ≡ i + 1 = length-take-le (i + 1) text (omega arith) in
     record { value = next; digits = more; small = subst (λ k. k < 10 ^ 18) (sym next) (small-number 18 (take (i + 1) text) (omega (arith, count)) more) }
 
+-- where the first bytes are known to be digits, each of them is one digit more
+pub reads-known : (text : List ℕ) (count i n : ℕ) → count ≤ length text → count ≤ 18 → list_all is_digit (take count text) ≡ true → i < count
+    → n ≡ digits_value 10 (take i text) → list_all is_digit (take i text) ≡ true → ReadsOn text i n (get_or text i 0)
+reads-known text count i n inside few all less value digits =
+    let parts = and_parts (nat_le 48 (get_or text i 0)) (nat_le (get_or text i 0) 57) (digit-in-head text count i inside all less) in
+    reads-on text i n (omega (arith, inside, less)) (omega (arith, few, less)) value digits (leb-true 48 (get_or text i 0) parts.0, leb-true (get_or text i 0) 57 parts.1)
+
 -- a head of so few digits is a small number
 pub head-small : (most : ℕ) (text : List ℕ) (n count k : ℕ) → IsHead most text n count → count ≤ k → n < 10 ^ k
 head-small most text n count k head few = subst (λ m. m < 10 ^ k) (sym head.value) (small-number k (take count text) (omega (arith, few, length-take-le count text head.within)) head.digits)

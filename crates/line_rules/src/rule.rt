@@ -55,6 +55,28 @@ pub(crate) fn group_number(regex: &Regex, name: &str) -> Option<usize>
     regex.capture_index(name)
 }
 
+/// An event with the trace of this span and its time. If the group TRACE took no part, the trace text is empty. If there is no
+/// time, `BadTime` is returned.
+#[inline(always)]
+fn event(
+    trace: Option<(usize, usize)>,
+    name: Named,
+    time: Option<u128>,
+) -> Result<Decision, DecideError>
+    ensures { result ≡ spec.event trace name time }
+{
+    let Some(time) = time else {
+        return Err(DecideError::BadTime);
+    };
+    let (trace_from, trace_to) = trace.unwrap_or((0, 0));
+    Ok(Decision::Event {
+        name,
+        trace_from,
+        trace_to,
+        time,
+    })
+}
+
 impl Rule {
     ghost use Rattle.line_rules.specs.Views.{form_view, rule_view, UsesNoGroup};
     ghost use Rattle.line_rules.specs.Files.{lacks_type, has_time};
@@ -104,6 +126,7 @@ impl Rule {
 
     /// The time of an event in the line, if the group TIME has this span. It is 0 if the rule has
     /// no such group. None is returned if the group took no part or its text is no time.
+    #[inline(always)]
     fn time_in(&self, line: &str, span: Option<(usize, usize)>) -> Option<u128>
         requires { IfSome span (spec.IsSpanOf line.now) }
         ensures { result ≡ spec.time_by self.now.time_group line.now span }
@@ -117,26 +140,8 @@ impl Rule {
         }
     }
 
-    /// An event with its trace and its time. If the group TRACE took no part, the trace text is
-    /// empty.
-    fn event(&self, line: &str, spans: Spans, name: Named) -> Result<Decision, DecideError>
-        requires { IfSome spans.time (spec.IsSpanOf line.now) }
-        ensures { result
-            ≡ spec.event spans.trace name (spec.time_by self.now.time_group line.now spans.time) }
-    {
-        let Some(time) = self.time_in(line, spans.time) else {
-            return Err(DecideError::BadTime);
-        };
-        let (trace_from, trace_to) = spans.trace.unwrap_or((0, 0));
-        Ok(Decision::Event {
-            name,
-            trace_from,
-            trace_to,
-            time,
-        })
-    }
-
     /// What the rule, which has this number, decides if its groups have these spans.
+    #[inline(always)]
     pub(crate) fn decided_at(
         &self,
         number: u32,
@@ -147,16 +152,17 @@ impl Rule {
         ensures { result ≡ spec.decided_at number (form_view self.now.form) spans.typ spans.trace
             (spec.time_by self.now.time_group line.now spans.time) }
     {
+        let time = self.time_in(line, spans.time);
         match &self.form {
             RuleForm::Skip => Some(Ok(Decision::Skip)),
             RuleForm::Separator => Some(Ok(Decision::Separator)),
             RuleForm::Event => match spans.typ {
                 Some((from, to)) if from < to => {
-                    Some(self.event(line, spans, Named::Part(from, to)))
+                    Some(event(spans.trace, Named::Part(from, to), time))
                 }
                 _ => None,
             },
-            RuleForm::EventOf(_) => Some(self.event(line, spans, Named::Fixed(number))),
+            RuleForm::EventOf(_) => Some(event(spans.trace, Named::Fixed(number), time)),
         }
     }
 

@@ -1,25 +1,72 @@
 //! The time that a text gives.
-ghost use Rattle.std.specs.Prelude.{◌≡◌, ◌<◌, ◌≤◌, ◌^◌, ◌-◌, IfSome};
-ghost use Rattle.line_rules.specs.Times.{IsHead, billionths, time_of};
+ghost use Rattle.std.specs.Prelude.{◌≡◌, ◌<◌, ◌≤◌, ◌^◌, ◌-◌, IfSome, length, take, true};
+ghost use Rattle.std.specs.List.{list_all};
+ghost use Rattle.std.specs.Str.Parse.{digits_value};
+ghost use Rattle.line_rules.specs.Times.{IsHead, billionths, is_digit, time_of};
 
 /// How many billionths one has.
 const BILLION: u128 = 1_000_000_000;
 
-/// The number that the first digits of the text represent, and how many digits these are: at most `most`.
-fn head(text: &[u8], most: usize) -> (u64, usize)
-    requires { most ≤ 18 }
-    ensures { IsHead most text.now result.0 result.1 }
+/// How many bytes are tested together.
+const TOGETHER: usize = 8;
+
+/// Whether the first `TOGETHER` bytes are digits.
+#[inline(always)]
+fn begins_with_digits(text: &[u8]) -> bool
+    requires { TOGETHER ≤ length text.now }
+    ensures { result ≡ list_all is_digit (take TOGETHER text.now) }
+{
+    // No early exit, so that all bytes are tested at once.
+    let mut all = true;
+    for place in 0..TOGETHER {
+        all = all & text[place].is_ascii_digit();
+    }
+    all
+}
+
+/// The number that the first `TOGETHER` bytes represent. They are digits.
+#[inline(always)]
+fn first_number(text: &[u8]) -> u64
+    requires inside { TOGETHER ≤ length text.now }
+    requires digits { list_all is_digit (take TOGETHER text.now) ≡ true }
+    ensures { result ≡ digits_value 10 (take TOGETHER text.now) }
 {
     let mut number = 0;
-    let end = text.len().min(most);
-    for place in 0..end {
-        let digit = text[place];
-        if !digit.is_ascii_digit() {
+    for place in 0..TOGETHER {
+        number = number * 10 + u64::from(text[place] - b'0');
+    }
+    number
+}
+
+/// The number that the first digits of the text represent, and how many digits these are: at most `most`. The first `read` bytes
+/// are digits, and represent `number`.
+#[inline(always)]
+fn head_after(text: &[u8], most: usize, number: u64, read: usize) -> (u64, usize)
+    requires most { (read ≤ most) × (most ≤ 18) }
+    requires inside { read ≤ length text.now }
+    requires digits { list_all is_digit (take read text.now) ≡ true }
+    requires value { number ≡ digits_value 10 (take read text.now) }
+    ensures { IsHead most text.now result.0 result.1 }
+{
+    let mut number = number;
+    for place in read..most {
+        if place == text.len() || !text[place].is_ascii_digit() {
             return (number, place);
         }
-        number = number * 10 + u64::from(digit - b'0');
+        number = number * 10 + u64::from(text[place] - b'0');
     }
-    (number, end)
+    (number, most)
+}
+
+/// The number that the first digits of the text represent, and how many digits these are: at most 18.
+#[inline(always)]
+fn whole_head(text: &[u8]) -> (u64, usize)
+    ensures { IsHead 18 text.now result.0 result.1 }
+{
+    if text.len() >= TOGETHER && begins_with_digits(text) {
+        return head_after(text, 18, first_number(text), TOGETHER);
+    }
+    head_after(text, 18, 0, 0)
 }
 
 /// How many billionths a one in the last of this many decimal places has.
@@ -46,7 +93,7 @@ fn billionths(fraction: &[u8]) -> Option<u64>
     ensures value { result ≡ billionths fraction.now }
     ensures small { IfSome result (λ part. part < 10 ^ 9) }
 {
-    let (number, digits) = head(fraction, 9);
+    let (number, digits) = head_after(fraction, 9, 0, 0);
     if digits == 0 || digits < fraction.len() {
         return None;
     }
@@ -59,7 +106,7 @@ pub(crate) fn time_of(text: &str) -> Option<u128>
     ensures { result ≡ time_of text.now }
 {
     let bytes = text.as_bytes();
-    let (number, digits) = head(bytes, 18);
+    let (number, digits) = whole_head(bytes);
     if digits == 0 {
         return None;
     }

@@ -1,5 +1,5 @@
 //! Reads the lines of inputs, one by one, through a buffer of a fixed size.
-ghost use Rattle.std.specs.Prelude.{◌≡◌, ◌<◌, ◌≤◌, ◌+◌, [], length, take, drop, Some, IfOk, IfErr, IfNone, IfSome, IsSome, false, true};
+ghost use Rattle.std.specs.Prelude.{◌≡◌, ◌<◌, ◌≤◌, ◌+◌, ◌-◌, [], length, min, take, drop, Some, IfOk, IfErr, IfNone, IfSome, IsSome, false, true};
 ghost use Rattle.std.specs.List.{position_or_len};
 ghost use Rattle.std.specs.Str.{IsAscii};
 ghost use Rattle.limits.specs.declared.TheConstants.{MAX_INPUT_BYTES, MAX_LINE_BYTES};
@@ -14,7 +14,7 @@ mod feed_search;
 use crate::cut::{Cut, Extent, within_limits};
 use crate::line_error::LineError;
 use crate::line_reader::buffer::{BUFFER_BYTES, clean_after, read_behind, to_front};
-use crate::line_reader::feed_search::{LANES, first_feed, near_feed};
+use crate::line_reader::feed_search::{LANES, NEAR_BYTES, first_feed, near_feed};
 use limits::MAX_INPUT_BYTES;
 use lines::without_return;
 use outside::{Failed, Inputs};
@@ -226,7 +226,7 @@ impl Lines {
         self.find_end(inputs)
     }
 
-    /// How long the first piece to come is, if it is short, so that a line feed among the first 2 * `LANES` buffered bytes ends it,
+    /// How long the first piece to come is, if it is short, so that a line feed among the first `NEAR_BYTES` buffered bytes ends it,
     /// and more bytes are buffered. Then it is within the limits, since at most one byte past the limit on all input is ever
     /// buffered.
     #[inline(always)]
@@ -236,6 +236,8 @@ impl Lines {
         ensures limits { IfSome result (λ n. IsWithinLimits (self.now).taken (record { length = n; fed = true })) }
         ensures none { IfNone result (LANES < length (self.now).buffered
             → LANES ≤ position_or_len is_feed (self.now).buffered) }
+        ensures far { IfNone result (min NEAR_BYTES (length (self.now).buffered - LANES)
+            ≤ position_or_len is_feed (self.now).buffered) }
     {
         near_feed(self.buffered())
     }
