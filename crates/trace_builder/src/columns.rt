@@ -1,7 +1,7 @@
 //! Events in columns, in the order added.
 ghost use Rattle.std.specs.Prelude.{◌≡◌, ◌<◌, ◌≤◌, ◌++◌, ◌∷◌, ◌↔◌, [], ℕ, List, length, OnOk, vec_len, vec_capacity, true};
 ghost use Rattle.traces.specs.Columns.{times_beside, AreBeside};
-ghost use Rattle.trace_builder.specs.Room.{times_in, HasRoom, HasRoomForTime};
+ghost use Rattle.trace_builder.specs.Room.{times_in, HasRoom, HasRoomForTime, IsTimedAsOthers};
 
 use std::alloc::{AllocError, Global};
 
@@ -69,21 +69,22 @@ impl Columns {
         reserve_time(&mut self.times, self.numbers.len())
     }
 
-    /// Whether this time needs no room, or there is a time for each event and room for one more.
+    /// Whether there is room for this time. If it is 0, no times may be kept.
     #[inline(always)]
     fn has_room_for_time(&self, time: u128) -> bool
-        ensures { (result ≡ true) ↔ HasRoomForTime self.now time }
+        ensures { (result ≡ true) ↔ HasRoomForTime self.now time × IsTimedAsOthers self.now time }
     {
-        if time == 0 && self.times.is_empty() {
-            return true;
+        if time == 0 {
+            return self.times.is_empty();
         }
         self.times.len() == self.numbers.len() && self.times.len() < self.times.capacity()
     }
 
-    /// Whether there is room for one event more, with this time.
+    /// Whether there is room for one event more, with this time. If times are kept, the answer for the time 0 is false. So an event
+    /// without a time is put without another look at the times.
     #[inline(always)]
     pub fn has_room(&self, time: u128) -> bool
-        ensures { (result ≡ true) ↔ HasRoom self.now time }
+        ensures { (result ≡ true) ↔ HasRoom self.now time × IsTimedAsOthers self.now time }
     {
         self.has_room_for_time(time)
             && self.places.len() < self.places.capacity()

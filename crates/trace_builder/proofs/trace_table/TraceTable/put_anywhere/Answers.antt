@@ -5,7 +5,7 @@ use Rattle.traces.proofs.Columned.{columned-grows, columned-same, columns-kept, 
 use Rattle.trace_keys.proofs.Positions.{position-le}
 use Rattle.trace_builder.specs.Placed.{key_packed}
 use Rattle.trace_builder.proofs.Places.{place-told}
-use Rattle.trace_builder.proofs.trace_table.TraceTable.put_elsewhere.Goals as goal
+use Rattle.trace_builder.proofs.trace_table.TraceTable.put_anywhere.Goals as goal
 
 pub overflow_cast-trace : goal.overflow_cast-trace
 overflow_cast-trace c =
