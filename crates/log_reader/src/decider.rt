@@ -1,6 +1,6 @@
 //! The deciders of the lines of a whole log.
-ghost use Rattle.std.specs.Prelude.{◌≡◌, ◌<◌, length, IfOk};
-ghost use Rattle.line_rules.specs.Rules.{IsNamePart, type_text};
+ghost use Rattle.std.specs.Prelude.{◌≡◌, ◌<◌, length, take, IfOk};
+ghost use Rattle.line_rules.specs.Rules.{IsNamePart, IsSpanOf, part, type_text};
 ghost use Rattle.line_rules.specs.Views.{rules_in};
 ghost use Rattle.log_reader.specs.SoFar.{decider_view, HasMatchers};
 ghost use Rattle.log_reader.specs.Views.{form_view};
@@ -8,6 +8,7 @@ ghost use Rattle.log_reader.specs.Views.{form_view};
 use crate::form::Form;
 use line_rules::{LineRules, Matchers, Named};
 use std::alloc::AllocError;
+use trace_builder::PackedText;
 
 /// Rules with the matchers that search for them, which are made once for a log.
 #[derive(Drop)]
@@ -43,14 +44,32 @@ impl<'r> Decider<'r> {
     }
 }
 
-/// The type text that a decision names: at least one byte.
-pub fn type_text_of<'t>(rules: &'t LineRules, text: &'t str, name: Named) -> &'t str
-    requires { IsNamePart (rules_in rules.now) text.now name }
-    ensures value { result.now ≡ type_text (rules_in rules.now) text.now name }
-    ensures stands { 0 < length result.now }
+/// The part of a line from one place to another, with the words of its fingerprint. These bytes begin with the line.
+#[inline(always)]
+pub fn part_of<'t>(text: &'t str, bytes: &[u8], from: usize, to: usize) -> PackedText<'t>
+    requires begins { take (length text.now) bytes.now ≡ text.now }
+    requires span { IsSpanOf text.now (from, to) }
+    ensures { result ≡ part text.now from to }
+{
+    PackedText::at_start(&text[from..to], &bytes[from..])
+}
+
+/// The type text that a decision names, with the words of its fingerprint. It has at least one byte. These bytes begin with the
+/// line.
+#[inline(always)]
+pub fn type_text_of<'t>(
+    rules: &'t LineRules,
+    text: &'t str,
+    bytes: &[u8],
+    name: Named,
+) -> PackedText<'t>
+    requires begins { take (length text.now) bytes.now ≡ text.now }
+    requires named { IsNamePart (rules_in rules.now) text.now name }
+    ensures value { result ≡ type_text (rules_in rules.now) text.now name }
+    ensures stands { 0 < length result }
 {
     match name {
-        Named::Fixed(rule) => rules.fixed(rule),
-        Named::Part(from, to) => &text[from..to],
+        Named::Fixed(rule) => PackedText::of(rules.fixed(rule)),
+        Named::Part(from, to) => part_of(text, bytes, from, to),
     }
 }

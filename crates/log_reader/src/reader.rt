@@ -73,7 +73,7 @@ impl<'r> LogReader<'r> {
     {
         match &mut self.decider {
             Decider::Plain => self.log.take_plain(at, text, bytes),
-            Decider::Rules(kept) => self.log.take_ruled(kept, at, text),
+            Decider::Rules(kept) => self.log.take_ruled(kept, at, text, bytes),
         }
     }
 

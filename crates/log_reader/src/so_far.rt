@@ -7,7 +7,7 @@ ghost use Rattle.log_reader.specs.Reading as spec;
 ghost use Rattle.log_reader.specs.Reading.{by_fields, decided};
 ghost use Rattle.log_reader.specs.SoFar.{refusal_in, taken_for, IsRefusal, IsWithin, TakesLine};
 
-use crate::decider::{KeptRules, type_text_of};
+use crate::decider::{KeptRules, part_of, type_text_of};
 use crate::refusal::{At, ReadError};
 use crate::taken::Taken;
 use limits::{MAX_TRACE_BYTES, MAX_TYPE_BYTES};
@@ -68,38 +68,6 @@ impl LogSoFar {
         if self.join { 0 } else { at.file }
     }
 
-    /// Adds the event of a line, with its time in billionths of the log's unit of time.
-    fn add(
-        &mut self,
-        at: At,
-        trace_text: &str,
-        type_text: &str,
-        time: u128,
-    ) -> Result<Taken, ReadError>
-        requires within { IsWithin self.old.builder }
-        requires stands { 0 < length type_text.now }
-        ensures taken { IfOk result (λ taken. taken
-            ≡ taken_for at (spec.Event type_text.now trace_text.now time) self.old) }
-        ensures ok { OnOk result
-            (TakesLine at (spec.Event type_text.now trace_text.now time) self.old self.new) }
-        ensures err { IfErr result (IsRefusal (refusal_in self.old.ignore at self.old.builder
-            (spec.Event type_text.now trace_text.now time))) }
-        ensures memory { result ≡ Err ReadError.Memory → refusal_in self.old.ignore at self.old.builder
-            (spec.Event type_text.now trace_text.now time) ≡ None }
-    {
-        if let Some(refusal) = too_long(at, trace_text, type_text) {
-            return Err(refusal);
-        }
-        let file = self.key_file(at);
-        match self
-            .builder
-            .add(file, self.section, trace_text, type_text, time)
-        {
-            Ok(placed) => Ok(Taken::Event { placed, time }),
-            Err(error) => Err(not_added(at, error)),
-        }
-    }
-
     /// Begins a section at the line of a separator.
     fn begin_section(&mut self, at: At)
         requires within { IsWithin self.old.builder }
@@ -125,7 +93,7 @@ impl LogSoFar {
         }
     }
 
-    /// Adds the event of a line, which has no time, from texts with the words of their
+    /// Adds the event of a line, with its time in billionths of the log's unit of time, from texts with the words of their
     /// fingerprints.
     #[inline(always)]
     fn add_packed(
@@ -133,17 +101,18 @@ impl LogSoFar {
         at: At,
         trace_text: &PackedText<'_>,
         type_text: &PackedText<'_>,
+        time: u128,
     ) -> Result<Taken, ReadError>
         requires within { IsWithin self.old.builder }
         requires stands { 0 < length type_text.now }
         ensures taken { IfOk result (λ taken. taken
-            ≡ taken_for at (spec.Event type_text.now trace_text.now 0) self.old) }
+            ≡ taken_for at (spec.Event type_text.now trace_text.now time) self.old) }
         ensures ok { OnOk result
-            (TakesLine at (spec.Event type_text.now trace_text.now 0) self.old self.new) }
+            (TakesLine at (spec.Event type_text.now trace_text.now time) self.old self.new) }
         ensures err { IfErr result (IsRefusal (refusal_in self.old.ignore at self.old.builder
-            (spec.Event type_text.now trace_text.now 0))) }
+            (spec.Event type_text.now trace_text.now time))) }
         ensures memory { result ≡ Err ReadError.Memory → refusal_in self.old.ignore at self.old.builder
-            (spec.Event type_text.now trace_text.now 0) ≡ None }
+            (spec.Event type_text.now trace_text.now time) ≡ None }
     {
         if let Some(refusal) = too_long(at, trace_text.text(), type_text.text()) {
             return Err(refusal);
@@ -151,9 +120,9 @@ impl LogSoFar {
         let file = self.key_file(at);
         match self
             .builder
-            .add_packed(file, self.section, trace_text, type_text)
+            .add_packed(file, self.section, trace_text, type_text, time)
         {
-            Ok(placed) => Ok(Taken::Event { placed, time: 0 }),
+            Ok(placed) => Ok(Taken::Event { placed, time }),
             Err(error) => Err(not_added(at, error)),
         }
     }
@@ -185,6 +154,7 @@ impl LogSoFar {
             at,
             &PackedText::at_start(trace_text, from_trace),
             &PackedText::at_start(type_text, from_type),
+            0,
         )
     }
 
@@ -210,7 +180,7 @@ impl LogSoFar {
         }
     }
 
-    /// Takes in a line by rules. A bad time is refused whether or not undecided lines are skipped.
+    /// Takes in by rules a line with which these bytes begin. A bad time is refused whether or not undecided lines are skipped.
     /// It stays a call, so that the path of a plain line is short.
     #[inline(never)]
     fn take_by_rules(
@@ -218,7 +188,9 @@ impl LogSoFar {
         kept: &mut KeptRules<'_>,
         at: At,
         text: &str,
+        bytes: &[u8],
     ) -> Result<Taken, ReadError>
+        requires begins { take (length text.now) bytes.now ≡ text.now }
         requires within { IsWithin self.old.builder }
         requires matchers { matched_rules kept.old.matchers ≡ rules_in kept.old.rules.now }
         requires room { self.old.section < 2 ^ 32 - 1 }
@@ -245,8 +217,9 @@ impl LogSoFar {
                     time,
                 },
             ) => {
-                let type_text = type_text_of(kept.rules, text, name);
-                self.add(at, &text[trace_from..trace_to], type_text, time)
+                let type_text = type_text_of(kept.rules, text, bytes, name);
+                let trace_text = part_of(text, bytes, trace_from, trace_to);
+                self.add_packed(at, &trace_text, &type_text, time)
             }
             Ok(Decision::Skip) => Ok(Taken::Nothing),
             Ok(Decision::Separator) => {
@@ -266,7 +239,9 @@ impl LogSoFar {
         kept: &mut KeptRules<'_>,
         at: At,
         text: &str,
+        bytes: &[u8],
     ) -> Result<Taken, ReadError>
+        requires begins { take (length text.now) bytes.now ≡ text.now }
         requires within { IsWithin self.old.builder }
         requires matchers { matched_rules kept.old.matchers ≡ rules_in kept.old.rules.now }
         requires room { self.old.section < 2 ^ 32 - 1 }
@@ -284,6 +259,6 @@ impl LogSoFar {
         ensures matchers { matched_rules kept.new.matchers ≡ matched_rules kept.old.matchers }
         ensures rules { rules_in kept.new.rules.now ≡ rules_in kept.old.rules.now }
     {
-        self.take_by_rules(kept, at, text)
+        self.take_by_rules(kept, at, text, bytes)
     }
 }

@@ -11,9 +11,17 @@ times_in columns = times_beside columns.numbers.items columns.times.items
 abbrev pub NeedsNoTime : Columns → ℕ → Type 0
 NeedsNoTime columns time = (time ≡ 0) × (columns.times.items ≡ [])
 
+-- if the time of the next event is stored, there is room for it, and each event has a time
+pub record HasRoomForTime (columns : Columns) (time : ℕ) : Type 0 where
+  pub times : (NeedsNoTime columns time → ⊥) → vec_len columns.times < vec_capacity columns.times
+  pub each : (NeedsNoTime columns time → ⊥) → length columns.times.items ≡ length columns.numbers.items
+
+-- if this time is 0, no times are stored
+abbrev pub IsTimedAsOthers : Columns → ℕ → Type 0
+IsTimedAsOthers columns time = time ≡ 0 → columns.times.items ≡ []
+
 -- there is room for one more event, with this time
 pub record HasRoom (columns : Columns) (time : ℕ) : Type 0 where
   pub places : vec_len columns.places < vec_capacity columns.places
   pub numbers : vec_len columns.numbers < vec_capacity columns.numbers
-  pub times : (NeedsNoTime columns time → ⊥) → vec_len columns.times < vec_capacity columns.times
-  pub each : (NeedsNoTime columns time → ⊥) → length columns.times.items ≡ length columns.numbers.items
+  pub for_time : HasRoomForTime columns time

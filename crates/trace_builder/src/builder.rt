@@ -171,8 +171,8 @@ impl Builder {
         }
     }
 
-    /// Adds an event without a time by its texts, as `add` does. It is a part of its caller, so that room for the answer of `add` is
-    /// cleared only when `add` is called.
+    /// Adds an event by its texts, as `add` does. It is a part of its caller, so that room for the answer of `add` is cleared only
+    /// when `add` is called.
     #[inline(always)]
     fn add_unpacked(
         &mut self,
@@ -180,6 +180,7 @@ impl Builder {
         section: u32,
         text: &PackedText<'_>,
         type_text: &PackedText<'_>,
+        time: u128,
     ) -> Result<Placed, AddError>
         requires text { length text.now ≤ MAX_TRACE_BYTES }
         requires type_text { length type_text.now ≤ MAX_TYPE_BYTES }
@@ -187,9 +188,9 @@ impl Builder {
         ensures placed { IfOk result (λ placed. placed ≡ placed_in self.old
             (record { file = file; section = section; text = text.now }) type_text.now) }
         ensures exact { OnOk result (self.new
-            ≡ gathered_with self.old (event_of file section text.now type_text.now 0)) }
+            ≡ gathered_with self.old (event_of file section text.now type_text.now time)) }
         ensures ok { OnOk result
-            (AddsEvent self.old self.new (event_of file section text.now type_text.now 0)) }
+            (AddsEvent self.old self.new (event_of file section text.now type_text.now time)) }
 
         // Each refusal comes exactly at its limit, and leaves all as it was.
         ensures type_limit { (result ≡ Err AddError.TypeLimit)
@@ -202,10 +203,10 @@ impl Builder {
         ensures limits { OnOk result ((length (self.new).types ≤ MAX_TYPES)
             × (event_count_of (self.new).traces ≤ MAX_EVENTS)) }
     {
-        self.add(file, section, text.text(), type_text.text(), 0)
+        self.add(file, section, text.text(), type_text.text(), time)
     }
 
-    /// Adds an event without a time, as `add` does, from texts with the words of their fingerprints.
+    /// Adds an event, as `add` does, from texts with the words of their fingerprints.
     #[inline(always)]
     pub fn add_packed(
         &mut self,
@@ -213,6 +214,7 @@ impl Builder {
         section: u32,
         text: &PackedText<'_>,
         type_text: &PackedText<'_>,
+        time: u128,
     ) -> Result<Placed, AddError>
         requires text { length text.now ≤ MAX_TRACE_BYTES }
         requires type_text { length type_text.now ≤ MAX_TYPE_BYTES }
@@ -220,9 +222,9 @@ impl Builder {
         ensures placed { IfOk result (λ placed. placed ≡ placed_in self.old
             (record { file = file; section = section; text = text.now }) type_text.now) }
         ensures exact { OnOk result (self.new
-            ≡ gathered_with self.old (event_of file section text.now type_text.now 0)) }
+            ≡ gathered_with self.old (event_of file section text.now type_text.now time)) }
         ensures ok { OnOk result
-            (AddsEvent self.old self.new (event_of file section text.now type_text.now 0)) }
+            (AddsEvent self.old self.new (event_of file section text.now type_text.now time)) }
 
         // Each refusal comes exactly at its limit, and leaves all as it was.
         ensures type_limit { (result ≡ Err AddError.TypeLimit)
@@ -241,7 +243,14 @@ impl Builder {
                 section,
                 text,
             };
-            let put = put_packed(self.alloc, &self.types, &mut self.traces, key, type_text)?;
+            let put = put_packed(
+                self.alloc,
+                &self.types,
+                &mut self.traces,
+                key,
+                type_text,
+                time,
+            )?;
             match put {
                 Some(placed) => {
                     self.event_count += 1;
@@ -250,7 +259,7 @@ impl Builder {
                 None => {}
             }
         }
-        self.add_unpacked(file, section, text, type_text)
+        self.add_unpacked(file, section, text, type_text, time)
     }
 
     /// The types and traces of the events that were added, each trace ordered by the times of its events. Events of the same time

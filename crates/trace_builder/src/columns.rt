@@ -1,7 +1,7 @@
 //! Events in columns, in the order added.
-ghost use Rattle.std.specs.Prelude.{◌≡◌, ◌<◌, ◌≤◌, ◌++◌, ◌∷◌, [], ℕ, List, length, OnOk, vec_len, vec_capacity, true};
+ghost use Rattle.std.specs.Prelude.{◌≡◌, ◌<◌, ◌≤◌, ◌++◌, ◌∷◌, ◌↔◌, [], ℕ, List, length, OnOk, vec_len, vec_capacity, true};
 ghost use Rattle.traces.specs.Columns.{times_beside, AreBeside};
-ghost use Rattle.trace_builder.specs.Room.{times_in, HasRoom};
+ghost use Rattle.trace_builder.specs.Room.{times_in, HasRoom, HasRoomForTime, IsTimedAsOthers};
 
 use std::alloc::{AllocError, Global};
 
@@ -69,13 +69,24 @@ impl Columns {
         reserve_time(&mut self.times, self.numbers.len())
     }
 
-    /// Whether no time is kept and there is room for one event more without a time.
+    /// Whether there is room for this time. If it is 0, no times may be kept.
     #[inline(always)]
-    pub fn has_room(&self) -> bool
-        requires beside { AreBeside self.now.numbers.items self.now.times.items }
-        ensures { result ≡ true → HasRoom self.now 0 }
+    fn has_room_for_time(&self, time: u128) -> bool
+        ensures { (result ≡ true) ↔ HasRoomForTime self.now time × IsTimedAsOthers self.now time }
     {
-        self.times.is_empty()
+        if time == 0 {
+            return self.times.is_empty();
+        }
+        self.times.len() == self.numbers.len() && self.times.len() < self.times.capacity()
+    }
+
+    /// Whether there is room for one event more, with this time. If times are kept, the answer for the time 0 is false. So an event
+    /// without a time is put without another look at the times.
+    #[inline(always)]
+    pub fn has_room(&self, time: u128) -> bool
+        ensures { (result ≡ true) ↔ HasRoom self.now time × IsTimedAsOthers self.now time }
+    {
+        self.has_room_for_time(time)
             && self.places.len() < self.places.capacity()
             && self.numbers.len() < self.numbers.capacity()
     }

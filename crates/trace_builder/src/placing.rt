@@ -107,7 +107,7 @@ pub fn put_typed_event(
     Ok(Placed { trace, number })
 }
 
-/// Puts an event without a time at the end of its trace, if a slot leads to its type's text. Returns where it was put, or None if
+/// Puts an event at the end of its trace, if a slot leads to its type's text. Returns where it was put, or None if
 /// nothing was done.
 #[inline(always)]
 pub fn put_packed(
@@ -116,6 +116,7 @@ pub fn put_packed(
     traces: &mut TraceTable,
     key: PackedKey<'_, '_>,
     type_text: &PackedText<'_>,
+    time: u128,
 ) -> Result<Option<Placed>, AllocError>
     requires few { length types.now ≤ MAX_TYPES }
     requires few_traces { length traces.old < 2 ^ 32 - 1 }
@@ -128,7 +129,7 @@ pub fn put_packed(
         ≡ with_new bytes_eq types.now type_text.now)) }
     ensures put { IfOk result (λ put. IfSome put (λ _. traces.new
         ≡ with_event traces.old (key_packed key.entry)
-        (position_or_len (bytes_eq type_text.now) types.now + FIRST_TYPE) 0)) }
+        (position_or_len (bytes_eq type_text.now) types.now + FIRST_TYPE) time)) }
     ensures same { IfOk result (λ put. put ≡ None → traces.new ≡ traces.old) }
 
     // If memory runs out, nothing has changed, and the type is known.
@@ -138,7 +139,7 @@ pub fn put_packed(
     match types.slotted_place_of(type_text) {
         Some(place) => {
             let number = (place + FIRST_TYPE as usize) as u16;
-            let trace = traces.put_packed(alloc, key, number)?;
+            let trace = traces.put_packed(alloc, key, number, time)?;
             Ok(Some(Placed { trace, number }))
         }
         None => Ok(None),

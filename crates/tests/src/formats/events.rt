@@ -9,7 +9,7 @@ use std::fmt::Write;
 use trace_builder::{AddError, Builder, PackedText};
 use traces::TraceSet;
 
-/// Adds an event, if its texts are within the limits. An event without a time is added by the words of its texts.
+/// Adds an event, if its texts are within the limits. One with an even time is added by the words of its texts.
 pub fn add(
     builder: &mut Builder,
     key: (u32, u32, &str),
@@ -19,8 +19,9 @@ pub fn add(
     if key.2.len() > MAX_TRACE_BYTES || typ.is_empty() || typ.len() > MAX_TYPE_BYTES {
         return Ok(());
     }
-    let added = if time == 0 {
-        builder.add_packed(key.0, key.1, &PackedText::of(key.2), &PackedText::of(typ))
+    let added = if time % 2 == 0 {
+        let (text, type_text) = (PackedText::of(key.2), PackedText::of(typ));
+        builder.add_packed(key.0, key.1, &text, &type_text, time)
     } else {
         builder.add(key.0, key.1, key.2, typ, time)
     };

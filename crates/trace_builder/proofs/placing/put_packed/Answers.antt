@@ -15,7 +15,7 @@ returns-in_ok-trace-in-Some-clause-known c = sym (cond-true _ _ _ c.in-Some.ensu
 pub returns-in_ok-trace-in-Some-clause-put : goal.returns-in_ok-trace-in-Some-clause-put
 returns-in_ok-trace-in-Some-clause-put c =
     let key : Key = key_packed c.args.key in
-    c.in_ok-trace-in-Some.ensures.ok ∙ ap (λ n. with_event c.args.traces.now key (n + FIRST_TYPE) 0) c.in-Some.ensures.place
+    c.in_ok-trace-in-Some.ensures.ok ∙ ap (λ n. with_event c.args.traces.now key (n + FIRST_TYPE) c.args.time) c.in-Some.ensures.place
 
 pub overflow_add-number : goal.overflow_add-number
 overflow_add-number c = omega (arith, c.requires.few, c.in-Some.ensures.place, position-within (bytes_eq c.args.type_text.now) c.args.types.now c.in-Some.ensures.known)

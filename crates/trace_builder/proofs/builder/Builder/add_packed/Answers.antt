@@ -13,7 +13,7 @@ use Rattle.trace_builder.proofs.builder.Builder.add_packed.Goals as goal
 pub invariant_of-self-in-Some : goal.invariant_of-self-in-Some
 invariant_of-self-in-Some c =
     let typ = c.args.type_text.now in
-    let event : Event = event_of c.args.file c.args.section c.args.text.now typ 0 in
+    let event : Event = event_of c.args.file c.args.section c.args.text.now typ c.args.time in
     let types = c.self.inside.types in
     let traces = c.self.inside.traces in
     let place : ℕ = position_or_len (bytes_eq typ) types in
@@ -23,14 +23,14 @@ invariant_of-self-in-Some c =
     let new : Gathering = record { types = types; traces = c.put_packed.new.traces } in (
       record {
         few_types = c.self.invariant.0.few_types;
-        few_traces = omega (arith, ap length put, traces-few traces event.key (place + FIRST_TYPE) 0, c.self.invariant.0.few_traces);
+        few_traces = omega (arith, ap length put, traces-few traces event.key (place + FIRST_TYPE) event.time, c.self.invariant.0.few_traces);
         few_events = omega (arith, c.if-self-lt-MAX_EVENTS.true);
         numbered = subst (AreNumbered (length types)) (sym put)
-            (numbered-with_event (length types) (length types) (place + FIRST_TYPE) 0 traces event.key (omega arith)
+            (numbered-with_event (length types) (length types) (place + FIRST_TYPE) event.time traces event.key (omega arith)
             (omega arith, omega (arith, ap length known, place-in-types types typ)) c.self.invariant.0.numbered);
-        timed = subst HaveTimes (sym put) (timed-with_event (place + FIRST_TYPE) 0 traces event.key c.self.invariant.0.timed);
-        begun = subst HaveEvents (sym put) (begun-with_event (place + FIRST_TYPE) 0 traces event.key c.self.invariant.0.begun);
-        count = sym (ap event_count_of put ∙ (count-with_event traces event.key (place + FIRST_TYPE) 0 ∙ ap (λ n. n + 1) (sym c.self.invariant.0.count)));
+        timed = subst HaveTimes (sym put) (timed-with_event (place + FIRST_TYPE) event.time traces event.key c.self.invariant.0.timed);
+        begun = subst HaveEvents (sym put) (begun-with_event (place + FIRST_TYPE) event.time traces event.key c.self.invariant.0.begun);
+        count = sym (ap event_count_of put ∙ (count-with_event traces event.key (place + FIRST_TYPE) event.time ∙ ap (λ n. n + 1) (sym c.self.invariant.0.count)));
       },
       c.self.invariant.1,
       c.self.invariant.2,
@@ -48,7 +48,7 @@ invariant_of-self-in-None c =
 
 pub returns-in-Some-clause-ok : goal.returns-in-Some-clause-ok
 returns-in-Some-clause-ok c =
-    let event : Event = event_of c.args.file c.args.section c.args.text.now c.args.type_text.now 0 in
+    let event : Event = event_of c.args.file c.args.section c.args.text.now c.args.type_text.now c.args.time in
     let old : Gathering = record { types = c.self.inside.types; traces = c.self.inside.traces } in
     let new : Gathering = record { types = c.self.inside.types; traces = c.put_packed.new.traces } in
     let one : new ≡ gathered_with old event = adds-one old new event (if-some _ c.in_ok-put.put c.in-Some.placed (cc (c.in-Some.is)) c.in_ok-put.ensures.known) (if-some _ c.in_ok-put.put c.in-Some.placed (cc (c.in-Some.is)) c.in_ok-put.ensures.put) in
@@ -56,10 +56,10 @@ returns-in-Some-clause-ok c =
 
 pub returns-in-Some-clause-limits : goal.returns-in-Some-clause-limits
 returns-in-Some-clause-limits c =
-    let event : Event = event_of c.args.file c.args.section c.args.text.now c.args.type_text.now 0 in
+    let event : Event = event_of c.args.file c.args.section c.args.text.now c.args.type_text.now c.args.time in
     let place : ℕ = position_or_len (bytes_eq c.args.type_text.now) c.self.inside.types in (
       c.self.invariant.0.few_types,
-      omega (arith, ap event_count_of (if-some _ c.in_ok-put.put c.in-Some.placed (cc (c.in-Some.is)) c.in_ok-put.ensures.put), count-with_event c.self.inside.traces event.key (place + FIRST_TYPE) 0, c.self.invariant.0.count, c.if-self-lt-MAX_EVENTS.true),
+      omega (arith, ap event_count_of (if-some _ c.in_ok-put.put c.in-Some.placed (cc (c.in-Some.is)) c.in_ok-put.ensures.put), count-with_event c.self.inside.traces event.key (place + FIRST_TYPE) event.time, c.self.invariant.0.count, c.if-self-lt-MAX_EVENTS.true),
     )
 
 pub invariant_of-self : goal.invariant_of-self

@@ -11,7 +11,7 @@ invariant_of-self c =
     let key : Key = key_packed c.args.key in
     let old = c.self.inside.events in
     let new = c.put.new.self in
-    columns-kept c.self.inside.keys c.self.inside.keys key c.in-Some.place c.in-Some.place c.args.number 0
+    columns-kept c.self.inside.keys c.self.inside.keys key c.in-Some.place c.in-Some.place c.args.number c.args.time
     old.places.items old.numbers.items old.times.items new.places.items new.numbers.items new.times.items
     c.self.invariant c.in-Some.ensures.place refl c.in-Some.ensures.known c.put.ensures.places c.put.ensures.numbers c.put.ensures.times
 
@@ -20,10 +20,10 @@ returns-in-Some-clause-ok c =
     let key : Key = key_packed c.args.key in
     let old = c.self.inside.events in
     let new = c.put.new.self in
-    columned-grows c.self.inside.keys c.self.inside.keys key c.in-Some.place c.in-Some.place c.args.number 0
+    columned-grows c.self.inside.keys c.self.inside.keys key c.in-Some.place c.in-Some.place c.args.number c.args.time
     old.places.items old.numbers.items old.times.items new.places.items new.numbers.items new.times.items
     c.self.invariant c.in-Some.ensures.place refl c.in-Some.ensures.known c.put.ensures.places c.put.ensures.numbers c.put.ensures.times
-    ∙ ap (λ (ts : List Trace). with_event ts key c.args.number 0) c.self.view_is
+    ∙ ap (λ (ts : List Trace). with_event ts key c.args.number c.args.time) c.self.view_is
 
 pub returns-in-Some-clause-place : goal.returns-in-Some-clause-place
 returns-in-Some-clause-place c =

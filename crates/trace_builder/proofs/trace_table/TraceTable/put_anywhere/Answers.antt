@@ -5,7 +5,7 @@ use Rattle.traces.proofs.Columned.{columned-grows, columned-same, columns-kept, 
 use Rattle.trace_keys.proofs.Positions.{position-le}
 use Rattle.trace_builder.specs.Placed.{key_packed}
 use Rattle.trace_builder.proofs.Places.{place-told}
-use Rattle.trace_builder.proofs.trace_table.TraceTable.put_elsewhere.Goals as goal
+use Rattle.trace_builder.proofs.trace_table.TraceTable.put_anywhere.Goals as goal
 
 pub overflow_cast-trace : goal.overflow_cast-trace
 overflow_cast-trace c =
@@ -26,7 +26,7 @@ invariant_of-self-2 c =
     let old = c.self.inside.events in
     let ready = c.reserve.new.self in
     let new = c.put.new.self in
-    columns-kept c.self.inside.keys c.place_or_put_packed.new.self key c.in_ok-place.place c.in_ok-place.place c.args.number 0
+    columns-kept c.self.inside.keys c.place_or_put_packed.new.self key c.in_ok-place.place c.in_ok-place.place c.args.number c.args.time
     ready.places.items ready.numbers.items ready.times.items new.places.items new.numbers.items new.times.items
     (columns-same (length c.self.inside.keys) (length c.self.inside.keys) old.places.items old.numbers.items old.times.items ready.places.items ready.numbers.items ready.times.items
     refl c.reserve.ensures.places c.reserve.ensures.numbers c.reserve.ensures.times c.self.invariant)
@@ -38,12 +38,12 @@ returns-clause-ok c =
     let old = c.self.inside.events in
     let ready = c.reserve.new.self in
     let new = c.put.new.self in
-    columned-grows c.self.inside.keys c.place_or_put_packed.new.self key c.in_ok-place.place c.in_ok-place.place c.args.number 0
+    columned-grows c.self.inside.keys c.place_or_put_packed.new.self key c.in_ok-place.place c.in_ok-place.place c.args.number c.args.time
     ready.places.items ready.numbers.items ready.times.items new.places.items new.numbers.items new.times.items
     (columns-same (length c.self.inside.keys) (length c.self.inside.keys) old.places.items old.numbers.items old.times.items ready.places.items ready.numbers.items ready.times.items
     refl c.reserve.ensures.places c.reserve.ensures.numbers c.reserve.ensures.times c.self.invariant)
     c.in_ok-place.ensures.place refl c.in_ok-place.ensures.ok c.put.ensures.places c.put.ensures.numbers c.put.ensures.times
-    ∙ (ap (λ (ts : List Trace). with_event ts key c.args.number 0)
+    ∙ (ap (λ (ts : List Trace). with_event ts key c.args.number c.args.time)
     (columned-same c.self.inside.keys c.self.inside.keys old.places.items old.numbers.items old.times.items ready.places.items ready.numbers.items ready.times.items
     refl c.reserve.ensures.places c.reserve.ensures.numbers c.reserve.ensures.times
     ∙ c.self.view_is))
