@@ -24,7 +24,7 @@ use Rattle.partition_bounds.specs.Pairs.{pairs_below}
 use Rattle.models.specs.Models.{TypedWords, mined_of, typed_words}
 use Rattle.partition_graph.specs.Parts.{Parts, inner_words_of, start_of}
 use Rattle.partition_graph.specs.Spread.{spread, AreAllOf, SharesWords}
-use Rattle.labelling.specs.Labelled.{Labelling, AreLabelsOf}
+use Rattle.labelling.specs.Labelled.{Labelling}
 use Rattle.splitter.specs.Refining.{IsOpened}
 use Rattle.coarsener.specs.Blocking.{EndsWithoutRoom}
 use Rattle.infer_core.specs.declared.workbench.InferLimit.{InferLimit}
@@ -163,7 +163,7 @@ module _ (kinds : Kinds) (log : Log) (graph : Parts) (numbers : List ℕ) (s : S
       coarsens-end : Coarsens (mined_of (typed_words kinds log)) (spread numbers refined) merges (spread numbers end)
       coarsens-end = subst (λ (xs : List Invariant). Coarsens xs (spread numbers refined) merges (spread numbers end)) mined-same coarsened-end.0
 
-      graph-end : G end ≡ G (spread numbers end)
+      pub graph-end : G end ≡ G (spread numbers end)
       graph-end = graph-over end (spread numbers end) (all-alike numbers end coarsened-end.1) coarsened-end.2
 
       -- each trace still has its number at the end
@@ -200,7 +200,6 @@ module _ (kinds : Kinds) (log : Log) (graph : Parts) (numbers : List ℕ) (s : S
           blocks = subst₂ (λ (xs : List Invariant) (x : Graph). AreBlocks xs x (blocks_of run spans)) mined-same g e.blocks;
           numbers = e.numbers;
           listed = e.listed ∙ mined-same;
-          labels = subst (λ (x : Graph). AreLabelsOf planes x) g e.labels;
           paths = e.paths;
         }
 
@@ -282,6 +281,8 @@ module _ (kinds : Kinds) (log : Log) (invs : List Invariant) (graph : Parts) (nu
       → HasEnded (distinct kinds log graph) end planes' spans' run' → IsAtEnd kinds log invs end numbers planes' spans' run'
   start-ends end planes' spans' run' e = record {
     mined = s.mined;
+    within = s.within;
+    same = sym (graph-end kinds log graph numbers s.shares typed-start hold-start end.traces (splits_of run' spans') e.refined (merges_of run') e.refines e.coarsens);
     all = all-end kinds log graph numbers s.shares typed-start hold-start end.traces (splits_of run' spans') e.refined (merges_of run') e.refines e.coarsens;
     few = few-end kinds log graph numbers s.shares typed-start hold-start end.traces (splits_of run' spans') e.refined (merges_of run') e.refines e.coarsens s.within.few_events;
     ended = ended-whole kinds log graph numbers s.shares typed-start hold-start end planes' spans' run' e;

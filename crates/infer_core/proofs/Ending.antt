@@ -20,7 +20,7 @@ use Rattle.partition_bounds.proofs.Pairing.{pairs_within_limit}
 use Rattle.models.specs.Models.{TypedWords, mined_of}
 use Rattle.models.specs.Histories.{first_new}
 use Rattle.partition_graph.specs.Parts.{Parts}
-use Rattle.labelling.specs.Labelled.{Labelling, AreLabelsOf}
+use Rattle.labelling.specs.Labelled.{Labelling}
 use Rattle.splitter.specs.Refining.{EndsRefined, IsFull, IsStopped}
 use Rattle.splitter.specs.Writing.{AreEmpty, WritesSplits}
 use Rattle.splitter.proofs.WritingTurns.{paths-long}
@@ -233,8 +233,8 @@ module _ (words : TypedWords) (invs : List Invariant) (old graph : Parts) (plane
 
   -- a run that ended
   pub ended : (planes' : Labelling) → AreBlocks invs (G graph.traces) (blocks_of run2 spans2) → length spans2.numbers ≤ MAX_PATH_NUMBERS
-      → planes'.invs ≡ invs → AreLabelsOf planes' (G graph.traces) → HoldsPaths run2 spans2 → HasEnded words graph planes' spans2 run2
-  ended planes' blocks within listed labels paths = record {
+      → planes'.invs ≡ invs → HoldsPaths run2 spans2 → HasEnded words graph planes' spans2 run2
+  ended planes' blocks within listed paths = record {
     refined = r.coarsened.refined;
     refines = refined-still;
     ids = omega (arith, ids-still, r.coarsened.within);
@@ -242,11 +242,10 @@ module _ (words : TypedWords) (invs : List Invariant) (old graph : Parts) (plane
     blocks = subst (λ (xs : List Invariant). AreBlocks xs (G graph.traces) (blocks_of run2 spans2)) b.mined blocks;
     numbers = omega (arith, numbers-are, within);
     listed = listed ∙ b.mined;
-    labels = labels;
     paths = paths;
   }
 
-  -- and one that ended before the labels
+  -- and one that only places the events
   pub blocks-place : AreBlocks invs (G graph.traces) (blocks_of run2 spans2) → length spans2.numbers ≤ MAX_PATH_NUMBERS → IsPlaced words graph
   blocks-place blocks within =
       let parts : Parts = record { traces = graph.traces; used = first_new words + length (splits_of run2 spans2) } in

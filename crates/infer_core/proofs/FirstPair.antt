@@ -163,10 +163,10 @@ none-split invs old new flags run told =
     (λ k l. let at : slice_get invs k ≡ Some (get_or invs k none) = slice_get-get_or invs k none l in (told k (get_or invs k none) at).1 (all_at (G old.traces) invs k (get_or invs k none) at run.0))
 
 -- with the labelling at its beginning, refinement counts one step more than there are invariants and splits, and only where it splits
-pub told-few : (invs : List Invariant) (old new : Parts) (splits : List Split) (flags : List Bool) (before told after : ℕ) → EndsRefined invs old splits new → SaysSatisfied (G old.traces) invs flags
-    → told ≤ before + min 1 (length invs) → after ≡ told + asked_count flags (length invs) + length splits → after ≤ before + length invs + length splits + min 1 (length splits)
-told-few invs old new [] flags before told after ends says l e = omega (arith, l, e, none-split invs old new flags ends.run says)
-told-few invs old new (s ∷ ss) flags before told after ends says l e = omega (arith, l, e, asked-few flags (length invs))
+pub told-few : (invs : List Invariant) (old new : Parts) (splits : List Split) (flags : List Bool) (before after : ℕ) → EndsRefined invs old splits new → SaysSatisfied (G old.traces) invs flags
+    → after ≡ before + asked_count flags (length invs) + length splits → after ≤ before + length invs + length splits + min 1 (length splits)
+told-few invs old new [] flags before after ends says e = omega (arith, e, none-split invs old new flags ends.run says)
+told-few invs old new (s ∷ ss) flags before after ends says e = omega (arith, e, asked-few flags (length invs))
 
 pub ok-both : {A B : Type 0} {P Q R : Type 0} → (r : Result A B) → (P → Q → R) → OnOk r P → OnOk r Q → OnOk r R
 ok-both (Ok x) f p q = f p q

@@ -1,4 +1,5 @@
 pub mod Pairs
+pub mod Slicing
 pub mod Excluding
 pub mod Typed
 pub mod Ending

@@ -1,5 +1,5 @@
 -- What stands at a stage, and how the answer of a run tells of its log.
-use Rattle.std.proofs.Common.{◌≡◌, ◌↔◌, ◌+◌, ℕ, List, length, Result, Ok, Err, ◌∙◌, sym, refl, ap, subst}
+use Rattle.std.proofs.Common.{◌≡◌, ◌↔◌, ◌+◌, ℕ, Bool, List, length, Result, Ok, Err, ◌∙◌, sym, refl, ap, subst}
 use Rattle.invariants.specs.declared.Invariant.{Invariant}
 use Rattle.invariants.specs.declared.Kinds.{Kinds}
 use Rattle.cell_pool.specs.Numbers.{Numbers}
@@ -8,15 +8,16 @@ use Rattle.run_history.specs.Records.{splits_of, merges_of, blocks_of}
 use Rattle.traces.specs.Words.{Log}
 use Rattle.models.specs.Models.{TypedWords, mined_of, typed_words}
 use Rattle.models.specs.Histories.{first_new}
+use Rattle.partition_model.specs.Assignments.{G}
 use Rattle.partition_graph.specs.Parts.{Parts}
-use Rattle.labelling.specs.Labelled.{Labelling}
+use Rattle.labelling.specs.Labelled.{Labelling, SaysSatisfied}
 use Rattle.infer_core.specs.declared.workbench.InferLimit.{InferLimit}
 use Rattle.infer_core.specs.declared.workbench.InferLimit.TheVariants.{Partitions, Evidence}
 use Rattle.infer_core.specs.declared.workbench.Stage.{Stage}
 use Rattle.infer_core.specs.declared.workbench.Stage.TheVariants.{Opened, Inferred, Placed, Refused}
 use Rattle.infer_core.specs.Runs.{PassesNumbers, PassesPartitions}
 use Rattle.infer_core.specs.Ends.{HasEnded, IsPlaced, PlaceGives, RunGives}
-use Rattle.infer_core.specs.Workbenches.{whole_of, WorkbenchView, HasParts, IsAtStart, IsAtEnd, IsAtPlaces, Stands}
+use Rattle.infer_core.specs.Workbenches.{whole_of, Knows, WorkbenchView, HasParts, IsAtStart, IsAtEnd, IsAtPlaces, Stands}
 use Rattle.infer_core.proofs.Excluding.{blocks-fit, both-exclude, numbers-exclude, partitions-exclude}
 
 -- what stands in an opened workbench
@@ -24,6 +25,11 @@ pub stands-opened : (b : WorkbenchView) (stage : Stage) (kinds : Kinds) (log : L
     → record { kinds = kinds; log = log; stage = stage } ≡ b → b.stage ≡ Opened → Stands stage kinds log invs graph numbers stitcher planes spans run → IsAtStart kinds log invs graph numbers stitcher planes spans run
 stands-opened b stage kinds log invs graph numbers stitcher planes spans run e o s =
     subst (λ (x : Stage). Stands x kinds log invs graph numbers stitcher planes spans run) (ap (λ (x : WorkbenchView). x.stage) e ∙ o) s
+
+-- and what its flags say
+pub knows-opened : (b : WorkbenchView) (stage : Stage) (kinds : Kinds) (log : Log) (invs : List Invariant) (graph : Parts) (flags : List Bool) → record { kinds = kinds; log = log; stage = stage } ≡ b → b.stage ≡ Opened
+    → Knows stage graph invs flags → (length flags ≡ length invs) × SaysSatisfied (G graph.traces) invs flags
+knows-opened b stage kinds log invs graph flags e o k = subst (λ (x : Stage). Knows x graph invs flags) (ap (λ (x : WorkbenchView). x.stage) e ∙ o) k
 
 -- and in one whose inference is done
 pub stands-inferred : (b : WorkbenchView) (stage : Stage) (kinds : Kinds) (log : Log) (invs : List Invariant) (graph : Parts) (numbers : List ℕ) (stitcher : ℕ) (planes : Labelling) (spans : Numbers) (run : RunLists)
