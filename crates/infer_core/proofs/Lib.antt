@@ -9,6 +9,5 @@ pub mod Stages
 pub mod Sharing
 pub mod Distinct
 pub mod Spreading
-pub mod FirstPair
 pub mod Windows
 pub mod Numbered

@@ -98,9 +98,9 @@ listing-more list front invs number d labels l e =
     map-append (λ (y : Listed). y.inv) list (x ∷ []) ∙ ap (λ (xs : List Invariant). xs ++ get_or invs number d ∷ []) e ∙ append_assoc front (take number invs) (get_or invs number d ∷ []) ∙ ap (λ (xs : List Invariant). front ++ xs) (sym t)
 
 -- it is the model of the log
-pub told-model : (m : Model) (kinds : Kinds) (log : Log) (invs : List Invariant) (graph : Parts) (planes : Labelling) (spans : Numbers) (run : RunLists)
-    → invs ≡ mined_of (typed_words kinds log) → HasEnded (typed_words kinds log) graph planes spans run → Tells m kinds log invs graph spans run → IsModelOf m (typed_words kinds log)
-told-model m kinds log invs graph planes spans run i e t = record {
+pub told-model : (m : Model) (kinds : Kinds) (log : Log) (invs : List Invariant) (graph : Parts) (spans : Numbers) (run : RunLists)
+    → invs ≡ mined_of (typed_words kinds log) → HasEnded (typed_words kinds log) graph spans run → Tells m kinds log invs graph spans run → IsModelOf m (typed_words kinds log)
+told-model m kinds log invs graph spans run i e t = record {
   types = t.types;
   kinds = t.kinds;
   refined = e.refined;
@@ -115,9 +115,9 @@ told-model m kinds log invs graph planes spans run i e t = record {
 }
 
 -- within the limits
-pub told-keeps : (m : Model) (kinds : Kinds) (log : Log) (invs : List Invariant) (graph : Parts) (planes : Labelling) (spans : Numbers) (run : RunLists)
-    → HasEnded (typed_words kinds log) graph planes spans run → Tells m kinds log invs graph spans run → KeepsLimits m
-told-keeps m kinds log invs graph planes spans run e t =
+pub told-keeps : (m : Model) (kinds : Kinds) (log : Log) (invs : List Invariant) (graph : Parts) (spans : Numbers) (run : RunLists)
+    → HasEnded (typed_words kinds log) graph spans run → Tells m kinds log invs graph spans run → KeepsLimits m
+told-keeps m kinds log invs graph spans run e t =
     let n : length m.types ≡ length log.types = ap (λ (ts : List (List ℕ)). length ts) t.types in
     let s : length m.splits ≡ length (splits_of run spans) = ap (λ (ss : List Split). length ss) t.splits in
     let l : first_new (typed_words kinds log) + length (splits_of run spans) ≤ MAX_PARTITIONS = e.ids in

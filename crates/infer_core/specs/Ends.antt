@@ -84,23 +84,20 @@ pub record IsPlaced (words : TypedWords) (graph : Parts) : Type 0 where
 
 -- the run of these words is recorded: refinement and coarsening have ended, and each pair of the graph has its block,
 -- within the limits
-pub record HasEnded (words : TypedWords) (graph : Parts)
-    (planes : Labelling) (spans : Numbers) (run : RunLists) : Type 0 where
+pub record HasEnded (words : TypedWords) (graph : Parts) (spans : Numbers) (run : RunLists) : Type 0 where
   pub refined : Assignment
   pub refines : IsRefined (mined_of words) (length words.types) words.words (splits_of run spans) refined
   pub ids : first_new words + length (splits_of run spans) ≤ MAX_PARTITIONS
   pub coarsens : Coarsens (mined_of words) refined (merges_of run) graph.traces
   pub blocks : AreBlocks (mined_of words) (G graph.traces) (blocks_of run spans)
   pub numbers : split_numbers (splits_of run spans) + block_numbers (blocks_of run spans) ≤ MAX_PATH_NUMBERS
-  pub listed : planes.invs ≡ mined_of words
   pub paths : HoldsPaths run spans
 
 -- what the run of these words leaves for each answer
-abbrev pub RunGives : Result (Unit {0}) InferLimit → TypedWords → Parts
-    → Labelling → Numbers → RunLists → Type 0
-RunGives (Ok done) words graph planes spans run = HasEnded words graph planes spans run
-RunGives (Err Partitions) words graph planes spans run = PassesPartitions words
-RunGives (Err Evidence) words graph planes spans run = PassesNumbers words
+abbrev pub RunGives : Result (Unit {0}) InferLimit → TypedWords → Parts → Numbers → RunLists → Type 0
+RunGives (Ok done) words graph spans run = HasEnded words graph spans run
+RunGives (Err Partitions) words graph spans run = PassesPartitions words
+RunGives (Err Evidence) words graph spans run = PassesNumbers words
 
 -- what a run of these words that only places the events leaves for each answer
 abbrev pub PlaceGives : Result (Unit {0}) InferLimit → TypedWords → Parts → Type 0

@@ -49,13 +49,13 @@ pub record IsAtStart (kinds : Kinds) (log : Log) (invs : List Invariant) (graph 
 
 -- the invariants mined from the log and its ended run; spread over all traces, the graph is that of the log
 pub record IsAtEnd (kinds : Kinds) (log : Log) (invs : List Invariant) (graph : Parts) (numbers : List ℕ)
-    (planes : Labelling) (spans : Numbers) (run : RunLists) : Type 0 where
+    (spans : Numbers) (run : RunLists) : Type 0 where
   pub mined : invs ≡ mined_of (typed_words kinds log)
   pub within : IsWithinLimits (typed_words kinds log)
   pub same : G (spread numbers graph.traces) ≡ G graph.traces
   pub all : AreAllOf numbers graph.traces
   pub few : length (events (spread numbers graph.traces)) ≤ MAX_EVENTS
-  pub ended : HasEnded (typed_words kinds log) (whole_of numbers graph) planes spans run
+  pub ended : HasEnded (typed_words kinds log) (whole_of numbers graph) spans run
 
 -- the ended run of the log; spread over all traces, the graph has the final ids of the events
 pub record IsAtPlaces (kinds : Kinds) (log : Log) (graph : Parts) (numbers : List ℕ) : Type 0 where
@@ -69,7 +69,7 @@ abbrev pub Stands : Stage → Kinds → Log → List Invariant → Parts → Lis
 Stands Opened kinds log invs graph numbers stitcher planes spans run =
     IsAtStart kinds log invs graph numbers stitcher planes spans run
 Stands Inferred kinds log invs graph numbers stitcher planes spans run =
-    IsAtEnd kinds log invs graph numbers planes spans run
+    IsAtEnd kinds log invs graph numbers spans run
 Stands Placed kinds log invs graph numbers stitcher planes spans run =
     IsAtPlaces kinds log graph numbers
 Stands Refused kinds log invs graph numbers stitcher planes spans run = Unit {0}

@@ -1,5 +1,5 @@
 //! The run: refinement, coarsening, blocks and labels, in memory that is allocated already.
-ghost use Rattle.std.specs.Prelude.{◌≡◌, ◌≤◌, ◌+◌, ◌-◌, OnErr, OnOk, length, min};
+ghost use Rattle.std.specs.Prelude.{◌≡◌, ◌≤◌, ◌+◌, ◌-◌, OnErr, OnOk, length};
 ghost use Rattle.models.specs.Models.{TypedWords};
 ghost use Rattle.partition_model.specs.Assignments.{G};
 ghost use Rattle.labelling.specs.Labelled.{SaysSatisfied};
@@ -34,14 +34,12 @@ fn refine_broken<L: Ledger>(
     ensures list { tools.new.planes.invs ≡ tools.old.planes.invs }
     ensures writes { WritesSplits tools.old.run_log tools.new.run_log tools.old.spans tools.new.spans }
 
-    // The whole run, and how many steps it counts: at most one for each invariant and each split, and one more if it
-    // makes a split.
+    // The whole run, and how many steps it counts: at most one for each invariant and each split.
     ensures ok { OnOk result (EndsRefined invs.now graph.old
         (splits_of tools.new.run_log tools.new.spans) graph.new) }
     ensures more { OnOk result (steps.old ≤ steps.new) }
     ensures few { OnOk result (steps.new ≤ steps.old + length invs.now
-        + length (splits_of tools.new.run_log tools.new.spans)
-        + min 1 (length (splits_of tools.new.run_log tools.new.spans))) }
+        + length (splits_of tools.new.run_log tools.new.spans)) }
 
     // When the limit is returned, and what stands then.
     ensures full { OnErr result (IsFull invs.now graph.new) }
@@ -120,7 +118,7 @@ pub fn run<L: Ledger>(
 
     // What the run gives, if this is the first graph of the words and these are the invariants mined from them.
     ensures gives { (words : TypedWords) → BeginsWith words invs.now graph.old
-        → RunGives result words graph.new tools.new.planes tools.new.spans tools.new.run_log }
+        → RunGives result words graph.new tools.new.spans tools.new.run_log }
 
     // How many steps are counted.
     ensures counted { OnOk result ((words : TypedWords) → BeginsWith words invs.now graph.old

@@ -1,4 +1,4 @@
-use Rattle.std.proofs.Common.{rules, ◌≡◌, ◌<◌, ◌+◌, ◌≤◌, ◌++◌, ℕ, Some, List, append-nil, get_or, length, map, take, slice_get, refl, sym, ap, subst, ◌∙◌, arith}
+use Rattle.std.proofs.Common.{rules, ◌≡◌, ◌<◌, ◌+◌, ◌++◌, ℕ, Some, List, append-nil, get_or, length, map, take, slice_get, sym, ap, subst, ◌∙◌}
 use Rattle.std.proofs.lemmas.List.{take_all}
 use Rattle.std.proofs.lemmas.Option.{slice_get-get_or}
 use Rattle.std.specs.List.{AllByRecursion}
@@ -30,10 +30,10 @@ loop-number-preserved c =
     let inside : number < length invs = c.loop-number-test.true in
     let at : slice_get c.args.planes.now.invs number ≡ Some (get_or invs number none) = ap (λ (xs : List Invariant). slice_get xs number) c.requires.list ∙ slice_get-get_or invs number none inside in
     record {
-      listing = subst (λ (ls : List Listed). map (λ (x : Listed). x.inv) ls ≡ map (λ (x : Listed). x.inv) c.args.list.now.items ++ take (number + 1) invs) (sym c.in_ok-push.ensures.items)
+      listing = subst (λ (ls : List Listed). map (λ (x : Listed). x.inv) ls ≡ map (λ (x : Listed). x.inv) c.args.list.now.items ++ take (number + 1) invs) (sym {A = List Listed} c.in_ok-push.ensures.items)
           (listing-more c.loop-number.list.items (map (λ (x : Listed). x.inv) c.args.list.now.items) invs number none c.in_ok-labels_of.field-0 inside c.loop-number.invariant.listing);
       labels = λ h a l before.
-          subst (λ (ls : List Listed). AllByRecursion (λ x. AreReached x.inv h c.args.partitions.now x.labels) ls) (sym c.in_ok-push.ensures.items)
+          subst (λ (ls : List Listed). AllByRecursion (λ x. AreReached x.inv h c.args.partitions.now x.labels) ls) (sym {A = List Listed} c.in_ok-push.ensures.items)
           (all-push (λ (x : Listed). AreReached x.inv h c.args.partitions.now x.labels) c.loop-number.list.items (record { inv = get_or invs number none; labels = c.in_ok-labels_of.field-0 })
           (c.loop-number.invariant.labels h a l before)
           (subst (λ (ds : List ℕ). AreReached (get_or invs number none) h c.args.partitions.now ds) (sym c.in_ok-labels_of.ensures.labels)

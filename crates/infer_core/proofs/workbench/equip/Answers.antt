@@ -1,4 +1,4 @@
-use Rattle.std.proofs.Common.{◌≡◌, List, IfOk, sym, subst}
+use Rattle.std.proofs.Common.{List, IfOk, sym, subst}
 use Rattle.std.proofs.lemmas.Result.{IfOk-weaker}
 use Rattle.invariants.specs.declared.Invariant.{Invariant}
 use Rattle.partition_model.specs.Assignments.{G}

@@ -1,4 +1,4 @@
-use Rattle.std.proofs.Common.{◌≡◌, ◌↔◌, Bool, List, Result, Err, length, ◌∙◌, sym, ap, subst, subst₂, arith, rules}
+use Rattle.std.proofs.Common.{◌≡◌, ◌↔◌, Bool, List, Result, Err, length, ◌∙◌, sym, ap, subst, subst₂, rules}
 use Rattle.invariants.specs.declared.Invariant.{Invariant}
 use Rattle.partition_model.specs.Assignments.{G}
 use Rattle.labelling.specs.Labelled.{SaysSatisfied}
@@ -38,11 +38,11 @@ invariant_of-self g c =
     stands-opened c.args.self.now b.stage b.kinds b.traces b.invs b.graph b.numbers.items b.tools.stitcher b.tools.planes b.tools.spans b.tools.run_log c.self.view_is c.requires c.self.invariant.0 in
     let same : typed_words b.kinds b.traces ≡ typed_words c.args.self.now.kinds c.args.self.now.log = ap (λ (x : WorkbenchView). typed_words x.kinds x.log) c.self.view_is in
     let begins : BeginsWith (distinct b.kinds b.traces b.graph) c.as_slice-2.result.now b.graph = subst (λ (invs : List Invariant). BeginsWith (distinct b.kinds b.traces b.graph) invs b.graph) (sym c.as_slice-2.ensures) (start-begins b.kinds b.traces b.invs b.graph b.numbers.items b.tools.stitcher b.tools.planes b.tools.spans b.tools.run_log s) in
-    let few : RunGives c.run-end.result (distinct b.kinds b.traces b.graph) c.run-end.new.graph c.run-end.new.tools.planes c.run-end.new.tools.spans c.run-end.new.tools.run_log = c.run-end.ensures.gives (distinct b.kinds b.traces b.graph) begins in
-    let ended : HasEnded (distinct b.kinds b.traces b.graph) c.run-end.new.graph c.run-end.new.tools.planes c.run-end.new.tools.spans c.run-end.new.tools.run_log =
-    subst (λ (r : Result (Unit {0}) InferLimit). RunGives r (distinct b.kinds b.traces b.graph) c.run-end.new.graph c.run-end.new.tools.planes c.run-end.new.tools.spans c.run-end.new.tools.run_log) c.in-Ok.is few in
-    let stands : IsAtEnd b.kinds b.traces b.invs c.run-end.new.graph b.numbers.items c.run-end.new.tools.planes c.run-end.new.tools.spans c.run-end.new.tools.run_log =
-    start-ends b.kinds b.traces b.invs b.graph b.numbers.items b.tools.stitcher b.tools.planes b.tools.spans b.tools.run_log s c.run-end.new.graph c.run-end.new.tools.planes c.run-end.new.tools.spans c.run-end.new.tools.run_log ended in
+    let few : RunGives c.run-end.result (distinct b.kinds b.traces b.graph) c.run-end.new.graph c.run-end.new.tools.spans c.run-end.new.tools.run_log = c.run-end.ensures.gives (distinct b.kinds b.traces b.graph) begins in
+    let ended : HasEnded (distinct b.kinds b.traces b.graph) c.run-end.new.graph c.run-end.new.tools.spans c.run-end.new.tools.run_log =
+    subst (λ (r : Result (Unit {0}) InferLimit). RunGives r (distinct b.kinds b.traces b.graph) c.run-end.new.graph c.run-end.new.tools.spans c.run-end.new.tools.run_log) c.in-Ok.is few in
+    let stands : IsAtEnd b.kinds b.traces b.invs c.run-end.new.graph b.numbers.items c.run-end.new.tools.spans c.run-end.new.tools.run_log =
+    start-ends b.kinds b.traces b.invs b.graph b.numbers.items b.tools.stitcher b.tools.planes b.tools.spans b.tools.run_log s c.run-end.new.graph c.run-end.new.tools.spans c.run-end.new.tools.run_log ended in
     (stands, tt)
 
 pub returns-in-Ok-clause-partitions : goal.returns-in-Ok-clause-partitions
@@ -52,12 +52,12 @@ returns-in-Ok-clause-partitions g c =
     stands-opened c.args.self.now b.stage b.kinds b.traces b.invs b.graph b.numbers.items b.tools.stitcher b.tools.planes b.tools.spans b.tools.run_log c.self.view_is c.requires c.self.invariant.0 in
     let same : typed_words b.kinds b.traces ≡ typed_words c.args.self.now.kinds c.args.self.now.log = ap (λ (x : WorkbenchView). typed_words x.kinds x.log) c.self.view_is in
     let begins : BeginsWith (distinct b.kinds b.traces b.graph) c.as_slice-2.result.now b.graph = subst (λ (invs : List Invariant). BeginsWith (distinct b.kinds b.traces b.graph) invs b.graph) (sym c.as_slice-2.ensures) (start-begins b.kinds b.traces b.invs b.graph b.numbers.items b.tools.stitcher b.tools.planes b.tools.spans b.tools.run_log s) in
-    let few : RunGives c.run-end.result (distinct b.kinds b.traces b.graph) c.run-end.new.graph c.run-end.new.tools.planes c.run-end.new.tools.spans c.run-end.new.tools.run_log = c.run-end.ensures.gives (distinct b.kinds b.traces b.graph) begins in
-    let gives : RunGives c.run-end.result (typed_words b.kinds b.traces) (whole_of b.numbers.items c.run-end.new.graph) c.run-end.new.tools.planes c.run-end.new.tools.spans c.run-end.new.tools.run_log =
-    start-gives b.kinds b.traces b.invs b.graph b.numbers.items b.tools.stitcher b.tools.planes b.tools.spans b.tools.run_log s c.run-end.result c.run-end.new.graph c.run-end.new.tools.planes c.run-end.new.tools.spans c.run-end.new.tools.run_log few in
+    let few : RunGives c.run-end.result (distinct b.kinds b.traces b.graph) c.run-end.new.graph c.run-end.new.tools.spans c.run-end.new.tools.run_log = c.run-end.ensures.gives (distinct b.kinds b.traces b.graph) begins in
+    let gives : RunGives c.run-end.result (typed_words b.kinds b.traces) (whole_of b.numbers.items c.run-end.new.graph) c.run-end.new.tools.spans c.run-end.new.tools.run_log =
+    start-gives b.kinds b.traces b.invs b.graph b.numbers.items b.tools.stitcher b.tools.planes b.tools.spans b.tools.run_log s c.run-end.result c.run-end.new.graph c.run-end.new.tools.spans c.run-end.new.tools.run_log few in
     subst₂ (λ (r : Result (Unit {0}) InferLimit) (words : TypedWords). (r ≡ Err Partitions) ↔ PassesPartitions words) c.in-Ok.is same
     (partitions-told c.run-end.result (typed_words b.kinds b.traces) (whole_of b.numbers.items c.run-end.new.graph)
-    (run-places c.run-end.result (typed_words b.kinds b.traces) (whole_of b.numbers.items c.run-end.new.graph) c.run-end.new.tools.planes c.run-end.new.tools.spans c.run-end.new.tools.run_log gives))
+    (run-places c.run-end.result (typed_words b.kinds b.traces) (whole_of b.numbers.items c.run-end.new.graph) c.run-end.new.tools.spans c.run-end.new.tools.run_log gives))
 
 pub returns-in-Ok-clause-evidence : goal.returns-in-Ok-clause-evidence
 returns-in-Ok-clause-evidence g c =
@@ -66,12 +66,12 @@ returns-in-Ok-clause-evidence g c =
     stands-opened c.args.self.now b.stage b.kinds b.traces b.invs b.graph b.numbers.items b.tools.stitcher b.tools.planes b.tools.spans b.tools.run_log c.self.view_is c.requires c.self.invariant.0 in
     let same : typed_words b.kinds b.traces ≡ typed_words c.args.self.now.kinds c.args.self.now.log = ap (λ (x : WorkbenchView). typed_words x.kinds x.log) c.self.view_is in
     let begins : BeginsWith (distinct b.kinds b.traces b.graph) c.as_slice-2.result.now b.graph = subst (λ (invs : List Invariant). BeginsWith (distinct b.kinds b.traces b.graph) invs b.graph) (sym c.as_slice-2.ensures) (start-begins b.kinds b.traces b.invs b.graph b.numbers.items b.tools.stitcher b.tools.planes b.tools.spans b.tools.run_log s) in
-    let few : RunGives c.run-end.result (distinct b.kinds b.traces b.graph) c.run-end.new.graph c.run-end.new.tools.planes c.run-end.new.tools.spans c.run-end.new.tools.run_log = c.run-end.ensures.gives (distinct b.kinds b.traces b.graph) begins in
-    let gives : RunGives c.run-end.result (typed_words b.kinds b.traces) (whole_of b.numbers.items c.run-end.new.graph) c.run-end.new.tools.planes c.run-end.new.tools.spans c.run-end.new.tools.run_log =
-    start-gives b.kinds b.traces b.invs b.graph b.numbers.items b.tools.stitcher b.tools.planes b.tools.spans b.tools.run_log s c.run-end.result c.run-end.new.graph c.run-end.new.tools.planes c.run-end.new.tools.spans c.run-end.new.tools.run_log few in
+    let few : RunGives c.run-end.result (distinct b.kinds b.traces b.graph) c.run-end.new.graph c.run-end.new.tools.spans c.run-end.new.tools.run_log = c.run-end.ensures.gives (distinct b.kinds b.traces b.graph) begins in
+    let gives : RunGives c.run-end.result (typed_words b.kinds b.traces) (whole_of b.numbers.items c.run-end.new.graph) c.run-end.new.tools.spans c.run-end.new.tools.run_log =
+    start-gives b.kinds b.traces b.invs b.graph b.numbers.items b.tools.stitcher b.tools.planes b.tools.spans b.tools.run_log s c.run-end.result c.run-end.new.graph c.run-end.new.tools.spans c.run-end.new.tools.run_log few in
     subst₂ (λ (r : Result (Unit {0}) InferLimit) (words : TypedWords). (r ≡ Err Evidence) ↔ PassesNumbers words) c.in-Ok.is same
     (evidence-told c.run-end.result (typed_words b.kinds b.traces) (whole_of b.numbers.items c.run-end.new.graph)
-    (run-places c.run-end.result (typed_words b.kinds b.traces) (whole_of b.numbers.items c.run-end.new.graph) c.run-end.new.tools.planes c.run-end.new.tools.spans c.run-end.new.tools.run_log gives))
+    (run-places c.run-end.result (typed_words b.kinds b.traces) (whole_of b.numbers.items c.run-end.new.graph) c.run-end.new.tools.spans c.run-end.new.tools.run_log gives))
 
 pub returns-in-Err-clause-partitions : goal.returns-in-Err-clause-partitions
 returns-in-Err-clause-partitions g c =
@@ -80,12 +80,12 @@ returns-in-Err-clause-partitions g c =
     stands-opened c.args.self.now b.stage b.kinds b.traces b.invs b.graph b.numbers.items b.tools.stitcher b.tools.planes b.tools.spans b.tools.run_log c.self.view_is c.requires c.self.invariant.0 in
     let same : typed_words b.kinds b.traces ≡ typed_words c.args.self.now.kinds c.args.self.now.log = ap (λ (x : WorkbenchView). typed_words x.kinds x.log) c.self.view_is in
     let begins : BeginsWith (distinct b.kinds b.traces b.graph) c.as_slice-2.result.now b.graph = subst (λ (invs : List Invariant). BeginsWith (distinct b.kinds b.traces b.graph) invs b.graph) (sym c.as_slice-2.ensures) (start-begins b.kinds b.traces b.invs b.graph b.numbers.items b.tools.stitcher b.tools.planes b.tools.spans b.tools.run_log s) in
-    let few : RunGives c.run-end.result (distinct b.kinds b.traces b.graph) c.run-end.new.graph c.run-end.new.tools.planes c.run-end.new.tools.spans c.run-end.new.tools.run_log = c.run-end.ensures.gives (distinct b.kinds b.traces b.graph) begins in
-    let gives : RunGives c.run-end.result (typed_words b.kinds b.traces) (whole_of b.numbers.items c.run-end.new.graph) c.run-end.new.tools.planes c.run-end.new.tools.spans c.run-end.new.tools.run_log =
-    start-gives b.kinds b.traces b.invs b.graph b.numbers.items b.tools.stitcher b.tools.planes b.tools.spans b.tools.run_log s c.run-end.result c.run-end.new.graph c.run-end.new.tools.planes c.run-end.new.tools.spans c.run-end.new.tools.run_log few in
+    let few : RunGives c.run-end.result (distinct b.kinds b.traces b.graph) c.run-end.new.graph c.run-end.new.tools.spans c.run-end.new.tools.run_log = c.run-end.ensures.gives (distinct b.kinds b.traces b.graph) begins in
+    let gives : RunGives c.run-end.result (typed_words b.kinds b.traces) (whole_of b.numbers.items c.run-end.new.graph) c.run-end.new.tools.spans c.run-end.new.tools.run_log =
+    start-gives b.kinds b.traces b.invs b.graph b.numbers.items b.tools.stitcher b.tools.planes b.tools.spans b.tools.run_log s c.run-end.result c.run-end.new.graph c.run-end.new.tools.spans c.run-end.new.tools.run_log few in
     subst₂ (λ (r : Result (Unit {0}) InferLimit) (words : TypedWords). (r ≡ Err Partitions) ↔ PassesPartitions words) c.in-Err.is same
     (partitions-told c.run-end.result (typed_words b.kinds b.traces) (whole_of b.numbers.items c.run-end.new.graph)
-    (run-places c.run-end.result (typed_words b.kinds b.traces) (whole_of b.numbers.items c.run-end.new.graph) c.run-end.new.tools.planes c.run-end.new.tools.spans c.run-end.new.tools.run_log gives))
+    (run-places c.run-end.result (typed_words b.kinds b.traces) (whole_of b.numbers.items c.run-end.new.graph) c.run-end.new.tools.spans c.run-end.new.tools.run_log gives))
 
 pub returns-in-Err-clause-evidence : goal.returns-in-Err-clause-evidence
 returns-in-Err-clause-evidence g c =
@@ -94,12 +94,12 @@ returns-in-Err-clause-evidence g c =
     stands-opened c.args.self.now b.stage b.kinds b.traces b.invs b.graph b.numbers.items b.tools.stitcher b.tools.planes b.tools.spans b.tools.run_log c.self.view_is c.requires c.self.invariant.0 in
     let same : typed_words b.kinds b.traces ≡ typed_words c.args.self.now.kinds c.args.self.now.log = ap (λ (x : WorkbenchView). typed_words x.kinds x.log) c.self.view_is in
     let begins : BeginsWith (distinct b.kinds b.traces b.graph) c.as_slice-2.result.now b.graph = subst (λ (invs : List Invariant). BeginsWith (distinct b.kinds b.traces b.graph) invs b.graph) (sym c.as_slice-2.ensures) (start-begins b.kinds b.traces b.invs b.graph b.numbers.items b.tools.stitcher b.tools.planes b.tools.spans b.tools.run_log s) in
-    let few : RunGives c.run-end.result (distinct b.kinds b.traces b.graph) c.run-end.new.graph c.run-end.new.tools.planes c.run-end.new.tools.spans c.run-end.new.tools.run_log = c.run-end.ensures.gives (distinct b.kinds b.traces b.graph) begins in
-    let gives : RunGives c.run-end.result (typed_words b.kinds b.traces) (whole_of b.numbers.items c.run-end.new.graph) c.run-end.new.tools.planes c.run-end.new.tools.spans c.run-end.new.tools.run_log =
-    start-gives b.kinds b.traces b.invs b.graph b.numbers.items b.tools.stitcher b.tools.planes b.tools.spans b.tools.run_log s c.run-end.result c.run-end.new.graph c.run-end.new.tools.planes c.run-end.new.tools.spans c.run-end.new.tools.run_log few in
+    let few : RunGives c.run-end.result (distinct b.kinds b.traces b.graph) c.run-end.new.graph c.run-end.new.tools.spans c.run-end.new.tools.run_log = c.run-end.ensures.gives (distinct b.kinds b.traces b.graph) begins in
+    let gives : RunGives c.run-end.result (typed_words b.kinds b.traces) (whole_of b.numbers.items c.run-end.new.graph) c.run-end.new.tools.spans c.run-end.new.tools.run_log =
+    start-gives b.kinds b.traces b.invs b.graph b.numbers.items b.tools.stitcher b.tools.planes b.tools.spans b.tools.run_log s c.run-end.result c.run-end.new.graph c.run-end.new.tools.spans c.run-end.new.tools.run_log few in
     subst₂ (λ (r : Result (Unit {0}) InferLimit) (words : TypedWords). (r ≡ Err Evidence) ↔ PassesNumbers words) c.in-Err.is same
     (evidence-told c.run-end.result (typed_words b.kinds b.traces) (whole_of b.numbers.items c.run-end.new.graph)
-    (run-places c.run-end.result (typed_words b.kinds b.traces) (whole_of b.numbers.items c.run-end.new.graph) c.run-end.new.tools.planes c.run-end.new.tools.spans c.run-end.new.tools.run_log gives))
+    (run-places c.run-end.result (typed_words b.kinds b.traces) (whole_of b.numbers.items c.run-end.new.graph) c.run-end.new.tools.spans c.run-end.new.tools.run_log gives))
 
 pub returns-in-Ok-clause-counted : goal.returns-in-Ok-clause-counted
 returns-in-Ok-clause-counted g c =

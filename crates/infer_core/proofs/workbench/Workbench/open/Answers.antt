@@ -1,7 +1,7 @@
-use Rattle.std.proofs.Common.{◌≡◌, ℕ, ◌≤◌, List, length, slice_get, Result, Ok, Err, Some, refl, ap, sym, subst, arith, IfOk, []}
+use Rattle.std.proofs.Common.{◌≡◌, ◌≤◌, List, length, slice_get, Result, Ok, Err, Some, refl, ap, sym, subst, arith, IfOk, []}
 use Rattle.invariants.specs.declared.Invariant.{Invariant}
 use Rattle.invariants.specs.Mined.{mined_for}
-use Rattle.limits.specs.declared.TheConstants.{LAST_TYPE, MAX_INVARIANTS, MAX_PAIRS, MAX_PATH_NUMBERS, MAX_STEPS}
+use Rattle.limits.specs.declared.TheConstants.{MAX_INVARIANTS, MAX_PAIRS, MAX_PATH_NUMBERS, MAX_STEPS}
 use Rattle.traces.specs.Words.{Log, words_of}
 use Rattle.partition_model.specs.Assignments.{G, events}
 use Rattle.labelling.specs.Labelled.{SaysSatisfied}

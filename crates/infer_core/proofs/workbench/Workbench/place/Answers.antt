@@ -1,4 +1,4 @@
-use Rattle.std.proofs.Common.{◌≡◌, ◌↔◌, Bool, List, Result, Err, length, ◌∙◌, sym, ap, subst, subst₂, arith, rules}
+use Rattle.std.proofs.Common.{◌≡◌, ◌↔◌, Bool, List, Result, Err, length, ◌∙◌, sym, ap, subst, subst₂, rules}
 use Rattle.invariants.specs.declared.Invariant.{Invariant}
 use Rattle.partition_model.specs.Assignments.{G}
 use Rattle.labelling.specs.Labelled.{SaysSatisfied}
