@@ -24,7 +24,7 @@ use Rattle.partition_bounds.specs.Pairs.{pairs_below}
 use Rattle.models.specs.Models.{TypedWords, mined_of, typed_words}
 use Rattle.partition_graph.specs.Parts.{Parts, inner_words_of, start_of}
 use Rattle.partition_graph.specs.Spread.{spread, AreAllOf, SharesWords}
-use Rattle.labelling.specs.Labelled.{Labelling, AreLabelsOf}
+use Rattle.labelling.specs.Labelled.{Labelling}
 use Rattle.splitter.specs.Refining.{IsOpened}
 use Rattle.coarsener.specs.Blocking.{EndsWithoutRoom}
 use Rattle.infer_core.specs.declared.workbench.InferLimit.{InferLimit}
@@ -163,7 +163,7 @@ module _ (kinds : Kinds) (log : Log) (graph : Parts) (numbers : List ℕ) (s : S
       coarsens-end : Coarsens (mined_of (typed_words kinds log)) (spread numbers refined) merges (spread numbers end)
       coarsens-end = subst (λ (xs : List Invariant). Coarsens xs (spread numbers refined) merges (spread numbers end)) mined-same coarsened-end.0
 
-      graph-end : G end ≡ G (spread numbers end)
+      pub graph-end : G end ≡ G (spread numbers end)
       graph-end = graph-over end (spread numbers end) (all-alike numbers end coarsened-end.1) coarsened-end.2
 
       -- each trace still has its number at the end
@@ -188,9 +188,9 @@ module _ (kinds : Kinds) (log : Log) (graph : Parts) (numbers : List ℕ) (s : S
           omega (arith, a, b, few)
 
     -- the end of the run of the distinct words is that of the log
-    pub ended-whole : (end : Parts) (planes : Labelling) (spans : Numbers) (run : RunLists)
-        → HasEnded (distinct kinds log graph) end planes spans run → HasEnded (typed_words kinds log) (whole_of numbers end) planes spans run
-    ended-whole end planes spans run e =
+    pub ended-whole : (end : Parts) (spans : Numbers) (run : RunLists)
+        → HasEnded (distinct kinds log graph) end spans run → HasEnded (typed_words kinds log) (whole_of numbers end) spans run
+    ended-whole end spans run e =
         let g : G end.traces ≡ G (spread numbers end.traces) = graph-end end.traces (splits_of run spans) e.refined (merges_of run) e.refines e.coarsens in
         record {
           refined = spread numbers e.refined;
@@ -199,8 +199,6 @@ module _ (kinds : Kinds) (log : Log) (graph : Parts) (numbers : List ℕ) (s : S
           coarsens = coarsens-end end.traces (splits_of run spans) e.refined (merges_of run) e.refines e.coarsens;
           blocks = subst₂ (λ (xs : List Invariant) (x : Graph). AreBlocks xs x (blocks_of run spans)) mined-same g e.blocks;
           numbers = e.numbers;
-          listed = e.listed ∙ mined-same;
-          labels = subst (λ (x : Graph). AreLabelsOf planes x) g e.labels;
           paths = e.paths;
         }
 
@@ -220,11 +218,11 @@ module _ (kinds : Kinds) (log : Log) (graph : Parts) (numbers : List ℕ) (s : S
         }
 
     -- each answer of a run
-    pub gives-whole : (r : Result (Unit {0}) InferLimit) (end : Parts) (planes : Labelling) (spans : Numbers) (run : RunLists)
-        → RunGives r (distinct kinds log graph) end planes spans run → RunGives r (typed_words kinds log) (whole_of numbers end) planes spans run
-    gives-whole (Ok done) end planes spans run e = ended-whole end planes spans run e
-    gives-whole (Err Partitions) end planes spans run e = partitions-whole e
-    gives-whole (Err Evidence) end planes spans run e = numbers-whole e
+    pub gives-whole : (r : Result (Unit {0}) InferLimit) (end : Parts) (spans : Numbers) (run : RunLists)
+        → RunGives r (distinct kinds log graph) end spans run → RunGives r (typed_words kinds log) (whole_of numbers end) spans run
+    gives-whole (Ok done) end spans run e = ended-whole end spans run e
+    gives-whole (Err Partitions) end spans run e = partitions-whole e
+    gives-whole (Err Evidence) end spans run e = numbers-whole e
 
     pub places-whole : (r : Result (Unit {0}) InferLimit) (end : Parts) → PlaceGives r (distinct kinds log graph) end → PlaceGives r (typed_words kinds log) (whole_of numbers end)
     places-whole (Ok done) end e = placed-whole end e
@@ -266,9 +264,9 @@ module _ (kinds : Kinds) (log : Log) (invs : List Invariant) (graph : Parts) (nu
   start-begins = record { mined = invs-are; first = λ d. record { traces = s.shares.start d; used = s.shares.used d } }
 
   -- and what it gives, it gives of the log
-  pub start-gives : (r : Result (Unit {0}) InferLimit) (end : Parts) (planes' : Labelling) (spans' : Numbers) (run' : RunLists)
-      → RunGives r (distinct kinds log graph) end planes' spans' run' → RunGives r (typed_words kinds log) (whole_of numbers end) planes' spans' run'
-  start-gives r end planes' spans' run' e = gives-whole kinds log graph numbers s.shares typed-start hold-start r end planes' spans' run' e
+  pub start-gives : (r : Result (Unit {0}) InferLimit) (end : Parts) (spans' : Numbers) (run' : RunLists)
+      → RunGives r (distinct kinds log graph) end spans' run' → RunGives r (typed_words kinds log) (whole_of numbers end) spans' run'
+  start-gives r end spans' run' e = gives-whole kinds log graph numbers s.shares typed-start hold-start r end spans' run' e
 
   -- the steps that are counted are as few as the log allows
   pub start-counts : (before after : ℕ) → CountsAtMost (distinct kinds log graph) before after → CountsAtMost (typed_words kinds log) before after
@@ -278,13 +276,15 @@ module _ (kinds : Kinds) (log : Log) (invs : List Invariant) (graph : Parts) (nu
   start-places r end e = places-whole kinds log graph numbers s.shares typed-start hold-start r end e
 
   -- where the run ends, what stands is the end of the run of the log
-  pub start-ends : (end : Parts) (planes' : Labelling) (spans' : Numbers) (run' : RunLists)
-      → HasEnded (distinct kinds log graph) end planes' spans' run' → IsAtEnd kinds log invs end numbers planes' spans' run'
-  start-ends end planes' spans' run' e = record {
+  pub start-ends : (end : Parts) (spans' : Numbers) (run' : RunLists)
+      → HasEnded (distinct kinds log graph) end spans' run' → IsAtEnd kinds log invs end numbers spans' run'
+  start-ends end spans' run' e = record {
     mined = s.mined;
+    within = s.within;
+    same = sym (graph-end kinds log graph numbers s.shares typed-start hold-start end.traces (splits_of run' spans') e.refined (merges_of run') e.refines e.coarsens);
     all = all-end kinds log graph numbers s.shares typed-start hold-start end.traces (splits_of run' spans') e.refined (merges_of run') e.refines e.coarsens;
     few = few-end kinds log graph numbers s.shares typed-start hold-start end.traces (splits_of run' spans') e.refined (merges_of run') e.refines e.coarsens s.within.few_events;
-    ended = ended-whole kinds log graph numbers s.shares typed-start hold-start end planes' spans' run' e;
+    ended = ended-whole kinds log graph numbers s.shares typed-start hold-start end spans' run' e;
   }
 
   -- and where the events are placed only

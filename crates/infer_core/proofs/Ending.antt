@@ -1,5 +1,5 @@
 -- What a run leaves.
-use Rattle.std.proofs.Common.{◌≡◌, ℕ, ◌+◌, ◌<◌, ◌≤◌, List, [], ◌++◌, map, length, min, sym, ◌∙◌, ap, subst, subst₂, arith, length-append}
+use Rattle.std.proofs.Common.{◌≡◌, ℕ, ◌+◌, ◌<◌, ◌≤◌, List, [], ◌∷◌, ◌++◌, map, length, sym, ◌∙◌, ap, subst, subst₂, arith, length-append}
 use Rattle.std.proofs.lemmas.List.Concat.{length-flat_map}
 use Rattle.limits.specs.declared.TheConstants.{MAX_PAIRS, MAX_PARTITIONS, MAX_PATH_NUMBERS}
 use Rattle.invariants.specs.declared.Invariant.{Invariant}
@@ -12,15 +12,15 @@ use Rattle.cell_pool.specs.RunLists.{RunLists}
 use Rattle.run_history.specs.Records.{split_of, splits_of, merges_of, blocks_of, HoldsPaths}
 use Rattle.run_history.proofs.Adding.{splits-stay}
 use Rattle.model_shape.specs.Numbers.{split_numbers, block_numbers}
-use Rattle.partition_model.specs.Assignments.{G, IsTyped}
+use Rattle.partition_model.specs.Assignments.{Assignment, G, IsTyped}
 use Rattle.partition_model.specs.Refinement.{IsNextSplit, IsRefined, Refines, SatisfiesAll, Splits}
-use Rattle.partition_model.specs.Coarsening.{Coarsens, AreBlocks, NoMerge}
+use Rattle.partition_model.specs.Coarsening.{merge, Coarsens, AreBlocks, NoMerge}
 use Rattle.partition_bounds.specs.Pairs.{pairs_below}
 use Rattle.partition_bounds.proofs.Pairing.{pairs_within_limit}
 use Rattle.models.specs.Models.{TypedWords, mined_of}
 use Rattle.models.specs.Histories.{first_new}
 use Rattle.partition_graph.specs.Parts.{Parts}
-use Rattle.labelling.specs.Labelled.{Labelling, AreLabelsOf}
+use Rattle.labelling.specs.Labelled.{Labelling}
 use Rattle.splitter.specs.Refining.{EndsRefined, IsFull, IsStopped}
 use Rattle.splitter.specs.Writing.{AreEmpty, WritesSplits}
 use Rattle.splitter.proofs.WritingTurns.{paths-long}
@@ -30,7 +30,6 @@ use Rattle.coarsener.proofs.Ended.{coarsened-none, holds-merged, refined-satisfi
 use Rattle.infer_core.specs.Runs.{first_parts, CountsAtMost, PassesNumbers, PassesPartitions}
 use Rattle.infer_core.specs.Ends.{BeginsWith, HasEnded, IsCoarsened, IsPlaced, IsReady}
 use Rattle.infer_core.proofs.Excluding.{blocks-fit}
-use Rattle.infer_core.proofs.FirstPair.{coarsened-satisfies}
 use Rattle.infer_core.proofs.Pairs.{pairs-fewer}
 
 -- after refinement the graph satisfies what the planes were made for
@@ -81,12 +80,11 @@ stopped-passes words invs old new splits counted b f s =
 -- what a run has left where coarsening ended: run1 and parts1 stand after refinement, run2 and parts2 after coarsening
 pub coarsened-is : (invs : List Invariant) (old parts1 parts2 : Parts) (stitcher : ℕ) (planes0 planes1 planes2 : Labelling) (run0 run1 run2 : RunLists) (spans0 spans1 : Numbers) (s0 s1 s2 : ℕ)
     → IsReady invs old stitcher planes0 spans0 run0 → planes1.invs ≡ invs → WritesSplits run0 run1 spans0 spans1 → EndsRefined invs old (splits_of run1 spans1) parts1 → IsTyped parts1.traces
-    → min 1 (length (splits_of run1 spans1)) ≤ pair_count parts1 → s0 ≤ s1
-    → s1 ≤ s0 + length invs + length (splits_of run1 spans1) + min 1 (length (splits_of run1 spans1))
+    → s0 ≤ s1 → s1 ≤ s0 + length invs + length (splits_of run1 spans1)
     → Coarsens planes1.invs parts1.traces (merges_of run2) parts2.traces → parts2.used ≡ parts1.used → run2 ≡ record run1 { merges = run2.merges }
     → planes2.invs ≡ planes1.invs → (0 < pair_count parts2 → AreMarksNow planes2 parts2) → s1 ≤ s2 → s2 ≤ s1 + pair_count parts1
     → IsCoarsened invs old parts2 planes2 spans1 run2 s0 s2
-coarsened-is invs old parts1 parts2 stitcher planes0 planes1 planes2 run0 run1 run2 spans0 spans1 s0 s1 s2 ready same writes refines typed first start few1 merged used others list marks more few2 =
+coarsened-is invs old parts1 parts2 stitcher planes0 planes1 planes2 run0 run1 run2 spans0 spans1 s0 s1 s2 ready same writes refines typed start few1 merged used others list marks more few2 =
     let coarsens : Coarsens invs parts1.traces (merges_of run2) parts2.traces = subst (λ (xs : List Invariant). Coarsens xs parts1.traces (merges_of run2) parts2.traces) same merged in
     let splits : splits_of run1 spans1 ≡ splits_of run2 spans1 = ap (λ (x : RunLists). splits_of x spans1) (sym others) in
     let fewer : length (pairs_below parts1.used (G parts2.traces)) ≤ length (pairs_below parts1.used (G parts1.traces)) =
@@ -109,8 +107,13 @@ coarsened-is invs old parts1 parts2 stitcher planes0 planes1 planes2 run0 run1 r
       long = ap (λ (x : Numbers). length x.numbers) writes.spans_are ∙ paths-long (splits_of run1 spans1) ∙ ap (λ (ss : List Split). split_numbers ss) splits;
       paths = holds-merged run1 run2 spans1 others writes.paths;
       more = omega (arith, start, more);
-      few = omega (arith, first, few1, few2, all, count);
+      few = omega (arith, few1, few2, all, count);
     }
+
+-- after coarsening the graph still satisfies the invariants
+coarsened-satisfies : (invs : List Invariant) (merges : List Merge) (h end : Assignment) → SatisfiesAll (G h) invs → Coarsens invs h merges end → SatisfiesAll (G end) invs
+coarsened-satisfies invs [] h end s w = subst (λ (x : Assignment). SatisfiesAll (G x) invs) (sym w.1) s
+coarsened-satisfies invs (m ∷ merges) h end s w = coarsened-satisfies invs merges (merge m.p m.q h) end w.0.keeps w.1
 
 -- there the graph still satisfies the invariants
 pub coarsened-keeps : (invs : List Invariant) (old graph : Parts) (planes : Labelling) (spans : Numbers) (run : RunLists) (before after : ℕ) → IsCoarsened invs old graph planes spans run before after
@@ -232,21 +235,18 @@ module _ (words : TypedWords) (invs : List Invariant) (old graph : Parts) (plane
       }
 
   -- a run that ended
-  pub ended : (planes' : Labelling) → AreBlocks invs (G graph.traces) (blocks_of run2 spans2) → length spans2.numbers ≤ MAX_PATH_NUMBERS
-      → planes'.invs ≡ invs → AreLabelsOf planes' (G graph.traces) → HoldsPaths run2 spans2 → HasEnded words graph planes' spans2 run2
-  ended planes' blocks within listed labels paths = record {
+  pub ended : AreBlocks invs (G graph.traces) (blocks_of run2 spans2) → length spans2.numbers ≤ MAX_PATH_NUMBERS → HoldsPaths run2 spans2 → HasEnded words graph spans2 run2
+  ended blocks within paths = record {
     refined = r.coarsened.refined;
     refines = refined-still;
     ids = omega (arith, ids-still, r.coarsened.within);
     coarsens = coarsened-still;
     blocks = subst (λ (xs : List Invariant). AreBlocks xs (G graph.traces) (blocks_of run2 spans2)) b.mined blocks;
     numbers = omega (arith, numbers-are, within);
-    listed = listed ∙ b.mined;
-    labels = labels;
     paths = paths;
   }
 
-  -- and one that ended before the labels
+  -- and one that only places the events
   pub blocks-place : AreBlocks invs (G graph.traces) (blocks_of run2 spans2) → length spans2.numbers ≤ MAX_PATH_NUMBERS → IsPlaced words graph
   blocks-place blocks within =
       let parts : Parts = record { traces = graph.traces; used = first_new words + length (splits_of run2 spans2) } in

@@ -1,4 +1,5 @@
 pub mod Pairs
+pub mod Slicing
 pub mod Excluding
 pub mod Typed
 pub mod Ending
@@ -8,6 +9,5 @@ pub mod Stages
 pub mod Sharing
 pub mod Distinct
 pub mod Spreading
-pub mod FirstPair
 pub mod Windows
 pub mod Numbered

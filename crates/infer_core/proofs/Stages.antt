@@ -1,5 +1,5 @@
 -- What stands at a stage, and how the answer of a run tells of its log.
-use Rattle.std.proofs.Common.{◌≡◌, ◌↔◌, ◌+◌, ℕ, List, length, Result, Ok, Err, ◌∙◌, sym, refl, ap, subst}
+use Rattle.std.proofs.Common.{◌≡◌, ◌↔◌, ◌+◌, ℕ, Bool, List, length, Result, Ok, Err, ◌∙◌, sym, refl, ap, subst}
 use Rattle.invariants.specs.declared.Invariant.{Invariant}
 use Rattle.invariants.specs.declared.Kinds.{Kinds}
 use Rattle.cell_pool.specs.Numbers.{Numbers}
@@ -8,15 +8,16 @@ use Rattle.run_history.specs.Records.{splits_of, merges_of, blocks_of}
 use Rattle.traces.specs.Words.{Log}
 use Rattle.models.specs.Models.{TypedWords, mined_of, typed_words}
 use Rattle.models.specs.Histories.{first_new}
+use Rattle.partition_model.specs.Assignments.{G}
 use Rattle.partition_graph.specs.Parts.{Parts}
-use Rattle.labelling.specs.Labelled.{Labelling}
+use Rattle.labelling.specs.Labelled.{Labelling, SaysSatisfied}
 use Rattle.infer_core.specs.declared.workbench.InferLimit.{InferLimit}
 use Rattle.infer_core.specs.declared.workbench.InferLimit.TheVariants.{Partitions, Evidence}
 use Rattle.infer_core.specs.declared.workbench.Stage.{Stage}
 use Rattle.infer_core.specs.declared.workbench.Stage.TheVariants.{Opened, Inferred, Placed, Refused}
 use Rattle.infer_core.specs.Runs.{PassesNumbers, PassesPartitions}
 use Rattle.infer_core.specs.Ends.{HasEnded, IsPlaced, PlaceGives, RunGives}
-use Rattle.infer_core.specs.Workbenches.{whole_of, WorkbenchView, HasParts, IsAtStart, IsAtEnd, IsAtPlaces, Stands}
+use Rattle.infer_core.specs.Workbenches.{whole_of, Knows, WorkbenchView, HasParts, IsAtStart, IsAtEnd, IsAtPlaces, Stands}
 use Rattle.infer_core.proofs.Excluding.{blocks-fit, both-exclude, numbers-exclude, partitions-exclude}
 
 -- what stands in an opened workbench
@@ -25,15 +26,20 @@ pub stands-opened : (b : WorkbenchView) (stage : Stage) (kinds : Kinds) (log : L
 stands-opened b stage kinds log invs graph numbers stitcher planes spans run e o s =
     subst (λ (x : Stage). Stands x kinds log invs graph numbers stitcher planes spans run) (ap (λ (x : WorkbenchView). x.stage) e ∙ o) s
 
+-- and what its flags say
+pub knows-opened : (b : WorkbenchView) (stage : Stage) (kinds : Kinds) (log : Log) (invs : List Invariant) (graph : Parts) (flags : List Bool) → record { kinds = kinds; log = log; stage = stage } ≡ b → b.stage ≡ Opened
+    → Knows stage graph invs flags → (length flags ≡ length invs) × SaysSatisfied (G graph.traces) invs flags
+knows-opened b stage kinds log invs graph flags e o k = subst (λ (x : Stage). Knows x graph invs flags) (ap (λ (x : WorkbenchView). x.stage) e ∙ o) k
+
 -- and in one whose inference is done
 pub stands-inferred : (b : WorkbenchView) (stage : Stage) (kinds : Kinds) (log : Log) (invs : List Invariant) (graph : Parts) (numbers : List ℕ) (stitcher : ℕ) (planes : Labelling) (spans : Numbers) (run : RunLists)
-    → record { kinds = kinds; log = log; stage = stage } ≡ b → b.stage ≡ Inferred → Stands stage kinds log invs graph numbers stitcher planes spans run → IsAtEnd kinds log invs graph numbers planes spans run
+    → record { kinds = kinds; log = log; stage = stage } ≡ b → b.stage ≡ Inferred → Stands stage kinds log invs graph numbers stitcher planes spans run → IsAtEnd kinds log invs graph numbers spans run
 stands-inferred b stage kinds log invs graph numbers stitcher planes spans run e o s =
     subst (λ (x : Stage). Stands x kinds log invs graph numbers stitcher planes spans run) (ap (λ (x : WorkbenchView). x.stage) e ∙ o) s
 
 -- a run that ended has placed the events
-pub ended-places : (words : TypedWords) (graph : Parts) (planes : Labelling) (spans : Numbers) (run : RunLists) → HasEnded words graph planes spans run → IsPlaced words graph
-ended-places words graph planes spans run e =
+pub ended-places : (words : TypedWords) (graph : Parts) (spans : Numbers) (run : RunLists) → HasEnded words graph spans run → IsPlaced words graph
+ended-places words graph spans run e =
     let parts : Parts = record { traces = graph.traces; used = first_new words + length (splits_of run spans) } in
     record {
       splits = splits_of run spans;
@@ -45,17 +51,17 @@ ended-places words graph planes spans run e =
       fits = blocks-fit (mined_of words) parts (splits_of run spans) (blocks_of run spans) e.blocks e.numbers;
     }
 
-pub run-places : (r : Result (Unit {0}) InferLimit) (words : TypedWords) (graph : Parts) (planes : Labelling) (spans : Numbers) (run : RunLists)
-    → RunGives r words graph planes spans run → PlaceGives r words graph
-run-places (Ok done) words graph planes spans run e = ended-places words graph planes spans run e
-run-places (Err Partitions) words graph planes spans run e = e
-run-places (Err Evidence) words graph planes spans run e = e
+pub run-places : (r : Result (Unit {0}) InferLimit) (words : TypedWords) (graph : Parts) (spans : Numbers) (run : RunLists)
+    → RunGives r words graph spans run → PlaceGives r words graph
+run-places (Ok done) words graph spans run e = ended-places words graph spans run e
+run-places (Err Partitions) words graph spans run e = e
+run-places (Err Evidence) words graph spans run e = e
 
 parts-stand : (stage : Stage) (kinds : Kinds) (log : Log) (invs : List Invariant) (graph : Parts) (numbers : List ℕ) (stitcher : ℕ) (planes : Labelling) (spans : Numbers) (run : RunLists)
     → HasParts stage → Stands stage kinds log invs graph numbers stitcher planes spans run → IsAtPlaces kinds log graph numbers
 parts-stand Opened kinds log invs graph numbers stitcher planes spans run h s = absurd h
 parts-stand Inferred kinds log invs graph numbers stitcher planes spans run h s =
-    record { all = s.all; few = s.few; placed = ended-places (typed_words kinds log) (whole_of numbers graph) planes spans run s.ended }
+    record { all = s.all; few = s.few; placed = ended-places (typed_words kinds log) (whole_of numbers graph) spans run s.ended }
 parts-stand Placed kinds log invs graph numbers stitcher planes spans run h s = s
 parts-stand Refused kinds log invs graph numbers stitcher planes spans run h s = absurd h
 

@@ -1,5 +1,5 @@
 -- The model of a run that has ended.
-use Rattle.std.proofs.Common.{◌≡◌, ◌↔◌, ℕ, zero, suc, ◌+◌, ◌<◌, ◌≤◌, Bool, true, false, List, [], ◌∷◌, ◌++◌, map, filter, take, get_or, length, slice_get, Some, sym, ◌∙◌, ap, subst, subst₂, add-one, arith}
+use Rattle.std.proofs.Common.{◌≡◌, ◌↔◌, ℕ, zero, suc, ◌+◌, ◌<◌, ◌≤◌, Bool, true, false, List, [], ◌∷◌, ◌++◌, append_assoc, map, filter, take, get_or, length, slice_get, Some, sym, ◌∙◌, ap, subst, subst₂, add-one, arith}
 use Rattle.std.proofs.Math.Seq.{take-suc}
 use Rattle.std.proofs.lemmas.List.{length-map, map-append}
 use Rattle.std.specs.List.{All, AllByRecursion}
@@ -90,17 +90,17 @@ labels-reached labels h partitions k inv a l at ids =
     })
 
 -- one listed invariant more
-pub listing-more : (list : List Listed) (invs : List Invariant) (number : ℕ) (d : Invariant) (labels : List ℕ) → number < length invs → map (λ x. x.inv) list ≡ take number invs
-    → map (λ (x : Listed). x.inv) (list ++ record { inv = get_or invs number d; labels = labels } ∷ []) ≡ take (number + 1) invs
-listing-more list invs number d labels l e =
+pub listing-more : (list : List Listed) (front invs : List Invariant) (number : ℕ) (d : Invariant) (labels : List ℕ) → number < length invs → map (λ x. x.inv) list ≡ front ++ take number invs
+    → map (λ (x : Listed). x.inv) (list ++ record { inv = get_or invs number d; labels = labels } ∷ []) ≡ front ++ take (number + 1) invs
+listing-more list front invs number d labels l e =
     let x : Listed = record { inv = get_or invs number d; labels = labels } in
     let t : take (number + 1) invs ≡ take number invs ++ get_or invs number d ∷ [] = ap (λ (n : ℕ). take n invs) (add-one number) ∙ take-suc invs number d l in
-    map-append (λ (y : Listed). y.inv) list (x ∷ []) ∙ ap (λ (xs : List Invariant). xs ++ get_or invs number d ∷ []) e ∙ sym t
+    map-append (λ (y : Listed). y.inv) list (x ∷ []) ∙ ap (λ (xs : List Invariant). xs ++ get_or invs number d ∷ []) e ∙ append_assoc front (take number invs) (get_or invs number d ∷ []) ∙ ap (λ (xs : List Invariant). front ++ xs) (sym t)
 
 -- it is the model of the log
-pub told-model : (m : Model) (kinds : Kinds) (log : Log) (invs : List Invariant) (graph : Parts) (planes : Labelling) (spans : Numbers) (run : RunLists)
-    → invs ≡ mined_of (typed_words kinds log) → HasEnded (typed_words kinds log) graph planes spans run → Tells m kinds log invs graph spans run → IsModelOf m (typed_words kinds log)
-told-model m kinds log invs graph planes spans run i e t = record {
+pub told-model : (m : Model) (kinds : Kinds) (log : Log) (invs : List Invariant) (graph : Parts) (spans : Numbers) (run : RunLists)
+    → invs ≡ mined_of (typed_words kinds log) → HasEnded (typed_words kinds log) graph spans run → Tells m kinds log invs graph spans run → IsModelOf m (typed_words kinds log)
+told-model m kinds log invs graph spans run i e t = record {
   types = t.types;
   kinds = t.kinds;
   refined = e.refined;
@@ -115,9 +115,9 @@ told-model m kinds log invs graph planes spans run i e t = record {
 }
 
 -- within the limits
-pub told-keeps : (m : Model) (kinds : Kinds) (log : Log) (invs : List Invariant) (graph : Parts) (planes : Labelling) (spans : Numbers) (run : RunLists)
-    → HasEnded (typed_words kinds log) graph planes spans run → Tells m kinds log invs graph spans run → KeepsLimits m
-told-keeps m kinds log invs graph planes spans run e t =
+pub told-keeps : (m : Model) (kinds : Kinds) (log : Log) (invs : List Invariant) (graph : Parts) (spans : Numbers) (run : RunLists)
+    → HasEnded (typed_words kinds log) graph spans run → Tells m kinds log invs graph spans run → KeepsLimits m
+told-keeps m kinds log invs graph spans run e t =
     let n : length m.types ≡ length log.types = ap (λ (ts : List (List ℕ)). length ts) t.types in
     let s : length m.splits ≡ length (splits_of run spans) = ap (λ (ss : List Split). length ss) t.splits in
     let l : first_new (typed_words kinds log) + length (splits_of run spans) ≤ MAX_PARTITIONS = e.ids in

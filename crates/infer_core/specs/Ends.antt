@@ -17,7 +17,7 @@ use Rattle.partition_bounds.specs.Pairs.{pairs_below}
 use Rattle.models.specs.Models.{TypedWords, mined_of}
 use Rattle.models.specs.Histories.{first_new}
 use Rattle.partition_graph.specs.Parts.{Parts}
-use Rattle.labelling.specs.Labelled.{Labelling, AreLabelsOf}
+use Rattle.labelling.specs.Labelled.{Labelling}
 use Rattle.splitter.specs.Refining.{IsOpened}
 use Rattle.splitter.specs.Writing.{AreEmpty, HaveRoom}
 use Rattle.coarsener.specs.Blocking.{pair_count, EndsWithoutRoom}
@@ -82,26 +82,22 @@ pub record IsPlaced (words : TypedWords) (graph : Parts) : Type 0 where
   pub coarsens : Coarsens (mined_of words) refined merges graph.traces
   pub fits : PathsFit (mined_of words) (record { traces = graph.traces; used = first_new words + length splits }) splits
 
--- the run of these words is recorded: refinement and coarsening have ended, and each pair of the graph has its block
--- and each invariant its labels, within the limits
-pub record HasEnded (words : TypedWords) (graph : Parts)
-    (planes : Labelling) (spans : Numbers) (run : RunLists) : Type 0 where
+-- the run of these words is recorded: refinement and coarsening have ended, and each pair of the graph has its block,
+-- within the limits
+pub record HasEnded (words : TypedWords) (graph : Parts) (spans : Numbers) (run : RunLists) : Type 0 where
   pub refined : Assignment
   pub refines : IsRefined (mined_of words) (length words.types) words.words (splits_of run spans) refined
   pub ids : first_new words + length (splits_of run spans) ≤ MAX_PARTITIONS
   pub coarsens : Coarsens (mined_of words) refined (merges_of run) graph.traces
   pub blocks : AreBlocks (mined_of words) (G graph.traces) (blocks_of run spans)
   pub numbers : split_numbers (splits_of run spans) + block_numbers (blocks_of run spans) ≤ MAX_PATH_NUMBERS
-  pub listed : planes.invs ≡ mined_of words
-  pub labels : AreLabelsOf planes (G graph.traces)
   pub paths : HoldsPaths run spans
 
 -- what the run of these words leaves for each answer
-abbrev pub RunGives : Result (Unit {0}) InferLimit → TypedWords → Parts
-    → Labelling → Numbers → RunLists → Type 0
-RunGives (Ok done) words graph planes spans run = HasEnded words graph planes spans run
-RunGives (Err Partitions) words graph planes spans run = PassesPartitions words
-RunGives (Err Evidence) words graph planes spans run = PassesNumbers words
+abbrev pub RunGives : Result (Unit {0}) InferLimit → TypedWords → Parts → Numbers → RunLists → Type 0
+RunGives (Ok done) words graph spans run = HasEnded words graph spans run
+RunGives (Err Partitions) words graph spans run = PassesPartitions words
+RunGives (Err Evidence) words graph spans run = PassesNumbers words
 
 -- what a run of these words that only places the events leaves for each answer
 abbrev pub PlaceGives : Result (Unit {0}) InferLimit → TypedWords → Parts → Type 0

@@ -3,3 +3,4 @@ pub mod Ends
 pub mod Workbenches
 pub mod Laws
 pub mod Windows
+pub mod Portions

@@ -1,5 +1,5 @@
 -- What contracts see of a workbench, and its contents at each stage.
-use Rattle.std.specs.Prelude.{◌≡◌, ◌≤◌, ◌<◌, ℕ, List, Some, length, slice_get}
+use Rattle.std.specs.Prelude.{◌≡◌, ◌≤◌, ◌<◌, ℕ, Bool, List, Some, length, slice_get}
 use Rattle.std.specs.List.{AllByRecursion}
 use Rattle.limits.specs.declared.TheConstants.{MAX_EVENTS, MAX_PARTITIONS}
 use Rattle.invariants.specs.declared.Invariant.{Invariant}
@@ -11,14 +11,14 @@ use Rattle.traces.specs.Words.{Log}
 use Rattle.cell_pool.specs.Numbers.{Numbers}
 use Rattle.cell_pool.specs.RunLists.{RunLists}
 use Rattle.run_history.specs.Records.{splits_of, merges_of, blocks_of}
-use Rattle.partition_model.specs.Assignments.{events}
+use Rattle.partition_model.specs.Assignments.{G, events}
 use Rattle.partition_model.specs.Listings.{ArePartitions, AreEdges}
 use Rattle.model_shape.specs.Shapes.{listing_of}
 use Rattle.models.specs.Limits.{IsWithinLimits}
 use Rattle.models.specs.Models.{mined_of, typed_words, AreReached}
 use Rattle.partition_graph.specs.Parts.{Parts}
 use Rattle.partition_graph.specs.Spread.{spread, AreAllOf, SharesWords}
-use Rattle.labelling.specs.Labelled.{Labelling}
+use Rattle.labelling.specs.Labelled.{Labelling, SaysSatisfied}
 use Rattle.infer_core.specs.declared.workbench.Stage.{Stage}
 use Rattle.infer_core.specs.declared.workbench.Stage.TheVariants.{Opened, Inferred, Placed, Refused}
 use Rattle.infer_core.specs.Ends.{IsReady, IsPlaced, HasEnded}
@@ -49,11 +49,13 @@ pub record IsAtStart (kinds : Kinds) (log : Log) (invs : List Invariant) (graph 
 
 -- the invariants mined from the log and its ended run; spread over all traces, the graph is that of the log
 pub record IsAtEnd (kinds : Kinds) (log : Log) (invs : List Invariant) (graph : Parts) (numbers : List ℕ)
-    (planes : Labelling) (spans : Numbers) (run : RunLists) : Type 0 where
+    (spans : Numbers) (run : RunLists) : Type 0 where
   pub mined : invs ≡ mined_of (typed_words kinds log)
+  pub within : IsWithinLimits (typed_words kinds log)
+  pub same : G (spread numbers graph.traces) ≡ G graph.traces
   pub all : AreAllOf numbers graph.traces
   pub few : length (events (spread numbers graph.traces)) ≤ MAX_EVENTS
-  pub ended : HasEnded (typed_words kinds log) (whole_of numbers graph) planes spans run
+  pub ended : HasEnded (typed_words kinds log) (whole_of numbers graph) spans run
 
 -- the ended run of the log; spread over all traces, the graph has the final ids of the events
 pub record IsAtPlaces (kinds : Kinds) (log : Log) (graph : Parts) (numbers : List ℕ) : Type 0 where
@@ -67,10 +69,15 @@ abbrev pub Stands : Stage → Kinds → Log → List Invariant → Parts → Lis
 Stands Opened kinds log invs graph numbers stitcher planes spans run =
     IsAtStart kinds log invs graph numbers stitcher planes spans run
 Stands Inferred kinds log invs graph numbers stitcher planes spans run =
-    IsAtEnd kinds log invs graph numbers planes spans run
+    IsAtEnd kinds log invs graph numbers spans run
 Stands Placed kinds log invs graph numbers stitcher planes spans run =
     IsAtPlaces kinds log graph numbers
 Stands Refused kinds log invs graph numbers stitcher planes spans run = Unit {0}
+
+-- at the start, each flag says whether the graph satisfies the invariant of its number
+abbrev pub Knows : Stage → Parts → List Invariant → List Bool → Type 0
+Knows Opened graph invs flags = (length flags ≡ length invs) × SaysSatisfied (G graph.traces) invs flags
+Knows stage graph invs flags = Unit {0}
 
 -- the stages at which the final ids of the events are known
 abbrev pub HasParts : Stage → Type 0

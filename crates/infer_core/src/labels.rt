@@ -3,10 +3,10 @@
 //! In memory the labels of all invariants at one partition lie together, and in the model those of one invariant at all
 //! partitions. So they are read for many invariants at once, one partition after another. Then they are written down,
 //! one invariant after another. Invariants of the same types often have the same labels: these are written once.
-ghost use Rattle.std.specs.Prelude.{◌≡◌, ◌<◌, ◌≤◌, ◌+◌, ◌*◌, ◌/◌, ◌%◌, ◌^◌, ℕ, [], IfOk, IfSome, None, OnOk, Some, length, map, slice_get, slice_index, slice_index_or};
+ghost use Rattle.std.specs.Prelude.{◌≡◌, ◌<◌, ◌≤◌, ◌+◌, ◌*◌, ◌/◌, ◌%◌, ◌^◌, ◌++◌, ℕ, [], IfOk, IfSome, None, OnOk, Some, length, map, slice_get, slice_index, slice_index_or};
 ghost use Rattle.std.specs.Int.{bit_at};
 ghost use Rattle.std.specs.List.{AllByRecursion};
-ghost use Rattle.limits.specs.declared.TheConstants.{MAX_PARTITIONS};
+ghost use Rattle.limits.specs.declared.TheConstants.{MAX_INVARIANTS, MAX_PARTITIONS};
 ghost use Rattle.invariants.specs.Labels.{digit_of};
 ghost use Rattle.invariants.specs.declared.records.Partition.{Partition};
 ghost use Rattle.partition_model.specs.Assignments.{Assignment, G};
@@ -14,11 +14,14 @@ ghost use Rattle.partition_model.specs.Listings.{ArePartitions};
 ghost use Rattle.models.specs.Models.{AreReached};
 ghost use Rattle.labelling.specs.Labelled.{digit, AreLabelsOf, AreStatesAt, SaysSwapped};
 ghost use Rattle.infer_core.specs.declared.labels.TheConstants.{AHEAD, AT_ONCE, NEAR, TOGETHER};
+ghost use Rattle.infer_core.specs.Portions.{AreNamed};
 ghost use Rattle.infer_core.specs.Windows.{row_of, AreColumnsOf, AreReadAt, AreSame, AreTaken, HasRows, HaveNumber, HaveSize, IsAheadOf, IsWindowOf, SaysApart};
 
+use crate::portions::{PORTION, labelled};
 use invariants::{Invariant, Labels, Listed, Partition, Seq};
 use labelling::Planes;
 use limits::MAX_PARTITIONS;
+use partition_graph::PartGraph;
 use std::alloc::{AllocError, Global};
 use std::rc::Rc;
 
@@ -618,30 +621,89 @@ fn labels_of(
     Labels::part_of(&window.text, window.digits.from[place], partitions.len())
 }
 
-/// The invariants, each with its labels at these partitions. `AllocError` is returned if there is not enough memory.
-pub fn listed(
+/// Adds these invariants to the list, each with its labels at these partitions. `planes` has the labels. `AllocError` is
+/// returned if there is not enough memory.
+fn add_listed(
     alloc: Global,
     planes: &Planes,
     invs: &[Invariant],
     partitions: &[Partition],
-) -> Result<Seq<Listed>, AllocError>
+    list: &mut Vec<Listed>,
+) -> Result<(), AllocError>
     requires list { (planes.now).invs ≡ invs.now }
+    requires ids { (k : ℕ) (x : Partition) → slice_get partitions.now k ≡ Some x
+        → x.id < MAX_PARTITIONS }
+
+    // What is listed, and what its labels say.
+    ensures listing { OnOk result (map (λ l. l.inv) list.new.items
+        ≡ map (λ l. l.inv) list.old.items ++ invs.now) }
+    ensures labels { OnOk result ((h : Assignment) → ArePartitions partitions.now h
+        → AreLabelsOf planes.now (G h)
+        → AllByRecursion (λ l. AreReached l.inv h partitions.now l.labels) list.old.items
+        → AllByRecursion (λ l. AreReached l.inv h partitions.now l.labels) list.new.items) }
+{
+    let mut window = Window::make(alloc, partitions.len())?;
+    for (number, inv) in invs.iter().enumerate() {
+        list.push(Listed {
+            inv: *inv,
+            labels: labels_of(alloc, planes, number, invs.len(), partitions, &mut window)?,
+        })?;
+    }
+    Ok(())
+}
+
+/// Adds these invariants to the list, each with its labels in the graph at these partitions. `AllocError` is returned if
+/// there is not enough memory.
+fn add_portion(
+    alloc: Global,
+    graph: &PartGraph,
+    invs: &[Invariant],
+    partitions: &[Partition],
+    list: &mut Vec<Listed>,
+) -> Result<(), AllocError>
+    requires few { length invs.now ≤ MAX_INVARIANTS }
+    requires named { AreNamed invs.now }
+    requires ids { (k : ℕ) (x : Partition) → slice_get partitions.now k ≡ Some x
+        → x.id < MAX_PARTITIONS }
+
+    // What is listed, and what its labels say.
+    ensures listing { OnOk result (map (λ l. l.inv) list.new.items
+        ≡ map (λ l. l.inv) list.old.items ++ invs.now) }
+    ensures labels { OnOk result ((h : Assignment) → ArePartitions partitions.now h
+        → G h ≡ G (graph.now).traces
+        → AllByRecursion (λ l. AreReached l.inv h partitions.now l.labels) list.old.items
+        → AllByRecursion (λ l. AreReached l.inv h partitions.now l.labels) list.new.items) }
+{
+    let planes = labelled(alloc, graph, invs)?;
+    let added = add_listed(alloc, &planes, invs, partitions, list);
+    drop(planes);
+    added
+}
+
+/// The invariants, each with its labels in the graph at these partitions. `AllocError` is returned if there is not enough
+/// memory.
+pub fn listed(
+    alloc: Global,
+    graph: &PartGraph,
+    invs: &[Invariant],
+    partitions: &[Partition],
+) -> Result<Seq<Listed>, AllocError>
+    requires few { length invs.now ≤ MAX_INVARIANTS }
+    requires named { AreNamed invs.now }
     requires ids { (k : ℕ) (x : Partition) → slice_get partitions.now k ≡ Some x
         → x.id < MAX_PARTITIONS }
 
     // What is listed, and what its labels say.
     ensures listing { IfOk result (λ list. map (λ l. l.inv) list ≡ invs.now) }
     ensures labels { IfOk result (λ list. (h : Assignment) → ArePartitions partitions.now h
-        → AreLabelsOf planes.now (G h)
+        → G h ≡ G (graph.now).traces
         → AllByRecursion (λ l. AreReached l.inv h partitions.now l.labels) list) }
 {
-    let mut window = Window::make(alloc, partitions.len())?;
     let mut list = Vec::with_capacity(alloc, invs.len())?;
-    for (number, inv) in invs.iter().enumerate() {
-        list.push_reserved(Listed {
-            inv: *inv,
-            labels: labels_of(alloc, planes, number, invs.len(), partitions, &mut window)?,
-        });
+    for portion in 0..invs.len().div_ceil(PORTION) {
+        let from = portion * PORTION;
+        let to = invs.len().min(from + PORTION);
+        add_portion(alloc, graph, &invs[from..to], partitions, &mut list)?;
     }
     Ok(Seq::from_vec(list))
 }

@@ -5,6 +5,7 @@
 mod labels;
 mod law;
 mod model;
+mod portions;
 mod run;
 mod tools;
 mod whole;

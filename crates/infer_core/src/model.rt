@@ -1,16 +1,17 @@
 //! The model of a run that has ended.
-ghost use Rattle.std.specs.Prelude.{◌≡◌, ◌<◌, ℕ, IfOk, Some, slice_get};
-ghost use Rattle.limits.specs.declared.TheConstants.{MAX_PARTITIONS};
+ghost use Rattle.std.specs.Prelude.{◌≡◌, ◌<◌, ◌≤◌, ℕ, IfOk, Some, length, slice_get};
+ghost use Rattle.limits.specs.declared.TheConstants.{MAX_INVARIANTS, MAX_PARTITIONS};
 ghost use Rattle.invariants.specs.declared.records.Partition.{Partition};
 ghost use Rattle.run_history.specs.Records.{HoldsPaths};
 ghost use Rattle.partition_model.specs.Assignments.{G};
-ghost use Rattle.labelling.specs.Labelled.{AreLabelsOf};
 ghost use Rattle.partition_graph.specs.Parts.{Parts};
+ghost use Rattle.infer_core.specs.Portions.{AreNamed};
 ghost use Rattle.infer_core.specs.Workbenches.{AreListsOf, Tells};
 
 use crate::labels::listed;
 use crate::tools::{Tools, both};
 use invariants::{Edge, Invariant, Kinds, Model, Partition, Seq, Text};
+use partition_graph::PartGraph;
 use run_history::{blocks, merges, splits};
 use std::alloc::{AllocError, Global};
 use traces::TraceSet;
@@ -36,18 +37,20 @@ pub fn model_of(
     traces: &TraceSet,
     invs: &[Invariant],
     lists: (Seq<Partition>, Seq<Edge>),
+    first: &PartGraph,
     tools: &Tools,
 ) -> Result<Model, AllocError>
-    requires list { tools.now.planes.invs ≡ invs.now }
+    requires few { length invs.now ≤ MAX_INVARIANTS }
+    requires named { AreNamed invs.now }
     requires ids { (k : ℕ) (x : Partition) → slice_get lists.0 k ≡ Some x → x.id < MAX_PARTITIONS }
     requires paths { HoldsPaths tools.now.run_log tools.now.spans }
     ensures { (graph : Parts) → AreListsOf graph lists.0 lists.1
-        → AreLabelsOf tools.now.planes (G graph.traces)
+        → G graph.traces ≡ G (first.now).traces
         → IfOk result
         (λ m. Tells m kinds traces.now invs.now graph tools.now.spans tools.now.run_log) }
 {
     let (partitions, edges) = lists;
-    let listing = listed(alloc, &tools.planes, invs, partitions.as_slice());
+    let listing = listed(alloc, first, invs, partitions.as_slice());
     let named = both(copy_of(alloc, traces.types()), listing);
     let joins = both(
         merges(alloc, &tools.run_log),

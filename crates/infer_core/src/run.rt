@@ -1,5 +1,5 @@
 //! The run: refinement, coarsening, blocks and labels, in memory that is allocated already.
-ghost use Rattle.std.specs.Prelude.{◌≡◌, ◌≤◌, ◌+◌, ◌-◌, OnErr, OnOk, length, min};
+ghost use Rattle.std.specs.Prelude.{◌≡◌, ◌≤◌, ◌+◌, ◌-◌, OnErr, OnOk, length};
 ghost use Rattle.models.specs.Models.{TypedWords};
 ghost use Rattle.partition_model.specs.Assignments.{G};
 ghost use Rattle.labelling.specs.Labelled.{SaysSatisfied};
@@ -13,63 +13,40 @@ use crate::tools::Tools;
 use crate::workbench::InferLimit;
 use coarsener::{Coarsened, blocks_fit, blocks_marked, coarsen};
 use invariants::Invariant;
-use labelling::Planes;
 use limits::MAX_PARTITIONS;
-use partition_graph::{PartGraph, View};
+use partition_graph::PartGraph;
 use splitter::{Basis, PartitionLimit, refine_skipping};
 use std::sync::ledger::Ledger;
 use steps::Steps;
 
-/// Sets the flag of each invariant to whether the graph satisfies it. It counts one step, or none if there is no
-/// invariant.
-fn tell_known<L: Ledger>(
-    graph: &PartGraph,
-    planes: &mut Planes,
-    flags: &mut [bool],
-    steps: &mut Steps<L>,
-)
-    requires room { length flags.old ≡ length (planes.old).invs }
-    ensures told { SaysSatisfied (G (graph.now).traces) (planes.new).invs flags.new }
-    ensures same { (planes.new).invs ≡ (planes.old).invs }
-    ensures counted { steps.new ≡ steps.old + min 1 (length (planes.old).invs) }
-{
-    if flags.is_empty() {
-        return;
-    }
-    planes.tell_satisfied(&View::Plain(graph), flags, steps);
-}
-
-/// Refines the graph as `refine` does. First the labels show which invariants the graph satisfies. `flags` records
-/// them, and no path is searched for these.
+/// Refines the graph as `refine` does. No path is searched for invariants that the graph satisfies: `flags` shows them.
 fn refine_broken<L: Ledger>(
     graph: &mut PartGraph,
     tools: &mut Tools,
-    flags: &mut [bool],
+    flags: &[bool],
     invs: &[Invariant],
     steps: &mut Steps<L>,
 ) -> Result<(), PartitionLimit>
     requires ready { IsReady invs.now graph.old
         tools.old.stitcher tools.old.planes tools.old.spans tools.old.run_log }
-    requires flags { length flags.old ≡ length invs.now }
+    requires flags { length flags.now ≡ length invs.now }
+    requires told { SaysSatisfied (G (graph.old).traces) invs.now flags.now }
     ensures list { tools.new.planes.invs ≡ tools.old.planes.invs }
     ensures writes { WritesSplits tools.old.run_log tools.new.run_log tools.old.spans tools.new.spans }
 
-    // The whole run, and how many steps it counts: at most one for each invariant and each split, and one more if it
-    // makes a split.
+    // The whole run, and how many steps it counts: at most one for each invariant and each split.
     ensures ok { OnOk result (EndsRefined invs.now graph.old
         (splits_of tools.new.run_log tools.new.spans) graph.new) }
     ensures more { OnOk result (steps.old ≤ steps.new) }
     ensures few { OnOk result (steps.new ≤ steps.old + length invs.now
-        + length (splits_of tools.new.run_log tools.new.spans)
-        + min 1 (length (splits_of tools.new.run_log tools.new.spans))) }
+        + length (splits_of tools.new.run_log tools.new.spans)) }
 
     // When the limit is returned, and what stands then.
     ensures full { OnErr result (IsFull invs.now graph.new) }
     ensures stands { OnErr result (IsStopped invs.now graph.old graph.new
         (splits_of tools.new.run_log tools.new.spans)
-        (steps.new - (steps.old + min 1 (length invs.now)))) }
+        (steps.new - steps.old)) }
 {
-    tell_known(graph, &mut tools.planes, flags, steps);
     let basis = Basis {
         invs,
         known: flags,
@@ -91,13 +68,14 @@ fn refine_broken<L: Ledger>(
 fn refine_and_coarsen<L: Ledger>(
     graph: &mut PartGraph,
     tools: &mut Tools,
-    flags: &mut [bool],
+    flags: &[bool],
     invs: &[Invariant],
     steps: &mut Steps<L>,
 ) -> Result<(), PartitionLimit>
     requires ready { IsReady invs.now graph.old
         tools.old.stitcher tools.old.planes tools.old.spans tools.old.run_log }
-    requires flags { length flags.old ≡ length invs.now }
+    requires flags { length flags.now ≡ length invs.now }
+    requires told { SaysSatisfied (G (graph.old).traces) invs.now flags.now }
     ensures ended { OnOk result (IsCoarsened invs.now graph.old graph.new
         tools.new.planes tools.new.spans tools.new.run_log steps.old steps.new) }
     ensures passed { OnErr result ((words : TypedWords) → BeginsWith words invs.now graph.old
@@ -117,7 +95,7 @@ fn refine_and_coarsen<L: Ledger>(
 /// - `graph`: is refined and coarsened. It must be the first graph of its words.
 /// - `tools`: the finder, the stitcher and the planes that the run uses, and the spans and the run's log that it writes
 ///   to. They must be made for `graph` and `invs`, with nothing written yet.
-/// - `flags`: scratch space, with one flag for each invariant.
+/// - `flags`: for each invariant, whether the first graph satisfies it.
 /// - `invs`: the invariants, which must hold of the words of the graph.
 /// - `steps`: counts the steps. If the run succeeds, they are at most as many as `Workbench::infer` states.
 ///
@@ -129,17 +107,18 @@ fn refine_and_coarsen<L: Ledger>(
 pub fn run<L: Ledger>(
     graph: &mut PartGraph,
     tools: &mut Tools,
-    flags: &mut [bool],
+    flags: &[bool],
     invs: &[Invariant],
     steps: &mut Steps<L>,
 ) -> Result<(), InferLimit>
     requires ready { IsReady invs.now graph.old
         tools.old.stitcher tools.old.planes tools.old.spans tools.old.run_log }
-    requires flags { length flags.old ≡ length invs.now }
+    requires flags { length flags.now ≡ length invs.now }
+    requires told { SaysSatisfied (G (graph.old).traces) invs.now flags.now }
 
     // What the run gives, if this is the first graph of the words and these are the invariants mined from them.
     ensures gives { (words : TypedWords) → BeginsWith words invs.now graph.old
-        → RunGives result words graph.new tools.new.planes tools.new.spans tools.new.run_log }
+        → RunGives result words graph.new tools.new.spans tools.new.run_log }
 
     // How many steps are counted.
     ensures counted { OnOk result ((words : TypedWords) → BeginsWith words invs.now graph.old
@@ -158,7 +137,6 @@ pub fn run<L: Ledger>(
     ) else {
         return Err(InferLimit::Evidence);
     };
-    tools.planes.label_all(&View::Plain(graph), steps);
     Ok(())
 }
 
@@ -169,13 +147,14 @@ pub fn run<L: Ledger>(
 pub fn place<L: Ledger>(
     graph: &mut PartGraph,
     tools: &mut Tools,
-    flags: &mut [bool],
+    flags: &[bool],
     invs: &[Invariant],
     steps: &mut Steps<L>,
 ) -> Result<(), InferLimit>
     requires ready { IsReady invs.now graph.old
         tools.old.stitcher tools.old.planes tools.old.spans tools.old.run_log }
-    requires flags { length flags.old ≡ length invs.now }
+    requires flags { length flags.now ≡ length invs.now }
+    requires told { SaysSatisfied (G (graph.old).traces) invs.now flags.now }
 
     // What the run gives, if this is the first graph of the words and these are the invariants mined from them.
     ensures gives { (words : TypedWords) → BeginsWith words invs.now graph.old

@@ -1,17 +1,20 @@
 //! The workbench: a log, the kinds of invariants that are asked for, and all that its inference needs.
-ghost use Rattle.std.specs.Prelude.{◌≡◌, ◌≤◌, ◌↔◌, ℕ, [], IfOk, OnErr, OnOk, Err, Some, length, slice_get};
-ghost use Rattle.limits.specs.declared.TheConstants.{LAST_TYPE, MAX_INVARIANTS, MAX_PAIRS, MAX_PATH_NUMBERS, MAX_STEPS};
+ghost use Rattle.std.specs.Prelude.{◌≡◌, ◌≤◌, ◌↔◌, [], IfOk, OnErr, OnOk, Err, length};
+ghost use Rattle.limits.specs.declared.TheConstants.{MAX_INVARIANTS, MAX_PAIRS, MAX_PATH_NUMBERS, MAX_STEPS};
 ghost use Rattle.invariants.specs.Mined.{mined_for};
 ghost use Rattle.models.specs.Limits.{KeepsLimits};
 ghost use Rattle.models.specs.Models.{typed_words, IsModelOf};
 ghost use Rattle.partition_graph.specs.Spread.{SharesWords};
-ghost use Rattle.partition_model.specs.Assignments.{events};
+ghost use Rattle.partition_model.specs.Assignments.{G, events};
+ghost use Rattle.labelling.specs.Labelled.{SaysSatisfied};
 ghost use Rattle.infer_core.specs.Runs.{AreFinal, CountsAtMost, PassesNumbers, PassesPartitions};
+ghost use Rattle.infer_core.specs.Portions.{AreNamed};
 ghost use Rattle.infer_core.specs.Workbenches.{HasParts};
 ghost use Rattle.traces.specs.Words.{words_of};
 
 use crate::law::log_is_typed;
 use crate::model::model_of;
+use crate::portions::satisfied;
 use crate::run::{place, run};
 use crate::tools::{Tools, both};
 use crate::whole::whole_lists;
@@ -61,14 +64,14 @@ pub struct Workbench {
     /// For each trace of the log, the number of the trace in the graph that has its word.
     numbers: Vec<u32>,
     tools: Tools,
-    /// Scratch space of refinement: for each invariant, whether the first graph satisfies it.
+    /// For each invariant, whether the first graph satisfies it.
     flags: Vec<bool>,
     stage: Stage,
 }
 
 impl std::marker::Model for Workbench {
     ghost use Rattle.std.specs.Prelude.{◌≡◌, length};
-    ghost use Rattle.infer_core.specs.Workbenches.{WorkbenchView, Stands};
+    ghost use Rattle.infer_core.specs.Workbenches.{Knows, WorkbenchView, Stands};
 
     ghost Value = { WorkbenchView };
 
@@ -77,14 +80,7 @@ impl std::marker::Model for Workbench {
     ghost invariant = { λ b.
         Stands b.stage b.kinds b.traces b.invs b.graph b.numbers.items
         b.tools.stitcher b.tools.planes b.tools.spans b.tools.run_log
-        × (length b.flags.items ≡ length b.invs) };
-}
-
-/// A flag for each invariant, all of them off.
-fn no_flags(alloc: Global, invs: &[Invariant]) -> Result<Vec<bool>, AllocError>
-    ensures { IfOk result (λ flags. length flags.items ≡ length invs.now) }
-{
-    Vec::from_elem(alloc, false, invs.len())
+        × Knows b.stage b.graph b.invs b.flags.items };
 }
 
 /// The mined invariants of the traces, if the graph of their distinct words was made. Each word is mined once.
@@ -112,8 +108,7 @@ fn equip(
     opened: &Result<((PartGraph, Vec<u32>), Seq<Invariant>), AllocError>,
 ) -> Result<(Tools, Vec<bool>), AllocError>
     requires few { IfOk opened.now (λ made. length made.1 ≤ MAX_INVARIANTS) }
-    requires named { IfOk opened.now (λ made. (k : ℕ) (inv : Invariant)
-        → slice_get made.1 k ≡ Some inv → (inv.a ≤ LAST_TYPE) × (inv.b ≤ LAST_TYPE)) }
+    requires named { IfOk opened.now (λ made. AreNamed made.1) }
 
     // What the tools and the flags are made for.
     ensures stitcher { IfOk result (λ pair. IfOk opened.now
@@ -121,6 +116,8 @@ fn equip(
     ensures planes { IfOk result (λ pair. IfOk opened.now (λ made. pair.0.planes.invs ≡ made.1)) }
     ensures flags { IfOk result (λ pair. IfOk opened.now
         (λ made. length pair.1.items ≡ length made.1)) }
+    ensures told { IfOk result (λ pair. IfOk opened.now
+        (λ made. SaysSatisfied (G made.0.0.traces) made.1 pair.1.items)) }
 
     // Nothing is written yet, and there is room for all that may be.
     ensures spans { IfOk result
@@ -138,7 +135,7 @@ fn equip(
         return Err(AllocError);
     };
     let tools = Tools::make(alloc, graph, invs.as_slice());
-    both(tools, no_flags(alloc, invs.as_slice()))
+    both(tools, satisfied(alloc, graph, invs.as_slice()))
 }
 
 impl Workbench {
@@ -204,7 +201,7 @@ impl Workbench {
         let end = run(
             &mut self.graph,
             &mut self.tools,
-            self.flags.as_mut_slice(),
+            self.flags.as_slice(),
             self.invs.as_slice(),
             steps,
         );
@@ -246,7 +243,7 @@ impl Workbench {
         let end = place(
             &mut self.graph,
             &mut self.tools,
-            self.flags.as_mut_slice(),
+            self.flags.as_slice(),
             self.invs.as_slice(),
             steps,
         );
@@ -276,6 +273,7 @@ impl Workbench {
             &self.traces,
             self.invs.as_slice(),
             lists,
+            &self.graph,
             &self.tools,
         )
     }

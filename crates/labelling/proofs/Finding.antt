@@ -1,6 +1,6 @@
 -- What is found when a row has got what another one passes.
 use Rattle.std.proofs.Common.{◌≡◌, ◌≢◌, ◌↔◌, ℕ, ◌+◌, ◌<◌, ◌≤◌, ◌==◌, Bool, true, false, not, cond, List, [], ◌∷◌, ◌++◌, slice_get, Some, refl, sym, ap, ◌∙◌, subst, subst₂, arith, inl, inr}
-use Rattle.std.proofs.lemmas.Bool.{cases_eq, cases_lt, or_cases, and_parts, or_left, or_right, and_from, eqb-true, eq-eqb}
+use Rattle.std.proofs.lemmas.Bool.{cases_eq, cases_lt, or_cases, and_parts, or_left, or_right, and_from, eqb-true, eq-eqb, true≢false}
 use Rattle.limits.specs.declared.TheConstants.{MAX_PARTITIONS, INITIAL, TERMINAL}
 use Rattle.invariants.specs.declared.Kind.{Kind}
 use Rattle.invariants.specs.declared.Kind.TheVariants.{AF, NF, AP, IB}
@@ -14,7 +14,7 @@ use Rattle.labelling.specs.declared.layout.TheConstants.{STATES, LAST_PHASE, BRO
 use Rattle.labelling.specs.PhaseRows.{found_in}
 use Rattle.labelling.specs.Carried.{passes, IsPassed}
 use Rattle.labelling.specs.Found.{Found, Grows, StartsAt, FollowsAlong, HasStart, IsCarried, IsNothing, IsSameBut, AreNoted}
-use Rattle.labelling.specs.Layout.{is_on, labels_from, label_row, bad_row, first_row, move_place, move_row, row_count, AreMarked, IsBlankFrom}
+use Rattle.labelling.specs.Layout.{is_on, labels_from, label_row, bad_row, first_row, move_place, move_row, row_count, AreMarked, AreMarkedOnce, IsAllOff, IsBlankFrom, IsFree, IsTableOf}
 use Rattle.labelling.specs.Phases.{phase_of, first_phase, turn, ReachedIn}
 use Rattle.labelling.proofs.Marking.{marked_same}
 use Rattle.labelling.proofs.Passing.{IsBadBelow}
@@ -24,21 +24,27 @@ use Rattle.labelling.proofs.Turning.{phase_phase, turn_acts, turn_near, move_mad
 pub same_label : (bound p s q t : ℕ) → s < STATES → t < STATES → label_row bound p s ≡ label_row bound q t → (p ≡ q) × (s ≡ t)
 same_label bound p s q t low next e = (omega (arith, low, next, e), omega (arith, low, next, e))
 
--- the marks stay where only labels and notes change
-pub kept_marked : (bound : ℕ) (invs : List Invariant) (old new : List (List Bool)) → KeepsShape old new
-    → ((r : ℕ) → r < labels_from bound → r ≢ BROKEN_ROW → row_at new r ≡ row_at old r) → AreMarked bound invs old → AreMarked bound invs new
-kept_marked bound invs old new shape same h = record {
-  limit = h.limit;
-  named = h.named;
-  shape = shape _ _ h.shape;
-  marked = λ k inv at. marked_same bound old new k inv (λ r above other. ap (λ (x : List Bool). is_set x k) (same r above other)) (h.marked k inv at);
+-- a table stays one of the invariants where its shape stays
+pub kept_table : (bound : ℕ) (invs : List Invariant) (old new : List (List Bool)) → KeepsShape old new → IsTableOf bound invs old → IsTableOf bound invs new
+kept_table bound invs old new shape h = record { limit = h.limit; named = h.named; shape = shape _ _ h.shape }
+
+-- marked rows stay marked where only labels and notes change
+pub kept_marked : (marked : Bool) (bound : ℕ) (invs : List Invariant) (old new : List (List Bool)) → marked ≡ true
+    → ((r : ℕ) → r < labels_from bound → r ≢ BROKEN_ROW → row_at new r ≡ row_at old r) → AreMarkedOnce marked bound invs old → AreMarkedOnce marked bound invs new
+kept_marked marked bound invs old new on same h = record {
+  after = λ _ k inv at. marked_same bound old new k inv (λ r above other. ap (λ (x : List Bool). is_set x k) (same r above other)) (h.after on k inv at);
+  before = λ off. absurd (true≢false (sym on ∙ off));
 }
 
--- the marks stay where a row of labels gets what another row passes
-pub passed_marked : (bound : ℕ) (invs : List Invariant) (old new : List (List Bool)) (from to mask : ℕ) (back changed : Bool) → labels_from bound ≤ to
-    → IsPassed old new from to mask back changed → AreMarked bound invs old → AreMarked bound invs new
-passed_marked bound invs old new from to mask back changed low h =
-    kept_marked bound invs old new h.shape (λ r above other. h.others r (λ e. absurd (omega (arith, above, e, low))))
+-- marked rows stay marked where a row of labels gets what another row passes
+pub passed_marked : (marked : Bool) (bound : ℕ) (invs : List Invariant) (old new : List (List Bool)) (from to mask : ℕ) (back changed : Bool) → marked ≡ true → labels_from bound ≤ to
+    → IsPassed old new from to mask back changed → AreMarkedOnce marked bound invs old → AreMarkedOnce marked bound invs new
+passed_marked marked bound invs old new from to mask back changed on low h =
+    kept_marked marked bound invs old new on (λ r above other. h.others r (λ e. absurd (omega (arith, above, e, low))))
+
+-- a row of labels, and that of broken invariants, says nothing before and nothing after the marking
+pub still_off : (bound : ℕ) (old new : List (List Bool)) (r k : ℕ) → IsAllOff old → ((i j : ℕ) → IsFree bound i → is_on new i j ≡ false) → IsFree bound r → is_on new r k ≡ is_on old r k
+still_off bound old new r k off free is = free r k is ∙ sym (off r k)
 
 -- the rows behind those in use stay blank where one in use gets what another row passes
 pub passed_blank : (bound used last : ℕ) (old new : List (List Bool)) (from to mask : ℕ) (back changed : Bool) → used ≤ last → to < last → last ≤ row_count bound
@@ -128,7 +134,7 @@ move_lets bound invs table from x typ s t h le acts low near = record {
   where
     made : (k : ℕ) (inv : Invariant) → slice_get invs k ≡ Some inv → lets table (move_row x s t) (s == t) k ≡ (turn inv s typ == t)
     made k inv at =
-        move_made inv x s t (is_on table (move_row x s t) k) low near ((h.marked k inv at).moves x (move_place s t) le (place_low s t low near))
+        move_made inv x s t (is_on table (move_row x s t) k) low near ((h k inv at).moves x (move_place s t) le (place_low s t low near))
         ∙ ap (λ (z : ℕ). z == t) (turn_acts inv s x typ (acts k inv (phase_of inv.kind s) at))
 
 -- nothing leaves the last phase
@@ -176,7 +182,7 @@ module _ (bound : ℕ) (invs : List Invariant) (old new : List (List Bool)) (t :
           | inl was ↦ before k inv r z at in_r in_z (ap (λ (y : ℕ). is_on old y k) same ∙ was)
           | inr now ↦
               let b = and_parts (is_on old (first_row t) k) (is_on old (first_row t) k) now in
-              let first : first_phase inv ≡ t = eqb-true (first_phase inv) t (sym ((marked.marked k inv at).first t next) ∙ b.0) in
+              let first : first_phase inv ≡ t = eqb-true (first_phase inv) t (sym ((marked k inv at).first t next) ∙ b.0) in
               let begin : Reached inv g INITIAL (step inv 0 (g.typ INITIAL)) = ([], refl, refl) in
               let is : step inv 0 (g.typ INITIAL) ≡ phase_of inv.kind z =
               ap (λ (y : ℕ). step inv 0 y) is_typ ∙ sym (phase_phase inv.kind (step inv 0 INITIAL)) ∙ ap (λ (y : ℕ). phase_of inv.kind y) (first ∙ sym e.1) in
@@ -189,7 +195,7 @@ module _ (bound : ℕ) (invs : List Invariant) (old new : List (List Bool)) (t :
   started k inv at made =
       h.here k
       ∙ or_right (is_on old (label_row bound INITIAL t) k) (passes old (first_row t) (first_row t) false k)
-      (let begins : is_on old (first_row t) k ≡ true = (marked.marked k inv at).first t next ∙ eq-eqb (first_phase inv) t made in
+      (let begins : is_on old (first_row t) k ≡ true = (marked k inv at).first t next ∙ eq-eqb (first_phase inv) t made in
       and_from (is_on old (first_row t) k) (is_on old (first_row t) k) begins begins)
 
 -- a move that no monitor makes is carried by itself
@@ -224,7 +230,7 @@ noted bound invs old new marked broken others k inv at =
     let row : ℕ = label_row bound TERMINAL (bad_of inv.kind) in
     let low : bad_of inv.kind < STATES = bad_low inv.kind in
     let stays : is_on new row k ≡ is_on old row k = ap (λ (x : List Bool). is_set x k) (others row (λ e. absurd (omega (arith, e, low)))) in
-    let bad : (s : ℕ) → s < STATES → is_on old (bad_row s) k ≡ (s == bad_of inv.kind) = (marked.marked k inv at).bad in
+    let bad : (s : ℕ) → s < STATES → is_on old (bad_row s) k ≡ (s == bad_of inv.kind) = (marked k inv at).bad in
     same_truth (is_on new BROKEN_ROW k) (is_on new row k)
     (λ on.
     let w : IsBadBelow bound old k STATES = (broken k).0 on in

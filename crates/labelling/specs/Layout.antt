@@ -1,5 +1,5 @@
 -- A table of rows with a bit for each invariant: which row means what.
-use Rattle.std.specs.Prelude.{◌≡◌, ◌≢◌, ◌⊎◌, ℕ, ◌+◌, ◌*◌, ◌<◌, ◌≤◌, ◌==◌, Bool, false, not, if◌then◌else◌, List, length, slice_get, Some}
+use Rattle.std.specs.Prelude.{◌≡◌, ◌≢◌, ◌⊎◌, ℕ, ◌+◌, ◌*◌, ◌<◌, ◌≤◌, ◌==◌, Bool, true, false, not, if◌then◌else◌, List, length, slice_get, Some}
 use Rattle.limits.specs.declared.TheConstants.{LAST_TYPE}
 use Rattle.invariants.specs.declared.Invariant.{Invariant}
 use Rattle.invariants.specs.Monitors.{is_bad}
@@ -73,12 +73,25 @@ IsFree bound r = (labels_from bound ≤ r) ⊎ (r ≡ BROKEN_ROW)
 abbrev pub IsApart : ℕ → ℕ → ℕ → ℕ → Type 0
 IsApart x k r j = (j ≢ k) ⊎ ((r < moves_row x) ⊎ (moves_row (x + 1) ≤ r))
 
--- the bits of each invariant are set as its moves say
-pub record AreMarked (bound : ℕ) (invs : List Invariant) (table : List (List Bool)) : Type 0 where
+-- the table has all rows for these invariants, whose types are below the bound
+pub record IsTableOf (bound : ℕ) (invs : List Invariant) (table : List (List Bool)) : Type 0 where
   pub limit : bound ≤ LAST_TYPE + 1
   pub named : AreNamedBelow bound invs
   pub shape : HasShape table (row_count bound) (length invs)
-  pub marked : (k : ℕ) (inv : Invariant) → slice_get invs k ≡ Some inv → IsMarked bound table k inv
+
+-- the bits of each invariant are set as its moves say
+abbrev pub AreMarked : ℕ → List Invariant → List (List Bool) → Type 0
+AreMarked bound invs table =
+    (k : ℕ) (inv : Invariant) → slice_get invs k ≡ Some inv → IsMarked bound table k inv
+
+-- all bits of the table are off
+abbrev pub IsAllOff : List (List Bool) → Type 0
+IsAllOff table = (r k : ℕ) → is_on table r k ≡ false
+
+-- the flag says whether the invariants are marked; until they are, all bits are off
+pub record AreMarkedOnce (marked : Bool) (bound : ℕ) (invs : List Invariant) (table : List (List Bool)) : Type 0 where
+  pub after : marked ≡ true → AreMarked bound invs table
+  pub before : marked ≡ false → IsAllOff table
 
 -- all bits are off in the rows from this one on, which is a row of labels or the end of all rows
 pub record IsBlankFrom (bound used : ℕ) (table : List (List Bool)) : Type 0 where

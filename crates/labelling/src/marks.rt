@@ -4,7 +4,7 @@ ghost use Rattle.bit_rows.specs.Tables.{row_at, HasShape, KeepsShape};
 ghost use Rattle.invariants.specs.declared.Invariant.{Invariant};
 ghost use Rattle.labelling.specs.declared.layout.TheConstants.{MOVES, MOVE_ROWS};
 ghost use Rattle.limits.specs.declared.TheConstants.{LAST_TYPE};
-ghost use Rattle.labelling.specs.Layout.{is_on, is_move, moves_row, AreMarked, AreNamedBelow, row_count, IsApart, IsFree, IsMarked};
+ghost use Rattle.labelling.specs.Layout.{is_on, is_move, moves_row, AreMarked, AreNamedBelow, row_count, IsAllOff, IsApart, IsFree, IsMarked};
 
 use crate::layout::{MOVES, bad_row, first_row, moves_row};
 use crate::phases::{first_phase, turn};
@@ -30,7 +30,8 @@ pub(crate) fn mark_all(rows: &mut Rows, invs: &[Invariant], bound: usize)
     requires limit { bound ≤ LAST_TYPE + 1 }
     requires named { AreNamedBelow bound invs.now }
     requires shape { HasShape rows.old (row_count bound) (length invs.now) }
-    requires blank { (r k : ℕ) → is_on rows.old r k ≡ false }
+    requires blank { IsAllOff rows.old }
+    ensures shape { HasShape rows.new (row_count bound) (length invs.now) }
     ensures marked { AreMarked bound invs.now rows.new }
     ensures free { (r k : ℕ) → IsFree bound r → is_on rows.new r k ≡ false }
 {

@@ -4,7 +4,7 @@ ghost use Rattle.std.specs.Int.{bit_at};
 ghost use Rattle.limits.specs.declared.TheConstants.{INITIAL, LAST_TYPE, MAX_INVARIANTS, MAX_PARTITIONS};
 ghost use Rattle.invariants.specs.declared.Invariant.{Invariant};
 ghost use Rattle.labelling.specs.declared.layout.TheConstants.{LAST_PHASE, STATES};
-ghost use Rattle.labelling.specs.Layout.{AreMarked, IsBlankFrom};
+ghost use Rattle.labelling.specs.Layout.{AreMarkedOnce, IsBlankFrom, IsTableOf};
 ghost use Rattle.labelling.specs.Labelled.{SaysSwapped};
 
 use crate::carrying::{clear_between, note_broken, pass, take_up};
@@ -28,7 +28,10 @@ pub(crate) struct PhaseRows {
     bound: usize,
     /// From this row on, nothing is on.
     used: usize,
-    ghost marked: { AreMarked bound invs.items rows },
+    /// Whether the rows say what each type does. The first labelling marks them. Until then, all bits are off.
+    marked: bool,
+    ghost table: { IsTableOf bound invs.items rows },
+    ghost state: { AreMarkedOnce marked bound invs.items rows },
     ghost blank: { IsBlankFrom bound used rows },
 }
 
@@ -38,24 +41,26 @@ impl PhaseRows {
     ghost use Rattle.labelling.specs.Phases.{phase_at};
     ghost use Rattle.labelling.specs.Found.{AreNoted, FollowsAlong, Grows, HasStart, IsCarried, IsNothing, IsSameBut, StartsAt};
 
-    /// The rows of these invariants, with nothing found.
+    /// The rows of these invariants, with nothing found and nothing marked. It allocates the rows, and writes none of
+    /// them.
     pub fn make(alloc: Global, invs: &[Invariant]) -> Result<PhaseRows, AllocError>
         requires few { length invs.now ≤ MAX_INVARIANTS }
         requires named { (k : ℕ) (inv : Invariant) → slice_get invs.now k ≡ Some inv
             → (inv.a ≤ LAST_TYPE) × (inv.b ≤ LAST_TYPE) }
         ensures list { IfOk result (λ phase_rows. (found phase_rows).invs ≡ invs.now) }
+        ensures unmarked { IfOk result (λ phase_rows. phase_rows.marked ≡ false) }
         ensures nothing { IfOk result (λ phase_rows. IsNothing (found phase_rows)) }
         ensures unbroken { IfOk result (λ phase_rows. (k : ℕ) → (found phase_rows).broken k ≡ false) }
     {
         let bound = bound_of(invs);
-        let mut rows = Rows::make(alloc, row_count(bound), invs.len())?;
+        let rows = Rows::make(alloc, row_count(bound), invs.len())?;
         let list = Vec::from_slice(alloc, invs)?;
-        mark_all(&mut rows, &list, bound);
         Ok(PhaseRows {
             rows,
             invs: list,
             bound,
             used: labels_from(bound),
+            marked: false,
         })
     }
 
@@ -110,11 +115,30 @@ impl PhaseRows {
         ]
     }
 
-    /// Forgets all that was found.
+    /// Marks what each type does, in the rows that are the same for each graph. If they are marked already, nothing
+    /// changes. What is found and what is noted stay.
+    fn mark_once(&mut self)
+        ensures same { (found self.new).invs ≡ (found self.old).invs }
+        ensures labels { (k p s : ℕ) → p < MAX_PARTITIONS → s < STATES
+            → (found self.new).has k p s ≡ (found self.old).has k p s }
+        ensures broken { (k : ℕ) → (found self.new).broken k ≡ (found self.old).broken k }
+        ensures marked { self.new.marked ≡ true }
+    {
+        if self.marked {
+            return;
+        }
+        mark_all(&mut self.rows, &self.invs, self.bound);
+        self.marked = true;
+    }
+
+    /// Forgets all that was found, and marks the rows if that was not done before. A labelling begins with this: what
+    /// finds or notes phases requires marked rows.
     pub fn clear(&mut self)
         ensures same { (found self.new).invs ≡ (found self.old).invs }
         ensures nothing { IsNothing (found self.new) }
+        ensures marked { self.new.marked ≡ true }
     {
+        self.mark_once();
         let first = labels_from(self.bound);
         clear_between(&mut self.rows, first, self.used);
         self.used = first;
@@ -122,7 +146,9 @@ impl PhaseRows {
 
     /// Finds the phase at INITIAL for those invariants that are in it there.
     pub fn start(&mut self, phase: u8)
-        requires { phase < STATES }
+        requires phase { phase < STATES }
+        requires marked { self.old.marked ≡ true }
+        ensures marked { self.new.marked ≡ true }
         ensures same { (found self.new).invs ≡ (found self.old).invs }
         ensures keeps { (k p s : ℕ) → (found self.old).has k p s ≡ true
             → (found self.new).has k p s ≡ true }
@@ -144,6 +170,8 @@ impl PhaseRows {
         requires phase { phase < LAST_PHASE }
         requires to { q < MAX_PARTITIONS }
         requires next { next < STATES }
+        requires marked { self.old.marked ≡ true }
+        ensures marked { self.new.marked ≡ true }
 
         // What is found, and where.
         ensures grows { Grows (found self.old) (found self.new) result }
@@ -171,6 +199,8 @@ impl PhaseRows {
     pub fn keep_last(&mut self, p: u32, q: u32) -> bool
         requires from { p < MAX_PARTITIONS }
         requires to { q < MAX_PARTITIONS }
+        requires marked { self.old.marked ≡ true }
+        ensures marked { self.new.marked ≡ true }
         ensures grows { Grows (found self.old) (found self.new) result }
         ensures sound { (typ : ℕ) → FollowsAlong p q typ (found self.old) (found self.new) }
         ensures carried { (typ : ℕ)
@@ -194,6 +224,8 @@ impl PhaseRows {
 
     /// Notes for which invariants a bad phase is found at TERMINAL.
     pub fn note(&mut self)
+        requires { self.old.marked ≡ true }
+        ensures marked { self.new.marked ≡ true }
         ensures same { (found self.new).invs ≡ (found self.old).invs }
         ensures labels { (k p s : ℕ) → p < MAX_PARTITIONS → s < STATES
             → (found self.new).has k p s ≡ (found self.old).has k p s }

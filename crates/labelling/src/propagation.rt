@@ -28,7 +28,9 @@ fn no_marks() -> [bool; IDS]
 
 /// Finds the phases of INITIAL.
 fn start(phase_rows: &mut PhaseRows)
-    requires { IsNothing (found phase_rows.old) }
+    requires nothing { IsNothing (found phase_rows.old) }
+    requires marked { phase_rows.old.marked ≡ true }
+    ensures marked { phase_rows.new.marked ≡ true }
     ensures same { (found phase_rows.new).invs ≡ (found phase_rows.old).invs }
     ensures sound { (g : Graph) → g.typ INITIAL ≡ INITIAL → IsReachedIn g (found phase_rows.new) }
     ensures start { (t : ℕ) → t < STATES → HasStart t (found phase_rows.new) }
@@ -42,7 +44,9 @@ fn start(phase_rows: &mut PhaseRows)
 /// Finds, at the end of a link, what the phases at its beginning become there. `typ` is the type of the end. Returns
 /// whether anything new was found.
 fn propagate(phase_rows: &mut PhaseRows, link: Link, typ: u16) -> bool
-    requires { HasIds link }
+    requires ids { HasIds link }
+    requires marked { phase_rows.old.marked ≡ true }
+    ensures marked { phase_rows.new.marked ≡ true }
     ensures grows { Grows (found phase_rows.old) (found phase_rows.new) result }
     ensures sound { FollowsAlong link.from link.to typ (found phase_rows.old) (found phase_rows.new) }
     ensures propagated { IsPropagated link.from typ link.to (found phase_rows.old) (found phase_rows.new) }
@@ -81,6 +85,8 @@ fn follow(
     requires ids { HasIds link }
     requires recent_room { length recent.old ≡ MAX_PARTITIONS }
     requires now_room { length now.old ≡ MAX_PARTITIONS }
+    requires marked { phase_rows.old.marked ≡ true }
+    ensures marked { phase_rows.new.marked ≡ true }
 
     // What is found at the end of the link.
     ensures grows { GrowsIf (found phase_rows.old) (found phase_rows.new) result }
@@ -127,6 +133,8 @@ fn follow_all(
     requires now_room { length now.old ≡ MAX_PARTITIONS }
     requires none { (p : ℕ) → IsStill now.old p }
     requires before { ArePropagated links.now (seen view.now) recent.old (found phase_rows.old) }
+    requires marked { phase_rows.old.marked ≡ true }
+    ensures marked { phase_rows.new.marked ≡ true }
 
     // What is found grows, and is reached.
     ensures grows { GrowsIf (found phase_rows.old) (found phase_rows.new) result }

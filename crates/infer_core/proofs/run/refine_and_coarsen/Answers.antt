@@ -1,7 +1,6 @@
 use Rattle.std.proofs.Common.{◌∙◌, arith}
 use Rattle.run_history.specs.Records.{splits_of}
 use Rattle.infer_core.proofs.Ending.{refined-keeps, merges-none, merge-room, coarsened-is, stopped-passes}
-use Rattle.infer_core.proofs.FirstPair.{split-pairs}
 use Rattle.infer_core.proofs.run.refine_and_coarsen.Goals as goal
 
 pub returns-in_default-clause-passed : goal.returns-in_default-clause-passed
@@ -25,6 +24,5 @@ returns-clause-ended g c =
     c.args.tools.now.run_log c.refine_broken-refined.new.tools.run_log c.coarsen.new.run_log
     c.args.tools.now.spans c.refine_broken-refined.new.tools.spans c.args.steps.now c.refine_broken-refined.new.steps c.coarsen.new.steps
     c.requires.ready (c.refine_broken-refined.ensures.list ∙ c.requires.ready.listed) c.in-Ok.ensures.writes c.in-Ok.ensures.ok c.ids_used.ensures.typed
-    (split-pairs c.args.invs.now c.args.graph.now c.refine_broken-refined.new.graph (splits_of c.refine_broken-refined.new.tools.run_log c.refine_broken-refined.new.tools.spans) c.requires.ready.opened c.requires.ready.hold c.in-Ok.ensures.ok)
     c.in-Ok.ensures.more c.in-Ok.ensures.few
     c.coarsen.ensures.run c.coarsen.ensures.used c.coarsen.ensures.others c.coarsen.ensures.list c.coarsen.ensures.marks c.coarsen.ensures.more c.coarsen.ensures.few

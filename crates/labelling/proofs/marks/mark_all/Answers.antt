@@ -30,9 +30,6 @@ loop-k-preserved c =
     }
 
 pub returns-clause-marked : goal.returns-clause-marked
-returns-clause-marked c = record {
-  limit = c.requires.limit;
-  named = c.requires.named;
-  shape = c.loop-k.invariant.shape;
-  marked = λ k inv at. let inside : k < length c.args.invs.now = slice_get_within c.args.invs.now k inv at in c.loop-k.invariant.marked k inv (omega (arith, inside)) at;
-}
+returns-clause-marked c k inv at =
+    let inside : k < length c.args.invs.now = slice_get_within c.args.invs.now k inv at in
+    c.loop-k.invariant.marked k inv (omega (arith, inside)) at

@@ -10,6 +10,7 @@ returns-then-not-recent-from c =
     let was = c.args.now.now in
     let old = found c.args.phase_rows.now in
     record {
+      marked = c.requires.marked;
       grows = grows_if old old false (grows_none old);
       sound = λ g edge is h. h;
       followed = skipped c.args.link.from c.args.link.to c.args.typ recent was c.args.from_end old old c.if-not-recent-from.true;
@@ -26,6 +27,7 @@ returns-then-not-propagate c =
     let new = found c.propagate.new.phase_rows in
     let e = c.if-not-propagate.ensures in
     record {
+      marked = e.marked;
       grows = grows_if old new false e.grows;
       sound = e.sound;
       followed = followed_still c.args.link.from c.args.link.to c.args.typ recent was c.args.from_end old new (e.grows.still refl) e.propagated;
@@ -44,6 +46,7 @@ returns-then-leads_ahead c =
     let inside : c.args.link.to < length recent = omega (arith, c.requires.ids, c.requires.recent_room) in
     let ahead = c.if-leads_ahead.ensures.0 refl in
     record {
+      marked = e.marked;
       grows = grows_quiet old new true e.grows;
       sound = e.sound;
       followed = followed_on c.args.link.from c.args.link.to c.args.typ recent was c.args.from_end old new true ahead e.grows e.others e.propagated;
@@ -61,6 +64,7 @@ returns c =
     let e = c.if-not-propagate.ensures in
     let inside : c.args.link.to < length was = omega (arith, c.requires.ids, c.requires.now_room) in
     record {
+      marked = e.marked;
       grows = grows_if old new true e.grows;
       sound = e.sound;
       followed = followed_more c.args.link.from c.args.link.to c.args.typ recent was c.args.from_end old new true inside e.grows e.others e.propagated;

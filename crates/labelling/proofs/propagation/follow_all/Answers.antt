@@ -11,6 +11,7 @@ use Rattle.labelling.proofs.propagation.follow_all.Goals as goal
 
 pub loop-done-init : goal.loop-done-init
 loop-done-init c = record {
+  marked = c.requires.marked;
   recent_room = c.requires.recent_room;
   now_room = c.requires.now_room;
   grows = grows_if (found c.args.phase_rows.now) (found c.args.phase_rows.now) false (grows_none (found c.args.phase_rows.now));
@@ -32,6 +33,7 @@ loop-done-preserved c =
     let edge : g.edge link.from link.to ≡ true =
     subst (λ (x : Link). g.edge x.from x.to ≡ true) (sym is) (link_edge links g c.loop-done.done link (edges_passed c.args.from_end c.args.links.now g c.requires.links) inside) in
     record {
+      marked = e.marked;
       recent_room = c.follow-more.auto.recent ∙ i.recent_room;
       now_room = c.follow-more.auto.now ∙ i.now_room;
       grows = grows_if_more (found c.args.phase_rows.now) (found c.loop-done.phase_rows) (found c.follow-more.new.phase_rows) c.loop-done.again c.follow-more.result i.grows e.grows;
@@ -47,6 +49,7 @@ loop-done-preserved c =
 
 pub returns : goal.returns
 returns c = record {
+  marked = c.loop-done.invariant.marked;
   grows = c.loop-done.invariant.grows;
   sound = c.loop-done.invariant.sound;
   after = links_all c.args.from_end c.args.links.now (seen c.args.view.now) c.loop-done.done c.loop-done.recent c.loop-done.now (found c.loop-done.phase_rows) c.requires.links (omega (arith, c.loop-done-test.false)) c.loop-done.invariant.propagated;

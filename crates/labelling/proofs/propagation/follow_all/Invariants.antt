@@ -1,4 +1,4 @@
-use Rattle.std.proofs.Common.{◌≡◌, ℕ, false, length}
+use Rattle.std.proofs.Common.{◌≡◌, ℕ, false, true, length}
 use Rattle.limits.specs.declared.TheConstants.{MAX_PARTITIONS}
 use Rattle.partition_graph.specs.Seen.{seen}
 use Rattle.clashes.specs.Growing.{as_passed}
@@ -10,6 +10,7 @@ use Rattle.labelling.proofs.propagation.follow_all.Given as goal
 abbrev pub invariant-loop-done : goal.invariant-loop-done
 invariant-loop-done l =
     record {
+      marked : l.phase_rows.marked ≡ true;
       recent_room : length l.recent ≡ MAX_PARTITIONS;
       now_room : length l.now ≡ MAX_PARTITIONS;
       grows : GrowsIf (found l.fn.phase_rows) (found l.phase_rows) l.again;

@@ -11,6 +11,7 @@ labels-init c =
     let g = seen c.args.view.now in
     let e = c.start.ensures in
     record {
+      marked = e.marked;
       same = e.same ∙ c.clear.ensures.same;
       sound = e.sound g (initial_typ c.args.view.now);
       start = λ t low. e.start t low;
@@ -24,6 +25,7 @@ pub labels-preserved : goal.labels-preserved
 labels-preserved c =
     let e = c.labels-test.ensures in
     record {
+      marked = e.marked;
       same = e.grows.same ∙ c.labels.invariant.same;
       sound = e.sound c.labels.invariant.sound;
       start = λ t low. starts_on t (found c.labels.phase_rows) (found c.follow_all.new.phase_rows) e.grows.same e.grows.keeps (c.labels.invariant.start t low);

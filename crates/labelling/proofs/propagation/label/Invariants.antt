@@ -1,4 +1,4 @@
-use Rattle.std.proofs.Common.{◌≡◌, ◌<◌, ℕ, length}
+use Rattle.std.proofs.Common.{◌≡◌, ◌<◌, ℕ, true, length}
 use Rattle.limits.specs.declared.TheConstants.{MAX_PARTITIONS}
 use Rattle.partition_graph.specs.Seen.{seen}
 use Rattle.labelling.specs.declared.layout.TheConstants.{STATES}
@@ -10,6 +10,7 @@ use Rattle.labelling.proofs.propagation.label.Given as goal
 abbrev pub invariant-labels : goal.invariant-labels
 invariant-labels l =
     record {
+      marked : l.phase_rows.marked ≡ true;
       same : (found l.phase_rows).invs ≡ (found l.fn.phase_rows).invs;
       sound : IsReachedIn (seen l.view) (found l.phase_rows);
       start : (t : ℕ) → t < STATES → HasStart t (found l.phase_rows);

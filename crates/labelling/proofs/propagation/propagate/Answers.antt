@@ -5,6 +5,7 @@ use Rattle.labelling.proofs.propagation.propagate.Goals as goal
 
 pub loop-place-init : goal.loop-place-init
 loop-place-init c = record {
+  marked = c.keep_last-changed.ensures.marked;
   grows = c.keep_last-changed.ensures.grows;
   sound = c.keep_last-changed.ensures.sound c.args.typ;
   last = c.keep_last-changed.ensures.carried c.args.typ;
@@ -20,6 +21,7 @@ loop-place-preserved c =
     let i = c.loop-place.invariant in
     let e = c.carry-more.ensures in
     record {
+      marked = e.marked;
       grows = grows_more first old new c.loop-place.changed c.carry-more.result i.grows e.grows;
       sound = λ g edge is h. e.sound g edge is (i.sound g edge is h);
       last = carried_on first first old new _ c.carry-more.result c.args.link.from _ c.args.typ c.args.link.to _ (grows_none first) i.last e.grows;
@@ -29,6 +31,7 @@ loop-place-preserved c =
 
 pub returns : goal.returns
 returns c = record {
+  marked = c.loop-place.invariant.marked;
   grows = c.loop-place.invariant.grows;
   sound = c.loop-place.invariant.sound;
   propagated = propagated_of_moves c.args.link.from c.args.link.to c.args.typ (found c.args.phase_rows.now) (found c.loop-place.phase_rows) c.loop-place.invariant.last (λ m below. c.loop-place.invariant.moves m (omega arith));

@@ -1,6 +1,7 @@
-use Rattle.std.proofs.Common.{◌≡◌, ◌↔◌, Bool, List, Result, Err, length, ◌∙◌, sym, ap, subst, subst₂, arith, rules}
-use Rattle.std.proofs.lemmas.List.{with_items_is}
+use Rattle.std.proofs.Common.{◌≡◌, ◌↔◌, Bool, List, Result, Err, length, ◌∙◌, sym, ap, subst, subst₂, rules}
 use Rattle.invariants.specs.declared.Invariant.{Invariant}
+use Rattle.partition_model.specs.Assignments.{G}
+use Rattle.labelling.specs.Labelled.{SaysSatisfied}
 use Rattle.infer_core.specs.declared.workbench.InferLimit.{InferLimit}
 use Rattle.infer_core.specs.declared.workbench.InferLimit.TheVariants.{Partitions, Evidence}
 use Rattle.infer_core.specs.Workbenches.{whole_of, WorkbenchView, IsAtEnd, IsAtStart}
@@ -8,7 +9,7 @@ use Rattle.infer_core.specs.Ends.{BeginsWith, HasEnded, IsReady, RunGives}
 use Rattle.models.specs.Models.{TypedWords, typed_words}
 use Rattle.infer_core.specs.Runs.{CountsAtMost, PassesNumbers, PassesPartitions}
 use Rattle.infer_core.proofs.Distinct.{distinct, start-begins, start-counts, start-ends, start-gives}
-use Rattle.infer_core.proofs.Stages.{stands-opened, run-places, partitions-told, evidence-told}
+use Rattle.infer_core.proofs.Stages.{knows-opened, stands-opened, run-places, partitions-told, evidence-told}
 use Rattle.infer_core.proofs.workbench.Workbench.infer.Goals as goal
 
 pub run-end-requires-clause-ready : goal.run-end-requires-clause-ready
@@ -16,7 +17,19 @@ run-end-requires-clause-ready g c =
     let b = c.self.inside in
     let s : IsAtStart b.kinds b.traces b.invs b.graph b.numbers.items b.tools.stitcher b.tools.planes b.tools.spans b.tools.run_log =
     stands-opened c.args.self.now b.stage b.kinds b.traces b.invs b.graph b.numbers.items b.tools.stitcher b.tools.planes b.tools.spans b.tools.run_log c.self.view_is c.requires c.self.invariant.0 in
-    subst (λ (invs : List Invariant). IsReady invs b.graph b.tools.stitcher b.tools.planes b.tools.spans b.tools.run_log) (sym c.as_slice.ensures) s.ready
+    subst (λ (invs : List Invariant). IsReady invs b.graph b.tools.stitcher b.tools.planes b.tools.spans b.tools.run_log) (sym c.as_slice-2.ensures) s.ready
+
+pub run-end-requires-clause-flags : goal.run-end-requires-clause-flags
+run-end-requires-clause-flags g c =
+    let b = c.self.inside in
+    let known = knows-opened c.args.self.now b.stage b.kinds b.traces b.invs b.graph b.flags.items c.self.view_is c.requires c.self.invariant.1 in
+    ap (λ (flags : List Bool). length flags) c.as_slice.ensures.value ∙ known.0 ∙ ap (λ (invs : List Invariant). length invs) (sym c.as_slice-2.ensures)
+
+pub run-end-requires-clause-told : goal.run-end-requires-clause-told
+run-end-requires-clause-told g c =
+    let b = c.self.inside in
+    let known = knows-opened c.args.self.now b.stage b.kinds b.traces b.invs b.graph b.flags.items c.self.view_is c.requires c.self.invariant.1 in
+    subst₂ (λ (invs : List Invariant) (flags : List Bool). SaysSatisfied (G b.graph.traces) invs flags) (sym c.as_slice-2.ensures) (sym c.as_slice.ensures.value) known.1
 
 pub invariant_of-self : goal.invariant_of-self
 invariant_of-self g c =
@@ -24,15 +37,13 @@ invariant_of-self g c =
     let s : IsAtStart b.kinds b.traces b.invs b.graph b.numbers.items b.tools.stitcher b.tools.planes b.tools.spans b.tools.run_log =
     stands-opened c.args.self.now b.stage b.kinds b.traces b.invs b.graph b.numbers.items b.tools.stitcher b.tools.planes b.tools.spans b.tools.run_log c.self.view_is c.requires c.self.invariant.0 in
     let same : typed_words b.kinds b.traces ≡ typed_words c.args.self.now.kinds c.args.self.now.log = ap (λ (x : WorkbenchView). typed_words x.kinds x.log) c.self.view_is in
-    let begins : BeginsWith (distinct b.kinds b.traces b.graph) c.as_slice.result.now b.graph = subst (λ (invs : List Invariant). BeginsWith (distinct b.kinds b.traces b.graph) invs b.graph) (sym c.as_slice.ensures) (start-begins b.kinds b.traces b.invs b.graph b.numbers.items b.tools.stitcher b.tools.planes b.tools.spans b.tools.run_log s) in
-    let few : RunGives c.run-end.result (distinct b.kinds b.traces b.graph) c.run-end.new.graph c.run-end.new.tools.planes c.run-end.new.tools.spans c.run-end.new.tools.run_log = c.run-end.ensures.gives (distinct b.kinds b.traces b.graph) begins in
-    let ended : HasEnded (distinct b.kinds b.traces b.graph) c.run-end.new.graph c.run-end.new.tools.planes c.run-end.new.tools.spans c.run-end.new.tools.run_log =
-    subst (λ (r : Result (Unit {0}) InferLimit). RunGives r (distinct b.kinds b.traces b.graph) c.run-end.new.graph c.run-end.new.tools.planes c.run-end.new.tools.spans c.run-end.new.tools.run_log) c.in-Ok.is few in
-    let stands : IsAtEnd b.kinds b.traces b.invs c.run-end.new.graph b.numbers.items c.run-end.new.tools.planes c.run-end.new.tools.spans c.run-end.new.tools.run_log =
-    start-ends b.kinds b.traces b.invs b.graph b.numbers.items b.tools.stitcher b.tools.planes b.tools.spans b.tools.run_log s c.run-end.new.graph c.run-end.new.tools.planes c.run-end.new.tools.spans c.run-end.new.tools.run_log ended in
-    let long : length c.run-end.new.flags ≡ b.flags.len =
-    omega (arith, c.run-end.auto.flags, ap (λ (flags : List Bool). length flags) c.as_mut_slice.ensures.value, b.flags.ok.0) in
-    (stands, ap (λ (flags : List Bool). length flags) (with_items_is b.flags c.run-end.new.flags long) ∙ (long ∙ (b.flags.ok.0 ∙ c.self.invariant.1)))
+    let begins : BeginsWith (distinct b.kinds b.traces b.graph) c.as_slice-2.result.now b.graph = subst (λ (invs : List Invariant). BeginsWith (distinct b.kinds b.traces b.graph) invs b.graph) (sym c.as_slice-2.ensures) (start-begins b.kinds b.traces b.invs b.graph b.numbers.items b.tools.stitcher b.tools.planes b.tools.spans b.tools.run_log s) in
+    let few : RunGives c.run-end.result (distinct b.kinds b.traces b.graph) c.run-end.new.graph c.run-end.new.tools.spans c.run-end.new.tools.run_log = c.run-end.ensures.gives (distinct b.kinds b.traces b.graph) begins in
+    let ended : HasEnded (distinct b.kinds b.traces b.graph) c.run-end.new.graph c.run-end.new.tools.spans c.run-end.new.tools.run_log =
+    subst (λ (r : Result (Unit {0}) InferLimit). RunGives r (distinct b.kinds b.traces b.graph) c.run-end.new.graph c.run-end.new.tools.spans c.run-end.new.tools.run_log) c.in-Ok.is few in
+    let stands : IsAtEnd b.kinds b.traces b.invs c.run-end.new.graph b.numbers.items c.run-end.new.tools.spans c.run-end.new.tools.run_log =
+    start-ends b.kinds b.traces b.invs b.graph b.numbers.items b.tools.stitcher b.tools.planes b.tools.spans b.tools.run_log s c.run-end.new.graph c.run-end.new.tools.spans c.run-end.new.tools.run_log ended in
+    (stands, tt)
 
 pub returns-in-Ok-clause-partitions : goal.returns-in-Ok-clause-partitions
 returns-in-Ok-clause-partitions g c =
@@ -40,13 +51,13 @@ returns-in-Ok-clause-partitions g c =
     let s : IsAtStart b.kinds b.traces b.invs b.graph b.numbers.items b.tools.stitcher b.tools.planes b.tools.spans b.tools.run_log =
     stands-opened c.args.self.now b.stage b.kinds b.traces b.invs b.graph b.numbers.items b.tools.stitcher b.tools.planes b.tools.spans b.tools.run_log c.self.view_is c.requires c.self.invariant.0 in
     let same : typed_words b.kinds b.traces ≡ typed_words c.args.self.now.kinds c.args.self.now.log = ap (λ (x : WorkbenchView). typed_words x.kinds x.log) c.self.view_is in
-    let begins : BeginsWith (distinct b.kinds b.traces b.graph) c.as_slice.result.now b.graph = subst (λ (invs : List Invariant). BeginsWith (distinct b.kinds b.traces b.graph) invs b.graph) (sym c.as_slice.ensures) (start-begins b.kinds b.traces b.invs b.graph b.numbers.items b.tools.stitcher b.tools.planes b.tools.spans b.tools.run_log s) in
-    let few : RunGives c.run-end.result (distinct b.kinds b.traces b.graph) c.run-end.new.graph c.run-end.new.tools.planes c.run-end.new.tools.spans c.run-end.new.tools.run_log = c.run-end.ensures.gives (distinct b.kinds b.traces b.graph) begins in
-    let gives : RunGives c.run-end.result (typed_words b.kinds b.traces) (whole_of b.numbers.items c.run-end.new.graph) c.run-end.new.tools.planes c.run-end.new.tools.spans c.run-end.new.tools.run_log =
-    start-gives b.kinds b.traces b.invs b.graph b.numbers.items b.tools.stitcher b.tools.planes b.tools.spans b.tools.run_log s c.run-end.result c.run-end.new.graph c.run-end.new.tools.planes c.run-end.new.tools.spans c.run-end.new.tools.run_log few in
+    let begins : BeginsWith (distinct b.kinds b.traces b.graph) c.as_slice-2.result.now b.graph = subst (λ (invs : List Invariant). BeginsWith (distinct b.kinds b.traces b.graph) invs b.graph) (sym c.as_slice-2.ensures) (start-begins b.kinds b.traces b.invs b.graph b.numbers.items b.tools.stitcher b.tools.planes b.tools.spans b.tools.run_log s) in
+    let few : RunGives c.run-end.result (distinct b.kinds b.traces b.graph) c.run-end.new.graph c.run-end.new.tools.spans c.run-end.new.tools.run_log = c.run-end.ensures.gives (distinct b.kinds b.traces b.graph) begins in
+    let gives : RunGives c.run-end.result (typed_words b.kinds b.traces) (whole_of b.numbers.items c.run-end.new.graph) c.run-end.new.tools.spans c.run-end.new.tools.run_log =
+    start-gives b.kinds b.traces b.invs b.graph b.numbers.items b.tools.stitcher b.tools.planes b.tools.spans b.tools.run_log s c.run-end.result c.run-end.new.graph c.run-end.new.tools.spans c.run-end.new.tools.run_log few in
     subst₂ (λ (r : Result (Unit {0}) InferLimit) (words : TypedWords). (r ≡ Err Partitions) ↔ PassesPartitions words) c.in-Ok.is same
     (partitions-told c.run-end.result (typed_words b.kinds b.traces) (whole_of b.numbers.items c.run-end.new.graph)
-    (run-places c.run-end.result (typed_words b.kinds b.traces) (whole_of b.numbers.items c.run-end.new.graph) c.run-end.new.tools.planes c.run-end.new.tools.spans c.run-end.new.tools.run_log gives))
+    (run-places c.run-end.result (typed_words b.kinds b.traces) (whole_of b.numbers.items c.run-end.new.graph) c.run-end.new.tools.spans c.run-end.new.tools.run_log gives))
 
 pub returns-in-Ok-clause-evidence : goal.returns-in-Ok-clause-evidence
 returns-in-Ok-clause-evidence g c =
@@ -54,13 +65,13 @@ returns-in-Ok-clause-evidence g c =
     let s : IsAtStart b.kinds b.traces b.invs b.graph b.numbers.items b.tools.stitcher b.tools.planes b.tools.spans b.tools.run_log =
     stands-opened c.args.self.now b.stage b.kinds b.traces b.invs b.graph b.numbers.items b.tools.stitcher b.tools.planes b.tools.spans b.tools.run_log c.self.view_is c.requires c.self.invariant.0 in
     let same : typed_words b.kinds b.traces ≡ typed_words c.args.self.now.kinds c.args.self.now.log = ap (λ (x : WorkbenchView). typed_words x.kinds x.log) c.self.view_is in
-    let begins : BeginsWith (distinct b.kinds b.traces b.graph) c.as_slice.result.now b.graph = subst (λ (invs : List Invariant). BeginsWith (distinct b.kinds b.traces b.graph) invs b.graph) (sym c.as_slice.ensures) (start-begins b.kinds b.traces b.invs b.graph b.numbers.items b.tools.stitcher b.tools.planes b.tools.spans b.tools.run_log s) in
-    let few : RunGives c.run-end.result (distinct b.kinds b.traces b.graph) c.run-end.new.graph c.run-end.new.tools.planes c.run-end.new.tools.spans c.run-end.new.tools.run_log = c.run-end.ensures.gives (distinct b.kinds b.traces b.graph) begins in
-    let gives : RunGives c.run-end.result (typed_words b.kinds b.traces) (whole_of b.numbers.items c.run-end.new.graph) c.run-end.new.tools.planes c.run-end.new.tools.spans c.run-end.new.tools.run_log =
-    start-gives b.kinds b.traces b.invs b.graph b.numbers.items b.tools.stitcher b.tools.planes b.tools.spans b.tools.run_log s c.run-end.result c.run-end.new.graph c.run-end.new.tools.planes c.run-end.new.tools.spans c.run-end.new.tools.run_log few in
+    let begins : BeginsWith (distinct b.kinds b.traces b.graph) c.as_slice-2.result.now b.graph = subst (λ (invs : List Invariant). BeginsWith (distinct b.kinds b.traces b.graph) invs b.graph) (sym c.as_slice-2.ensures) (start-begins b.kinds b.traces b.invs b.graph b.numbers.items b.tools.stitcher b.tools.planes b.tools.spans b.tools.run_log s) in
+    let few : RunGives c.run-end.result (distinct b.kinds b.traces b.graph) c.run-end.new.graph c.run-end.new.tools.spans c.run-end.new.tools.run_log = c.run-end.ensures.gives (distinct b.kinds b.traces b.graph) begins in
+    let gives : RunGives c.run-end.result (typed_words b.kinds b.traces) (whole_of b.numbers.items c.run-end.new.graph) c.run-end.new.tools.spans c.run-end.new.tools.run_log =
+    start-gives b.kinds b.traces b.invs b.graph b.numbers.items b.tools.stitcher b.tools.planes b.tools.spans b.tools.run_log s c.run-end.result c.run-end.new.graph c.run-end.new.tools.spans c.run-end.new.tools.run_log few in
     subst₂ (λ (r : Result (Unit {0}) InferLimit) (words : TypedWords). (r ≡ Err Evidence) ↔ PassesNumbers words) c.in-Ok.is same
     (evidence-told c.run-end.result (typed_words b.kinds b.traces) (whole_of b.numbers.items c.run-end.new.graph)
-    (run-places c.run-end.result (typed_words b.kinds b.traces) (whole_of b.numbers.items c.run-end.new.graph) c.run-end.new.tools.planes c.run-end.new.tools.spans c.run-end.new.tools.run_log gives))
+    (run-places c.run-end.result (typed_words b.kinds b.traces) (whole_of b.numbers.items c.run-end.new.graph) c.run-end.new.tools.spans c.run-end.new.tools.run_log gives))
 
 pub returns-in-Err-clause-partitions : goal.returns-in-Err-clause-partitions
 returns-in-Err-clause-partitions g c =
@@ -68,13 +79,13 @@ returns-in-Err-clause-partitions g c =
     let s : IsAtStart b.kinds b.traces b.invs b.graph b.numbers.items b.tools.stitcher b.tools.planes b.tools.spans b.tools.run_log =
     stands-opened c.args.self.now b.stage b.kinds b.traces b.invs b.graph b.numbers.items b.tools.stitcher b.tools.planes b.tools.spans b.tools.run_log c.self.view_is c.requires c.self.invariant.0 in
     let same : typed_words b.kinds b.traces ≡ typed_words c.args.self.now.kinds c.args.self.now.log = ap (λ (x : WorkbenchView). typed_words x.kinds x.log) c.self.view_is in
-    let begins : BeginsWith (distinct b.kinds b.traces b.graph) c.as_slice.result.now b.graph = subst (λ (invs : List Invariant). BeginsWith (distinct b.kinds b.traces b.graph) invs b.graph) (sym c.as_slice.ensures) (start-begins b.kinds b.traces b.invs b.graph b.numbers.items b.tools.stitcher b.tools.planes b.tools.spans b.tools.run_log s) in
-    let few : RunGives c.run-end.result (distinct b.kinds b.traces b.graph) c.run-end.new.graph c.run-end.new.tools.planes c.run-end.new.tools.spans c.run-end.new.tools.run_log = c.run-end.ensures.gives (distinct b.kinds b.traces b.graph) begins in
-    let gives : RunGives c.run-end.result (typed_words b.kinds b.traces) (whole_of b.numbers.items c.run-end.new.graph) c.run-end.new.tools.planes c.run-end.new.tools.spans c.run-end.new.tools.run_log =
-    start-gives b.kinds b.traces b.invs b.graph b.numbers.items b.tools.stitcher b.tools.planes b.tools.spans b.tools.run_log s c.run-end.result c.run-end.new.graph c.run-end.new.tools.planes c.run-end.new.tools.spans c.run-end.new.tools.run_log few in
+    let begins : BeginsWith (distinct b.kinds b.traces b.graph) c.as_slice-2.result.now b.graph = subst (λ (invs : List Invariant). BeginsWith (distinct b.kinds b.traces b.graph) invs b.graph) (sym c.as_slice-2.ensures) (start-begins b.kinds b.traces b.invs b.graph b.numbers.items b.tools.stitcher b.tools.planes b.tools.spans b.tools.run_log s) in
+    let few : RunGives c.run-end.result (distinct b.kinds b.traces b.graph) c.run-end.new.graph c.run-end.new.tools.spans c.run-end.new.tools.run_log = c.run-end.ensures.gives (distinct b.kinds b.traces b.graph) begins in
+    let gives : RunGives c.run-end.result (typed_words b.kinds b.traces) (whole_of b.numbers.items c.run-end.new.graph) c.run-end.new.tools.spans c.run-end.new.tools.run_log =
+    start-gives b.kinds b.traces b.invs b.graph b.numbers.items b.tools.stitcher b.tools.planes b.tools.spans b.tools.run_log s c.run-end.result c.run-end.new.graph c.run-end.new.tools.spans c.run-end.new.tools.run_log few in
     subst₂ (λ (r : Result (Unit {0}) InferLimit) (words : TypedWords). (r ≡ Err Partitions) ↔ PassesPartitions words) c.in-Err.is same
     (partitions-told c.run-end.result (typed_words b.kinds b.traces) (whole_of b.numbers.items c.run-end.new.graph)
-    (run-places c.run-end.result (typed_words b.kinds b.traces) (whole_of b.numbers.items c.run-end.new.graph) c.run-end.new.tools.planes c.run-end.new.tools.spans c.run-end.new.tools.run_log gives))
+    (run-places c.run-end.result (typed_words b.kinds b.traces) (whole_of b.numbers.items c.run-end.new.graph) c.run-end.new.tools.spans c.run-end.new.tools.run_log gives))
 
 pub returns-in-Err-clause-evidence : goal.returns-in-Err-clause-evidence
 returns-in-Err-clause-evidence g c =
@@ -82,13 +93,13 @@ returns-in-Err-clause-evidence g c =
     let s : IsAtStart b.kinds b.traces b.invs b.graph b.numbers.items b.tools.stitcher b.tools.planes b.tools.spans b.tools.run_log =
     stands-opened c.args.self.now b.stage b.kinds b.traces b.invs b.graph b.numbers.items b.tools.stitcher b.tools.planes b.tools.spans b.tools.run_log c.self.view_is c.requires c.self.invariant.0 in
     let same : typed_words b.kinds b.traces ≡ typed_words c.args.self.now.kinds c.args.self.now.log = ap (λ (x : WorkbenchView). typed_words x.kinds x.log) c.self.view_is in
-    let begins : BeginsWith (distinct b.kinds b.traces b.graph) c.as_slice.result.now b.graph = subst (λ (invs : List Invariant). BeginsWith (distinct b.kinds b.traces b.graph) invs b.graph) (sym c.as_slice.ensures) (start-begins b.kinds b.traces b.invs b.graph b.numbers.items b.tools.stitcher b.tools.planes b.tools.spans b.tools.run_log s) in
-    let few : RunGives c.run-end.result (distinct b.kinds b.traces b.graph) c.run-end.new.graph c.run-end.new.tools.planes c.run-end.new.tools.spans c.run-end.new.tools.run_log = c.run-end.ensures.gives (distinct b.kinds b.traces b.graph) begins in
-    let gives : RunGives c.run-end.result (typed_words b.kinds b.traces) (whole_of b.numbers.items c.run-end.new.graph) c.run-end.new.tools.planes c.run-end.new.tools.spans c.run-end.new.tools.run_log =
-    start-gives b.kinds b.traces b.invs b.graph b.numbers.items b.tools.stitcher b.tools.planes b.tools.spans b.tools.run_log s c.run-end.result c.run-end.new.graph c.run-end.new.tools.planes c.run-end.new.tools.spans c.run-end.new.tools.run_log few in
+    let begins : BeginsWith (distinct b.kinds b.traces b.graph) c.as_slice-2.result.now b.graph = subst (λ (invs : List Invariant). BeginsWith (distinct b.kinds b.traces b.graph) invs b.graph) (sym c.as_slice-2.ensures) (start-begins b.kinds b.traces b.invs b.graph b.numbers.items b.tools.stitcher b.tools.planes b.tools.spans b.tools.run_log s) in
+    let few : RunGives c.run-end.result (distinct b.kinds b.traces b.graph) c.run-end.new.graph c.run-end.new.tools.spans c.run-end.new.tools.run_log = c.run-end.ensures.gives (distinct b.kinds b.traces b.graph) begins in
+    let gives : RunGives c.run-end.result (typed_words b.kinds b.traces) (whole_of b.numbers.items c.run-end.new.graph) c.run-end.new.tools.spans c.run-end.new.tools.run_log =
+    start-gives b.kinds b.traces b.invs b.graph b.numbers.items b.tools.stitcher b.tools.planes b.tools.spans b.tools.run_log s c.run-end.result c.run-end.new.graph c.run-end.new.tools.spans c.run-end.new.tools.run_log few in
     subst₂ (λ (r : Result (Unit {0}) InferLimit) (words : TypedWords). (r ≡ Err Evidence) ↔ PassesNumbers words) c.in-Err.is same
     (evidence-told c.run-end.result (typed_words b.kinds b.traces) (whole_of b.numbers.items c.run-end.new.graph)
-    (run-places c.run-end.result (typed_words b.kinds b.traces) (whole_of b.numbers.items c.run-end.new.graph) c.run-end.new.tools.planes c.run-end.new.tools.spans c.run-end.new.tools.run_log gives))
+    (run-places c.run-end.result (typed_words b.kinds b.traces) (whole_of b.numbers.items c.run-end.new.graph) c.run-end.new.tools.spans c.run-end.new.tools.run_log gives))
 
 pub returns-in-Ok-clause-counted : goal.returns-in-Ok-clause-counted
 returns-in-Ok-clause-counted g c =
@@ -96,7 +107,7 @@ returns-in-Ok-clause-counted g c =
     let s : IsAtStart b.kinds b.traces b.invs b.graph b.numbers.items b.tools.stitcher b.tools.planes b.tools.spans b.tools.run_log =
     stands-opened c.args.self.now b.stage b.kinds b.traces b.invs b.graph b.numbers.items b.tools.stitcher b.tools.planes b.tools.spans b.tools.run_log c.self.view_is c.requires c.self.invariant.0 in
     let same : typed_words b.kinds b.traces ≡ typed_words c.args.self.now.kinds c.args.self.now.log = ap (λ (x : WorkbenchView). typed_words x.kinds x.log) c.self.view_is in
-    let begins : BeginsWith (distinct b.kinds b.traces b.graph) c.as_slice.result.now b.graph = subst (λ (invs : List Invariant). BeginsWith (distinct b.kinds b.traces b.graph) invs b.graph) (sym c.as_slice.ensures) (start-begins b.kinds b.traces b.invs b.graph b.numbers.items b.tools.stitcher b.tools.planes b.tools.spans b.tools.run_log s) in
+    let begins : BeginsWith (distinct b.kinds b.traces b.graph) c.as_slice-2.result.now b.graph = subst (λ (invs : List Invariant). BeginsWith (distinct b.kinds b.traces b.graph) invs b.graph) (sym c.as_slice-2.ensures) (start-begins b.kinds b.traces b.invs b.graph b.numbers.items b.tools.stitcher b.tools.planes b.tools.spans b.tools.run_log s) in
     subst (λ (words : TypedWords). CountsAtMost words c.args.steps.now c.run-end.new.steps) same
     (start-counts b.kinds b.traces b.invs b.graph b.numbers.items b.tools.stitcher b.tools.planes b.tools.spans b.tools.run_log s c.args.steps.now c.run-end.new.steps (c.in-Ok.ensures.counted (distinct b.kinds b.traces b.graph) begins))
 

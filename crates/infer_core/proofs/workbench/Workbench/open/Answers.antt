@@ -1,12 +1,14 @@
-use Rattle.std.proofs.Common.{◌≡◌, ℕ, ◌≤◌, List, length, slice_get, Result, Ok, Err, Some, refl, ap, sym, subst, arith, IfOk, []}
+use Rattle.std.proofs.Common.{◌≡◌, ◌≤◌, List, length, slice_get, Result, Ok, Err, Some, refl, ap, sym, subst, arith, IfOk, []}
 use Rattle.invariants.specs.declared.Invariant.{Invariant}
 use Rattle.invariants.specs.Mined.{mined_for}
-use Rattle.limits.specs.declared.TheConstants.{LAST_TYPE, MAX_INVARIANTS, MAX_PAIRS, MAX_PATH_NUMBERS, MAX_STEPS}
+use Rattle.limits.specs.declared.TheConstants.{MAX_INVARIANTS, MAX_PAIRS, MAX_PATH_NUMBERS, MAX_STEPS}
 use Rattle.traces.specs.Words.{Log, words_of}
-use Rattle.partition_model.specs.Assignments.{events}
+use Rattle.partition_model.specs.Assignments.{G, events}
+use Rattle.labelling.specs.Labelled.{SaysSatisfied}
 use Rattle.partition_graph.specs.Spread.{SharesWords}
 use Rattle.infer_core.proofs.Opening.{at-start, mined-few, mined-named}
 use Rattle.infer_core.specs.declared.workbench.Stage.{Stage}
+use Rattle.infer_core.specs.Portions.{AreNamed}
 use Rattle.infer_core.specs.Workbenches.{WorkbenchView}
 use Rattle.infer_core.proofs.workbench.Workbench.open.Goals as goal
 use Rattle.infer_core.proofs.workbench.Workbench.open.Goals.{In_ok-traces}
@@ -20,10 +22,6 @@ second-made (Err e) m P _ _ = tt
 made-so : {A E : Type 0} (r : Result A E) (P Q : A → Type 0) → ((x : A) → P x → Q x) → IfOk r P → IfOk r Q
 made-so (Ok x) P Q f p = f x p
 made-so (Err e) P Q f p = tt
-
--- each names a type, or INITIAL
-abbrev AreNamed : List Invariant → Type 0
-AreNamed invs = (k : ℕ) (inv : Invariant) → slice_get invs k ≡ Some inv → (inv.a ≤ LAST_TYPE) × (inv.b ≤ LAST_TYPE)
 
 pub equip-equipped-requires-clause-few : goal.equip-equipped-requires-clause-few
 equip-equipped-requires-clause-few c =
@@ -73,7 +71,10 @@ invariant_of-result c =
           (subst (λ r. IfOk r (λ o. t.tools.planes.invs ≡ o.1)) opened (subst (λ r. IfOk r (λ pair. IfOk c.both-opened.result (λ o. pair.0.planes.invs ≡ o.1))) made c.equip-equipped.ensures.planes))
           (subst (λ r. IfOk r (λ pair. pair.0.spans ≡ record { numbers = []; room = MAX_PATH_NUMBERS })) made c.equip-equipped.ensures.spans)
           (subst (λ r. IfOk r (λ pair. pair.0.run_log ≡ record { splits = []; merges = []; blocks = []; split_room = MAX_STEPS; merge_room = MAX_STEPS; block_room = MAX_PAIRS })) made c.equip-equipped.ensures.run_log),
-      subst (λ r. IfOk r (λ o. length t.flags.items ≡ length o.1)) opened (subst (λ r. IfOk r (λ pair. IfOk c.both-opened.result (λ o. length pair.1.items ≡ length o.1))) made c.equip-equipped.ensures.flags),
+      (
+        subst (λ r. IfOk r (λ o. length t.flags.items ≡ length o.1)) opened (subst (λ r. IfOk r (λ pair. IfOk c.both-opened.result (λ o. length pair.1.items ≡ length o.1))) made c.equip-equipped.ensures.flags),
+        subst (λ r. IfOk r (λ o. SaysSatisfied (G o.0.0.traces) o.1 t.flags.items)) opened (subst (λ r. IfOk r (λ pair. IfOk c.both-opened.result (λ o. SaysSatisfied (G o.0.0.traces) o.1 pair.1.items))) made c.equip-equipped.ensures.told),
+      ),
     )
 
 pub returns : goal.returns
