@@ -12,16 +12,17 @@ ghost use Rattle.invariants.specs.declared.records.Partition.{Partition};
 ghost use Rattle.partition_model.specs.Assignments.{Assignment, G};
 ghost use Rattle.partition_model.specs.Listings.{ArePartitions};
 ghost use Rattle.models.specs.Models.{AreReached};
+ghost use Rattle.partition_graph.specs.Links.{AreLinksOf};
 ghost use Rattle.labelling.specs.Labelled.{digit, AreLabelsOf, AreStatesAt, SaysSwapped};
 ghost use Rattle.infer_core.specs.declared.labels.TheConstants.{AHEAD, AT_ONCE, NEAR, TOGETHER};
 ghost use Rattle.infer_core.specs.Portions.{AreNamed};
 ghost use Rattle.infer_core.specs.Windows.{row_of, AreColumnsOf, AreReadAt, AreSame, AreTaken, HasRows, HaveNumber, HaveSize, IsAheadOf, IsWindowOf, SaysApart};
 
-use crate::portions::{PORTION, labelled};
+use crate::portions::{PORTION, labelled, links_of};
 use invariants::{Invariant, Labels, Listed, Partition, Seq};
-use labelling::Planes;
+use labelling::GraphLabels;
 use limits::MAX_PARTITIONS;
-use partition_graph::PartGraph;
+use partition_graph::{Links, PartGraph};
 use std::alloc::{AllocError, Global};
 use std::rc::Rc;
 
@@ -397,18 +398,18 @@ impl Digits {
     }
 }
 
-/// What `Planes::words` needs to know at each of the `AHEAD` places from `AHEAD * block` on, up to the last place.
-fn swapped_at(planes: &Planes, block: usize, last: usize) -> [u64; AHEAD]
-    requires last { last * TOGETHER < length (planes.now).invs }
+/// What `GraphLabels::words` needs to know at each of the `AHEAD` places from `AHEAD * block` on, up to the last place.
+fn swapped_at(graph_labels: &GraphLabels, block: usize, last: usize) -> [u64; AHEAD]
+    requires last { last * TOGETHER < length (graph_labels.now).invs }
     requires block { block * AHEAD ≤ last }
     ensures size { length result ≡ AHEAD }
     ensures swapped { (b : ℕ) → b < AHEAD → block * AHEAD + b ≤ last
-        → SaysSwapped (planes.now).invs (block * AHEAD + b) (slice_index result b) }
+        → SaysSwapped (graph_labels.now).invs (block * AHEAD + b) (slice_index result b) }
 {
     let mut swapped = [0; AHEAD];
     for b in 0..AHEAD {
         if b <= last - block * AHEAD {
-            swapped[b] = planes.swapped(block * AHEAD + b);
+            swapped[b] = graph_labels.swapped(block * AHEAD + b);
         }
     }
     swapped
@@ -416,25 +417,25 @@ fn swapped_at(planes: &Planes, block: usize, last: usize) -> [u64; AHEAD]
 
 /// The words at p at each of these places. `swapped` is what `swapped_at` returns for them.
 fn words_at(
-    planes: &Planes,
+    graph_labels: &GraphLabels,
     block: usize,
     last: usize,
     swapped: &[u64],
     p: u32,
 ) -> [[u64; 3]; AHEAD]
-    requires last { last * TOGETHER < length (planes.now).invs }
+    requires last { last * TOGETHER < length (graph_labels.now).invs }
     requires block { block * AHEAD ≤ last }
     requires size { length swapped.now ≡ AHEAD }
     requires swapped { (b : ℕ) → b < AHEAD → block * AHEAD + b ≤ last
-        → SaysSwapped (planes.now).invs (block * AHEAD + b) (slice_index swapped.now b) }
+        → SaysSwapped (graph_labels.now).invs (block * AHEAD + b) (slice_index swapped.now b) }
     requires id { p < MAX_PARTITIONS }
     ensures { (b : ℕ) → b < AHEAD → block * AHEAD + b ≤ last
-        → AreStatesAt planes.now (block * AHEAD + b) p (slice_index_or result b []) }
+        → AreStatesAt graph_labels.now (block * AHEAD + b) p (slice_index_or result b []) }
 {
     let mut words = [[0; 3]; AHEAD];
     for b in 0..AHEAD {
         if b <= last - block * AHEAD {
-            words[b] = planes.words(block * AHEAD + b, p, swapped[b]);
+            words[b] = graph_labels.words(block * AHEAD + b, p, swapped[b]);
         }
     }
     words
@@ -442,22 +443,22 @@ fn words_at(
 
 /// Reads, at each of the partitions, the words at each of these places.
 fn gather(
-    planes: &Planes,
+    graph_labels: &GraphLabels,
     block: usize,
     last: usize,
     partitions: &[Partition],
     words: &mut [[[u64; 3]; AHEAD]],
 )
-    requires last { last * TOGETHER < length (planes.now).invs }
+    requires last { last * TOGETHER < length (graph_labels.now).invs }
     requires block { block * AHEAD ≤ last }
     requires ids { (k : ℕ) (x : Partition) → slice_get partitions.now k ≡ Some x
         → x.id < MAX_PARTITIONS }
     requires size { length words.old ≡ length partitions.now }
-    ensures { AreReadAt planes.now partitions.now last block words.new }
+    ensures { AreReadAt graph_labels.now partitions.now last block words.new }
 {
-    let swapped = swapped_at(planes, block, last);
+    let swapped = swapped_at(graph_labels, block, last);
     for (j, partition) in partitions.iter().enumerate() {
-        words[j] = words_at(planes, block, last, &swapped, partition.id);
+        words[j] = words_at(graph_labels, block, last, &swapped, partition.id);
     }
 }
 
@@ -474,19 +475,31 @@ impl Ahead {
     }
 
     /// Reads the words of this block, unless they are read already. `last` is the last place.
-    fn read(&mut self, planes: &Planes, block: usize, last: usize, partitions: &[Partition])
-        requires last { last * TOGETHER < length (planes.now).invs }
+    fn read(
+        &mut self,
+        graph_labels: &GraphLabels,
+        block: usize,
+        last: usize,
+        partitions: &[Partition],
+    )
+        requires last { last * TOGETHER < length (graph_labels.now).invs }
         requires block { block * AHEAD ≤ last }
         requires ids { (k : ℕ) (x : Partition) → slice_get partitions.now k ≡ Some x
             → x.id < MAX_PARTITIONS }
-        requires ahead { IsAheadOf planes.now partitions.now last self.old }
-        ensures ahead { IsAheadOf planes.now partitions.now last self.new }
-        ensures read { AreReadAt planes.now partitions.now last block (self.new).words.items }
+        requires ahead { IsAheadOf graph_labels.now partitions.now last self.old }
+        ensures ahead { IsAheadOf graph_labels.now partitions.now last self.new }
+        ensures read { AreReadAt graph_labels.now partitions.now last block (self.new).words.items }
     {
         if self.block == Some(block) {
             return;
         }
-        gather(planes, block, last, partitions, self.words.as_mut_slice());
+        gather(
+            graph_labels,
+            block,
+            last,
+            partitions,
+            self.words.as_mut_slice(),
+        );
         self.block = Some(block);
     }
 
@@ -540,24 +553,25 @@ impl Window {
     fn read(
         &mut self,
         alloc: Global,
-        planes: &Planes,
+        graph_labels: &GraphLabels,
         place: usize,
         count: usize,
         partitions: &[Partition],
     ) -> Result<(), AllocError>
-        requires count { count ≡ length (planes.now).invs }
+        requires count { count ≡ length (graph_labels.now).invs }
         requires place { place * TOGETHER < count }
         requires ids { (k : ℕ) (x : Partition) → slice_get partitions.now k ≡ Some x
             → x.id < MAX_PARTITIONS }
-        requires window { IsWindowOf planes.now partitions.now self.old }
-        ensures window { IsWindowOf planes.now partitions.now self.new }
+        requires window { IsWindowOf graph_labels.now partitions.now self.old }
+        ensures window { IsWindowOf graph_labels.now partitions.now self.new }
         ensures first { OnOk result ((self.new).first ≡ place * TOGETHER) }
         ensures full { OnOk result ((k : ℕ) → k < TOGETHER → place * TOGETHER + k < count
             → k < (self.new).len) }
     {
         let last = (count - 1) / TOGETHER;
         self.len = 0;
-        self.ahead.read(planes, place / AHEAD, last, partitions);
+        self.ahead
+            .read(graph_labels, place / AHEAD, last, partitions);
         self.ahead.copy(place % AHEAD, self.words.as_mut_slice());
         self.digits.find(
             self.words.as_slice(),
@@ -577,24 +591,24 @@ impl Window {
     fn place_of(
         &mut self,
         alloc: Global,
-        planes: &Planes,
+        graph_labels: &GraphLabels,
         number: usize,
         count: usize,
         partitions: &[Partition],
     ) -> Result<usize, AllocError>
-        requires count { count ≡ length (planes.now).invs }
+        requires count { count ≡ length (graph_labels.now).invs }
         requires number { number < count }
         requires ids { (k : ℕ) (x : Partition) → slice_get partitions.now k ≡ Some x
             → x.id < MAX_PARTITIONS }
-        requires window { IsWindowOf planes.now partitions.now self.old }
-        ensures window { IsWindowOf planes.now partitions.now self.new }
+        requires window { IsWindowOf graph_labels.now partitions.now self.old }
+        ensures window { IsWindowOf graph_labels.now partitions.now self.new }
         ensures within { IfOk result (λ place. place < (self.new).len) }
         ensures place { IfOk result (λ place. (self.new).first + place ≡ number) }
     {
         if self.first <= number && number - self.first < self.len {
             return Ok(number - self.first);
         }
-        self.read(alloc, planes, number / TOGETHER, count, partitions)?;
+        self.read(alloc, graph_labels, number / TOGETHER, count, partitions)?;
         Ok(number % TOGETHER)
     }
 }
@@ -602,35 +616,35 @@ impl Window {
 /// The labels of the invariant with this number at the partitions, in their order.
 fn labels_of(
     alloc: Global,
-    planes: &Planes,
+    graph_labels: &GraphLabels,
     number: usize,
     count: usize,
     partitions: &[Partition],
     window: &mut Window,
 ) -> Result<Labels, AllocError>
-    requires count { count ≡ length (planes.now).invs }
+    requires count { count ≡ length (graph_labels.now).invs }
     requires number { number < count }
     requires ids { (k : ℕ) (x : Partition) → slice_get partitions.now k ≡ Some x
         → x.id < MAX_PARTITIONS }
-    requires window { IsWindowOf planes.now partitions.now window.old }
+    requires window { IsWindowOf graph_labels.now partitions.now window.old }
     ensures labels { IfOk result
-        (λ labels. labels ≡ map (λ x. digit planes.now number x.id) partitions.now) }
-    ensures window { IsWindowOf planes.now partitions.now window.new }
+        (λ labels. labels ≡ map (λ x. digit graph_labels.now number x.id) partitions.now) }
+    ensures window { IsWindowOf graph_labels.now partitions.now window.new }
 {
-    let place = window.place_of(alloc, planes, number, count, partitions)?;
+    let place = window.place_of(alloc, graph_labels, number, count, partitions)?;
     Labels::part_of(&window.text, window.digits.from[place], partitions.len())
 }
 
-/// Adds these invariants to the list, each with its labels at these partitions. `planes` has the labels. `AllocError` is
+/// Adds these invariants to the list, each with its labels at these partitions. `graph_labels` has the labels. `AllocError` is
 /// returned if there is not enough memory.
 fn add_listed(
     alloc: Global,
-    planes: &Planes,
+    graph_labels: &GraphLabels,
     invs: &[Invariant],
     partitions: &[Partition],
     list: &mut Vec<Listed>,
 ) -> Result<(), AllocError>
-    requires list { (planes.now).invs ≡ invs.now }
+    requires list { (graph_labels.now).invs ≡ invs.now }
     requires ids { (k : ℕ) (x : Partition) → slice_get partitions.now k ≡ Some x
         → x.id < MAX_PARTITIONS }
 
@@ -638,7 +652,7 @@ fn add_listed(
     ensures listing { OnOk result (map (λ l. l.inv) list.new.items
         ≡ map (λ l. l.inv) list.old.items ++ invs.now) }
     ensures labels { OnOk result ((h : Assignment) → ArePartitions partitions.now h
-        → AreLabelsOf planes.now (G h)
+        → AreLabelsOf graph_labels.now (G h)
         → AllByRecursion (λ l. AreReached l.inv h partitions.now l.labels) list.old.items
         → AllByRecursion (λ l. AreReached l.inv h partitions.now l.labels) list.new.items) }
 {
@@ -646,23 +660,32 @@ fn add_listed(
     for (number, inv) in invs.iter().enumerate() {
         list.push(Listed {
             inv: *inv,
-            labels: labels_of(alloc, planes, number, invs.len(), partitions, &mut window)?,
+            labels: labels_of(
+                alloc,
+                graph_labels,
+                number,
+                invs.len(),
+                partitions,
+                &mut window,
+            )?,
         })?;
     }
     Ok(())
 }
 
-/// Adds these invariants to the list, each with its labels in the graph at these partitions. `AllocError` is returned if
-/// there is not enough memory.
+/// Adds these invariants to the list, each with its labels in the graph at these partitions. `links` are the edges of the
+/// graph. `AllocError` is returned if there is not enough memory.
 fn add_portion(
     alloc: Global,
     graph: &PartGraph,
+    links: &Links,
     invs: &[Invariant],
     partitions: &[Partition],
     list: &mut Vec<Listed>,
 ) -> Result<(), AllocError>
     requires few { length invs.now ≤ MAX_INVARIANTS }
     requires named { AreNamed invs.now }
+    requires links { AreLinksOf links.now (G (graph.now).traces) }
     requires ids { (k : ℕ) (x : Partition) → slice_get partitions.now k ≡ Some x
         → x.id < MAX_PARTITIONS }
 
@@ -674,9 +697,9 @@ fn add_portion(
         → AllByRecursion (λ l. AreReached l.inv h partitions.now l.labels) list.old.items
         → AllByRecursion (λ l. AreReached l.inv h partitions.now l.labels) list.new.items) }
 {
-    let planes = labelled(alloc, graph, invs)?;
-    let added = add_listed(alloc, &planes, invs, partitions, list);
-    drop(planes);
+    let graph_labels = labelled(alloc, graph, links, invs)?;
+    let added = add_listed(alloc, &graph_labels, invs, partitions, list);
+    drop(graph_labels);
     added
 }
 
@@ -699,11 +722,12 @@ pub fn listed(
         → G h ≡ G (graph.now).traces
         → AllByRecursion (λ l. AreReached l.inv h partitions.now l.labels) list) }
 {
+    let links = links_of(alloc, graph)?;
     let mut list = Vec::with_capacity(alloc, invs.len())?;
     for portion in 0..invs.len().div_ceil(PORTION) {
         let from = portion * PORTION;
         let to = invs.len().min(from + PORTION);
-        add_portion(alloc, graph, &invs[from..to], partitions, &mut list)?;
+        add_portion(alloc, graph, &links, &invs[from..to], partitions, &mut list)?;
     }
     Ok(Seq::from_vec(list))
 }

@@ -1,5 +1,5 @@
 -- The labels of invariants: for each id, the set of states that a monitor reaches there, as a number.
-use Rattle.std.specs.Prelude.{◌≡◌, ◌↔◌, ℕ, ◌+◌, ◌*◌, ◌<◌, ◌≤◌, ◌==◌, Bool, true, false, if◌then◌else◌, List, length, drop, slice_get, slice_index, slice_index_or, Some}
+use Rattle.std.specs.Prelude.{◌≡◌, ◌↔◌, ℕ, ◌+◌, ◌*◌, ◌<◌, ◌≤◌, ◌==◌, Bool, true, false, if◌then◌else◌, List, [], length, drop, slice_get, slice_index, slice_index_or, Some}
 use Rattle.std.specs.Int.{bit_at}
 use Rattle.limits.specs.declared.TheConstants.{MAX_PARTITIONS}
 use Rattle.invariants.specs.declared.Invariant.{Invariant}
@@ -51,6 +51,10 @@ pub record AreLabelsOf (labels : Labelling) (g : Graph) : Type 0 where
 -- the label rows of a table, with marks
 abbrev pub labelling_in : ℕ → List Invariant → List (List Bool) → Marks → Labelling
 labelling_in bound invs table marks = record { invs = invs; rows = drop (labels_from bound) table; clashes = marks }
+
+-- no marks, of no invariants
+abbrev pub no_marks : Marks
+no_marks = record { invs = []; fores = []; backs = [] }
 
 -- only the marks may differ, and they have the same invariants
 pub record KeepsLabels (old new : Labelling) : Type 0 where

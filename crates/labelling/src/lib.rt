@@ -6,6 +6,7 @@
 #![tactic(auto)]
 
 mod carrying;
+mod graph_labels;
 mod layout;
 mod marks;
 mod phase_rows;
@@ -13,4 +14,5 @@ mod phases;
 mod planes;
 mod propagation;
 
+pub use graph_labels::GraphLabels;
 pub use planes::Planes;

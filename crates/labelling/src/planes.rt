@@ -1,11 +1,11 @@
 //! The labels.
-ghost use Rattle.std.specs.Prelude.{◌≡◌, ◌≢◌, ◌≤◌, ◌<◌, ◌+◌, ◌*◌, ℕ, IfOk, MatchOption, length, slice_get, Some};
+ghost use Rattle.std.specs.Prelude.{◌≡◌, ◌≢◌, ◌≤◌, ◌<◌, ◌+◌, ℕ, IfOk, MatchOption, length, slice_get, Some};
 ghost use Rattle.limits.specs.declared.TheConstants.{LAST_TYPE, MAX_INVARIANTS, MAX_PARTITIONS};
 ghost use Rattle.invariants.specs.declared.Invariant.{Invariant};
 ghost use Rattle.partition_model.specs.Graphs.{Graph};
 ghost use Rattle.partition_model.specs.Refinement.{IsFirstBroken, SatisfiesAll};
 ghost use Rattle.partition_graph.specs.Seen.{seen, IsSound};
-ghost use Rattle.labelling.specs.Labelled.{AreLabelsOf, AreStatesAt, digit, number_of, KeepsLabels, SaysSatisfied, SaysSwapped};
+ghost use Rattle.labelling.specs.Labelled.{AreLabelsOf, digit, number_of, KeepsLabels, SaysSatisfied};
 ghost use Rattle.clashes.specs.Marks.{AreMarksOf, NoClash, IsFirstClash};
 ghost use Rattle.partition_model.specs.Assignments.{Assignment, G, IsTyped};
 ghost use Rattle.partition_model.specs.Coarsening.{merge, IsPair};
@@ -114,27 +114,6 @@ impl Planes {
             self.phase_rows.has(inv, p, 1),
             self.phase_rows.has(inv, p, 2),
         )
-    }
-
-    /// What `words` needs to know about the 64 invariants from number `64 * place` on: a bit for each. It is the same
-    /// for each partition and each labelling.
-    pub fn swapped(&self, place: usize) -> u64
-        requires { place * 64 < length (self.now).invs }
-        ensures { SaysSwapped (self.now).invs place result }
-    {
-        self.phase_rows.swapped(place)
-    }
-
-    /// The labels at p of the 64 invariants from number `64 * place` on, or of as many as there are: a word for each
-    /// state, with a bit for each invariant, the first as the lowest. `swapped` is what the function of this name
-    /// returns for the place.
-    pub fn words(&self, place: usize, p: u32, swapped: u64) -> [u64; 3]
-        requires place { place * 64 < length (self.now).invs }
-        requires id { p < MAX_PARTITIONS }
-        requires swapped { SaysSwapped (self.now).invs place swapped }
-        ensures { AreStatesAt self.now place p result }
-    {
-        self.phase_rows.words(place, p, swapped)
     }
 
     /// The number of the first invariant that the labelled graph does not satisfy; `None` if it satisfies all.

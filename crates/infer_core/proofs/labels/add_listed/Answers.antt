@@ -28,7 +28,7 @@ loop-number-preserved c =
     let invs : List Invariant = c.args.invs.now in
     let number : ℕ = c.loop-number.number in
     let inside : number < length invs = c.loop-number-test.true in
-    let at : slice_get c.args.planes.now.invs number ≡ Some (get_or invs number none) = ap (λ (xs : List Invariant). slice_get xs number) c.requires.list ∙ slice_get-get_or invs number none inside in
+    let at : slice_get c.args.graph_labels.now.invs number ≡ Some (get_or invs number none) = ap (λ (xs : List Invariant). slice_get xs number) c.requires.list ∙ slice_get-get_or invs number none inside in
     record {
       listing = subst (λ (ls : List Listed). map (λ (x : Listed). x.inv) ls ≡ map (λ (x : Listed). x.inv) c.args.list.now.items ++ take (number + 1) invs) (sym {A = List Listed} c.in_ok-push.ensures.items)
           (listing-more c.loop-number.list.items (map (λ (x : Listed). x.inv) c.args.list.now.items) invs number none c.in_ok-labels_of.field-0 inside c.loop-number.invariant.listing);
@@ -37,7 +37,7 @@ loop-number-preserved c =
           (all-push (λ (x : Listed). AreReached x.inv h c.args.partitions.now x.labels) c.loop-number.list.items (record { inv = get_or invs number none; labels = c.in_ok-labels_of.field-0 })
           (c.loop-number.invariant.labels h a l before)
           (subst (λ (ds : List ℕ). AreReached (get_or invs number none) h c.args.partitions.now ds) (sym c.in_ok-labels_of.ensures.labels)
-          (labels-reached c.args.planes.now h c.args.partitions.now number (get_or invs number none) a l at c.requires.ids)));
+          (labels-reached c.args.graph_labels.now h c.args.partitions.now number (get_or invs number none) a l at c.requires.ids)));
       window = c.labels_of.ensures.window;
     }
 

@@ -11,8 +11,8 @@ abbrev pub invariant-loop-number : goal.invariant-loop-number
 invariant-loop-number l =
     record {
       listing : map (λ x. x.inv) l.list.items ≡ map (λ x. x.inv) l.initial.list.items ++ take l.number l.invs;
-      labels : (h : Assignment) → ArePartitions l.partitions h → AreLabelsOf l.planes (G h)
+      labels : (h : Assignment) → ArePartitions l.partitions h → AreLabelsOf l.graph_labels (G h)
           → AllByRecursion (λ x. AreReached x.inv h l.partitions x.labels) l.initial.list.items
           → AllByRecursion (λ x. AreReached x.inv h l.partitions x.labels) l.list.items;
-      window : IsWindowOf l.planes l.partitions l.window;
+      window : IsWindowOf l.graph_labels l.partitions l.window;
     }

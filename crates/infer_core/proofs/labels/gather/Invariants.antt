@@ -9,5 +9,5 @@ invariant-loop-j l =
     record {
       size : length l.words ≡ length l.partitions;
       states : (i b : ℕ) (x : Partition) → i < l.j → slice_get l.partitions i ≡ Some x → b < AHEAD → l.block * AHEAD + b ≤ l.last
-          → AreStatesAt l.planes (l.block * AHEAD + b) x.id (get_or (get_or l.words i []) b []);
+          → AreStatesAt l.graph_labels (l.block * AHEAD + b) x.id (get_or (get_or l.words i []) b []);
     }

@@ -7,5 +7,5 @@ abbrev pub invariant-loop-b : goal.invariant-loop-b
 invariant-loop-b l =
     record {
       size : length l.swapped ≡ AHEAD;
-      told : (i : ℕ) → i < l.b → l.block * AHEAD + i ≤ l.last → SaysSwapped l.planes.invs (l.block * AHEAD + i) (get_or l.swapped i 0);
+      told : (i : ℕ) → i < l.b → l.block * AHEAD + i ≤ l.last → SaysSwapped l.graph_labels.invs (l.block * AHEAD + i) (get_or l.swapped i 0);
     }

@@ -7,5 +7,5 @@ abbrev pub invariant-loop-b : goal.invariant-loop-b
 invariant-loop-b l =
     record {
       size : length l.words ≡ AHEAD;
-      told : (i : ℕ) → i < l.b → l.block * AHEAD + i ≤ l.last → AreStatesAt l.planes (l.block * AHEAD + i) l.p (get_or l.words i []);
+      told : (i : ℕ) → i < l.b → l.block * AHEAD + i ≤ l.last → AreStatesAt l.graph_labels (l.block * AHEAD + i) l.p (get_or l.words i []);
     }

@@ -8,7 +8,7 @@ use Rattle.infer_core.proofs.portions.satisfied_portion.Goals as goal
 pub returns-clause-told : goal.returns-clause-told
 returns-clause-told c =
     let g = G c.args.graph.now.traces in
-    let long : length c.tell.new.flags ≡ c.in_ok-flags.flags.len =
-    omega (arith, c.tell.auto.flags, ap (λ (flags : List Bool). length flags) c.as_mut_slice.ensures.value, c.in_ok-flags.flags.ok.0) in
-    let told : SaysSatisfied g c.args.invs.now c.tell.new.flags = subst (λ (invs : List Invariant). SaysSatisfied g invs c.tell.new.flags) c.in_ok-planes.ensures.list c.tell.ensures.told in
-    subst (λ (flags : List Bool). SaysSatisfied g c.args.invs.now flags) (sym (with_items_is c.in_ok-flags.flags c.tell.new.flags long)) told
+    let long : length c.tell_satisfied.new.flags ≡ c.in_ok-flags.flags.len =
+    omega (arith, c.tell_satisfied.auto.flags, ap (λ (flags : List Bool). length flags) c.as_mut_slice.ensures.value, c.in_ok-flags.flags.ok.0) in
+    let told : SaysSatisfied g c.args.invs.now c.tell_satisfied.new.flags = subst (λ (invs : List Invariant). SaysSatisfied g invs c.tell_satisfied.new.flags) c.in_ok-labels.ensures.list (c.tell_satisfied.ensures g c.in_ok-labels.ensures.labels) in
+    subst (λ (flags : List Bool). SaysSatisfied g c.args.invs.now flags) (sym (with_items_is c.in_ok-flags.flags c.tell_satisfied.new.flags long)) told

@@ -25,19 +25,19 @@ returns-clause-window c =
     let split : c.args.place / 8 * 8 + c.args.place % 8 ≡ c.args.place = div-add-mod' c.args.place 8 in
     let below : c.args.place % 8 < 8 = mod_below c.args.place 8 (omega arith) in
     let upto : c.args.place / 8 * 8 + c.args.place % 8 ≤ (c.args.count - 1) / 64 = omega (arith, split, c.requires.place) in
-    let states : (j : ℕ) (x : Partition) → slice_get partitions j ≡ Some x → AreStatesAt c.args.planes.now c.args.place x.id (get_or words j []) =
+    let states : (j : ℕ) (x : Partition) → slice_get partitions j ≡ Some x → AreStatesAt c.args.graph_labels.now c.args.place x.id (get_or words j []) =
     λ j x e.
-    subst (λ (ws : List ℕ). AreStatesAt c.args.planes.now c.args.place x.id ws) (sym (c.copy.ensures j (let there : j < length partitions = slice_get_within partitions j x e in omega (arith, there, size, c.copy.auto.words))))
-    (subst (λ (n : ℕ). AreStatesAt c.args.planes.now n x.id (get_or (get_or c.read.new.self.words.items j []) (c.args.place % 8) [])) split (c.read.ensures.read j (c.args.place % 8) x e below upto)) in
+    subst (λ (ws : List ℕ). AreStatesAt c.args.graph_labels.now c.args.place x.id ws) (sym (c.copy.ensures j (let there : j < length partitions = slice_get_within partitions j x e in omega (arith, there, size, c.copy.auto.words))))
+    (subst (λ (n : ℕ). AreStatesAt c.args.graph_labels.now n x.id (get_or (get_or c.read.new.self.words.items j []) (c.args.place % 8) [])) split (c.read.ensures.read j (c.args.place % 8) x e below upto)) in
     let row-size : length c.find.new.row ≡ length partitions = omega (arith, c.find.auto.row, c.as_mut_slice-2.ensures.len, c.requires.window.row) in
     let row-same = with_items_is c.args.self.now.row c.find.new.row (omega (arith, c.find.auto.row, c.as_mut_slice-2.ensures.len)) in
     record {
-      ahead = subst (λ (n : ℕ). IsAheadOf c.args.planes.now partitions ((n - 1) / 64) c.read.new.self) c.requires.count c.read.ensures.ahead;
+      ahead = subst (λ (n : ℕ). IsAheadOf c.args.graph_labels.now partitions ((n - 1) / 64) c.read.new.self) c.requires.count c.read.ensures.ahead;
       size = ap length same ∙ size;
       bytes = search rules;
       row = ap length row-same ∙ row-size;
       few = few;
       within = λ k l. omega (arith, size, (rows k (omega (arith, l, few))).0);
       labels = λ k l. subst (λ (n : ℕ). take n (drop (get_or starts k 0) c.in_ok-self.field-0.value.items) ≡ row_of words k) size (rows k (omega (arith, l, few))).1
-          ∙ row-is c.args.planes.now c.args.place k words partitions size (low k l) (omega (arith, inside k l, c.requires.count)) states;
+          ∙ row-is c.args.graph_labels.now c.args.place k words partitions size (low k l) (omega (arith, inside k l, c.requires.count)) states;
     }
