@@ -11,3 +11,4 @@ pub mod Distinct
 pub mod Spreading
 pub mod Windows
 pub mod Numbered
+pub mod Vacuous

@@ -4,3 +4,4 @@ pub mod Workbenches
 pub mod Laws
 pub mod Windows
 pub mod Portions
+pub mod Vacuous

@@ -37,8 +37,8 @@ const AT_ONCE: usize = 8;
 const AHEAD: usize = 8;
 
 /// How far apart two invariants may be whose labels are compared. The candidates of two types follow one another, and are
-/// at most this many.
-const NEAR: usize = 4;
+/// at most one more than this.
+const NEAR: usize = 3;
 
 /// The labels of some invariants, whose numbers follow one another, at each of some partitions.
 #[derive(Drop)]
@@ -260,14 +260,12 @@ fn apart_of(words: &[[u64; 3]]) -> [u64; NEAR]
     let mut by_one = 0;
     let mut by_two = 0;
     let mut by_three = 0;
-    let mut by_four = 0;
     for word in words {
         by_one = by_one | differs_in(word, 1);
         by_two = by_two | differs_in(word, 2);
         by_three = by_three | differs_in(word, 3);
-        by_four = by_four | differs_in(word, 4);
     }
-    [by_one, by_two, by_three, by_four]
+    [by_one, by_two, by_three]
 }
 
 /// An invariant before the one with bit k, and near it, that has the same labels. `apart` is what `apart_of` returns for
@@ -550,6 +548,7 @@ impl Window {
 
     /// Reads the labels at these partitions of the invariants from number `TOGETHER * place` on, as many as there is room
     /// for. `AllocError` is returned if there is not enough memory; then the window is of no invariants.
+    #[inline(never)]
     fn read(
         &mut self,
         alloc: Global,

@@ -2,6 +2,7 @@
 //! begins.
 #![tactic(auto)]
 
+mod flags;
 mod labels;
 mod law;
 mod model;

@@ -61,23 +61,25 @@ fn satisfied_portion(
     Ok(flags)
 }
 
-/// For each invariant, whether the graph satisfies it. `AllocError` is returned if there is not enough memory.
-pub(crate) fn satisfied(
+/// For each invariant, whether the graph satisfies it. `links` are the edges of the graph. `AllocError` is returned if there
+/// is not enough memory.
+pub(crate) fn satisfied_by_portions(
     alloc: Global,
     graph: &PartGraph,
+    links: &Links,
     invs: &[Invariant],
 ) -> Result<Vec<bool>, AllocError>
     requires few { length invs.now ≤ MAX_INVARIANTS }
     requires named { AreNamed invs.now }
+    requires links { AreLinksOf links.now (G (graph.now).traces) }
     ensures count { IfOk result (λ flags. length flags.items ≡ length invs.now) }
     ensures told { IfOk result (λ flags. SaysSatisfied (G (graph.now).traces) invs.now flags.items) }
 {
-    let links = links_of(alloc, graph)?;
     let mut flags = Vec::with_capacity(alloc, invs.len())?;
     for portion in 0..invs.len().div_ceil(PORTION) {
         let from = portion * PORTION;
         let to = invs.len().min(from + PORTION);
-        let told = satisfied_portion(alloc, graph, &links, &invs[from..to])?;
+        let told = satisfied_portion(alloc, graph, links, &invs[from..to])?;
         flags.extend_from_slice(told.as_slice())?;
     }
     Ok(flags)

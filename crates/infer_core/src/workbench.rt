@@ -12,9 +12,9 @@ ghost use Rattle.infer_core.specs.Portions.{AreNamed};
 ghost use Rattle.infer_core.specs.Workbenches.{HasParts};
 ghost use Rattle.traces.specs.Words.{words_of};
 
+use crate::flags::satisfied;
 use crate::law::log_is_typed;
 use crate::model::model_of;
-use crate::portions::satisfied;
 use crate::run::{place, run};
 use crate::tools::{Tools, both};
 use crate::whole::whole_lists;
@@ -105,6 +105,7 @@ fn mine_words(
 /// enough memory.
 fn equip(
     alloc: Global,
+    kinds: Kinds,
     opened: &Result<((PartGraph, Vec<u32>), Seq<Invariant>), AllocError>,
 ) -> Result<(Tools, Vec<bool>), AllocError>
     requires few { IfOk opened.now (λ made. length made.1 ≤ MAX_INVARIANTS) }
@@ -135,7 +136,7 @@ fn equip(
         return Err(AllocError);
     };
     let tools = Tools::make(alloc, graph, invs.as_slice());
-    both(tools, satisfied(alloc, graph, invs.as_slice()))
+    both(tools, satisfied(alloc, kinds, graph, invs.as_slice()))
 }
 
 impl Workbench {
@@ -155,7 +156,7 @@ impl Workbench {
         let shared = PartGraph::open_shared(alloc, &traces);
         let mined = mine_words(alloc, kinds, &traces, &shared);
         let opened = both(shared, mined);
-        let equipped = equip(alloc, &opened);
+        let equipped = equip(alloc, kinds, &opened);
         let ((traces, ((graph, numbers), invs)), (tools, flags)) = both(
             both(Ok(traces), opened),
             equipped,

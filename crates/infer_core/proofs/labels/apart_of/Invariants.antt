@@ -7,5 +7,4 @@ invariant-loop-word l =
       by_one : AreSameBefore l.words l.word-index 1 l.by_one;
       by_two : AreSameBefore l.words l.word-index 2 l.by_two;
       by_three : AreSameBefore l.words l.word-index 3 l.by_three;
-      by_four : AreSameBefore l.words l.word-index 4 l.by_four;
     }

@@ -4,7 +4,7 @@ use Rattle.partition_model.specs.Assignments.{G}
 use Rattle.labelling.specs.Labelled.{SaysSatisfied}
 use Rattle.infer_core.specs.declared.portions.TheConstants.{PORTION}
 use Rattle.infer_core.proofs.Slicing.{portion-next, portion-within, portions-all, told-append}
-use Rattle.infer_core.proofs.portions.satisfied.Goals as goal
+use Rattle.infer_core.proofs.portions.satisfied_by_portions.Goals as goal
 
 pub loop-portion-preserved : goal.loop-portion-preserved
 loop-portion-preserved c =
