@@ -12,3 +12,4 @@ pub mod Spreading
 pub mod Windows
 pub mod Numbered
 pub mod Vacuous
+pub mod Once

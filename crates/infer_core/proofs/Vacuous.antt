@@ -1,5 +1,5 @@
 -- An invariant that says nothing of a graph is satisfied; the flags of the others, in their places.
-use Rattle.std.proofs.Common.{◌≡◌, ◌↔◌, ℕ, zero, suc, ◌+◌, ◌<◌, ◌≤◌, Bool, true, false, not, List, [], ◌∷◌, ◌++◌, length, take, filter, cond, get_or, slice_get, Some, sym, ◌∙◌, ap, subst, refl, inl, inr, arith, count_by, Contains, append-nil, length-append, ◌-◌}
+use Rattle.std.proofs.Common.{◌≡◌, ◌↔◌, ℕ, zero, suc, ◌+◌, ◌<◌, ◌≤◌, Bool, true, false, not, List, [], ◌∷◌, ◌++◌, length, take, filter, cond, get_or, slice_get, Some, sym, ◌∙◌, ap, subst, refl, inl, inr, arith, Contains, append-nil, length-append, ◌-◌}
 use Rattle.std.proofs.lemmas.Bool.{cases_Bool, cases_lt, cond-true, cond-false, and_parts}
 use Rattle.std.proofs.lemmas.List.Sums.{length-filter, count_by-le-length}
 use Rattle.std.proofs.lemmas.List.Elements.{filter_more}
@@ -12,13 +12,13 @@ use Rattle.invariants.specs.Candidates.{invariant}
 use Rattle.invariants.specs.Holds.{HoldsAs}
 use Rattle.invariants.proofs.Members.{Contains-filter, Contains-from_place, place-from_Contains}
 use Rattle.path_finder.proofs.Reaching.{slice_get_last, slice_get_kept}
-use Rattle.partition_model.specs.Graphs.{Graph, IsPath, Satisfies, word}
+use Rattle.partition_model.specs.Graphs.{Graph, Satisfies, word}
 use Rattle.labelling.specs.Labelled.{SaysSatisfied}
 use Rattle.infer_core.specs.Portions.{AreNamed}
 use Rattle.infer_core.specs.Vacuous.{for_gaps, is_asked, is_vacuous, AreMetOnce, AreOfEachType, TellsAll}
 
 -- the kind of an invariant that is for gaps
-gap-kind : (kind : Kind) → for_gaps kind ≡ true → kind ≡ IB
+pub gap-kind : (kind : Kind) → for_gaps kind ≡ true → kind ≡ IB
 gap-kind AF e = absurd (cc e)
 gap-kind NF e = absurd (cc e)
 gap-kind AP e = absurd (cc e)
@@ -57,7 +57,7 @@ pub once-met : (g : Graph) (bound : ℕ) (invs : List Invariant) (flags : List B
 once-met g bound invs flags each same told a low = told a (invariant NF a a) (each.each a (omega (arith, low, same, each.count)))
 
 -- a flag that is set has a place
-flag-within : (flags : List Bool) (k : ℕ) → get_or flags k false ≡ true → k < length flags
+pub flag-within : (flags : List Bool) (k : ℕ) → get_or flags k false ≡ true → k < length flags
 flag-within [] k e = absurd (cc e)
 flag-within (x ∷ flags) zero e = omega arith
 flag-within (x ∷ flags) (suc k) e = omega (arith, flag-within flags k e)

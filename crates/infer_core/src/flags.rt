@@ -8,7 +8,7 @@ ghost use Rattle.partition_model.specs.Assignments.{G};
 ghost use Rattle.partition_graph.specs.Links.{AreLinksOf};
 ghost use Rattle.labelling.specs.Labelled.{SaysSatisfied};
 ghost use Rattle.infer_core.specs.Portions.{AreNamed};
-ghost use Rattle.infer_core.specs.Vacuous.{is_asked, is_vacuous, AreMetOnce, AreOfEachType, TellsAll};
+ghost use Rattle.infer_core.specs.Vacuous.{is_asked, is_vacuous, AreMetOnce, AreMetOnceOnWalks, AreOfEachType, TellsAll};
 
 use crate::portions::{links_of, satisfied_by_portions};
 use invariants::{Invariant, Kind, Kinds};
@@ -37,16 +37,34 @@ fn never_again(alloc: Global, bound: u16) -> Result<Vec<Invariant>, AllocError>
 /// returned if there is not enough memory.
 fn met_once(alloc: Global, graph: &PartGraph, links: &Links) -> Result<Vec<bool>, AllocError>
     requires { AreLinksOf links.now (G (graph.now).traces) }
-    ensures { IfOk result (λ once. AreMetOnce (G (graph.now).traces) once.items) }
+    ensures paths { IfOk result (λ once. AreMetOnce (G (graph.now).traces) once.items) }
+    ensures walks { IfOk result (λ once. AreMetOnceOnWalks (G (graph.now).traces) once.items) }
 {
     let bound = graph.ids_used().min(LAST_TYPE as u32 + 1) as u16;
     let invs = never_again(alloc, bound)?;
     satisfied_by_portions(alloc, graph, links, invs.as_slice())
 }
 
+/// For each type that the graph has, whether no walk from INITIAL has it twice, if the kinds have InterruptedBy; otherwise
+/// nothing. `links` are the edges of the graph. `AllocError` is returned if there is not enough memory.
+pub(crate) fn met_once_for(
+    alloc: Global,
+    kinds: Kinds,
+    graph: &PartGraph,
+    links: &Links,
+) -> Result<Vec<bool>, AllocError>
+    requires { AreLinksOf links.now (G (graph.now).traces) }
+    ensures { IfOk result (λ once. AreMetOnceOnWalks (G (graph.now).traces) once.items) }
+{
+    match kinds {
+        Kinds::Three => Ok(Vec::new(alloc)),
+        Kinds::Four => met_once(alloc, graph, links),
+    }
+}
+
 /// Whether the invariant is InterruptedBy of a type that no path has twice. `once` has a flag for each type, or for those
 /// before some bound.
-fn is_vacuous(once: &[bool], inv: Invariant) -> bool
+pub(crate) fn is_vacuous(once: &[bool], inv: Invariant) -> bool
     ensures { result ≡ is_vacuous once.now inv }
 {
     match inv.kind {

@@ -3,7 +3,7 @@
 //! In memory the labels of all invariants at one partition lie together, and in the model those of one invariant at all
 //! partitions. So they are read for many invariants at once, one partition after another. Then they are written down,
 //! one invariant after another. Invariants of the same types often have the same labels: these are written once.
-ghost use Rattle.std.specs.Prelude.{◌≡◌, ◌<◌, ◌≤◌, ◌+◌, ◌*◌, ◌/◌, ◌%◌, ◌^◌, ◌++◌, ℕ, [], IfOk, IfSome, None, OnOk, Some, length, map, slice_get, slice_index, slice_index_or};
+ghost use Rattle.std.specs.Prelude.{◌≡◌, ◌<◌, ◌≤◌, ◌+◌, ◌*◌, ◌/◌, ◌%◌, ◌^◌, ◌++◌, ℕ, List, Bool, [], IfOk, IfSome, None, OnOk, Some, length, map, slice_get, slice_index, slice_index_or};
 ghost use Rattle.std.specs.Int.{bit_at};
 ghost use Rattle.std.specs.List.{AllByRecursion};
 ghost use Rattle.limits.specs.declared.TheConstants.{MAX_INVARIANTS, MAX_PARTITIONS};
@@ -16,10 +16,13 @@ ghost use Rattle.partition_graph.specs.Links.{AreLinksOf};
 ghost use Rattle.labelling.specs.Labelled.{digit, AreLabelsOf, AreStatesAt, SaysSwapped};
 ghost use Rattle.infer_core.specs.declared.labels.TheConstants.{AHEAD, AT_ONCE, NEAR, TOGETHER};
 ghost use Rattle.infer_core.specs.Portions.{AreNamed};
+ghost use Rattle.infer_core.specs.Vacuous.{AreMetOnceOnWalks, Covers};
 ghost use Rattle.infer_core.specs.Windows.{row_of, AreColumnsOf, AreReadAt, AreSame, AreTaken, HasRows, HaveNumber, HaveSize, IsAheadOf, IsWindowOf, SaysApart};
 
+use crate::alike::asked_for;
+use crate::flags::met_once_for;
 use crate::portions::{PORTION, labelled, links_of};
-use invariants::{Invariant, Labels, Listed, Partition, Seq};
+use invariants::{Invariant, Kinds, Labels, Listed, Partition, Seq};
 use labelling::GraphLabels;
 use limits::MAX_PARTITIONS;
 use partition_graph::{Links, PartGraph};
@@ -38,7 +41,7 @@ const AHEAD: usize = 8;
 
 /// How far apart two invariants may be whose labels are compared. The candidates of two types follow one another, and are
 /// at most one more than this.
-const NEAR: usize = 3;
+pub(crate) const NEAR: usize = 3;
 
 /// The labels of some invariants, whose numbers follow one another, at each of some partitions.
 #[derive(Drop)]
@@ -634,24 +637,31 @@ fn labels_of(
     Labels::part_of(&window.text, window.digits.from[place], partitions.len())
 }
 
-/// Adds these invariants to the list, each with its labels at these partitions. `graph_labels` has the labels. `AllocError` is
-/// returned if there is not enough memory.
+/// Adds these invariants to the list, each with its labels at these partitions. `graph_labels` has the labels of `count`
+/// invariants, and `numbers` says for each of the others which of them has its labels. `AllocError` is returned if there is
+/// not enough memory.
 fn add_listed(
     alloc: Global,
     graph_labels: &GraphLabels,
+    count: usize,
     invs: &[Invariant],
+    numbers: &[usize],
     partitions: &[Partition],
     list: &mut Vec<Listed>,
 ) -> Result<(), AllocError>
-    requires list { (graph_labels.now).invs ≡ invs.now }
+    requires count { count ≡ length (graph_labels.now).invs }
+    requires size { length numbers.now ≡ length invs.now }
+    requires numbers { (k : ℕ) → k < length invs.now → slice_index_or numbers.now k 0 < count }
     requires ids { (k : ℕ) (x : Partition) → slice_get partitions.now k ≡ Some x
         → x.id < MAX_PARTITIONS }
 
     // What is listed, and what its labels say.
     ensures listing { OnOk result (map (λ l. l.inv) list.new.items
         ≡ map (λ l. l.inv) list.old.items ++ invs.now) }
-    ensures labels { OnOk result ((h : Assignment) → ArePartitions partitions.now h
+    ensures labels { OnOk result ((h : Assignment) (once : List Bool) → ArePartitions partitions.now h
         → AreLabelsOf graph_labels.now (G h)
+        → Covers once invs.now (graph_labels.now).invs numbers.now
+        → AreMetOnceOnWalks (G h) once
         → AllByRecursion (λ l. AreReached l.inv h partitions.now l.labels) list.old.items
         → AllByRecursion (λ l. AreReached l.inv h partitions.now l.labels) list.new.items) }
 {
@@ -662,8 +672,8 @@ fn add_listed(
             labels: labels_of(
                 alloc,
                 graph_labels,
-                number,
-                invs.len(),
+                numbers[number],
+                count,
                 partitions,
                 &mut window,
             )?,
@@ -673,11 +683,12 @@ fn add_listed(
 }
 
 /// Adds these invariants to the list, each with its labels in the graph at these partitions. `links` are the edges of the
-/// graph. `AllocError` is returned if there is not enough memory.
+/// graph, and `once` has flags of types that no walk has twice. `AllocError` is returned if there is not enough memory.
 fn add_portion(
     alloc: Global,
     graph: &PartGraph,
     links: &Links,
+    once: &[bool],
     invs: &[Invariant],
     partitions: &[Partition],
     list: &mut Vec<Listed>,
@@ -685,6 +696,7 @@ fn add_portion(
     requires few { length invs.now ≤ MAX_INVARIANTS }
     requires named { AreNamed invs.now }
     requires links { AreLinksOf links.now (G (graph.now).traces) }
+    requires once { AreMetOnceOnWalks (G (graph.now).traces) once.now }
     requires ids { (k : ℕ) (x : Partition) → slice_get partitions.now k ≡ Some x
         → x.id < MAX_PARTITIONS }
 
@@ -696,16 +708,26 @@ fn add_portion(
         → AllByRecursion (λ l. AreReached l.inv h partitions.now l.labels) list.old.items
         → AllByRecursion (λ l. AreReached l.inv h partitions.now l.labels) list.new.items) }
 {
-    let graph_labels = labelled(alloc, graph, links, invs)?;
-    let added = add_listed(alloc, &graph_labels, invs, partitions, list);
+    let (asked, numbers) = asked_for(alloc, once, invs)?;
+    let graph_labels = labelled(alloc, graph, links, asked.as_slice())?;
+    let added = add_listed(
+        alloc,
+        &graph_labels,
+        asked.len(),
+        invs,
+        numbers.as_slice(),
+        partitions,
+        list,
+    );
     drop(graph_labels);
     added
 }
 
-/// The invariants, each with its labels in the graph at these partitions. `AllocError` is returned if there is not enough
-/// memory.
+/// The invariants, each with its labels in the graph at these partitions. `kinds` are those of the invariants: what is returned
+/// does not depend on them. `AllocError` is returned if there is not enough memory.
 pub fn listed(
     alloc: Global,
+    kinds: Kinds,
     graph: &PartGraph,
     invs: &[Invariant],
     partitions: &[Partition],
@@ -722,11 +744,20 @@ pub fn listed(
         → AllByRecursion (λ l. AreReached l.inv h partitions.now l.labels) list) }
 {
     let links = links_of(alloc, graph)?;
+    let once = met_once_for(alloc, kinds, graph, &links)?;
     let mut list = Vec::with_capacity(alloc, invs.len())?;
     for portion in 0..invs.len().div_ceil(PORTION) {
         let from = portion * PORTION;
         let to = invs.len().min(from + PORTION);
-        add_portion(alloc, graph, &links, &invs[from..to], partitions, &mut list)?;
+        add_portion(
+            alloc,
+            graph,
+            &links,
+            once.as_slice(),
+            &invs[from..to],
+            partitions,
+            &mut list,
+        )?;
     }
     Ok(Seq::from_vec(list))
 }

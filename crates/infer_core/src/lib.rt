@@ -2,6 +2,7 @@
 //! begins.
 #![tactic(auto)]
 
+mod alike;
 mod flags;
 mod labels;
 mod law;

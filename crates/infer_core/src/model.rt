@@ -50,7 +50,7 @@ pub fn model_of(
         (λ m. Tells m kinds traces.now invs.now graph tools.now.spans tools.now.run_log) }
 {
     let (partitions, edges) = lists;
-    let listing = listed(alloc, first, invs, partitions.as_slice());
+    let listing = listed(alloc, kinds, first, invs, partitions.as_slice());
     let named = both(copy_of(alloc, traces.types()), listing);
     let joins = both(
         merges(alloc, &tools.run_log),

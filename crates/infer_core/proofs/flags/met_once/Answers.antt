@@ -1,8 +1,8 @@
-use Rattle.std.proofs.Common.{◌≡◌, List, Bool, Result, Ok, Err, IfOk, length, subst, sym, ap, ◌∙◌, arith}
+use Rattle.std.proofs.Common.{List, Result, Ok, Err, IfOk, subst, sym}
 use Rattle.invariants.specs.declared.Invariant.{Invariant}
 use Rattle.partition_model.specs.Assignments.{G}
-use Rattle.labelling.specs.Labelled.{SaysSatisfied}
 use Rattle.infer_core.specs.Vacuous.{AreOfEachType}
+use Rattle.infer_core.proofs.Once.{once-on-walks}
 use Rattle.infer_core.proofs.Vacuous.{once-met}
 use Rattle.infer_core.proofs.flags.met_once.Goals as goal
 
@@ -11,10 +11,18 @@ both-so : {X E : Type 0} (r : Result X E) (P Q R : X → Type 0) → ((x : X) �
 both-so (Ok x) P Q R f p q = f x p q
 both-so (Err e) P Q R f p q = tt
 
-pub returns : goal.returns
-returns c =
+pub returns-clause-paths : goal.returns-clause-paths
+returns-clause-paths c =
     let g = G c.args.graph.now.traces in
     let each : AreOfEachType c.min-bound.result c.as_slice.result.now = subst (λ (xs : List Invariant). AreOfEachType c.min-bound.result xs) (sym c.as_slice.ensures.value) c.in_ok-invs.ensures in
     both-so c.satisfied_by_portions.result _ _ _
     (λ flags count told. once-met g c.min-bound.result c.as_slice.result.now flags.items each count told)
+    c.satisfied_by_portions.ensures.count c.satisfied_by_portions.ensures.told
+
+pub returns-clause-walks : goal.returns-clause-walks
+returns-clause-walks c =
+    let g = G c.args.graph.now.traces in
+    let each : AreOfEachType c.min-bound.result c.as_slice.result.now = subst (λ (xs : List Invariant). AreOfEachType c.min-bound.result xs) (sym c.as_slice.ensures.value) c.in_ok-invs.ensures in
+    both-so c.satisfied_by_portions.result _ _ _
+    (λ flags count told. once-on-walks c.args.graph.now.traces flags.items c.ids_used.ensures.typed (once-met g c.min-bound.result c.as_slice.result.now flags.items each count told))
     c.satisfied_by_portions.ensures.count c.satisfied_by_portions.ensures.told

@@ -26,7 +26,7 @@ returns-clause-told c =
     let once-again : c.as_slice-3.result.now ≡ once = c.as_slice-3.ensures.value ∙ sym c.as_slice.ensures.value in
     let told : List Bool = c.as_slice-4.result.now in
     let same : c.as_slice-2.result.now ≡ filter (is_asked once) invs = c.as_slice-2.ensures.value ∙ c.in_ok-asked.ensures in
-    let met : AreMetOnce g once = subst (λ (flags : List Bool). AreMetOnce g flags) (sym c.as_slice.ensures.value) c.in_ok-once.ensures in
+    let met : AreMetOnce g once = subst (λ (flags : List Bool). AreMetOnce g flags) (sym c.as_slice.ensures.value) c.in_ok-once.ensures.paths in
     let says : SaysSatisfied g (filter (is_asked once) invs) told =
     subst (λ (flags : List Bool). SaysSatisfied g (filter (is_asked once) invs) flags) (sym c.as_slice-4.ensures.value)
     (subst (λ (xs : List Invariant). SaysSatisfied g xs c.in_ok-told.told.items) same c.in_ok-told.ensures.told) in

@@ -1,9 +1,8 @@
-use Rattle.std.proofs.Common.{◌≡◌, ◌+◌, ◌<◌, ℕ, List, Bool, Vec, true, false, [], ◌∷◌, ◌++◌, cond, filter, length, length-append, get_or, take, subst, sym, ap, ◌∙◌, arith}
+use Rattle.std.proofs.Common.{◌≡◌, ℕ, List, Bool, Vec, true, false, [], ◌∷◌, ◌++◌, length, length-append, get_or, sym, ap, ◌∙◌, arith}
 use Rattle.std.proofs.lemmas.Bool.{cond-true, cond-false}
 use Rattle.std.proofs.lemmas.Option.{slice_get-get_or, slice_get_within}
 use Rattle.std.specs.declared.alloc.Global.{Global}
 use Rattle.invariants.specs.declared.Invariant.{Invariant}
-use Rattle.infer_core.specs.Vacuous.{is_asked, is_vacuous}
 use Rattle.infer_core.proofs.Vacuous.{asked-same, asked-more, asked-within, tells-more}
 use Rattle.infer_core.proofs.flags.with_vacuous.Goals as goal
 use Rattle.infer_core.proofs.flags.with_vacuous.Goals.{then-is_vacuous+in_ok-push, else-is_vacuous+in_ok-push-2}
